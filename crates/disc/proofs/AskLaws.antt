@@ -1,0 +1,98 @@
+-- Laws of every tree of questions: what two discs that agree on its list make of it, what a grown disc makes of it, and that walking it
+-- by hand asks and ends the same. Assumes nothing.
+use mathlib.Core.Path.{_≡_, refl, ap, sym, _∙_}
+use mathlib.Core.List.{List, [], _∷_, _++_, append-nil}
+use mathlib.Core.Logic.{_⊎_, inl, inr}
+use Prim.Native.Nat.{ℕ, zero, suc}
+use lib.ListN.{length}
+use Rattle.disc.specs.declared.refusals.Refusal.{Refusal}
+use Rattle.disc.specs.declared.refusals.Refusal.the-variants.{Io}
+use Rattle.disc.specs.Ask.{Held, Disc, Ask, Outcome, given, outcome, asked, then, Agree, Grown, wants, fed, fedTimes, ended}
+use Rattle.disc.specs.Ask.Held.{holds, lacks}
+use Rattle.disc.specs.Ask.Ask.{done, refuse, ask}
+use Rattle.disc.specs.Ask.Outcome.{answered, refused}
+
+-- ---- demand 3: discs that agree on the list of a call give the same outcome and the same list
+
+agree-step : {R : Type 0} (d e : Disc) (x y : Held) → x ≡ y → (o o′ : List ℕ → R) (r : R) (a : List ℕ → List ℕ)
+    → Agree d e (given x a [])
+    → ((b : List ℕ) → Agree d e (a b) → o b ≡ o′ b)
+    → given x o r ≡ given y o′ r
+agree-step d e (holds b) y p o o′ r a h ih = rw (← p) (ih b h)
+agree-step d e lacks y p o o′ r a h ih = rw (← p)
+
+pub same-outcome : {A : Type 0} (m : Ask A) (d e : Disc) → Agree d e (asked d m) → outcome d m ≡ outcome e m
+unfolding outcome asked Agree
+same-outcome (done a) d e h = refl
+same-outcome (refuse r) d e h = refl
+same-outcome (ask s k) d e h =
+    agree-step d e (d s) (e s) (h .0) (λ b. outcome d (k b)) (λ b. outcome e (k b)) (refused Io) (λ b. asked d (k b)) (h .1)
+    (λ b g. same-outcome (k b) d e g)
+
+pub same-asked : {A : Type 0} (m : Ask A) (d e : Disc) → Agree d e (asked d m) → asked d m ≡ asked e m
+unfolding outcome asked Agree
+same-asked (done a) d e h = refl
+same-asked (refuse r) d e h = refl
+same-asked (ask s k) d e h =
+    ap (λ l. s ∷ l)
+    (agree-step d e (d s) (e s) (h .0) (λ b. asked d (k b)) (λ b. asked e (k b)) [] (λ b. asked d (k b)) (h .1)
+    (λ b g. same-asked (k b) d e g))
+
+-- ---- a disc that has all that another has gives the same outcome, or the other's was refused for a missing sector
+
+grown-step : {A : Type 0} (x y : Held) → ((b : List ℕ) → x ≡ holds b → y ≡ holds b) → (o o′ : List ℕ → Outcome A)
+    → ((b : List ℕ) → (o b ≡ refused Io) ⊎ (o′ b ≡ o b))
+    → (given x o (refused Io) ≡ refused Io) ⊎ (given y o′ (refused Io) ≡ given x o (refused Io))
+grown-step (holds b) y g o o′ ih = rw (g b refl) (ih b)
+grown-step lacks y g o o′ ih = inl refl
+
+pub grown-outcome : {A : Type 0} (m : Ask A) (d e : Disc) → Grown d e → (outcome d m ≡ refused Io) ⊎ (outcome e m ≡ outcome d m)
+unfolding outcome Grown
+grown-outcome (done a) d e g = inr refl
+grown-outcome (refuse r) d e g = inr refl
+grown-outcome (ask s k) d e g =
+    grown-step (d s) (e s) (g s) (λ b. outcome d (k b)) (λ b. outcome e (k b)) (λ b. grown-outcome (k b) d e g)
+
+-- ---- one call behind another: the list of the first, and then that of the second where the first was answered
+
+abbrev pub askedBehind : {A B : Type 0} → Disc → Outcome A → (A → Ask B) → List ℕ
+askedBehind d (answered a) f = asked d (f a)
+askedBehind d (refused r) f = []
+
+pub asked-then : {A B : Type 0} (d : Disc) (m : Ask A) (f : A → Ask B) → asked d (then m f) ≡ asked d m ++ askedBehind d (outcome d m) f
+unfolding then outcome asked
+asked-then d (done a) f = refl
+asked-then d (refuse r) f = refl
+asked-then d (ask s k) f = ap (λ l. s ∷ l) (behind (d s) (λ b. asked-then d (k b) f))
+  where
+    behind : (x : Held) → ((b : List ℕ) → asked d (then (k b) f) ≡ asked d (k b) ++ askedBehind d (outcome d (k b)) f)
+        → given x (λ b. asked d (then (k b) f)) []
+        ≡ given x (λ b. asked d (k b)) [] ++ askedBehind d (given x (λ b. outcome d (k b)) (refused Io)) f
+    behind (holds b) ih = ih b
+    behind lacks ih = refl
+
+-- ---- a call walked by hand, a sector at a time, asks for the same sectors and comes to the same
+
+pub fed-outcome : {A : Type 0} (d : Disc) (m : Ask A) → outcome d (fed d m) ≡ outcome d m
+unfolding outcome fed
+fed-outcome d (done a) = refl
+fed-outcome d (refuse r) = refl
+fed-outcome d (ask s k) = elim (d s) as (λ x. outcome d (given x k (refuse Io)) ≡ given x (λ b. outcome d (k b)) (refused Io)) [ holds b ↦ refl | lacks ↦ refl ]
+
+pub fed-asked : {A : Type 0} (d : Disc) (m : Ask A) → wants m ++ asked d (fed d m) ≡ asked d m
+unfolding asked fed wants
+fed-asked d (done a) = refl
+fed-asked d (refuse r) = refl
+fed-asked d (ask s k) = ap (λ l. s ∷ l) (elim (d s) as (λ x. asked d (given x k (refuse Io)) ≡ given x (λ b. asked d (k b)) []) [ holds b ↦ refl | lacks ↦ refl ])
+
+-- after as many sectors as its list has, it has come to its outcome
+pub fed-ends : {A : Type 0} (d : Disc) (m : Ask A) → fedTimes (length (asked d m)) d m ≡ ended (outcome d m)
+unfolding outcome asked fed fedTimes
+fed-ends d (done a) = refl
+fed-ends d (refuse r) = refl
+fed-ends d (ask s k) = on (d s) (λ b. fed-ends d (k b))
+  where
+    on : (x : Held) → ((b : List ℕ) → fedTimes (length (asked d (k b))) d (k b) ≡ ended (outcome d (k b)))
+        → fedTimes (length (given x (λ b. asked d (k b)) [])) d (given x k (refuse Io)) ≡ ended (given x (λ b. outcome d (k b)) (refused Io))
+    on (holds b) ih = ih b
+    on lacks ih = refl

@@ -1,0 +1,5 @@
+-- A count of sectors as a call reports it. Assumes nothing: these are definitions.
+use Prim.Native.Nat.{ℕ, min}
+
+abbrev pub reported : ℕ → ℕ
+reported n = min n 0xffff_ffff_ffff_ffff

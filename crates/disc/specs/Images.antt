@@ -1,0 +1,42 @@
+-- The disc that a lent image is, and a run of its sectors: document 01, "Opening a volume". Assumes nothing: these are definitions.
+use mathlib.Core.Bool.{Bool, true, false}
+use mathlib.Core.List.{List, [], _++_}
+use Prim.Native.Nat.{ℕ, zero, suc, _+_, _-_, _*_, _/_}
+use lib.ListN.{length, take, drop}
+use lib.Dec.{leb}
+use Rattle.disc.specs.Choice.{pick}
+use Rattle.disc.specs.Ask.{Disc, Ask, Outcome, then}
+use Rattle.disc.specs.Ask.Held.{holds, lacks}
+use Rattle.disc.specs.Ask.Ask.{done, ask}
+use Rattle.disc.specs.Ask.Outcome.{answered, refused}
+use Rattle.disc.specs.Ran.{Ran}
+use Rattle.disc.specs.declared.images.Run.{Run}
+
+-- sector s is there where bytes 2,048 s to 2,048 s + 2,047 all are
+abbrev pub there : List ℕ → ℕ → Bool
+there image s = leb (2048 * s + 2048) (length image)
+
+unfoldable pub disc : List ℕ → Disc
+disc image s = pick (there image s) (holds (take 2048 (drop (2048 * s) image))) lacks
+
+-- n sectors from `first` on, asked for in turn and joined
+unfoldable pub sectors : ℕ → ℕ → Ask (List ℕ)
+sectors zero first = done []
+sectors (suc n) first = ask first (λ b. then (sectors n (first + 1)) (λ rest. done (b ++ rest)))
+
+-- how many sectors an image has from `first` on
+abbrev pub heldFrom : List ℕ → ℕ → ℕ
+heldFrom image first = length image / 2048 - first
+
+-- the bytes of an answer, none where it was refused
+abbrev pub bytesOf : Outcome (List ℕ) → List ℕ
+bytesOf (answered b) = b
+bytesOf (refused r) = []
+
+abbrev pub isAnswered : {A : Type 0} → Outcome A → Bool
+isAnswered (answered a) = true
+isAnswered (refused r) = false
+
+-- a run as the code reports it
+abbrev pub runOf : Ran (List ℕ) → Run
+runOf r = record { whole = isAnswered (r .outcome); asked = r .count }

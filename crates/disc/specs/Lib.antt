@@ -1,0 +1,8 @@
+-- What the contracts cite, lowest first.
+pub mod Choice
+pub mod Refusals
+pub mod Ask
+pub mod Ran
+pub mod Counts
+pub mod Images
+pub mod Moves

@@ -1,0 +1,15 @@
+-- The answer number of each refusal: document 01's table. Assumes nothing: these are definitions.
+use Prim.Native.Nat.{ℕ}
+use Rattle.disc.specs.declared.refusals.Refusal.{Refusal}
+use Rattle.disc.specs.declared.refusals.Refusal.the-variants.{Io, Malformed, NotBluray, Unsupported, NoRoom, NoWork, NoSlot, LongName}
+
+-- 0 is kept for "done"
+abbrev pub number : Refusal → ℕ
+number Io = 1
+number Malformed = 2
+number NotBluray = 3
+number Unsupported = 4
+number NoRoom = 5
+number NoWork = 6
+number NoSlot = 7
+number LongName = 8

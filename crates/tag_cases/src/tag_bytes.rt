@@ -1,0 +1,174 @@
+// Tags: the ids at the ends of the ranges, every length, every refusal, every change of one byte, and the place check.
+ghost use Prim.Native.Nat.{_+_, _≤_, _<_};
+use crate::outputs::end_line;
+use crate::outputs::number;
+use crate::outputs::refused;
+use crate::outputs::text;
+use crate::outputs::yes_or_no;
+use disc::places::Sector;
+use tags::DescriptorTag;
+use tags::TagRead;
+
+fn show(t: DescriptorTag) {
+    text(b": read");
+    number(t.id as u64);
+    number(t.descriptor_version as u64);
+    number(t.serial_number as u64);
+    number(t.crc as u64);
+    number(t.crc_length as u64);
+    number(t.location as u64);
+    end_line();
+}
+
+fn answer(r: TagRead) {
+    match r {
+        TagRead::Read(t) => show(t),
+        TagRead::Refused(why) => refused(why),
+    }
+}
+
+// A tag with every field in use, but for its id as in case 1 of the worked table.
+fn tag_with(id: u16, serial_number: u16, crc: u16, crc_length: u16) -> DescriptorTag {
+    DescriptorTag {
+        id,
+        descriptor_version: 3,
+        serial_number,
+        crc,
+        crc_length,
+        location: 256,
+    }
+}
+
+fn case_1() -> [u8; 16] {
+    tag_with(2, 0, 0, 0).encode()
+}
+
+// A tag with this id and the right checksum.
+fn id(n: u16) {
+    text(b"id");
+    number(n as u64);
+    let bytes = tag_with(n, 513, 1027, 1541).encode();
+    answer(DescriptorTag::parse(&bytes));
+}
+
+pub(crate) fn ids() {
+    id(0);
+    id(1);
+    id(9);
+    id(10);
+    id(255);
+    id(256);
+    id(266);
+    id(267);
+    id(65535);
+}
+
+// The first n bytes of case 1.
+fn front(n: usize)
+    requires { ⌜ n ≤ 16 ⌝ }
+{
+    text(b"length");
+    number(n as u64);
+    let bytes = case_1();
+    answer(DescriptorTag::parse(&bytes[0..n]));
+}
+
+pub(crate) fn lengths() {
+    let mut n = 0;
+    while n < 17 {
+        front(n);
+        n += 1;
+    }
+}
+
+// Case 1 with another reserved byte and another checksum: each check fails alone.
+fn checked(reserved: u8, checksum: u8) {
+    let mut bytes = case_1();
+    bytes[4] = checksum;
+    bytes[5] = reserved;
+    text(b"reserved");
+    number(reserved as u64);
+    text(b" checksum");
+    number(checksum as u64);
+    answer(DescriptorTag::parse(&bytes));
+}
+
+pub(crate) fn checks() {
+    checked(0, 6);
+    checked(0, 7);
+    checked(1, 6);
+    checked(1, 7);
+    let zeros = [0u8; 16];
+    text(b"sixteen zeros");
+    answer(DescriptorTag::parse(&zeros));
+}
+
+fn is_refused(r: TagRead) -> u64
+    ensures { λ n. ⌜ n ≤ 1 ⌝ }
+{
+    match r {
+        TagRead::Read(_) => 0,
+        TagRead::Refused(_) => 1,
+    }
+}
+
+fn add_byte(a: u8, b: u8) -> u8 {
+    ((a as u16 + b as u16) % 256) as u8
+}
+
+fn changed(at: usize, by: u8) -> u64
+    requires { ⌜ at < 16 ⌝ }
+    ensures { λ n. ⌜ n ≤ 1 ⌝ }
+{
+    let mut bytes = case_1();
+    bytes[at] = add_byte(bytes[at], by);
+    is_refused(DescriptorTag::parse(&bytes))
+}
+
+// How many of the 255 other values of a byte are refused.
+fn changes_at(at: usize) -> u64
+    requires { ⌜ at < 16 ⌝ }
+{
+    let mut refusals: u64 = 0;
+    let mut by: u8 = 255;
+    while 0 < by {
+        refusals += changed(at, by);
+        by -= 1;
+    }
+    refusals
+}
+
+fn show_changes(at: usize)
+    requires { ⌜ at < 16 ⌝ }
+{
+    text(b"changes of byte");
+    number(at as u64);
+    text(b" refused:");
+    number(changes_at(at));
+    end_line();
+}
+
+pub(crate) fn changes() {
+    let mut at = 0;
+    while at < 16 {
+        show_changes(at);
+        at += 1;
+    }
+}
+
+fn placed(sector: u64) {
+    text(b"location 256 at sector");
+    number(sector);
+    text(b":");
+    yes_or_no(tag_with(2, 0, 0, 0).is_in_place(Sector(sector)));
+    end_line();
+}
+
+// The last is 2^32 + 256: a sector's number passes 2^32, and a location does not.
+pub(crate) fn places() {
+    placed(256);
+    placed(255);
+    placed(257);
+    placed(0);
+    placed(4294967552);
+}

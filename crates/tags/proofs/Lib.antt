@@ -1,0 +1,3 @@
+-- What is promised of tags.
+pub mod RoundTrips
+pub mod Table

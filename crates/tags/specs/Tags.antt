@@ -1,0 +1,76 @@
+-- The descriptor tag, 16 bytes (ECMA-167 3/7.2), and the header of an allocation extent, 24 (4/14.5): document 01, "Tags and small records".
+-- Assumes nothing: these are definitions.
+use Prim.Native.Nat.{ℕ, _+_, _%_}
+use mathlib.Core.Bool.{Bool, true, false, _&&_, _||_}
+use mathlib.Core.List.{List, [], _∷_, _++_}
+use lib.ListN.{length}
+use lib.Dec.{leb, eqb}
+use Rattle.disc.specs.Choice.{pick}
+use Rattle.disc.specs.declared.refusals.Refusal.the-variants.{Malformed}
+use Rattle.records.specs.Bytes.{byte, u16at, u32at, le16, le32, sum4}
+use Rattle.tags.specs.declared.DescriptorTag.{DescriptorTag}
+use Rattle.tags.specs.declared.TagRead.{TagRead}
+use Rattle.tags.specs.declared.TagRead.the-variants.{Read, Refused}
+use Rattle.tags.specs.declared.AllocationExtentDescriptor.{AllocationExtentDescriptor}
+use Rattle.tags.specs.declared.AedRead.{AedRead}
+use Rattle.tags.specs.declared.AedRead.the-variants.{Header, NoHeader}
+
+-- ---- the tag
+
+-- every field at its offset (3/7.2.1 to 7.2.8); the checksum and the reserved byte, at 4 and 5, are checked and not kept
+abbrev pub tagOf : List ℕ → DescriptorTag
+tagOf s = record {
+  id = u16at s 0;
+  «descriptor_version» = u16at s 2;
+  «serial_number» = u16at s 6;
+  crc = u16at s 8;
+  «crc_length» = u16at s 10;
+  location = u32at s 12;
+}
+
+-- the ids that are known (3/7.2.1, 4/7.2.1)
+abbrev pub listed : ℕ → Bool
+listed id = (leb 1 id && leb id 9) || (leb 256 id && leb id 266)
+
+-- the sum, modulo 256, of the first 16 bytes but the fifth (3/7.2.3)
+abbrev pub checksum : List ℕ → ℕ
+checksum s = (sum4 s 0 + byte s 5 + byte s 6 + byte s 7 + sum4 s 8 + sum4 s 12) % 256
+
+-- id, reserved byte and checksum, in the order of the checks
+abbrev pub accepted : List ℕ → Bool
+accepted s = listed (u16at s 0) && eqb (byte s 5) 0 && eqb (byte s 4) (checksum s)
+
+-- reading a tag at the front of s
+abbrev pub readTag : List ℕ → TagRead
+readTag s = pick (leb 16 (length s) && accepted s) (Read (tagOf s)) (Refused Malformed)
+
+-- a tag's bytes with the checksum k, and with the right one
+abbrev pub tagBytes : DescriptorTag → ℕ → List ℕ
+tagBytes t k =
+    le16 (t .id) ++ le16 (t .«descriptor_version») ++ k ∷ 0 ∷ le16 (t .«serial_number») ++ le16 (t .crc) ++ le16 (t .«crc_length») ++
+    le32 (t .location)
+
+abbrev pub encodeTag : DescriptorTag → List ℕ
+encodeTag t = tagBytes t (checksum (tagBytes t 0))
+
+-- ---- the place check
+
+-- a tag is in place where its location is the number of the sector that it was read from
+abbrev pub inPlace : DescriptorTag → ℕ → Bool
+inPlace t sector = eqb (t .location) sector
+
+-- ---- the header of an allocation extent
+
+-- behind a tag with id 258
+abbrev pub aedAfter : List ℕ → TagRead → AedRead
+aedAfter s (Refused r) = NoHeader r
+aedAfter s (Read t) =
+    pick (eqb (t .id) 258)
+    (Header (record { tag = t; «previous_allocation_extent_location» = u32at s 16; «length_of_allocation_descriptors» = u32at s 20 }))
+    (NoHeader Malformed)
+
+abbrev pub readAed : List ℕ → AedRead
+readAed s = pick (leb 24 (length s)) (aedAfter s (readTag s)) (NoHeader Malformed)
+
+abbrev pub encodeAed : AllocationExtentDescriptor → List ℕ
+encodeAed a = encodeTag (a .tag) ++ le32 (a .«previous_allocation_extent_location») ++ le32 (a .«length_of_allocation_descriptors»)

@@ -1,0 +1,220 @@
+// Descriptor tags, the place check, and the header of an allocation extent.
+ghost use mathlib.Core.Path.{_≡_};
+ghost use mathlib.Core.List.{_++_};
+ghost use Prim.Native.Nat.{_+_, _%_, _≤_, _<_};
+ghost use lib.ListN.{length};
+ghost use Rattle.records.specs.Bytes.{le32, sixteen, sum4};
+ghost use Rattle.tags.specs.Tags.{listed, checksum, accepted, tagOf, readTag, tagBytes, encodeTag, inPlace, aedAfter, readAed, encodeAed};
+use disc::places::Sector;
+use disc::refusals::Refusal;
+use records::bytes::le16;
+use records::bytes::le32;
+
+// The id is a number, which reading keeps within the listed ones.
+pub struct DescriptorTag {
+    pub id: u16,
+    pub descriptor_version: u16,
+    pub serial_number: u16,
+    pub crc: u16,
+    pub crc_length: u16,
+    pub location: u32,
+}
+
+pub enum TagRead {
+    Read(DescriptorTag),
+    Refused(Refusal),
+}
+
+// Whether an id is one of those that are known.
+pub fn is_listed(id: u16) -> bool
+    ensures { λ r. ⌜ r ≡ listed id ⌝ }
+{
+    (1 <= id) & (id <= 9) | (256 <= id) & (id <= 266)
+}
+
+fn add4(a: u8, b: u8, c: u8, d: u8) -> u32
+    ensures { λ r. ⌜ (r ≡ a + b + c + d) × (r < 1024) ⌝ }
+{
+    a as u32 + b as u32 + c as u32 + d as u32
+}
+
+// The sum of the four bytes at `i`.
+fn sum_at(s: &[u8], i: usize) -> u32
+    requires { ⌜ i + 4 ≤ length (now s) ⌝ }
+    ensures { λ r. ⌜ (r ≡ sum4 (now (s .entry)) i) × (r < 1024) ⌝ }
+{
+    add4(s[i], s[i + 1], s[i + 2], s[i + 3])
+}
+
+fn total(a: u32, b: u8, c: u8, d: u8, e: u32, f: u32) -> u8
+    requires { ⌜ (a < 1024) × (e < 1024) × (f < 1024) ⌝ }
+    ensures { λ r. ⌜ r ≡ (a + b + c + d + e + f) % 256 ⌝ }
+{
+    ((a + b as u32 + c as u32 + d as u32 + e + f) % 256) as u8
+}
+
+fn sum_of(s: &[u8]) -> u8
+    requires { ⌜ 16 ≤ length (now s) ⌝ }
+    ensures { λ r. ⌜ r ≡ checksum (now (s .entry)) ⌝ }
+{
+    total(sum_at(s, 0), s[5], s[6], s[7], sum_at(s, 8), sum_at(s, 12))
+}
+
+fn is_accepted(s: &[u8]) -> bool
+    requires { ⌜ 16 ≤ length (now s) ⌝ }
+    ensures { λ r. ⌜ r ≡ accepted (now (s .entry)) ⌝ }
+{
+    is_listed(le16(s, 0)) & (s[5] == 0) & (s[4] == sum_of(s))
+}
+
+fn tag_of(s: &[u8]) -> DescriptorTag
+    ensures { λ r. ⌜ r ≡ tagOf (now (s .entry)) ⌝ }
+{
+    DescriptorTag {
+        id: le16(s, 0),
+        descriptor_version: le16(s, 2),
+        serial_number: le16(s, 6),
+        crc: le16(s, 8),
+        crc_length: le16(s, 10),
+        location: le32(s, 12),
+    }
+}
+
+// A tag's bytes with the checksum `sum`.
+fn tag_bytes(t: DescriptorTag, sum: u8) -> [u8; 16]
+    ensures { λ r. ⌜ r ≡ tagBytes t sum ⌝ }
+{
+    [
+        (t.id % 256) as u8,
+        (t.id / 256 % 256) as u8,
+        (t.descriptor_version % 256) as u8,
+        (t.descriptor_version / 256 % 256) as u8,
+        sum,
+        0,
+        (t.serial_number % 256) as u8,
+        (t.serial_number / 256 % 256) as u8,
+        (t.crc % 256) as u8,
+        (t.crc / 256 % 256) as u8,
+        (t.crc_length % 256) as u8,
+        (t.crc_length / 256 % 256) as u8,
+        (t.location % 256) as u8,
+        (t.location / 256 % 256) as u8,
+        (t.location / 65536 % 256) as u8,
+        (t.location / 16777216 % 256) as u8,
+    ]
+}
+
+impl DescriptorTag {
+    pub fn parse(s: &[u8]) -> TagRead
+        ensures { λ r. ⌜ r ≡ readTag (now (s .entry)) ⌝ }
+    {
+        if s.len() < 16 {
+            return TagRead::Refused(Refusal::Malformed);
+        }
+        if is_accepted(s) {
+            TagRead::Read(tag_of(s))
+        } else {
+            TagRead::Refused(Refusal::Malformed)
+        }
+    }
+
+    pub fn encode(self) -> [u8; 16]
+        ensures { λ r. ⌜ r ≡ encodeTag self ⌝ }
+    {
+        let blank = tag_bytes(self, 0);
+        let sum = sum_of(&blank);
+        tag_bytes(self, sum)
+    }
+
+    // The place check.
+    pub fn is_in_place(self, from: Sector) -> bool
+        ensures { λ r. ⌜ r ≡ inPlace self (from .0) ⌝ }
+    {
+        self.location as u64 == from.0
+    }
+}
+
+// The header of an allocation extent.
+pub struct AllocationExtentDescriptor {
+    pub tag: DescriptorTag,
+    pub previous_allocation_extent_location: u32,
+    pub length_of_allocation_descriptors: u32,
+}
+
+pub enum AedRead {
+    Header(AllocationExtentDescriptor),
+    NoHeader(Refusal),
+}
+
+fn aed_bytes(h: [u8; 16], a: u32, b: u32) -> [u8; 24]
+    ensures { λ r. ⌜ r ≡ sixteen h ++ le32 a ++ le32 b ⌝ }
+{
+    [
+        h[0],
+        h[1],
+        h[2],
+        h[3],
+        h[4],
+        h[5],
+        h[6],
+        h[7],
+        h[8],
+        h[9],
+        h[10],
+        h[11],
+        h[12],
+        h[13],
+        h[14],
+        h[15],
+        (a % 256) as u8,
+        (a / 256 % 256) as u8,
+        (a / 65536 % 256) as u8,
+        (a / 16777216 % 256) as u8,
+        (b % 256) as u8,
+        (b / 256 % 256) as u8,
+        (b / 65536 % 256) as u8,
+        (b / 16777216 % 256) as u8,
+    ]
+}
+
+// The header behind the tag that was read at the front of `s`.
+fn aed_after(s: &[u8], r: TagRead) -> AedRead
+    ensures { λ a. ⌜ a ≡ aedAfter (now (s .entry)) r ⌝ }
+{
+    match r {
+        TagRead::Refused(why) => AedRead::NoHeader(why),
+        TagRead::Read(t) => {
+            if t.id == 258 {
+                AedRead::Header(AllocationExtentDescriptor {
+                    tag: t,
+                    previous_allocation_extent_location: le32(s, 16),
+                    length_of_allocation_descriptors: le32(s, 20),
+                })
+            } else {
+                AedRead::NoHeader(Refusal::Malformed)
+            }
+        }
+    }
+}
+
+impl AllocationExtentDescriptor {
+    pub fn parse(s: &[u8]) -> AedRead
+        ensures { λ r. ⌜ r ≡ readAed (now (s .entry)) ⌝ }
+    {
+        if s.len() < 24 {
+            return AedRead::NoHeader(Refusal::Malformed);
+        }
+        aed_after(s, DescriptorTag::parse(s))
+    }
+
+    pub fn encode(self) -> [u8; 24]
+        ensures { λ r. ⌜ r ≡ encodeAed self ⌝ }
+    {
+        let t = self.tag;
+        aed_bytes(
+            t.encode(),
+            self.previous_allocation_extent_location,
+            self.length_of_allocation_descriptors,
+        )
+    }
+}
