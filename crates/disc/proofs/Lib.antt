@@ -5,3 +5,4 @@ pub mod RanLaws
 pub mod CountLaws
 pub mod ImageLaws
 pub mod MoveLaws
+pub mod ReplyLaws

@@ -6,3 +6,4 @@ pub mod Ran
 pub mod Counts
 pub mod Images
 pub mod Moves
+pub mod Replies

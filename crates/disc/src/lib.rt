@@ -5,3 +5,4 @@ pub mod images;
 pub mod moves;
 pub mod places;
 pub mod refusals;
+pub mod replies;

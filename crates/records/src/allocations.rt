@@ -172,7 +172,8 @@ pub struct LongRead {
     pub ad: LongAd,
 }
 
-fn no_long() -> LongAd
+// All zeros.
+pub fn no_long() -> LongAd
     ensures { λ r. ⌜ r ≡ noLong ⌝ }
 {
     LongAd {

@@ -4,6 +4,7 @@ ghost use mathlib.Core.List.{_++_};
 ghost use Prim.Native.Nat.{_+_, _%_, _≤_, _<_};
 ghost use lib.ListN.{length};
 ghost use Rattle.records.specs.Bytes.{le32, sixteen, sum4};
+ghost use Rattle.tags.specs.Answers.{noTag};
 ghost use Rattle.tags.specs.Tags.{listed, checksum, accepted, tagOf, readTag, tagBytes, encodeTag, inPlace, aedAfter, readAed, encodeAed};
 use disc::places::Sector;
 use disc::refusals::Refusal;
@@ -30,6 +31,20 @@ pub fn is_listed(id: u16) -> bool
     ensures { λ r. ⌜ r ≡ listed id ⌝ }
 {
     (1 <= id) & (id <= 9) | (256 <= id) & (id <= 266)
+}
+
+// All zeros.
+pub fn no_tag() -> DescriptorTag
+    ensures { λ r. ⌜ r ≡ noTag ⌝ }
+{
+    DescriptorTag {
+        id: 0,
+        descriptor_version: 0,
+        serial_number: 0,
+        crc: 0,
+        crc_length: 0,
+        location: 0,
+    }
 }
 
 fn add4(a: u8, b: u8, c: u8, d: u8) -> u32

@@ -1,0 +1,3 @@
+-- What the contracts cite, lowest first.
+pub mod Areas
+pub mod Answers

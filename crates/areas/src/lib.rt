@@ -1,0 +1,194 @@
+// Areas of allocation descriptors, read where they stand by a cursor that is passed by value.
+ghost use mathlib.Core.Path.{_≡_};
+ghost use mathlib.Core.Bool.{Bool};
+ghost use Prim.Native.Nat.{_+_, _<_};
+ghost use lib.ListN.{length};
+ghost use Rattle.records.specs.Allocations.{shortOf, longOf, extOf};
+ghost use Rattle.areas.specs.Areas.{sizeOf, says, shortSays, longSays, extSays, descriptorAt, nextOf, areaAt};
+use disc::refusals::Refusal;
+use records::allocations::ext_at;
+use records::allocations::long_at;
+use records::allocations::short_at;
+
+// The partition that a descriptor names: a short_ad names none.
+pub enum PartitionRef {
+    Unnamed,
+    Named(u16),
+}
+
+// `length` is the effective one: an ext_ad's information length, else the stored length.
+pub struct AllocExtent {
+    pub length: u32,
+    pub extent_type: u8,
+    pub block: u32,
+    pub partition_ref: PartitionRef,
+}
+
+// Where the next area stands.
+pub struct AdContinuation {
+    pub length: u32,
+    pub block: u32,
+    pub partition_ref: PartitionRef,
+}
+
+// `left` bytes of descriptors stand at `at`.
+pub struct AdCursor {
+    pub at: usize,
+    pub left: usize,
+}
+
+pub enum AdStep {
+    Extent(AllocExtent, AdCursor),
+    Continuation(AdContinuation),
+    End,
+    Refused(Refusal),
+}
+
+// How an area ends.
+pub enum AdEnding {
+    End,
+    Continuation(AdContinuation),
+    Refused(Refusal),
+}
+
+// What one descriptor says.
+enum Descriptor {
+    Stop,
+    Data(AllocExtent),
+    Continued(AdContinuation),
+    Compressed,
+}
+
+// How many bytes a descriptor of a kind takes.
+fn size_of(kind: u8) -> usize
+    ensures { λ r. ⌜ r ≡ sizeOf kind ⌝ }
+{
+    if kind == 0 {
+        return 8;
+    }
+    if kind == 1 {
+        return 16;
+    }
+    20
+}
+
+// `stored` is the extent as recorded, `effective` with its effective length. Length 0 is tested first: it ends an area even with type 3.
+fn says(stored: AllocExtent, whole: bool, effective: AllocExtent) -> Descriptor
+    ensures { λ r. ⌜ r ≡ says stored whole effective ⌝ }
+{
+    if stored.length == 0 {
+        return Descriptor::Stop;
+    }
+    if stored.extent_type == 3 {
+        let partition = stored.partition_ref;
+        return Descriptor::Continued(AdContinuation {
+            length: stored.length,
+            block: stored.block,
+            partition_ref: partition,
+        });
+    }
+    if whole {
+        return Descriptor::Data(effective);
+    }
+    Descriptor::Compressed
+}
+
+fn short_says(s: &[u8], i: usize) -> Descriptor
+    ensures { λ r. ⌜ r ≡ shortSays (shortOf (now (s .entry)) i) ⌝ }
+{
+    let a = short_at(s, i);
+    let e = AllocExtent {
+        length: a.length,
+        extent_type: a.extent_type,
+        block: a.block_location,
+        partition_ref: PartitionRef::Unnamed,
+    };
+    says(e, true, e)
+}
+
+fn long_says(s: &[u8], i: usize) -> Descriptor
+    ensures { λ r. ⌜ r ≡ longSays (longOf (now (s .entry)) i) ⌝ }
+{
+    let a = long_at(s, i);
+    let e = AllocExtent {
+        length: a.length,
+        extent_type: a.extent_type,
+        block: a.location.block,
+        partition_ref: PartitionRef::Named(a.location.partition_ref),
+    };
+    says(e, true, e)
+}
+
+fn ext_says(s: &[u8], i: usize) -> Descriptor
+    ensures { λ r. ⌜ r ≡ extSays (extOf (now (s .entry)) i) ⌝ }
+{
+    let a = ext_at(s, i);
+    let stored = AllocExtent {
+        length: a.length,
+        extent_type: a.extent_type,
+        block: a.location.block,
+        partition_ref: PartitionRef::Named(a.location.partition_ref),
+    };
+    let effective = AllocExtent {
+        length: a.information_length,
+        extent_type: a.extent_type,
+        block: a.location.block,
+        partition_ref: PartitionRef::Named(a.location.partition_ref),
+    };
+    says(stored, a.recorded_length == a.information_length, effective)
+}
+
+// The descriptor of a kind at `i`.
+fn descriptor_at(s: &[u8], kind: u8, i: usize) -> Descriptor
+    ensures { λ r. ⌜ r ≡ descriptorAt kind (now (s .entry)) i ⌝ }
+{
+    if kind == 0 {
+        return short_says(s, i);
+    }
+    if kind == 1 {
+        return long_says(s, i);
+    }
+    ext_says(s, i)
+}
+
+// The next descriptor of an area. Past the end of `s` all bytes are 0, and length 0 ends it.
+pub fn next_ad(s: &[u8], kind: u8, c: AdCursor) -> AdStep
+    ensures { λ r. ⌜ r ≡ nextOf kind (now (s .entry)) c ⌝ }
+{
+    let at = c.at;
+    let left = c.left;
+    let size = size_of(kind);
+    if left < size {
+        return AdStep::End;
+    }
+    if s.len() <= at {
+        return AdStep::End;
+    }
+    match descriptor_at(s, kind, at) {
+        Descriptor::Stop => AdStep::End,
+        Descriptor::Data(e) => AdStep::Extent(
+            e,
+            AdCursor {
+                at: at + size,
+                left: left - size,
+            },
+        ),
+        Descriptor::Continued(a) => AdStep::Continuation(a),
+        Descriptor::Compressed => AdStep::Refused(Refusal::Unsupported),
+    }
+}
+
+// How the area that the cursor stands for ends.
+pub fn ending_of(s: &[u8], kind: u8, c: AdCursor) -> AdEnding
+    ensures { λ r. ⌜ r ≡ areaAt kind (now (s .entry)) (c .at) (c .left) .ending ⌝ }
+{
+    let mut rest = c;
+    loop {
+        match next_ad(s, kind, rest) {
+            AdStep::Extent(_, next) => rest = next,
+            AdStep::Continuation(a) => return AdEnding::Continuation(a),
+            AdStep::End => return AdEnding::End,
+            AdStep::Refused(why) => return AdEnding::Refused(why),
+        }
+    }
+}

@@ -1,0 +1,28 @@
+-- The file set descriptor: which case of its definition the reader is in. Assumes nothing.
+use Prim.Native.Nat.{ℕ}
+use mathlib.Core.Path.{_≡_}
+use mathlib.Core.List.{List}
+use Rattle.disc.specs.declared.refusals.Refusal.{Refusal}
+use Rattle.records.specs.Allocations.{longOf}
+use Rattle.records.specs.declared.allocations.LongAd.{LongAd}
+use Rattle.tags.specs.declared.DescriptorTag.{DescriptorTag}
+use Rattle.tags.specs.declared.TagRead.{TagRead}
+use Rattle.tags.specs.declared.TagRead.the-variants.{Read, Refused}
+use Rattle.descriptors.specs.Heads.{readHead}
+use Rattle.descriptors.specs.FileSets.{noFileSet, readFileSet}
+use Rattle.descriptors.specs.declared.file_sets.FileSetRead.{FileSetRead}
+
+-- ---- what the reader's proof cites: `x` is what `read_head` gave
+
+module _ (s : List ℕ) {x : TagRead} where
+  pub file-set-no : {why : Refusal} {r : FileSetRead} → x ≡ readHead s 256 416 → x ≡ Refused why → r ≡ noFileSet why → r ≡ readFileSet s
+  unfolding readFileSet
+  file-set-no e h k = rw (← e, h) k
+
+  pub file-set-yes : {t : DescriptorTag} {root : LongAd}
+      → x ≡ readHead s 256 416
+      → x ≡ Read t
+      → root ≡ longOf s 400
+      → record { answer = 0; descriptor = record { tag = t; «root_directory_icb» = root } } ≡ readFileSet s
+  unfolding readFileSet
+  file-set-yes e h k = rw (← e, h, k)

@@ -1,0 +1,7 @@
+-- Laws of the descriptors, lowest first.
+pub mod HeadLaws
+pub mod LabelLaws
+pub mod VolumeLaws
+pub mod FileSetLaws
+pub mod AnswerLaws
+pub mod RecognitionLaws

@@ -1,0 +1,6 @@
+-- What the contracts cite, lowest first.
+pub mod Heads
+pub mod Volumes
+pub mod FileSets
+pub mod Answers
+pub mod Recognition

@@ -1,0 +1,51 @@
+// The file set descriptor: where the root directory is.
+ghost use mathlib.Core.Path.{_≡_};
+ghost use Rattle.descriptors.specs.FileSets.{readFileSet, noFileSet};
+use crate::heads::read_head;
+use disc::refusals::Refusal;
+use records::allocations::LongAd;
+use records::allocations::long_at;
+use records::allocations::no_long;
+use tags::DescriptorTag;
+use tags::TagRead;
+use tags::no_tag;
+
+pub struct FileSetDescriptor {
+    pub tag: DescriptorTag,
+    pub root_directory_icb: LongAd,
+}
+
+// An enum can hold no array, so the answer is a number, with zeros where it is a refusal.
+pub struct FileSetRead {
+    pub answer: u64,
+    pub descriptor: FileSetDescriptor,
+}
+
+fn no_file_set(why: Refusal) -> FileSetRead
+    ensures { λ r. ⌜ r ≡ noFileSet why ⌝ }
+{
+    FileSetRead {
+        answer: why.number(),
+        descriptor: FileSetDescriptor {
+            tag: no_tag(),
+            root_directory_icb: no_long(),
+        },
+    }
+}
+
+impl FileSetDescriptor {
+    pub fn parse(s: &[u8]) -> FileSetRead
+        ensures { λ r. ⌜ r ≡ readFileSet (now (s .entry)) ⌝ }
+    {
+        match read_head(s, 256, 416) {
+            TagRead::Refused(why) => no_file_set(why),
+            TagRead::Read(t) => FileSetRead {
+                answer: 0,
+                descriptor: FileSetDescriptor {
+                    tag: t,
+                    root_directory_icb: long_at(s, 400),
+                },
+            },
+        }
+    }
+}

@@ -1,0 +1,38 @@
+// Label fields: whether one can be decoded, and the bytes of one as an array.
+ghost use mathlib.Core.Path.{_≡_};
+ghost use Prim.Native.Nat.{_≤_};
+ghost use lib.ListN.{length, take, drop};
+ghost use Rattle.descriptors.specs.Heads.{decodes};
+use disc::moves::copy;
+use names::dstrings::NameSize;
+use names::fields::field_size;
+
+// Whether the d-string field `f` has a name.
+pub(crate) fn is_label(f: &[u8]) -> bool
+    ensures { λ r. ⌜ r ≡ decodes (now (f .entry)) ⌝ }
+{
+    match field_size(f) {
+        NameSize::Size(_) => true,
+        NameSize::Refused => false,
+    }
+}
+
+// The volume identifier of a primary volume descriptor, as recorded.
+pub(crate) fn volume_label(s: &[u8]) -> [u8; 32]
+    requires { ⌜ 56 ≤ length (now s) ⌝ }
+    ensures { λ r. ⌜ r ≡ take 32 (drop 24 (now (s .entry))) ⌝ }
+{
+    let mut label = [0u8; 32];
+    copy(&s[24..56], &mut label);
+    label
+}
+
+// The identifier of a logical volume descriptor, as recorded.
+pub(crate) fn logical_label(s: &[u8]) -> [u8; 128]
+    requires { ⌜ 440 ≤ length (now s) ⌝ }
+    ensures { λ r. ⌜ r ≡ take 128 (drop 84 (now (s .entry))) ⌝ }
+{
+    let mut label = [0u8; 128];
+    copy(&s[84..212], &mut label);
+    label
+}

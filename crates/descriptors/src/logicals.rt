@@ -1,0 +1,77 @@
+// The logical volume descriptor: the size of a block, and where the file set descriptor is.
+ghost use mathlib.Core.Path.{_≡_};
+ghost use Prim.Native.Nat.{_≤_};
+ghost use lib.ListN.{length};
+ghost use Rattle.descriptors.specs.Volumes.{readLogical, logicalBehind, noLogical};
+use crate::heads::read_head;
+use crate::labels::is_label;
+use crate::labels::logical_label;
+use disc::refusals::Refusal;
+use records::allocations::LongAd;
+use records::allocations::long_at;
+use records::allocations::no_long;
+use records::bytes::le32;
+use tags::DescriptorTag;
+use tags::TagRead;
+use tags::no_tag;
+
+// The identifier is the label's field as recorded. The block size is in bytes.
+pub struct LogicalVolumeDescriptor {
+    pub tag: DescriptorTag,
+    pub volume_descriptor_sequence_number: u32,
+    pub logical_volume_identifier: [u8; 128],
+    pub logical_block_size: u32,
+    pub file_set_descriptor_location: LongAd,
+}
+
+// An enum can hold no array, so the answer is a number, with zeros where it is a refusal.
+pub struct LogicalRead {
+    pub answer: u64,
+    pub descriptor: LogicalVolumeDescriptor,
+}
+
+fn no_logical(why: Refusal) -> LogicalRead
+    ensures { λ r. ⌜ r ≡ noLogical why ⌝ }
+{
+    LogicalRead {
+        answer: why.number(),
+        descriptor: LogicalVolumeDescriptor {
+            tag: no_tag(),
+            volume_descriptor_sequence_number: 0,
+            logical_volume_identifier: [0; 128],
+            logical_block_size: 0,
+            file_set_descriptor_location: no_long(),
+        },
+    }
+}
+
+// The descriptor in `s` behind its tag `t`.
+fn logical_behind(s: &[u8], t: DescriptorTag) -> LogicalRead
+    requires { ⌜ 440 ≤ length (now s) ⌝ }
+    ensures { λ r. ⌜ r ≡ logicalBehind (now (s .entry)) t ⌝ }
+{
+    if !is_label(&s[84..212]) {
+        return no_logical(Refusal::Malformed);
+    }
+    LogicalRead {
+        answer: 0,
+        descriptor: LogicalVolumeDescriptor {
+            tag: t,
+            volume_descriptor_sequence_number: le32(s, 16),
+            logical_volume_identifier: logical_label(s),
+            logical_block_size: le32(s, 212),
+            file_set_descriptor_location: long_at(s, 248),
+        },
+    }
+}
+
+impl LogicalVolumeDescriptor {
+    pub fn parse(s: &[u8]) -> LogicalRead
+        ensures { λ r. ⌜ r ≡ readLogical (now (s .entry)) ⌝ }
+    {
+        match read_head(s, 6, 440) {
+            TagRead::Refused(why) => no_logical(why),
+            TagRead::Read(t) => logical_behind(s, t),
+        }
+    }
+}

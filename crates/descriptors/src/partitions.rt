@@ -1,0 +1,42 @@
+// The partition descriptor: where the partition's blocks begin on the disc.
+ghost use mathlib.Core.Path.{_≡_};
+ghost use Rattle.descriptors.specs.Volumes.{readPartition};
+use crate::heads::read_head;
+use disc::refusals::Refusal;
+use records::bytes::le16;
+use records::bytes::le32;
+use tags::DescriptorTag;
+use tags::TagRead;
+
+// The start and the length are in logical sectors.
+pub struct PartitionDescriptor {
+    pub tag: DescriptorTag,
+    pub volume_descriptor_sequence_number: u32,
+    pub partition_flags: u16,
+    pub partition_number: u16,
+    pub partition_starting_location: u32,
+    pub partition_length: u32,
+}
+
+pub enum PartitionRead {
+    Read(PartitionDescriptor),
+    Refused(Refusal),
+}
+
+impl PartitionDescriptor {
+    pub fn parse(s: &[u8]) -> PartitionRead
+        ensures { λ r. ⌜ r ≡ readPartition (now (s .entry)) ⌝ }
+    {
+        match read_head(s, 5, 196) {
+            TagRead::Refused(why) => PartitionRead::Refused(why),
+            TagRead::Read(t) => PartitionRead::Read(PartitionDescriptor {
+                tag: t,
+                volume_descriptor_sequence_number: le32(s, 16),
+                partition_flags: le16(s, 20),
+                partition_number: le16(s, 22),
+                partition_starting_location: le32(s, 188),
+                partition_length: le32(s, 192),
+            }),
+        }
+    }
+}

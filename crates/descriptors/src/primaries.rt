@@ -1,0 +1,71 @@
+// The primary volume descriptor: the volume's label.
+ghost use mathlib.Core.Path.{_≡_};
+ghost use Prim.Native.Nat.{_≤_};
+ghost use lib.ListN.{length};
+ghost use Rattle.descriptors.specs.Volumes.{readPrimary, primaryBehind, noPrimary};
+use crate::heads::read_head;
+use crate::labels::is_label;
+use crate::labels::volume_label;
+use disc::refusals::Refusal;
+use records::bytes::le32;
+use tags::DescriptorTag;
+use tags::TagRead;
+use tags::no_tag;
+
+// The volume identifier is the label's field as recorded.
+pub struct PrimaryVolumeDescriptor {
+    pub tag: DescriptorTag,
+    pub volume_descriptor_sequence_number: u32,
+    pub primary_volume_descriptor_number: u32,
+    pub volume_identifier: [u8; 32],
+}
+
+// An enum can hold no array, so the answer is a number, with zeros where it is a refusal.
+pub struct PrimaryRead {
+    pub answer: u64,
+    pub descriptor: PrimaryVolumeDescriptor,
+}
+
+fn no_primary(why: Refusal) -> PrimaryRead
+    ensures { λ r. ⌜ r ≡ noPrimary why ⌝ }
+{
+    PrimaryRead {
+        answer: why.number(),
+        descriptor: PrimaryVolumeDescriptor {
+            tag: no_tag(),
+            volume_descriptor_sequence_number: 0,
+            primary_volume_descriptor_number: 0,
+            volume_identifier: [0; 32],
+        },
+    }
+}
+
+// The descriptor in `s` behind its tag `t`.
+fn primary_behind(s: &[u8], t: DescriptorTag) -> PrimaryRead
+    requires { ⌜ 56 ≤ length (now s) ⌝ }
+    ensures { λ r. ⌜ r ≡ primaryBehind (now (s .entry)) t ⌝ }
+{
+    if !is_label(&s[24..56]) {
+        return no_primary(Refusal::Malformed);
+    }
+    PrimaryRead {
+        answer: 0,
+        descriptor: PrimaryVolumeDescriptor {
+            tag: t,
+            volume_descriptor_sequence_number: le32(s, 16),
+            primary_volume_descriptor_number: le32(s, 20),
+            volume_identifier: volume_label(s),
+        },
+    }
+}
+
+impl PrimaryVolumeDescriptor {
+    pub fn parse(s: &[u8]) -> PrimaryRead
+        ensures { λ r. ⌜ r ≡ readPrimary (now (s .entry)) ⌝ }
+    {
+        match read_head(s, 1, 56) {
+            TagRead::Refused(why) => no_primary(why),
+            TagRead::Read(t) => primary_behind(s, t),
+        }
+    }
+}

@@ -1,0 +1,3 @@
+-- Laws of entries.
+pub mod NumberLaws
+pub mod EntryLaws

@@ -1,0 +1,91 @@
+-- The entry of a file, plain (ECMA-167 4/14.9) or extended (4/14.17): document 01, "Reading an entry". Assumes nothing: these are definitions.
+use Prim.Native.Nat.{ℕ, _+_, _%_}
+use mathlib.Core.Bool.{Bool, true, false}
+use mathlib.Core.List.{List}
+use lib.ListN.{length}
+use lib.Dec.{eqb, ltb}
+use Rattle.disc.specs.Choice.{pick}
+use Rattle.disc.specs.declared.refusals.Refusal.the-variants.{Malformed}
+use Rattle.records.specs.Bytes.{byte, u16at, u32at}
+use Rattle.tags.specs.Tags.{readTag}
+use Rattle.tags.specs.declared.DescriptorTag.{DescriptorTag}
+use Rattle.tags.specs.declared.TagRead.{TagRead}
+use Rattle.tags.specs.declared.TagRead.the-variants.{Read as ATag, Refused as NoTag}
+use Rattle.entries.specs.Bytes.{u64at}
+use Rattle.entries.specs.IcbTags.{icbTagOf}
+use Rattle.entries.specs.declared.«file_entries».ObjectSize.the-variants.{Recorded, Absent}
+use Rattle.entries.specs.declared.«file_entries».EntryTail.{EntryTail}
+use Rattle.entries.specs.declared.«file_entries».FileEntry.{FileEntry}
+use Rattle.entries.specs.declared.«file_entries».EntryRead.{EntryRead}
+use Rattle.entries.specs.declared.«file_entries».EntryRead.the-variants.{Read, Refused}
+
+-- the fields from 64 on of a plain entry (4/14.9.11 to 14.9.21) and of an extended one (4/14.17.11 to 14.17.24)
+unfoldable pub plainTail : List ℕ → EntryTail
+plainTail s = record {
+  prefix = 176;
+  «logical_blocks_recorded» = u64at s 64;
+  «object_size» = Absent;
+  attributes = u32at s 168;
+  descriptors = u32at s 172;
+}
+
+unfoldable pub extendedTail : List ℕ → EntryTail
+extendedTail s = record {
+  prefix = 216;
+  «logical_blocks_recorded» = u64at s 72;
+  «object_size» = Recorded (u64at s 64);
+  attributes = u32at s 208;
+  descriptors = u32at s 212;
+}
+
+-- the kind of descriptors, the low three bits of the ICB tag's flags (4/14.6.8): 0 short, 1 long, 2 ext, 3 embedded
+abbrev pub kindOf : List ℕ → ℕ
+kindOf s = u16at s 34 % 8
+
+-- every field at its offset (4/14.9.1 to 14.9.10 and 14.17.1 to 14.17.10 are alike); the area stands behind the attributes
+unfoldable pub entryOf : List ℕ → DescriptorTag → EntryTail → FileEntry
+entryOf s t d = record {
+  tag = t;
+  «icb_tag» = icbTagOf s 16;
+  uid = u32at s 36;
+  gid = u32at s 40;
+  permissions = u32at s 44;
+  «file_link_count» = u16at s 48;
+  «record_format» = byte s 50;
+  «record_display_attributes» = byte s 51;
+  «record_length» = u32at s 52;
+  «information_length» = u64at s 56;
+  «logical_blocks_recorded» = d .«logical_blocks_recorded»;
+  «object_size» = d .«object_size»;
+  «length_of_extended_attributes» = d .attributes;
+  «length_of_allocation_descriptors» = d .descriptors;
+  kind = kindOf s;
+  «area_at» = d .prefix + d .attributes;
+  «area_length» = d .descriptors;
+}
+
+-- the kind is at most 3, and attributes and area lie within the bytes given
+unfoldable pub entryWith : List ℕ → DescriptorTag → EntryTail → EntryRead
+entryWith s t d =
+    pick (ltb 3 (kindOf s)) (Refused Malformed)
+    (pick (ltb (length s) (d .prefix + d .attributes + d .descriptors)) (Refused Malformed)
+    (Read (entryOf s t d)))
+
+-- behind a tag with id 261 or 266
+unfoldable pub entryAfter : List ℕ → TagRead → EntryRead
+entryAfter s (NoTag r) = Refused r
+entryAfter s (ATag t) =
+    pick (eqb (t .id) 261) (entryWith s t (plainTail s))
+    (pick (eqb (t .id) 266) (pick (ltb (length s) 216) (Refused Malformed) (entryWith s t (extendedTail s)))
+    (Refused Malformed))
+
+-- reading an entry at the front of s
+unfoldable pub readEntry : List ℕ → EntryRead
+readEntry s = pick (ltb (length s) 176) (Refused Malformed) (entryAfter s (readTag s))
+
+-- file type 4 is a directory (4/14.6.6)
+abbrev pub isDirectory : FileEntry → Bool
+isDirectory e = eqb (e .«icb_tag» .«file_type») 4
+
+abbrev pub isExtended : FileEntry → Bool
+isExtended e = eqb (e .tag .id) 266

@@ -1,0 +1,173 @@
+// The entry of a file: a file entry or an extended one, read as one record.
+ghost use mathlib.Core.Path.{_≡_};
+ghost use Prim.Native.Nat.{_+_, _≤_, _<_};
+ghost use lib.ListN.{length};
+ghost use Rattle.entries.specs.FileEntries.{plainTail, extendedTail, entryOf, entryWith, entryAfter, readEntry, isDirectory, isExtended};
+use crate::bytes::le64;
+use crate::icb_tags::IcbTag;
+use crate::icb_tags::icb_tag_at;
+use disc::refusals::Refusal;
+use records::bytes::byte_at;
+use records::bytes::le16;
+use records::bytes::le32;
+use tags::DescriptorTag;
+use tags::TagRead;
+
+// The object size: a plain entry has none.
+pub enum ObjectSize {
+    Recorded(u64),
+    Absent,
+}
+
+// `area_at` and `area_length` say where in the bytes given the area of allocation descriptors, or the embedded file, stands.
+pub struct FileEntry {
+    pub tag: DescriptorTag,
+    pub icb_tag: IcbTag,
+    pub uid: u32,
+    pub gid: u32,
+    pub permissions: u32,
+    pub file_link_count: u16,
+    pub record_format: u8,
+    pub record_display_attributes: u8,
+    pub record_length: u32,
+    pub information_length: u64,
+    pub logical_blocks_recorded: u64,
+    pub object_size: ObjectSize,
+    pub length_of_extended_attributes: u32,
+    pub length_of_allocation_descriptors: u32,
+    pub kind: u8,
+    pub area_at: usize,
+    pub area_length: usize,
+}
+
+pub enum EntryRead {
+    Read(FileEntry),
+    Refused(Refusal),
+}
+
+// The fields from 64 on, where the two forms part. The attributes start at `prefix`.
+struct EntryTail {
+    prefix: usize,
+    logical_blocks_recorded: u64,
+    object_size: ObjectSize,
+    attributes: u32,
+    descriptors: u32,
+}
+
+fn plain_tail(s: &[u8]) -> EntryTail
+    ensures { λ r. ⌜ r ≡ plainTail (now (s .entry)) ⌝ }
+{
+    EntryTail {
+        prefix: 176,
+        logical_blocks_recorded: le64(s, 64),
+        object_size: ObjectSize::Absent,
+        attributes: le32(s, 168),
+        descriptors: le32(s, 172),
+    }
+}
+
+fn extended_tail(s: &[u8]) -> EntryTail
+    ensures { λ r. ⌜ r ≡ extendedTail (now (s .entry)) ⌝ }
+{
+    EntryTail {
+        prefix: 216,
+        logical_blocks_recorded: le64(s, 72),
+        object_size: ObjectSize::Recorded(le64(s, 64)),
+        attributes: le32(s, 208),
+        descriptors: le32(s, 212),
+    }
+}
+
+// Where the area stands: behind the attributes.
+fn area_start(d: EntryTail) -> usize
+    requires { ⌜ d .prefix ≤ 216 ⌝ }
+    ensures { λ r. ⌜ (r ≡ d .prefix + d .attributes) × (r < 0x1_0000_0100) ⌝ }
+{
+    d.prefix + d.attributes as usize
+}
+
+// Every field at its offset.
+fn entry_of(s: &[u8], t: DescriptorTag, d: EntryTail) -> FileEntry
+    requires { ⌜ (176 ≤ length (now s)) × (d .prefix ≤ 216) ⌝ }
+    ensures { λ r. ⌜ r ≡ entryOf (now (s .entry)) t d ⌝ }
+{
+    let object_size = d.object_size;
+    FileEntry {
+        tag: t,
+        icb_tag: icb_tag_at(s, 16),
+        uid: le32(s, 36),
+        gid: le32(s, 40),
+        permissions: le32(s, 44),
+        file_link_count: le16(s, 48),
+        record_format: byte_at(s, 50),
+        record_display_attributes: byte_at(s, 51),
+        record_length: le32(s, 52),
+        information_length: le64(s, 56),
+        logical_blocks_recorded: d.logical_blocks_recorded,
+        object_size: object_size,
+        length_of_extended_attributes: d.attributes,
+        length_of_allocation_descriptors: d.descriptors,
+        kind: (le16(s, 34) % 8) as u8,
+        area_at: area_start(d),
+        area_length: d.descriptors as usize,
+    }
+}
+
+// The entry, unless its kind is over 3 or its area ends past the bytes given.
+fn entry_with(s: &[u8], t: DescriptorTag, d: EntryTail) -> EntryRead
+    requires { ⌜ (176 ≤ length (now s)) × (d .prefix ≤ 216) ⌝ }
+    ensures { λ r. ⌜ r ≡ entryWith (now (s .entry)) t d ⌝ }
+{
+    if 3 < le16(s, 34) % 8 {
+        return EntryRead::Refused(Refusal::Malformed);
+    }
+    if s.len() < area_start(d) + d.descriptors as usize {
+        return EntryRead::Refused(Refusal::Malformed);
+    }
+    EntryRead::Read(entry_of(s, t, d))
+}
+
+// The entry behind the tag that was read at the front of `s`.
+fn entry_after(s: &[u8], r: TagRead) -> EntryRead
+    requires { ⌜ 176 ≤ length (now s) ⌝ }
+    ensures { λ e. ⌜ e ≡ entryAfter (now (s .entry)) r ⌝ }
+{
+    match r {
+        TagRead::Refused(why) => EntryRead::Refused(why),
+        TagRead::Read(t) => {
+            if t.id == 261 {
+                return entry_with(s, t, plain_tail(s));
+            }
+            if t.id == 266 {
+                if s.len() < 216 {
+                    return EntryRead::Refused(Refusal::Malformed);
+                }
+                return entry_with(s, t, extended_tail(s));
+            }
+            EntryRead::Refused(Refusal::Malformed)
+        }
+    }
+}
+
+impl FileEntry {
+    pub fn parse(s: &[u8]) -> EntryRead
+        ensures { λ r. ⌜ r ≡ readEntry (now (s .entry)) ⌝ }
+    {
+        if s.len() < 176 {
+            return EntryRead::Refused(Refusal::Malformed);
+        }
+        entry_after(s, DescriptorTag::parse(s))
+    }
+
+    pub fn is_directory(self) -> bool
+        ensures { λ r. ⌜ r ≡ isDirectory self ⌝ }
+    {
+        self.icb_tag.file_type == 4
+    }
+
+    pub fn is_extended(self) -> bool
+        ensures { λ r. ⌜ r ≡ isExtended self ⌝ }
+    {
+        self.tag.id == 266
+    }
+}

@@ -1,0 +1,201 @@
+-- Laws of file identifiers: the returns of the functions that read one, and what an identifier that was read says. Assumes nothing.
+use mathlib.Core.Path.{_≡_, refl, sym, ap, _∙_}
+use mathlib.Core.Bool.{Bool, true, false, _&&_}
+use mathlib.Core.List.{List}
+use mathlib.Core.Option.{Option, none, some}
+use Prim.Native.Nat.{ℕ, _+_, _-_, _*_, _/_, _≤_, _<_}
+use native.Mathlib.Omega.{arith}
+use lib.ListN.{length, getD, take, drop, length-take, List·getD-eq-default}
+use lib.Seq.{getD-take, getD-drop}
+use lib.Dec.{eqb, ltb, leb}
+use mir.Syntax.{w8}
+use mir.Val.{Fits}
+use mir.Facts.{fits-lit}
+use borrow.Author.Tests.{eq-eqb, ne-eqb, lt-ltb, le-ltb, eqb-true, ltb-true, ltb-false}
+use Rattle.disc.specs.Choice.{pick}
+use Rattle.disc.specs.Refusals.{number}
+use Rattle.disc.specs.declared.refusals.Refusal.{Refusal}
+use Rattle.disc.specs.declared.refusals.Refusal.the-variants.{Io, Malformed, NotBluray, Unsupported, NoRoom, NoWork, NoSlot, LongName}
+use Rattle.records.specs.Bytes.{byte, u16at}
+use Rattle.tags.specs.Tags.{accepted, tagOf, readTag}
+use Rattle.records.specs.Allocations.{longOf}
+use Rattle.records.specs.declared.allocations.LongAd.{LongAd}
+use Rattle.tags.specs.declared.DescriptorTag.{DescriptorTag}
+use Rattle.tags.specs.declared.TagRead.{TagRead}
+use Rattle.tags.specs.declared.TagRead.the-variants.{Read as ATag, Refused as NoTag}
+use Rattle.names.specs.Names.{nameOf, written, sizeOf}
+use Rattle.names.specs.declared.dstrings.NameSize.{NameSize}
+use Rattle.names.specs.declared.dstrings.NameSize.the-variants.{Size, Refused as NoName}
+use Rattle.names.proofs.BodyLaws.{Bytes}
+use Rattle.names.proofs.Promises.{name-short}
+use Rattle.identifiers.specs.declared.FileIdentifierDescriptor.{FileIdentifierDescriptor}
+use Rattle.identifiers.specs.declared.IdentifierRead.{IdentifierRead}
+use Rattle.identifiers.specs.Identifiers.{nameAt, nameEnd, recordedName, nextAt, identifierOf, refusedBy, identifierSized, identifierNamed, identifierAfter, readIdentifier}
+use Rattle.identifiers.specs.Wholes.{Whole}
+
+-- ---- the returns of the functions
+
+module _ (s : List ℕ) where
+  pub at-is : {n : ℕ} → n ≡ u16at s 36 → 38 + n ≡ nameAt s
+  unfolding nameAt
+  at-is e = rw e
+
+  module _ (t : DescriptorTag) where
+    pub fields-are : {a n v k : ℕ} {icb : LongAd} (size : ℕ) → a ≡ nameAt s → n ≡ byte s 19 → v ≡ u16at s 16 → k ≡ byte s 18 → icb ≡ longOf s 20
+        → record { tag = t; «file_version_number» = v; «file_characteristics» = k; icb = icb; «name_at» = a; «name_length» = n; «name_size» = size; «total_size» = (a + n + 3) / 4 * 4 } ≡ identifierOf s t size
+    unfolding identifierOf nextAt nameEnd
+    fields-are size a n v k i = cc
+
+    module _ {size : NameSize} where
+      pub sized-not : size ≡ NoName → {r : IdentifierRead} → r ≡ refusedBy Malformed → r ≡ identifierSized s t size
+      unfolding identifierSized
+      sized-not e k = rw e k
+
+      pub sized-whole : (n : ℕ) → size ≡ Size n → {f : FileIdentifierDescriptor} → f ≡ identifierOf s t n → record { answer = 0; descriptor = f } ≡ identifierSized s t size
+      unfolding identifierSized
+      sized-whole n e k = rw (e, k)
+
+    module _ {a n : ℕ} (e : a ≡ nameAt s) (f : n ≡ byte s 19) where
+      end-is : a + n ≡ nameEnd s
+      unfolding nameEnd
+      end-is = cc
+
+      pub named-over : length s < a + n → {r : IdentifierRead} → r ≡ refusedBy Malformed → r ≡ identifierNamed s t
+      unfolding identifierNamed
+      named-over h k = simp (lt-ltb (length s) (nameEnd s) (rw end-is at h)) k
+
+      pub named-sized : a + n ≤ length s → {size : NameSize} → size ≡ sizeOf (nameOf (take (a + n - a) (drop a s))) → {r : IdentifierRead} → r ≡ identifierSized s t size → r ≡ identifierNamed s t
+      unfolding identifierNamed recordedName
+      named-sized h z k =
+          let g : a + n - a ≡ n = omega arith in
+          simp (le-ltb (length s) (nameEnd s) (rw end-is at h)) (k ∙ ap (identifierSized s t) (z ∙ rw (g, e, f)))
+
+  module _ {q : TagRead} {r : IdentifierRead} where
+    pub after-refused : {why : Refusal} → q ≡ NoTag why → r ≡ refusedBy why → r ≡ identifierAfter s q
+    unfolding identifierAfter
+    after-refused e k = rw e k
+
+    module _ (t : DescriptorTag) (e : q ≡ ATag t) where
+      pub after-named : t .id ≡ 257 → r ≡ identifierNamed s t → r ≡ identifierAfter s q
+      unfolding identifierAfter
+      after-named h k = rw (e, eq-eqb (t .id) 257 h) k
+
+      pub after-other : (t .id ≡ 257 → ⊥) → r ≡ refusedBy Malformed → r ≡ identifierAfter s q
+      unfolding identifierAfter
+      after-other h k = rw (e, ne-eqb (t .id) 257 h) k
+
+  module _ {r : IdentifierRead} where
+    pub read-short : length s < 38 → r ≡ refusedBy Malformed → r ≡ readIdentifier s
+    unfolding readIdentifier
+    read-short h k = rw (lt-ltb (length s) 38 h) k
+
+    pub read-after : 38 ≤ length s → {q : TagRead} → q ≡ readTag s → r ≡ identifierAfter s q → r ≡ readIdentifier s
+    unfolding readIdentifier
+    read-after h e k = rw (le-ltb (length s) 38 h, ← e) k
+
+-- ---- what was read
+
+-- a tag that is refused is malformed
+tag-refused : (s : List ℕ) {why : Refusal} → readTag s ≡ NoTag why → why ≡ Malformed
+tag-refused s {why} e = told (leb 16 (length s) && accepted s) e
+  where
+    told : (b : Bool) → pick b (ATag (tagOf s)) (NoTag Malformed) ≡ NoTag why → why ≡ Malformed
+    told true q = absurd (let z : _≡_ {A = ℕ} 0 1 = cc in omega arith)
+    told false q = cc
+
+-- no refusal has number 0
+refusal-numbered : (why : Refusal) → number why ≡ 0 → ⊥
+refusal-numbered Io e = omega arith
+refusal-numbered Malformed e = omega arith
+refusal-numbered NotBluray e = omega arith
+refusal-numbered Unsupported e = omega arith
+refusal-numbered NoRoom e = omega arith
+refusal-numbered NoWork e = omega arith
+refusal-numbered NoSlot e = omega arith
+refusal-numbered LongName e = omega arith
+
+-- a part of bytes is bytes
+part-bytes : (s : List ℕ) (n m : ℕ) → Bytes s → Bytes (take n (drop m s))
+part-bytes s n m b i = told (ltb i n) refl
+  where
+    told : (x : Bool) → ltb i n ≡ x → Fits w8 (getD (take n (drop m s)) i 0)
+    told true e = rw (getD-take n (drop m s) i 0 (ltb-true i n e), getD-drop m s i 0) (b (m + i))
+    told false e =
+        let l : length (take n (drop m s)) ≤ i = rw length-take (omega (arith, ltb-false i n e)) in
+        rw (List·getD-eq-default (take n (drop m s)) 0 l) (fits-lit tt)
+
+sized-is : (o : Option (List ℕ)) {n : ℕ} → Size n ≡ sizeOf o → n ≡ length (written o)
+sized-is none e = absurd (let z : _≡_ {A = ℕ} 0 1 = cc in omega arith)
+sized-is (some name) e = cc
+
+module _ (s : List ℕ) (b : Bytes s) where
+  sized-says : (t : DescriptorTag) → readTag s ≡ ATag t → t .id ≡ 257 → nameEnd s ≤ length s → (z : NameSize) → z ≡ sizeOf (nameOf (recordedName s))
+      → identifierSized s t z .answer ≡ 0 → Whole s (identifierSized s t z .descriptor)
+  unfolding identifierSized identifierOf nameEnd nameAt recordedName nextAt
+  sized-says t g i w NoName z q = absurd (omega arith)
+  sized-says t g i w (Size n) z q =
+      let name : List ℕ = take (byte s 19) (drop (nameAt s) s) in
+      let size : n ≡ length (written (nameOf name)) = sized-is (nameOf name) z in
+      let least : length (written (nameOf name)) ≤ 2 * (length name - 1) = name-short name (part-bytes s (byte s 19) (nameAt s) b) in
+      let long : length name ≤ byte s 19 = rw length-take (omega arith) in
+      let few : byte s 19 < 256 = b 19 .fits in
+      record {
+        tag = g;
+        id = i;
+        version = refl;
+        characteristics = refl;
+        icb = refl;
+        from = refl;
+        recorded = refl;
+        named = sym z;
+        size = size;
+        next = refl;
+        head = omega arith;
+        within = w;
+        few = omega arith;
+        brief = omega arith;
+        short = omega arith;
+        on = omega arith;
+        near = omega arith;
+      }
+
+  after-says : (q : TagRead) → readTag s ≡ q → identifierAfter s q .answer ≡ 0 → Whole s (identifierAfter s q .descriptor)
+  unfolding identifierAfter identifierNamed
+  after-says (NoTag why) g z = absurd (refusal-numbered why z)
+  after-says (ATag t) g z = told (eqb (t .id) 257) (ltb (length s) (nameEnd s)) refl refl z
+    where
+      told : (x y : Bool) → eqb (t .id) 257 ≡ x → ltb (length s) (nameEnd s) ≡ y
+          → pick x (pick y (refusedBy Malformed) (identifierSized s t (sizeOf (nameOf (recordedName s))))) (refusedBy Malformed) .answer ≡ 0
+          → Whole s (pick x (pick y (refusedBy Malformed) (identifierSized s t (sizeOf (nameOf (recordedName s))))) (refusedBy Malformed) .descriptor)
+      told false y e f z = absurd (omega arith)
+      told true true e f z = absurd (omega arith)
+      told true false e f z = sized-says t g (eqb-true _ _ e) (ltb-false _ _ f) (sizeOf (nameOf (recordedName s))) refl z
+
+  -- an answer of 0 says it all
+  pub read-identifier : {r : IdentifierRead} → r ≡ readIdentifier s → r .answer ≡ 0 → Whole s (r .descriptor)
+  unfolding readIdentifier
+  read-identifier e z = rw e (told (ltb (length s) 38) (rw e at z))
+    where
+      told : (x : Bool) → pick x (refusedBy Malformed) (identifierAfter s (readTag s)) .answer ≡ 0
+          → Whole s (pick x (refusedBy Malformed) (identifierAfter s (readTag s)) .descriptor)
+      told true z = absurd (omega arith)
+      told false z = after-says (readTag s) refl z
+
+-- and any other answer is 2, with zeros
+pub read-identifier-refused : (s : List ℕ) {r : IdentifierRead} → r ≡ readIdentifier s → (r .answer ≡ 0 → ⊥) → r ≡ refusedBy Malformed
+unfolding readIdentifier identifierAfter identifierNamed identifierSized
+read-identifier-refused s e n = e ∙ told (ltb (length s) 38) (readTag s) refl (λ z. n (rw e z))
+  where
+    tagged : (t : DescriptorTag) (x y : Bool) (z : NameSize)
+        → (pick x (pick y (refusedBy Malformed) (identifierSized s t z)) (refusedBy Malformed) .answer ≡ 0 → ⊥)
+        → pick x (pick y (refusedBy Malformed) (identifierSized s t z)) (refusedBy Malformed) ≡ refusedBy Malformed
+    tagged t false y z n = refl
+    tagged t true true z n = refl
+    tagged t true false NoName n = refl
+    tagged t true false (Size k) n = absurd (n refl)
+
+    told : (x : Bool) (q : TagRead) → readTag s ≡ q → (pick x (refusedBy Malformed) (identifierAfter s q) .answer ≡ 0 → ⊥)
+        → pick x (refusedBy Malformed) (identifierAfter s q) ≡ refusedBy Malformed
+    told true q g n = refl
+    told false (NoTag why) g n = ap refusedBy (tag-refused s g)
+    told false (ATag t) g n = tagged t (eqb (t .id) 257) (ltb (length s) (nameEnd s)) (sizeOf (nameOf (recordedName s))) n

@@ -1,0 +1,2 @@
+-- Laws of file identifiers.
+pub mod IdentifierLaws

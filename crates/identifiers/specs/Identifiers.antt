@@ -1,0 +1,102 @@
+-- The file identifier, one entry of a directory (ECMA-167 4/14.4): document 01, "Directories and paths". Assumes nothing: these are definitions.
+use Prim.Native.Nat.{ℕ, _+_, _*_, _/_, _%_}
+use mathlib.Core.Bool.{Bool, true, false}
+use mathlib.Core.List.{List}
+use lib.ListN.{length, take, drop}
+use lib.Dec.{eqb, ltb}
+use Rattle.disc.specs.Choice.{pick}
+use Rattle.disc.specs.Refusals.{number}
+use Rattle.disc.specs.declared.refusals.Refusal.{Refusal}
+use Rattle.disc.specs.declared.refusals.Refusal.the-variants.{Malformed}
+use Rattle.records.specs.Bytes.{byte, u16at}
+use Rattle.tags.specs.Tags.{readTag}
+use Rattle.records.specs.Allocations.{longOf, noLong}
+use Rattle.tags.specs.Answers.{noTag}
+use Rattle.tags.specs.declared.DescriptorTag.{DescriptorTag}
+use Rattle.tags.specs.declared.TagRead.{TagRead}
+use Rattle.tags.specs.declared.TagRead.the-variants.{Read as ATag, Refused as NoTag}
+use Rattle.names.specs.Names.{nameOf, sizeOf}
+use Rattle.names.specs.declared.dstrings.NameSize.{NameSize}
+use Rattle.names.specs.declared.dstrings.NameSize.the-variants.{Size, Refused as NoName}
+use Rattle.identifiers.specs.declared.FileIdentifierDescriptor.{FileIdentifierDescriptor}
+use Rattle.identifiers.specs.declared.IdentifierRead.{IdentifierRead}
+
+-- ---- the name
+
+-- it stands behind the implementation use, whose length is at 36 (4/14.4.7 to 14.4.9); its own length is at 19 (4/14.4.4)
+unfoldable pub nameAt : List ℕ → ℕ
+nameAt s = 38 + u16at s 36
+
+unfoldable pub nameEnd : List ℕ → ℕ
+nameEnd s = nameAt s + byte s 19
+
+-- the d-string as it is recorded
+unfoldable pub recordedName : List ℕ → List ℕ
+recordedName s = take (byte s 19) (drop (nameAt s) s)
+
+-- the next identifier starts at the end of this one, rounded up to 4 (4/14.4.9)
+unfoldable pub nextAt : List ℕ → ℕ
+nextAt s = (nameEnd s + 3) / 4 * 4
+
+-- ---- the record
+
+-- every field at its offset (4/14.4.1 to 14.4.6); the name has n bytes of UTF-8
+unfoldable pub identifierOf : List ℕ → DescriptorTag → ℕ → FileIdentifierDescriptor
+identifierOf s t n = record {
+  tag = t;
+  «file_version_number» = u16at s 16;
+  «file_characteristics» = byte s 18;
+  icb = longOf s 20;
+  «name_at» = nameAt s;
+  «name_length» = byte s 19;
+  «name_size» = n;
+  «total_size» = nextAt s;
+}
+
+abbrev pub noIdentifier : FileIdentifierDescriptor
+noIdentifier = record {
+  tag = noTag;
+  «file_version_number» = 0;
+  «file_characteristics» = 0;
+  icb = noLong;
+  «name_at» = 0;
+  «name_length» = 0;
+  «name_size» = 0;
+  «total_size» = 0;
+}
+
+abbrev pub refusedBy : Refusal → IdentifierRead
+refusedBy why = record { answer = number why; descriptor = noIdentifier }
+
+-- a bad d-string is refused
+unfoldable pub identifierSized : List ℕ → DescriptorTag → NameSize → IdentifierRead
+identifierSized s t NoName = refusedBy Malformed
+identifierSized s t (Size n) = record { answer = 0; descriptor = identifierOf s t n }
+
+-- before that, a name that ends past the bytes given
+unfoldable pub identifierNamed : List ℕ → DescriptorTag → IdentifierRead
+identifierNamed s t = pick (ltb (length s) (nameEnd s)) (refusedBy Malformed) (identifierSized s t (sizeOf (nameOf (recordedName s))))
+
+-- behind a tag with id 257
+unfoldable pub identifierAfter : List ℕ → TagRead → IdentifierRead
+identifierAfter s (NoTag why) = refusedBy why
+identifierAfter s (ATag t) = pick (eqb (t .id) 257) (identifierNamed s t) (refusedBy Malformed)
+
+-- reading an identifier at the front of s
+unfoldable pub readIdentifier : List ℕ → IdentifierRead
+readIdentifier s = pick (ltb (length s) 38) (refusedBy Malformed) (identifierAfter s (readTag s))
+
+-- ---- the characteristics (4/14.4.3)
+
+-- a bit by its weight
+abbrev pub bit : ℕ → ℕ → Bool
+bit weight b = eqb (b / weight % 2) 1
+
+abbrev pub isDirectory : FileIdentifierDescriptor → Bool
+isDirectory f = bit 2 (f .«file_characteristics»)
+
+abbrev pub isDeleted : FileIdentifierDescriptor → Bool
+isDeleted f = bit 4 (f .«file_characteristics»)
+
+abbrev pub isParent : FileIdentifierDescriptor → Bool
+isParent f = bit 8 (f .«file_characteristics»)

@@ -1,0 +1,148 @@
+// File identifiers: one entry of a directory.
+ghost use mathlib.Core.Path.{_≡_};
+ghost use Prim.Native.Nat.{_≤_, _<_};
+ghost use lib.ListN.{length};
+ghost use Rattle.identifiers.specs.Identifiers.{nameAt, refusedBy, identifierOf, identifierSized, identifierNamed, identifierAfter, readIdentifier, isDeleted, isDirectory, isParent};
+use disc::refusals::Refusal;
+use names::dstrings::NameSize;
+use names::dstrings::name_size;
+use records::allocations::LongAd;
+use records::allocations::long_at;
+use records::allocations::no_long;
+use records::bytes::byte_at;
+use records::bytes::le16;
+use tags::DescriptorTag;
+use tags::TagRead;
+use tags::no_tag;
+
+// The recorded name, a d-string of `name_length` bytes, stands at `name_at`; as UTF-8 it has `name_size` bytes. The next identifier
+// starts `total_size` bytes on.
+pub struct FileIdentifierDescriptor {
+    pub tag: DescriptorTag,
+    pub file_version_number: u16,
+    pub file_characteristics: u8,
+    pub icb: LongAd,
+    pub name_at: usize,
+    pub name_length: usize,
+    pub name_size: usize,
+    pub total_size: usize,
+}
+
+// An enum can hold no array, so the answer is a number, with zeros where it is a refusal.
+pub struct IdentifierRead {
+    pub answer: u64,
+    pub descriptor: FileIdentifierDescriptor,
+}
+
+fn refused_by(why: Refusal) -> IdentifierRead
+    ensures { λ r. ⌜ r ≡ refusedBy why ⌝ }
+{
+    IdentifierRead {
+        answer: why.number(),
+        descriptor: FileIdentifierDescriptor {
+            tag: no_tag(),
+            file_version_number: 0,
+            file_characteristics: 0,
+            icb: no_long(),
+            name_at: 0,
+            name_length: 0,
+            name_size: 0,
+            total_size: 0,
+        },
+    }
+}
+
+// Where the name starts, behind the implementation use.
+fn name_at(s: &[u8]) -> usize
+    ensures { λ r. ⌜ (r ≡ nameAt (now (s .entry))) × (r < 65574) ⌝ }
+{
+    38 + le16(s, 36) as usize
+}
+
+// Every field at its offset; the name has `size` bytes of UTF-8.
+fn identifier_of(s: &[u8], t: DescriptorTag, size: usize) -> FileIdentifierDescriptor
+    ensures { λ r. ⌜ r ≡ identifierOf (now (s .entry)) t size ⌝ }
+{
+    let at = name_at(s);
+    let n = byte_at(s, 19) as usize;
+    FileIdentifierDescriptor {
+        tag: t,
+        file_version_number: le16(s, 16),
+        file_characteristics: byte_at(s, 18),
+        icb: long_at(s, 20),
+        name_at: at,
+        name_length: n,
+        name_size: size,
+        total_size: (at + n + 3) / 4 * 4,
+    }
+}
+
+// The identifier, unless its name is no d-string.
+fn identifier_sized(s: &[u8], t: DescriptorTag, size: NameSize) -> IdentifierRead
+    ensures { λ r. ⌜ r ≡ identifierSized (now (s .entry)) t size ⌝ }
+{
+    match size {
+        NameSize::Refused => refused_by(Refusal::Malformed),
+        NameSize::Size(n) => IdentifierRead {
+            answer: 0,
+            descriptor: identifier_of(s, t, n),
+        },
+    }
+}
+
+// The same, unless its name ends past the bytes given.
+fn identifier_named(s: &[u8], t: DescriptorTag) -> IdentifierRead
+    ensures { λ r. ⌜ r ≡ identifierNamed (now (s .entry)) t ⌝ }
+{
+    let at = name_at(s);
+    let end = at + byte_at(s, 19) as usize;
+    if s.len() < end {
+        return refused_by(Refusal::Malformed);
+    }
+    identifier_sized(s, t, name_size(&s[at..end]))
+}
+
+// The identifier behind the tag that was read at the front of `s`.
+fn identifier_after(s: &[u8], r: TagRead) -> IdentifierRead
+    ensures { λ a. ⌜ a ≡ identifierAfter (now (s .entry)) r ⌝ }
+{
+    match r {
+        TagRead::Refused(why) => refused_by(why),
+        TagRead::Read(t) => {
+            if t.id == 257 {
+                identifier_named(s, t)
+            } else {
+                refused_by(Refusal::Malformed)
+            }
+        }
+    }
+}
+
+impl FileIdentifierDescriptor {
+    pub fn parse(s: &[u8]) -> IdentifierRead
+        ensures { λ r. ⌜ r ≡ readIdentifier (now (s .entry)) ⌝ }
+    {
+        if s.len() < 38 {
+            return refused_by(Refusal::Malformed);
+        }
+        identifier_after(s, DescriptorTag::parse(s))
+    }
+
+    pub fn is_directory(self) -> bool
+        ensures { λ r. ⌜ r ≡ isDirectory self ⌝ }
+    {
+        self.file_characteristics / 2 % 2 == 1
+    }
+
+    pub fn is_deleted(self) -> bool
+        ensures { λ r. ⌜ r ≡ isDeleted self ⌝ }
+    {
+        self.file_characteristics / 4 % 2 == 1
+    }
+
+    pub fn is_parent(self) -> bool
+        ensures { λ r. ⌜ r ≡ isParent self ⌝ }
+    {
+        self.file_characteristics / 8 % 2 == 1
+    }
+}

@@ -1,0 +1,257 @@
+// Runs the cases of names, a line each: d-strings and d-string fields as UTF-8, outputs with too little room, and matching. A line has
+// what was asked, its bytes in hex, and what was answered: a name's size and bytes.
+ghost use Prim.Native.Nat.{_≤_};
+ghost use lib.ListN.{length};
+use libc::STDOUT_FILENO;
+use names::dstrings::NameSize;
+use names::dstrings::name_size;
+use names::dstrings::put_name;
+use names::fields::field_size;
+use names::fields::put_field;
+use names::matching::is_named;
+use names::matching::same_name;
+
+fn say(text: &[u8]) {
+    io::write_all(STDOUT_FILENO, text);
+}
+
+fn wide(b: u8) -> u64 {
+    b as u64
+}
+
+// A space and two hex digits for each of the first n bytes of b, or of all if it has fewer.
+fn say_bytes(b: &[u8], n: usize) {
+    let mut i = 0;
+    while i < b.len() {
+        if i == n {
+            return;
+        }
+        say(b" ");
+        io::print_hex(STDOUT_FILENO, wide(b[i]), 2);
+        i += 1;
+    }
+}
+
+// What was asked, and of which bytes.
+fn asked(what: &[u8], b: &[u8]) {
+    say(what);
+    say_bytes(b, b.len());
+}
+
+// What was answered for a name, and the name, which stands at the front of b.
+fn say_name(size: NameSize, b: &[u8]) {
+    match size {
+        NameSize::Size(n) => {
+            say(b": ");
+            io::print_decimal(STDOUT_FILENO, n as u64);
+            say_bytes(b, n);
+            say(b"\n");
+        }
+        NameSize::Refused => say(b": refused\n"),
+    }
+}
+
+fn say_match(yes: bool) {
+    if yes {
+        say(b": match\n");
+    } else {
+        say(b": no match\n");
+    }
+}
+
+// The name of a d-string.
+fn name(s: &[u8]) {
+    let mut out = [0u8; 64];
+    put_name(s, &mut out);
+    asked(b"name", s);
+    say_name(name_size(s), &out);
+}
+
+// The name in a d-string field.
+fn field(f: &[u8]) {
+    let mut out = [0u8; 64];
+    put_field(f, &mut out);
+    asked(b"field", f);
+    say_name(field_size(f), &out);
+}
+
+// The same for a field of 32 bytes that is full of the letter A under id 8, and whose last byte says `length`.
+fn full_field(length: u8) {
+    let mut f = [0x41u8; 32];
+    f[0] = 8;
+    f[31] = length;
+    field(&f);
+}
+
+// A name put into the first `room` bytes of out, of which all are shown.
+fn put_front(s: &[u8], room: usize, out: &mut [u8])
+    requires { ⌜ room ≤ length (now out) ⌝ }
+{
+    let n = put_name(s, &mut out[..room]);
+    io::print_decimal(STDOUT_FILENO, n as u64);
+    say_bytes(out, out.len());
+}
+
+// The same of eight bytes EE: what has no room is left out, and what is behind stays.
+fn into(room: usize, s: &[u8])
+    requires { ⌜ room ≤ 8 ⌝ }
+{
+    let mut out = [0xeeu8; 8];
+    asked(b"into", s);
+    say(b": ");
+    put_front(s, room, &mut out);
+    say(b"\n");
+}
+
+// Whether two names match.
+fn same(a: &[u8], b: &[u8]) {
+    asked(b"same", a);
+    asked(b",", b);
+    say_match(same_name(a, b));
+}
+
+// Whether a d-string names a component.
+fn named(s: &[u8], component: &[u8]) {
+    asked(b"named", s);
+    asked(b",", component);
+    say_match(is_named(s, component));
+}
+
+// Cases 9 to 13 of the worked table.
+fn worked() {
+    name(b"\x08A\x00B");
+    name(b"\x10\x00A\xd8\x00\x00B");
+    name(b"\x10\x00A\x00");
+    name(b"\x08\xe9");
+    name(b"\xfe");
+}
+
+// No bytes, and the ids that are read.
+fn read_ids() {
+    name(b"");
+    name(b"\x00A");
+    name(b"\x08A");
+    name(b"\x10\x00A");
+}
+
+fn refused_ids() {
+    name(b"\x01A");
+    name(b"\x07A");
+    name(b"\x09A");
+    name(b"\x0f\x00A");
+    name(b"\x11\x00A");
+    name(b"\xfeA");
+    name(b"\xffA");
+}
+
+// Even and odd numbers of bytes behind id 16.
+fn counts() {
+    name(b"\x10");
+    name(b"\x10\x00");
+    name(b"\x10\x00A\x00");
+    name(b"\x10\x00A\x00B");
+    name(b"\x10\x00\x00\x00A\x00");
+}
+
+// Code points on both sides of each size.
+fn points() {
+    name(b"\x08\x7f");
+    name(b"\x08\x80");
+    name(b"\x08\xff");
+    name(b"\x10\x00\x7f");
+    name(b"\x10\x00\x80");
+    name(b"\x10\x07\xff");
+    name(b"\x10\x08\x00");
+}
+
+// Around the surrogates, and the last value.
+fn surrogates() {
+    name(b"\x10\xd7\xff");
+    name(b"\x10\xd8\x00");
+    name(b"\x10\xdf\xff");
+    name(b"\x10\xe0\x00");
+    name(b"\x10\xff\xff");
+}
+
+fn zeros() {
+    name(b"\x08\x00A");
+    name(b"\x08AB\x00C");
+    name(b"\x10\x00\x00\x00A");
+    name(b"\x10\x00A\x00\x00\x00B");
+    name(b"\x10\x01\x00\x00A");
+}
+
+fn fields() {
+    field(b"");
+    field(b"\x00");
+    field(b"\x01");
+    field(b"\x09A\x02");
+    full_field(0);
+    full_field(1);
+    full_field(2);
+    full_field(31);
+    full_field(32);
+    full_field(255);
+}
+
+fn rooms() {
+    into(4, b"\x08ABCD");
+    into(3, b"\x08ABCD");
+    into(3, b"\x08\xe9\xe8");
+    into(3, b"\x10\xff\xff");
+    into(4, b"\x10\xff\xff\x20\xac");
+    into(4, b"\x09ABCD");
+    into(0, b"\x08A");
+}
+
+fn matches() {
+    same(b"BDMV", b"BDMV");
+    same(b"BDMV", b"bdmv");
+    same(b"10.1A", b"10.1a");
+    same(b"AZ", b"az");
+    same(b"", b"");
+}
+
+fn no_matches() {
+    same(b"@", b"`");
+    same(b"[", b"{");
+    same(b"BDMV", b"BDM");
+    same(b"BDM", b"BDMV");
+    same(b"BDMV", b"BDMW");
+    same(b"\xc3\xa9", b"\xc3\x89");
+}
+
+fn components() {
+    named(b"\x08BDMV", b"bdmv");
+    named(b"\x10\x20\xac", b"\xe2\x82\xac");
+    named(b"\x08BDMV", b"BDM");
+    named(b"", b"");
+    named(b"\xfe", b"");
+}
+
+// The longest d-string of a directory entry, and one byte more.
+fn long_component() {
+    let mut s = [0x41u8; 256];
+    s[0] = 8;
+    let component = [0x61u8; 255];
+    say(b"named, 255 bytes");
+    say_match(is_named(&s[..255], &component[..254]));
+    say(b"named, 256 bytes");
+    say_match(is_named(&s, &component));
+}
+
+fn main() {
+    worked();
+    read_ids();
+    refused_ids();
+    counts();
+    points();
+    surrogates();
+    zeros();
+    fields();
+    rooms();
+    matches();
+    no_matches();
+    components();
+    long_component();
+}

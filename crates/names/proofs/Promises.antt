@@ -1,0 +1,126 @@
+-- What is proved of names: how long one is, what matching is, that a contract by `Wrote` leaves one result, and cases 9 to 13 of the
+-- worked table. Assumes nothing.
+use mathlib.Core.Path.{_≡_, refl, sym, ap, _∙_}
+use mathlib.Core.Bool.{Bool, true, false}
+use mathlib.Core.List.{List, [], _∷_, map}
+use mathlib.Core.Logic.{_⊎_, inl, inr}
+use mathlib.Core.Option.{Option, none, some}
+use Prim.Native.Nat.{ℕ, suc, _+_, _-_, _*_, _%_, _<_, _≤_, zero-le}
+use native.Mathlib.Omega.{arith}
+use lib.ListN.{length}
+use lib.Dec.{eqb}
+use borrow.Author.Tests.{eqb-true, eq-eqb, lt-ltb, le-ltb}
+use Rattle.disc.specs.Choice.{pick}
+use Rattle.names.specs.declared.dstrings.NameSize.{NameSize}
+use Rattle.names.specs.declared.dstrings.NameSize.the-variants.{Size}
+use Rattle.names.specs.Names.{Wrote, pairs, untilZero, surrogate, dropSurrogates, encode, utf8, nameOf, written, sizeOf, lower, sameName}
+use Rattle.names.proofs.BodyLaws.{Bytes, pick-both, short-bytes, short-pairs}
+
+-- ---- d-strings
+
+-- Under id 8 no code point would be dropped as a surrogate.
+pub bytes-kept : (s : List ℕ) → Bytes s → dropSurrogates (untilZero s) ≡ untilZero s
+unfolding untilZero dropSurrogates surrogate
+bytes-kept [] b = refl
+bytes-kept (u ∷ s) b =
+    let l : u < 256 = b 0 .fits in
+    elim (eqb u 0) as (λ z. dropSurrogates (pick z [] (u ∷ untilZero s)) ≡ pick z [] (u ∷ untilZero s)) [ true ↦ refl | false ↦ simp (lt-ltb u 0xd800 (omega arith)) (ap (λ (r : List ℕ). u ∷ r) (bytes-kept s (λ i. b (suc i)))) ]
+
+-- A name of at most two bytes for each of n.
+abbrev Short : ℕ → Option (List ℕ) → Type 0
+Short n name = length (written name) ≤ 2 * n
+
+short-after : (id : ℕ) (s : List ℕ) → Bytes s → Short (length s) (nameOf (id ∷ s))
+unfolding nameOf
+short-after id s b =
+    let n = length s in
+    let whole : length (utf8 (untilZero s)) ≤ 2 * n = rw (bytes-kept s b) at (short-bytes s b) in
+    pick-both (Short n) (eqb id 0) zero-le
+    (pick-both (Short n) (eqb id 8) whole
+    (pick-both (Short n) (eqb id 16) (pick-both (Short n) (eqb (n % 2) 1) zero-le (short-pairs s))
+    zero-le))
+
+-- A name has at most two bytes of UTF-8 for each byte of the body.
+pub name-short : (s : List ℕ) → Bytes s → length (written (nameOf s)) ≤ 2 * (length s - 1)
+unfolding nameOf
+name-short [] b = zero-le
+name-short (id ∷ s) b = omega (arith, short-after id s (λ i. b (suc i)))
+
+-- A name from at most 255 recorded bytes has at most 508.
+pub at-most-508 : (s : List ℕ) → Bytes s → length s ≤ 255 → length (written (nameOf s)) ≤ 508
+at-most-508 s b h = omega (arith, name-short s b)
+
+-- The same of what `name_size` answers, r.
+pub name-size-508 : (s : List ℕ) {r : NameSize} {n : ℕ} → Bytes s → length s ≤ 255 → r ≡ sizeOf (nameOf s) → r ≡ Size n → n ≤ 508
+name-size-508 s b h e k = sized (nameOf s) (sym e ∙ k) (at-most-508 s b h)
+  where
+    sized : (o : Option (List ℕ)) {n m : ℕ} → sizeOf o ≡ Size n → length (written o) ≤ m → n ≤ m
+    sized none e h = absurd (let z : _≡_ {A = ℕ} 0 1 = cc in omega arith)
+    sized (some name) {n} e h = let z : n ≡ length name = cc in omega arith
+
+-- A contract by `Wrote` leaves one result.
+pub wrote-one : {t b a a′ : List ℕ} {r r′ : ℕ} → Wrote t b a r → Wrote t b a′ r′ → (r ≡ r′) × (a ≡ a′)
+wrote-one p q = (cc, cc)
+
+-- ---- matching
+
+-- A capital letter is folded to the letter 32 above.
+pub folds-letters : (b : ℕ) → 0x41 ≤ b → b ≤ 0x5a → lower b ≡ b + 32
+unfolding lower
+folds-letters b h k = simp (le-ltb b 0x41 h, lt-ltb b 0x5b (omega arith))
+
+-- Nothing else is folded.
+pub folds-nothing-else : (b : ℕ) → (b < 0x41) ⊎ (0x5a < b) → lower b ≡ b
+unfolding lower
+folds-nothing-else b (inl h) = simp (lt-ltb b 0x41 h)
+folds-nothing-else b (inr h) = simp (le-ltb b 0x41 (omega arith), le-ltb b 0x5b (omega arith))
+
+both-true : (a b : Bool) → pick a b false ≡ true → (a ≡ true) × (b ≡ true)
+both-true true b e = (refl, e)
+both-true false b e = absurd (let z : _≡_ {A = ℕ} 0 1 = cc in omega arith)
+
+same-to : (a b : List ℕ) → sameName a b ≡ true → map lower a ≡ map lower b
+unfolding sameName
+same-to [] [] e = refl
+same-to [] (y ∷ t) e = absurd (let z : _≡_ {A = ℕ} 0 1 = cc in omega arith)
+same-to (x ∷ s) [] e = absurd (let z : _≡_ {A = ℕ} 0 1 = cc in omega arith)
+same-to (x ∷ s) (y ∷ t) e =
+    let h = both-true (eqb (lower x) (lower y)) (sameName s t) e in
+    let p : lower x ≡ lower y = eqb-true (lower x) (lower y) (h .0) in
+    let q = same-to s t (h .1) in
+    cc
+
+same-from : (a b : List ℕ) → map lower a ≡ map lower b → sameName a b ≡ true
+unfolding sameName
+same-from [] [] e = refl
+same-from [] (y ∷ t) e = absurd (let z : _≡_ {A = ℕ} 0 1 = cc in omega arith)
+same-from (x ∷ s) [] e = absurd (let z : _≡_ {A = ℕ} 0 1 = cc in omega arith)
+same-from (x ∷ s) (y ∷ t) e =
+    let p : lower x ≡ lower y = cc in
+    let q : map lower s ≡ map lower t = cc in
+    rw (eq-eqb (lower x) (lower y) p) (same-from s t q)
+
+-- Two names match exactly where they are equal once folded.
+pub same-folded : (a b : List ℕ) → (sameName a b ≡ true → map lower a ≡ map lower b) × (map lower a ≡ map lower b → sameName a b ≡ true)
+same-folded a b = (same-to a b, same-from a b)
+
+pub same-reflexive : (a : List ℕ) → sameName a a ≡ true
+same-reflexive a = same-from a a refl
+
+pub same-symmetric : (a b : List ℕ) → sameName a b ≡ true → sameName b a ≡ true
+same-symmetric a b e = same-from b a (sym (same-to a b e))
+
+pub same-transitive : (a b c : List ℕ) → sameName a b ≡ true → sameName b c ≡ true → sameName a c ≡ true
+same-transitive a b c e f = same-from a c (same-to a b e ∙ same-to b c f)
+
+-- ---- the worked table
+
+-- Cases 9 to 13, together.
+pub worked :
+    (nameOf (0x08 ∷ 0x41 ∷ 0x00 ∷ 0x42 ∷ []) ≡ some (0x41 ∷ []))
+    × (nameOf (0x10 ∷ 0x00 ∷ 0x41 ∷ 0xd8 ∷ 0x00 ∷ 0x00 ∷ 0x42 ∷ []) ≡ some (0x41 ∷ 0x42 ∷ []))
+    × (nameOf (0x10 ∷ 0x00 ∷ 0x41 ∷ 0x00 ∷ []) ≡ none)
+    × (nameOf (0x08 ∷ 0xe9 ∷ []) ≡ some (0xc3 ∷ 0xa9 ∷ []))
+    × (nameOf (0xfe ∷ []) ≡ none)
+unfolding pairs untilZero surrogate dropSurrogates encode utf8 nameOf
+worked = (refl, refl, refl, refl, refl)

@@ -1,0 +1,104 @@
+-- What a recorded name says, and when two names match: document 01, "Tags and small records" and "Directories and paths".
+-- A d-string is OSTA UDF 2.1.3's, in a field ECMA-167 1/7.2.12's. Assumes nothing: these are definitions.
+use Prim.Native.Nat.{ℕ, _+_, _-_, _*_, _/_, _%_}
+use mathlib.Core.Path.{_≡_}
+use mathlib.Core.Bool.{Bool, true, false}
+use mathlib.Core.List.{List, [], _∷_, _++_}
+use mathlib.Core.Option.{Option, none, some}
+use lib.ListN.{length, getD, take}
+use lib.Dec.{ltb, eqb}
+use Rattle.disc.specs.Choice.{pick}
+use Rattle.disc.specs.Moves.{over}
+use Rattle.names.specs.declared.dstrings.NameSize.{NameSize}
+use Rattle.names.specs.declared.dstrings.NameSize.the-variants.{Size, Refused}
+
+-- ---- code points
+
+-- Big-endian pairs.
+unfoldable pub pairs : List ℕ → List ℕ
+pairs [] = []
+pairs (a ∷ []) = []
+pairs (a ∷ b ∷ s) = (a * 256 + b) ∷ pairs s
+
+-- What stands before the first zero.
+unfoldable pub untilZero : List ℕ → List ℕ
+untilZero [] = []
+untilZero (u ∷ us) = pick (eqb u 0) [] (u ∷ untilZero us)
+
+-- The values D800 to DFFF, which are no code points.
+unfoldable pub surrogate : ℕ → Bool
+surrogate u = pick (ltb u 0xd800) false (ltb u 0xe000)
+
+-- What is left without surrogates.
+unfoldable pub dropSurrogates : List ℕ → List ℕ
+dropSurrogates [] = []
+dropSurrogates (u ∷ us) = pick (surrogate u) (dropSurrogates us) (u ∷ dropSurrogates us)
+
+-- ---- UTF-8
+
+-- One code point of at most 16 bits.
+unfoldable pub encode : ℕ → List ℕ
+encode u =
+    pick (ltb u 0x80) (u ∷ [])
+    (pick (ltb u 0x800) ((0xc0 + u / 64) ∷ (0x80 + u % 64) ∷ [])
+    ((0xe0 + u / 4096) ∷ (0x80 + u / 64 % 64) ∷ (0x80 + u % 64) ∷ []))
+
+-- Code points one after the other.
+unfoldable pub utf8 : List ℕ → List ℕ
+utf8 [] = []
+utf8 (u ∷ us) = encode u ++ utf8 us
+
+-- ---- names
+
+-- The name of a d-string as UTF-8, or none where it is refused. The first byte is the compression id of OSTA UDF 2.1.1.
+unfoldable pub nameOf : List ℕ → Option (List ℕ)
+nameOf [] = some []
+nameOf (id ∷ body) =
+    pick (eqb id 0) (some [])
+    (pick (eqb id 8) (some (utf8 (untilZero body)))
+    (pick (eqb id 16) (pick (eqb (length body % 2) 1) none (some (utf8 (dropSurrogates (untilZero (pairs body))))))
+    none))
+
+-- The name in a d-string field, whose last byte is the length of its d-string: ECMA-167 1/7.2.12.
+unfoldable pub nameOfField : List ℕ → Option (List ℕ)
+nameOfField f =
+    pick (eqb (length f) 0) (some [])
+    (pick (ltb (length f - 1) (getD f (length f - 1) 0)) none
+    (nameOf (take (getD f (length f - 1) 0) f)))
+
+-- What is written of a name: nothing where it is refused.
+abbrev pub written : Option (List ℕ) → List ℕ
+written none = []
+written (some name) = name
+
+-- The size of a name as the code reports it.
+abbrev pub sizeOf : Option (List ℕ) → NameSize
+sizeOf none = Refused
+sizeOf (some name) = Size (length name)
+
+-- A text was written over the front of what was lent, and its length was returned.
+pub record Wrote (text before after : List ℕ) (r : ℕ) : Type 0 where
+  pub count : r ≡ length text
+  pub bytes : after ≡ over text before
+
+-- ---- matching
+
+-- A to Z as a to z, and every other byte as it is.
+unfoldable pub lower : ℕ → ℕ
+lower b = pick (ltb b 0x41) b (pick (ltb b 0x5b) (b + 0x20) b)
+
+-- Two names match where their bytes are equal with ASCII case ignored.
+unfoldable pub sameName : List ℕ → List ℕ → Bool
+sameName [] [] = true
+sameName [] (b ∷ t) = false
+sameName (a ∷ s) [] = false
+sameName (a ∷ s) (b ∷ t) = pick (eqb (lower a) (lower b)) (sameName s t) false
+
+-- A refused name matches no component.
+abbrev pub matched : Option (List ℕ) → List ℕ → Bool
+matched none component = false
+matched (some name) component = sameName name component
+
+-- A d-string names a component of a path. No directory entry records one of more than 255 bytes: ECMA-167 4/14.4.4.
+unfoldable pub isNamed : List ℕ → List ℕ → Bool
+isNamed s component = pick (ltb 255 (length s)) false (matched (nameOf s) component)

@@ -1,0 +1,86 @@
+-- What the private functions cite: a d-string's body unit by unit, and what is found of it first. There is nothing to believe here:
+-- the public contracts cite `Names` alone. Assumes nothing: these are definitions.
+use Prim.Native.Nat.{ℕ, _≤_, _+_, _*_}
+use mathlib.Core.Path.{_≡_}
+use mathlib.Core.Bool.{Bool, true, false}
+use mathlib.Core.List.{List, []}
+use mathlib.Core.Option.{Option, none, some}
+use lib.ListN.{length, getD, take, drop}
+use lib.Seq.{sets}
+use lib.Dec.{eqb}
+use Rattle.disc.specs.Choice.{pick}
+use Rattle.names.specs.declared.dstrings.Form.{Form}
+use Rattle.names.specs.declared.dstrings.Form.the-variants.{Empty, Units, Bad}
+use Rattle.names.specs.declared.fields.FieldLength.{FieldLength}
+use Rattle.names.specs.declared.fields.FieldLength.the-variants.{Length, TooLong}
+use Rattle.names.specs.Names.{pairs, untilZero, surrogate, dropSurrogates, encode, utf8, nameOf, nameOfField}
+
+-- ---- one unit: a byte, or two
+
+-- The unit at i.
+unfoldable pub unitAt : List ℕ → ℕ → ℕ → ℕ
+unitAt s i step = pick (eqb step 2) (getD s i 0 * 256 + getD s (i + 1) 0) (getD s i 0)
+
+-- The UTF-8 of a unit that is not 0.
+unfoldable pub unitBytes : ℕ → List ℕ
+unitBytes u = pick (surrogate u) [] (encode u)
+
+-- A text was stored from `at` on, and where it ends was returned.
+pub record WroteAt (at : ℕ) (text before after : List ℕ) (r : ℕ) : Type 0 where
+  pub count : r ≡ at + length text
+  pub bytes : after ≡ sets before at text
+
+-- ---- a body
+
+-- The units of a body, of `step` bytes each.
+unfoldable pub units : ℕ → List ℕ → List ℕ
+units step s = pick (eqb step 2) (pairs s) s
+
+-- The UTF-8 of a body.
+unfoldable pub textOf : ℕ → List ℕ → List ℕ
+textOf step s = utf8 (dropSurrogates (untilZero (units step s)))
+
+-- There is a body, and its units take `step` bytes.
+pub record Body (s : List ℕ) (step : ℕ) : Type 0 where
+  pub some-byte : 1 ≤ length s
+  pub one : 1 ≤ step
+  pub two : step ≤ 2
+
+-- The name of a d-string of a form.
+abbrev pub nameAs : Form → List ℕ → Option (List ℕ)
+nameAs Empty s = some []
+nameAs (Units step) s = some (textOf step (drop 1 s))
+nameAs Bad s = none
+
+-- What is known besides: of a body, that it is there.
+abbrev pub Readable : Form → List ℕ → Type 0
+Readable Empty s = Unit {0}
+Readable (Units step) s = Body s step
+Readable Bad s = Unit {0}
+
+-- The d-string s has the form f.
+pub record Formed (s : List ℕ) (f : Form) : Type 0 where
+  pub name : nameOf s ≡ nameAs f s
+  pub body : Readable f s
+
+-- Whether there is a name at all.
+abbrev pub isSome : Option (List ℕ) → Bool
+isSome none = false
+isSome (some name) = true
+
+-- ---- a field
+
+-- The name of a field whose d-string has a length.
+abbrev pub frontName : FieldLength → List ℕ → Option (List ℕ)
+frontName (Length n) f = nameOf (take n f)
+frontName TooLong f = none
+
+-- What is known besides: a length is within the field.
+abbrev pub Within : FieldLength → List ℕ → Type 0
+Within (Length n) f = n ≤ length f
+Within TooLong f = Unit {0}
+
+-- The field f has a d-string of the length r.
+pub record Measured (f : List ℕ) (r : FieldLength) : Type 0 where
+  pub name : nameOfField f ≡ frontName r f
+  pub within : Within r f

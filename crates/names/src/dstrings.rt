@@ -1,0 +1,115 @@
+// A recorded d-string as UTF-8: OSTA UDF 2.1.3.
+use crate::units::put;
+use crate::units::unit;
+use crate::units::unit_size;
+ghost use mathlib.Core.Path.{_≡_};
+ghost use lib.ListN.{length, drop};
+ghost use Rattle.names.specs.Names.{Wrote, nameOf, written, sizeOf};
+ghost use Rattle.names.specs.Units.{Body, Formed, textOf, isSome};
+
+// How many bytes of UTF-8 a recorded name has.
+pub enum NameSize {
+    Size(usize),
+    Refused,
+}
+
+// How the body of a d-string is to be read: not at all, in units of a number of bytes, or not a d-string.
+enum Form {
+    Empty,
+    Units(usize),
+    Bad,
+}
+
+// How the body of the d-string s is to be read: its first byte, the compression id, says.
+fn form_of(s: &[u8]) -> Form
+    ensures { λ r. ⌜ Formed (now (s .entry)) r ⌝ }
+{
+    if s.len() == 0 {
+        return Form::Empty;
+    }
+    let id = s[0];
+    if id == 0 {
+        return Form::Empty;
+    }
+    if id == 8 {
+        return Form::Units(1);
+    }
+    if id == 16 {
+        // The id with an odd number of bytes behind it.
+        if s.len() % 2 == 0 {
+            return Form::Bad;
+        }
+        return Form::Units(2);
+    }
+    Form::Bad
+}
+
+// How many bytes of UTF-8 the units of s from its second byte on take.
+fn text_size(s: &[u8], step: usize) -> usize
+    requires { ⌜ Body (now s) step ⌝ }
+    ensures { λ r. ⌜ r ≡ length (textOf step (drop 1 (now (s .entry)))) ⌝ }
+{
+    let mut n: usize = 0;
+    let mut i: usize = 1;
+    while step <= s.len() - i {
+        let u = unit(s, i, step);
+        if u == 0 {
+            return n;
+        }
+        n += unit_size(u);
+        i += step;
+    }
+    n
+}
+
+// Writes the UTF-8 of the units of s from its second byte on over the front of out, and returns how many bytes it has.
+fn put_text(s: &[u8], step: usize, out: &mut [u8]) -> usize
+    requires { ⌜ Body (now s) step ⌝ }
+    ensures { λ r. ⌜ Wrote (textOf step (drop 1 (now (s .entry)))) (now (out .entry)) (now (out .exit)) r ⌝ }
+{
+    let mut n: usize = 0;
+    let mut i: usize = 1;
+    while step <= s.len() - i {
+        let code = unit(s, i, step);
+        if code == 0 {
+            return n;
+        }
+        n = put(out, n, code);
+        i += step;
+    }
+    n
+}
+
+// Whether the d-string s has a name.
+pub(crate) fn has_name(s: &[u8]) -> bool
+    ensures { λ r. ⌜ r ≡ isSome (nameOf (now (s .entry))) ⌝ }
+{
+    match form_of(s) {
+        Form::Empty => true,
+        Form::Units(_) => true,
+        Form::Bad => false,
+    }
+}
+
+// How many bytes of UTF-8 the name of the d-string s has.
+pub fn name_size(s: &[u8]) -> NameSize
+    ensures { λ r. ⌜ r ≡ sizeOf (nameOf (now (s .entry))) ⌝ }
+{
+    match form_of(s) {
+        Form::Empty => NameSize::Size(0),
+        Form::Units(step) => NameSize::Size(text_size(s, step)),
+        Form::Bad => NameSize::Refused,
+    }
+}
+
+// Writes the name of the d-string s over the front of out, and returns how many bytes it has, with those that found no room. A
+// d-string that is refused writes nothing.
+pub fn put_name(s: &[u8], out: &mut [u8]) -> usize
+    ensures { λ r. ⌜ Wrote (written (nameOf (now (s .entry)))) (now (out .entry)) (now (out .exit)) r ⌝ }
+{
+    match form_of(s) {
+        Form::Empty => 0,
+        Form::Units(step) => put_text(s, step, out),
+        Form::Bad => 0,
+    }
+}

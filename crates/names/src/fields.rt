@@ -1,0 +1,49 @@
+// A d-string field: a d-string in a place of fixed size, whose last byte says how long the d-string is (ECMA-167 1/7.2.12).
+use crate::dstrings::NameSize;
+use crate::dstrings::name_size;
+use crate::dstrings::put_name;
+use crate::units::wide;
+ghost use mathlib.Core.Path.{_≡_};
+ghost use Rattle.names.specs.Names.{Wrote, nameOfField, written, sizeOf};
+ghost use Rattle.names.specs.Units.{Measured};
+
+// How long the d-string of a field is.
+enum FieldLength {
+    Length(usize),
+    TooLong,
+}
+
+fn measured(f: &[u8]) -> FieldLength
+    ensures { λ r. ⌜ Measured (now (f .entry)) r ⌝ }
+{
+    if f.len() == 0 {
+        return FieldLength::Length(0);
+    }
+    let last = f.len() - 1;
+    let n = wide(f[last]) as usize;
+    if last < n {
+        return FieldLength::TooLong;
+    }
+    FieldLength::Length(n)
+}
+
+// How many bytes of UTF-8 the name in the field f has.
+pub fn field_size(f: &[u8]) -> NameSize
+    ensures { λ r. ⌜ r ≡ sizeOf (nameOfField (now (f .entry))) ⌝ }
+{
+    match measured(f) {
+        FieldLength::Length(n) => name_size(&f[..n]),
+        FieldLength::TooLong => NameSize::Refused,
+    }
+}
+
+// Writes the name in the field f over the front of out, and returns how many bytes it has, with those that found no room. A field
+// that is refused writes nothing.
+pub fn put_field(f: &[u8], out: &mut [u8]) -> usize
+    ensures { λ r. ⌜ Wrote (written (nameOfField (now (f .entry)))) (now (out .entry)) (now (out .exit)) r ⌝ }
+{
+    match measured(f) {
+        FieldLength::Length(n) => put_name(&f[..n], out),
+        FieldLength::TooLong => 0,
+    }
+}

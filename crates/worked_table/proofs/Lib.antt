@@ -1,0 +1,2 @@
+-- The worked table, as one statement.
+pub mod Table

@@ -1,0 +1,38 @@
+-- The worked table of the rules, its thirteen cases as one statement, by computation. Assumes nothing.
+use Prim.Native.Nat.{ℕ}
+use mathlib.Core.Path.{_≡_, refl}
+use mathlib.Core.List.{List, [], _∷_, _++_}
+use mathlib.Core.Option.{Option, none, some}
+use lib.ListN.{replicate, take}
+use Rattle.records.specs.Allocations.{readShort}
+use Rattle.records.specs.Answers.{shortAnswer}
+use Rattle.tags.specs.Tags.{readTag}
+use Rattle.tags.specs.Answers.{noTag, tagAnswer}
+use Rattle.areas.specs.Areas.{Area, ended, continuation, areaAt}
+use Rattle.areas.specs.declared.PartitionRef.the-variants.{Named}
+use Rattle.areas.specs.declared.AdEnding.the-variants.{End, Continuation}
+use Rattle.names.specs.Names.{nameOf}
+use Rattle.tags.proofs.Table.{row, table}
+use Rattle.areas.proofs.Table.{areas-worked}
+use Rattle.names.proofs.Promises.{worked}
+
+-- tags by their answer number and values, the short_ad likewise, areas by their extents and ending, names as UTF-8 or refused
+pub worked-table :
+    (tagAnswer (readTag (row 0x06 0x00))
+    ≡ record { number = 0; value = record { id = 2; «descriptor_version» = 3; «serial_number» = 0; crc = 0; «crc_length» = 0; location = 256 } })
+    × (tagAnswer (readTag (row 0x07 0x00)) ≡ record { number = 2; value = noTag })
+    × (tagAnswer (readTag (row 0x07 0x01)) ≡ record { number = 2; value = noTag })
+    × (tagAnswer (readTag (take 15 (row 0x06 0x00))) ≡ record { number = 2; value = noTag })
+    × (tagAnswer (readTag (replicate 16 0x00)) ≡ record { number = 2; value = noTag })
+    × (shortAnswer (readShort (0x00 ∷ 0x08 ∷ 0x00 ∷ 0x40 ∷ 0x05 ∷ 0x00 ∷ 0x00 ∷ 0x00 ∷ []))
+    ≡ record { number = 0; value = record { length = 2048; «extent_type» = 1; «block_location» = 5 } })
+    × (areaAt 0 (0x00 ∷ 0x00 ∷ 0x00 ∷ 0xc0 ∷ 0x07 ∷ 0x00 ∷ 0x00 ∷ 0x00 ∷ []) 0 8 ≡ ended End)
+    × (areaAt 1 (0x18 ∷ 0x00 ∷ 0x00 ∷ 0xc0 ∷ 0x09 ∷ 0x00 ∷ 0x00 ∷ 0x00 ∷ 0x01 ∷ 0x00 ∷ replicate 6 0x00) 0 16
+    ≡ ended (Continuation (continuation 24 9 (Named 1))))
+    × (nameOf (0x08 ∷ 0x41 ∷ 0x00 ∷ 0x42 ∷ []) ≡ some (0x41 ∷ []))
+    × (nameOf (0x10 ∷ 0x00 ∷ 0x41 ∷ 0xd8 ∷ 0x00 ∷ 0x00 ∷ 0x42 ∷ []) ≡ some (0x41 ∷ 0x42 ∷ []))
+    × (nameOf (0x10 ∷ 0x00 ∷ 0x41 ∷ 0x00 ∷ []) ≡ none)
+    × (nameOf (0x08 ∷ 0xe9 ∷ []) ≡ some (0xc3 ∷ 0xa9 ∷ []))
+    × (nameOf (0xfe ∷ []) ≡ none)
+worked-table =
+    (table .0, table .1, table .2, table .3, table .4, table .5, areas-worked .0, areas-worked .1, worked .0, worked .1, worked .2, worked .3, worked .4)
