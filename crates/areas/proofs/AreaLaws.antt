@@ -20,7 +20,6 @@ use Rattle.areas.specs.declared.Descriptor.the-variants.{Stop, Data, Con
 use Rattle.areas.specs.declared.AdCursor.{AdCursor}
 use Rattle.areas.specs.declared.AdStep.{AdStep}
 use Rattle.areas.specs.declared.AdStep.the-variants.{Extent, Continuation as Continues, End as Ends, Refused as Refuses}
-use Rattle.areas.specs.declared.AdEnding.{AdEnding}
 use Rattle.areas.specs.declared.AdEnding.the-variants.{End, Continuation, Refused}
 use Rattle.areas.specs.Areas.{sizeOf, says, descriptorAt, Area, ended, inFront, behind, descriptors, areaAt, stepped, nextOf}
 

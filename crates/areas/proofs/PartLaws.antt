@@ -11,7 +11,7 @@ use lib.Dec.{eqb}
 use Rattle.disc.specs.Choice.{pick}
 use Rattle.records.specs.Bytes.{byte, u16at, u32at}
 use Rattle.records.specs.Allocations.{shortOf, longOf, extOf}
-use Rattle.areas.specs.Areas.{sizeOf, shortSays, longSays, extSays, descriptorAt, behind, descriptors, areaAt}
+use Rattle.areas.specs.Areas.{sizeOf, shortSays, longSays, extSays, descriptorAt, descriptors, areaAt}
 
 -- the same bytes in two lists, n of them from i on and from k on
 abbrev pub Same : List ℕ → List ℕ → ℕ → ℕ → ℕ → Type 0

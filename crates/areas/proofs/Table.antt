@@ -1,6 +1,6 @@
 -- Rows 7 and 8 of the worked table. Assumes nothing.
 use mathlib.Core.Path.{_≡_, refl}
-use mathlib.Core.List.{List, [], _∷_}
+use mathlib.Core.List.{[], _∷_}
 use Rattle.areas.specs.declared.PartitionRef.the-variants.{Named}
 use Rattle.areas.specs.declared.AdEnding.the-variants.{End, Continuation}
 use Rattle.areas.specs.Areas.{sizeOf, says, continuation, descriptorAt, ended, descriptors, areaAt}

@@ -1,7 +1,7 @@
 -- Areas of allocation descriptors (ECMA-167 4/12, 4/14.14): the extents that one lists, and how it ends. Document 01, "Reading an entry".
 -- Assumes nothing: these are definitions.
 use Prim.Native.Nat.{ℕ, zero, suc, _+_, _-_, _/_}
-use mathlib.Core.Bool.{Bool, true, false}
+use mathlib.Core.Bool.{Bool, true}
 use mathlib.Core.List.{List, [], _∷_}
 use lib.Dec.{eqb, ltb}
 use Rattle.disc.specs.Choice.{pick}

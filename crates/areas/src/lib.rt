@@ -1,8 +1,5 @@
 // Areas of allocation descriptors, read where they stand by a cursor that is passed by value.
 ghost use mathlib.Core.Path.{_≡_};
-ghost use mathlib.Core.Bool.{Bool};
-ghost use Prim.Native.Nat.{_+_, _<_};
-ghost use lib.ListN.{length};
 ghost use Rattle.records.specs.Allocations.{shortOf, longOf, extOf};
 ghost use Rattle.areas.specs.Areas.{sizeOf, says, shortSays, longSays, extSays, descriptorAt, nextOf, areaAt};
 use disc::refusals::Refusal;

@@ -1,6 +1,6 @@
 -- The entry of a file, plain (ECMA-167 4/14.9) or extended (4/14.17): document 01, "Reading an entry". Assumes nothing: these are definitions.
 use Prim.Native.Nat.{ℕ, _+_, _%_}
-use mathlib.Core.Bool.{Bool, true, false}
+use mathlib.Core.Bool.{Bool}
 use mathlib.Core.List.{List}
 use lib.ListN.{length}
 use lib.Dec.{eqb, ltb}

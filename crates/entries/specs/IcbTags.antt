@@ -1,13 +1,11 @@
 -- The ICB tag, 20 bytes (ECMA-167 4/14.6). Assumes nothing: these are definitions.
 use Prim.Native.Nat.{ℕ, _+_}
-use mathlib.Core.Bool.{Bool, true, false}
 use mathlib.Core.List.{List}
 use lib.ListN.{length}
 use lib.Dec.{leb}
 use Rattle.disc.specs.Choice.{pick}
 use Rattle.disc.specs.declared.refusals.Refusal.the-variants.{Malformed}
 use Rattle.records.specs.Bytes.{byte, u16at, u32at}
-use Rattle.records.specs.declared.allocations.LbAddr.{LbAddr}
 use Rattle.entries.specs.declared.«icb_tags».IcbTag.{IcbTag}
 use Rattle.entries.specs.declared.«icb_tags».IcbTagRead.{IcbTagRead}
 use Rattle.entries.specs.declared.«icb_tags».IcbTagRead.the-variants.{Read, Refused}

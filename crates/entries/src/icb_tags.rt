@@ -1,6 +1,6 @@
 // The ICB tag: how the blocks of a file's entry are used.
 ghost use mathlib.Core.Path.{_≡_};
-ghost use Prim.Native.Nat.{_+_, _≤_};
+ghost use Prim.Native.Nat.{_≤_};
 ghost use lib.ListN.{length};
 ghost use Rattle.entries.specs.IcbTags.{icbTagOf, readIcbTag};
 use disc::refusals::Refusal;

@@ -1,7 +1,6 @@
 // File identifiers: one entry of a directory.
 ghost use mathlib.Core.Path.{_≡_};
-ghost use Prim.Native.Nat.{_≤_, _<_};
-ghost use lib.ListN.{length};
+ghost use Prim.Native.Nat.{_<_};
 ghost use Rattle.identifiers.specs.Identifiers.{nameAt, refusedBy, identifierOf, identifierSized, identifierNamed, identifierAfter, readIdentifier, isDeleted, isDirectory, isParent};
 use disc::refusals::Refusal;
 use names::dstrings::NameSize;
