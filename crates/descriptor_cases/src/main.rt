@@ -1,5 +1,5 @@
 // Runs the cases of the volume's descriptors, a line each: what was read, its id, its size and the byte that was changed, and what was
-// answered. Then what sectors of the recognition sequence are.
+// answered.
 use descriptors::anchors::AnchorRead;
 use descriptors::anchors::AnchorVolumeDescriptorPointer;
 use descriptors::file_sets::FileSetDescriptor;
@@ -7,8 +7,6 @@ use descriptors::logicals::LogicalVolumeDescriptor;
 use descriptors::partitions::PartitionDescriptor;
 use descriptors::partitions::PartitionRead;
 use descriptors::primaries::PrimaryVolumeDescriptor;
-use descriptors::recognition::Structure;
-use descriptors::recognition::structure_of;
 use disc::moves::copy;
 use libc::STDOUT_FILENO;
 use records::allocations::ExtentAd;
@@ -324,47 +322,6 @@ fn file_sets(d: &mut [u8]) {
     file_set_case(d, 256, 416, 4, 0);
 }
 
-// ---- the recognition sequence
-
-fn sector(s: &[u8]) {
-    say(b"sector");
-    say_bytes(s);
-    match structure_of(s) {
-        Structure::Beginning => say(b": beginning\n"),
-        Structure::Nsr => say(b": nsr\n"),
-        Structure::Terminating => say(b": terminating\n"),
-        Structure::Other => say(b": other\n"),
-        Structure::Unknown => say(b": unknown\n"),
-    }
-}
-
-fn known() {
-    sector(b"\x00BEA01\x01");
-    sector(b"\x00NSR02\x01");
-    sector(b"\x00NSR03\x01");
-    sector(b"\x00TEA01\x01");
-    sector(b"\x00CD001\x01");
-    sector(b"\x00CDW02\x01");
-    sector(b"\x00BEA01");
-}
-
-// Another type, a letter changed in each place, and too few bytes.
-fn unknown() {
-    sector(b"\x01BEA01\x01");
-    sector(b"\x01CD001\x01");
-    sector(b"\xffCD001\x01");
-    sector(b"\x00bEA01\x01");
-    sector(b"\x00TEB01\x01");
-    sector(b"\x00NSR01\x01");
-    sector(b"\x00NSR04\x01");
-    sector(b"\x00CD002\x01");
-    sector(b"\x00CDW01\x01");
-    sector(b"\x00BOOT2\x01");
-    sector(b"\x00NSR0");
-    sector(b"\x00");
-    sector(b"");
-}
-
 fn main() {
     let mut d = [0u8; 512];
     anchors(&mut d);
@@ -376,6 +333,4 @@ fn main() {
     logicals(&mut d);
     logical_labels(&mut d);
     file_sets(&mut d);
-    known();
-    unknown();
 }

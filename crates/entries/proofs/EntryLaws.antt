@@ -23,6 +23,7 @@ use Rattle.entries.specs.declared.«file_entries».EntryRead.the-variant
 use Rattle.entries.specs.Bytes.{u64at}
 use Rattle.entries.specs.FileEntries.{plainTail, extendedTail, kindOf, entryOf, entryWith, entryAfter, readEntry}
 use Rattle.entries.specs.Wholes.{tailOf, WholeEntry}
+use Rattle.tags.proofs.RoundTrips.{tag-refused}
 
 -- ---- the returns of `plain_tail` and `extended_tail`
 
@@ -142,14 +143,6 @@ module _ (s : List ℕ) {e : FileEntry} where
       told : (a : Bool) → pick a (Refused Malformed) (entryAfter s (readTag s)) ≡ Read e → WholeEntry s e
       told true q = absurd (let z : _≡_ {A = ℕ} 0 1 = cc in omega arith)
       told false q = after-says (readTag s) refl q
-
--- a tag that is refused is malformed
-tag-refused : (s : List ℕ) {why : Refusal} → readTag s ≡ NoTag why → why ≡ Malformed
-tag-refused s {why} e = told (leb 16 (length s) && accepted s) e
-  where
-    told : (b : Bool) → pick b (ATag (tagOf s)) (NoTag Malformed) ≡ NoTag why → why ≡ Malformed
-    told true q = absurd (let z : _≡_ {A = ℕ} 0 1 = cc in omega arith)
-    told false q = cc
 
 -- and an entry that was refused is malformed
 pub read-entry-refused : (s : List ℕ) {r : EntryRead} {why : Refusal} → r ≡ readEntry s → r ≡ Refused why → why ≡ Malformed

@@ -32,6 +32,8 @@ use Rattle.identifiers.specs.declared.FileIdentifierDescriptor.{FileIden
 use Rattle.identifiers.specs.declared.IdentifierRead.{IdentifierRead}
 use Rattle.identifiers.specs.Identifiers.{nameAt, nameEnd, recordedName, nextAt, identifierOf, refusedBy, identifierSized, identifierNamed, identifierAfter, readIdentifier}
 use Rattle.identifiers.specs.Wholes.{Whole}
+use Rattle.disc.proofs.RefusalLaws.{refusal-numbered}
+use Rattle.tags.proofs.RoundTrips.{tag-refused}
 
 -- ---- the returns of the functions
 
@@ -94,25 +96,6 @@ module _ (s : List ℕ) where
     read-after h e k = rw (le-ltb (length s) 38 h, ← e) k
 
 -- ---- what was read
-
--- a tag that is refused is malformed
-tag-refused : (s : List ℕ) {why : Refusal} → readTag s ≡ NoTag why → why ≡ Malformed
-tag-refused s {why} e = told (leb 16 (length s) && accepted s) e
-  where
-    told : (b : Bool) → pick b (ATag (tagOf s)) (NoTag Malformed) ≡ NoTag why → why ≡ Malformed
-    told true q = absurd (let z : _≡_ {A = ℕ} 0 1 = cc in omega arith)
-    told false q = cc
-
--- no refusal has number 0
-refusal-numbered : (why : Refusal) → number why ≡ 0 → ⊥
-refusal-numbered Io e = omega arith
-refusal-numbered Malformed e = omega arith
-refusal-numbered NotBluray e = omega arith
-refusal-numbered Unsupported e = omega arith
-refusal-numbered NoRoom e = omega arith
-refusal-numbered NoWork e = omega arith
-refusal-numbered NoSlot e = omega arith
-refusal-numbered LongName e = omega arith
 
 -- a part of bytes is bytes
 part-bytes : (s : List ℕ) (n m : ℕ) → Bytes s → Bytes (take n (drop m s))

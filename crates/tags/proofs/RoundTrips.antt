@@ -10,6 +10,8 @@ use borrow.Author.Tests.{le-leb, leb-true, eqb-true, eq-eqb, ne-eqb}
 use lib.Dec.{leb, eqb}
 use lib.ListN.{length, take}
 use Rattle.disc.proofs.PickLaws.{picked, picked-size}
+use Rattle.disc.specs.Choice.{pick}
+use Rattle.disc.specs.declared.refusals.Refusal.{Refusal}
 use Rattle.disc.specs.declared.refusals.Refusal.the-variants.{Malformed}
 use Rattle.records.specs.Bytes.{byte, u16at, u32at, le32}
 use Rattle.tags.specs.Tags.{listed, checksum, accepted, tagOf, readTag, tagBytes, encodeTag, aedAfter, readAed, encodeAed}
@@ -31,6 +33,14 @@ read-only s t e =
     let q = and-eq-true-iff (leb 16 (length s)) (accepted s) .0 (p .0) in
     let r : tagOf s ≡ t = cc in
     (leb-true 16 (length s) (q .0), q .1, r)
+
+-- a tag that is refused is malformed
+pub tag-refused : (s : List ℕ) {why : Refusal} → readTag s ≡ Refused why → why ≡ Malformed
+tag-refused s {why} e = told (leb 16 (length s) && accepted s) e
+  where
+    told : (b : Bool) → pick b (Read (tagOf s)) (Refused Malformed) ≡ Refused why → why ≡ Malformed
+    told true q = absurd (let z : _≡_ {A = ℕ} 0 1 = cc in omega arith)
+    told false q = cc
 
 -- what follows a tag's bytes is not looked at
 module _ (t : DescriptorTag) (rest : List ℕ) (h : TagValue t) where

@@ -1,0 +1,66 @@
+// Runs the cases of one sector of the recognition sequence, a line each: its first bytes, and what it is.
+use descriptors::recognition::Structure;
+use descriptors::recognition::structure_of;
+use libc::STDOUT_FILENO;
+
+fn say(text: &[u8]) {
+    io::write_all(STDOUT_FILENO, text);
+}
+
+fn wide(b: u8) -> u64 {
+    b as u64
+}
+
+// A space and two hex digits for each byte.
+fn say_bytes(b: &[u8]) {
+    let mut i = 0;
+    while i < b.len() {
+        say(b" ");
+        io::print_hex(STDOUT_FILENO, wide(b[i]), 2);
+        i += 1;
+    }
+}
+
+fn sector(s: &[u8]) {
+    say(b"sector");
+    say_bytes(s);
+    match structure_of(s) {
+        Structure::Beginning => say(b": beginning\n"),
+        Structure::Nsr => say(b": nsr\n"),
+        Structure::Terminating => say(b": terminating\n"),
+        Structure::Other => say(b": other\n"),
+        Structure::Unknown => say(b": unknown\n"),
+    }
+}
+
+fn known() {
+    sector(b"\x00BEA01\x01");
+    sector(b"\x00NSR02\x01");
+    sector(b"\x00NSR03\x01");
+    sector(b"\x00TEA01\x01");
+    sector(b"\x00CD001\x01");
+    sector(b"\x00CDW02\x01");
+    sector(b"\x00BEA01");
+}
+
+// Another type, a letter changed in each place, and too few bytes.
+fn unknown() {
+    sector(b"\x01BEA01\x01");
+    sector(b"\x01CD001\x01");
+    sector(b"\xffCD001\x01");
+    sector(b"\x00bEA01\x01");
+    sector(b"\x00TEB01\x01");
+    sector(b"\x00NSR01\x01");
+    sector(b"\x00NSR04\x01");
+    sector(b"\x00CD002\x01");
+    sector(b"\x00CDW01\x01");
+    sector(b"\x00BOOT2\x01");
+    sector(b"\x00NSR0");
+    sector(b"\x00");
+    sector(b"");
+}
+
+fn main() {
+    known();
+    unknown();
+}

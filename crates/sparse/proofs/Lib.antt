@@ -1,0 +1,2 @@
+-- Laws of runs, as the code asks for them.
+pub mod RunLaws

@@ -1,0 +1,217 @@
+// Opens each image of the file `images`, writes its label and probes it, and prints what each call answers. The file has one record
+// after the other: the length of a name in 16 bits, the name, the length of a packed image in 32 bits (both little-endian), and the
+// packed image, as the crate `sparse` has it.
+ghost use mathlib.Core.Path.{_≡_};
+ghost use Prim.Native.Nat.{_≤_};
+ghost use lib.ListN.{length};
+use disc::replies::Reply;
+use libc::STDOUT_FILENO;
+use records::allocations::LongAd;
+use records::bytes::le16;
+use records::bytes::le32;
+use sparse::expand;
+use volumes::labels::label;
+use volumes::openings::Opened;
+use volumes::openings::VolumeRecord;
+use volumes::openings::open_volume;
+use volumes::probes::probe;
+
+fn say(text: &[u8]) {
+    io::write_all(STDOUT_FILENO, text);
+}
+
+fn wide(b: u8) -> u64 {
+    b as u64
+}
+
+// A word, and a number behind it.
+fn say_number(word: &[u8], n: u64) {
+    say(word);
+    io::print_decimal(STDOUT_FILENO, n);
+}
+
+// A space and two hex digits for each of the first n bytes of b, or of all if it has fewer.
+fn say_bytes(b: &[u8], n: u64) {
+    let mut i = 0;
+    while i < b.len() {
+        if i as u64 == n {
+            return;
+        }
+        say(b" ");
+        io::print_hex(STDOUT_FILENO, wide(b[i]), 2);
+        i += 1;
+    }
+}
+
+fn say_root(root: LongAd) {
+    say_number(b"root ", root.length as u64);
+    say_number(b" type ", root.extent_type as u64);
+    say_number(b" block ", root.location.block as u64);
+    say_number(b" partition ", root.location.partition_ref as u64);
+    let used = root.implementation_use;
+    say(b" use");
+    say_bytes(&used, 6);
+    say(b"\n");
+}
+
+fn say_volume(v: VolumeRecord) {
+    say_number(b"start ", v.start as u64);
+    say_number(b" partition ", v.partition_number as u64);
+    say(b"\n");
+    let root = v.root;
+    say_root(root);
+    let field = v.label;
+    say(b"field");
+    say_bytes(&field, 32);
+    say(b"\n");
+}
+
+fn say_opened(opened: Opened) {
+    say_number(b"opened ", opened.answer);
+    say_number(b" count ", opened.count);
+    say(b"\n");
+    let v = opened.volume;
+    say_volume(v);
+}
+
+// 1 for a byte that is as it was lent.
+fn is_left(b: u8) -> usize
+    ensures { λ r. ⌜ r ≤ 1 ⌝ }
+{
+    if b == 0xee { 1 } else { 0 }
+}
+
+// How many bytes are as they were lent.
+fn left(out: &[u8]) -> usize {
+    let mut n = 0;
+    let mut i = 0;
+    while i < out.len() {
+        n += is_left(out[i]);
+        i += 1;
+    }
+    n
+}
+
+fn say_reply(word: &[u8], reply: Reply, out: &[u8]) {
+    say_number(word, reply.answer);
+    say_number(b" count ", reply.count);
+    say_number(b" length ", reply.length);
+    say_number(b" left ", left(out) as u64);
+    say(b" bytes");
+    say_bytes(out, reply.length);
+    say(b"\n");
+}
+
+// The label, in the first `room` bytes of out.
+fn say_label(word: &[u8], image: &[u8], out: &mut [u8], room: usize)
+    requires { ⌜ room ≤ length (now out) ⌝ }
+{
+    let reply = label(image, &mut out[..room]);
+    say_reply(word, reply, out);
+}
+
+// A room that is a byte short of a label of n bytes.
+fn room_below(n: u64) -> usize
+    ensures { λ r. ⌜ r ≤ 64 ⌝ }
+{
+    if n == 0 {
+        return 0;
+    }
+    if 64 < n {
+        return 64;
+    }
+    (n - 1) as usize
+}
+
+fn say_short(image: &[u8], n: u64) {
+    let mut out = [0xeeu8; 64];
+    say_label(b"short ", image, &mut out, room_below(n));
+}
+
+fn say_labels(image: &[u8]) {
+    let mut out = [0xeeu8; 64];
+    let reply = label(image, &mut out);
+    say_reply(b"label ", reply, &out);
+    say_short(image, reply.length);
+}
+
+fn say_probe(yes: bool) {
+    if yes {
+        say(b"probe yes\n");
+    } else {
+        say(b"probe no\n");
+    }
+}
+
+fn say_image(image: &[u8]) {
+    say_opened(open_volume(image));
+    say_labels(image);
+    say_probe(probe(image));
+}
+
+// At most n bytes of s, from `from` on.
+fn part(s: &[u8], from: usize, n: usize) -> &[u8] {
+    if s.len() <= from {
+        return &s[0..0];
+    }
+    if s.len() - from < n {
+        return &s[from..];
+    }
+    let end = from + n;
+    &s[from..end]
+}
+
+// The record at the front of s.
+fn say_record(s: &[u8], image: &mut [u8]) {
+    let name = le16(s, 0) as usize;
+    let packed = le32(s, 2 + name) as usize;
+    say(b"image ");
+    say(part(s, 2, name));
+    say(b"\n");
+    let n = expand(part(s, 6 + name, packed), image);
+    say_image(&image[..n]);
+}
+
+// How many bytes the record at the front of s has.
+fn record_size(s: &[u8]) -> usize
+    ensures { λ r. ⌜ 6 ≤ r ⌝ }
+{
+    let name = le16(s, 0) as usize;
+    6 + name + le32(s, 2 + name) as usize
+}
+
+fn say_records(s: &[u8], image: &mut [u8]) {
+    let mut i = 0;
+    while i < s.len() {
+        say_record(&s[i..], image);
+        let n = record_size(&s[i..]);
+        if s.len() - i < n {
+            return;
+        }
+        i += n;
+    }
+}
+
+// Room for an image of 512 sectors.
+fn space() -> [u8; 1048576]
+    ensures { λ r. ⌜ 1048576 ≡ length r ⌝ }
+{
+    [0; 1048576]
+}
+
+fn say_file(fd: i32) {
+    let mut file = io::large_buffer();
+    let n = io::read_full(fd, &mut file);
+    let mut image = space();
+    say_records(&file[..n], &mut image);
+}
+
+fn main() {
+    let fd = os::open_read(b"images");
+    if fd < 0 {
+        os::fail(b"images");
+        return;
+    }
+    say_file(fd);
+    libc::close(fd);
+}

@@ -1,0 +1,10 @@
+-- `volumes::openings::no_volume` meets its contract: from what its callee ensures. Assumes nothing.
+use borrow.Author.Needs.{needs}
+use Rattle.volumes.proofs.openings.no_volume.Statement.{statement}
+use Rattle.volumes.proofs.openings.no_volume.Tie as tie
+
+pub no-volume-spec : {M : Type 1} → statement M
+no-volume-spec =
+    tie.close (tie.spec
+    (λ c κs. search needs)
+    (λ c. cc))

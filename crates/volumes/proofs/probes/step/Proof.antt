@@ -1,0 +1,23 @@
+-- `volumes::probes::step` meets its contract: each arm is a case of `stepOf`. Assumes nothing.
+use borrow.Author.Needs.{needs}
+use Rattle.volumes.proofs.probes.step.Statement.{statement}
+use Rattle.volumes.proofs.probes.step.Tie as tie
+
+pub step-spec : {M : Type 1} → statement M
+step-spec =
+    tie.close (tie.spec
+    (λ c. search needs)
+    (λ c κs. search needs)
+    (λ c. search needs)
+    (λ c κs. search needs)
+    (λ c. search needs)
+    (λ c κs. search needs)
+    (λ c. search needs)
+    (λ c κs. search needs)
+    (λ c. search needs)
+    (λ c κs. search needs)
+    (λ c. cc)
+    (λ c. cc)
+    (λ c. cc)
+    (λ c. cc)
+    (λ c. cc))

@@ -1,0 +1,15 @@
+-- `volumes::sequences::take_primary` meets its contract: the answer says which case of the definition holds. Assumes nothing.
+use borrow.Author.Needs.{needs}
+use Rattle.volumes.proofs.TurnLaws.{primary-fails, primary-taken}
+use Rattle.volumes.proofs.sequences.take_primary.Statement.{statement}
+use Rattle.volumes.proofs.sequences.take_primary.Tie as tie
+
+ruleset turns = (primary-fails, primary-taken, needs)
+
+pub take-primary-spec : {M : Type 1} → statement M
+take-primary-spec =
+    tie.close (tie.spec
+    (λ c κs. search needs)
+    (λ c. search turns)
+    (λ c κs. search needs)
+    (λ c. search turns))

@@ -1,0 +1,147 @@
+// Opening a volume.
+ghost use mathlib.Core.Path.{_≡_};
+ghost use Prim.Native.Nat.{_<_, _^_};
+ghost use Rattle.disc.specs.Ran.{ran, after};
+ghost use Rattle.disc.specs.Images.{disc};
+ghost use Rattle.descriptors.specs.FileSets.{readFileSet};
+ghost use Rattle.volumes.specs.Openings.{noVolume, volumeIn, mounting, anchored, opening, openedBy, openedOf};
+ghost use Rattle.volumes.specs.Steps.{mountable};
+use crate::sequences::Kept;
+use crate::sequences::scan_sequence;
+use descriptors::anchors::AnchorRead;
+use descriptors::anchors::AnchorVolumeDescriptorPointer;
+use descriptors::file_sets::FileSetDescriptor;
+use disc::images::held_from;
+use disc::images::sector_at;
+use disc::places::Block;
+use disc::places::Sector;
+use disc::places::sector_of;
+use records::allocations::LongAd;
+use records::allocations::no_long;
+
+// What is known of an opened volume: where its partition starts, the partition's number, its root directory and its label as recorded.
+pub struct VolumeRecord {
+    pub start: u32,
+    pub partition_number: u16,
+    pub root: LongAd,
+    pub label: [u8; 32],
+}
+
+// The answer number, the count of sectors, and the volume: zeros where it was refused.
+pub struct Opened {
+    pub answer: u64,
+    pub count: u64,
+    pub volume: VolumeRecord,
+}
+
+fn no_volume() -> VolumeRecord
+    ensures { λ r. ⌜ r ≡ noVolume ⌝ }
+{
+    VolumeRecord {
+        start: 0,
+        partition_number: 0,
+        root: no_long(),
+        label: [0; 32],
+    }
+}
+
+fn refused(answer: u64, count: u64) -> Opened
+    ensures { λ r. ⌜ r ≡ record { answer = answer; count = count; volume = noVolume } ⌝ }
+{
+    Opened {
+        answer,
+        count,
+        volume: no_volume(),
+    }
+}
+
+// The volume whose file set descriptor stands in the sector b.
+fn volume_in(kept: Kept, b: &[u8], count: u64) -> Opened
+    ensures { λ r. ⌜ r ≡ openedBy count (volumeIn kept (readFileSet (now (b .entry)))) ⌝ }
+{
+    let r = FileSetDescriptor::parse(b);
+    if r.answer != 0 {
+        return refused(2, count);
+    }
+    let d = r.descriptor;
+    let root = d.root_directory_icb;
+    let label = kept.label;
+    Opened {
+        answer: 0,
+        count,
+        volume: VolumeRecord {
+            start: kept.partition_start,
+            partition_number: kept.partition_number,
+            root,
+            label,
+        },
+    }
+}
+
+// Whether what was kept leads to a file set descriptor: 0, or the number of the refusal.
+fn kept_answer(kept: Kept) -> u64
+    ensures { λ r. ⌜ r ≡ mountable kept ⌝ }
+{
+    if !kept.has_primary {
+        return 3;
+    }
+    if !kept.has_partition {
+        return 3;
+    }
+    if !kept.has_logical {
+        return 3;
+    }
+    if kept.block_size != 2048 {
+        return 4;
+    }
+    if kept.file_set.location.partition_ref != kept.partition_number {
+        return 4;
+    }
+    0
+}
+
+// What the descriptors that were kept lead to, `count` sectors having been asked for.
+fn mount(image: &[u8], kept: Kept, count: u64) -> Opened
+    requires { ⌜ count < 2 ^ 32 ⌝ }
+    ensures { λ r. ⌜ r ≡ openedOf (after count (ran (disc (now (image .entry))) (mounting kept))) ⌝ }
+{
+    let answer = kept_answer(kept);
+    if answer != 0 {
+        return refused(answer, count);
+    }
+    let sector = sector_of(kept.partition_start, Block(kept.file_set.location.block));
+    if held_from(image, sector) == 0 {
+        return refused(1, count + 1);
+    }
+    volume_in(kept, sector_at(image, sector), count + 1)
+}
+
+// What the anchor leads to.
+fn open_from(image: &[u8], anchor: AnchorRead) -> Opened
+    ensures { λ r. ⌜ r ≡ openedOf (after 1 (ran (disc (now (image .entry))) (anchored anchor))) ⌝ }
+{
+    match anchor {
+        AnchorRead::Refused(why) => refused(why.number(), 1),
+        AnchorRead::Read(a) => {
+            let main = a.main_volume_descriptor_sequence;
+            let scanned = scan_sequence(image, main.location, main.length / 2048);
+            if scanned.answer != 0 {
+                return refused(scanned.answer, scanned.count + 1);
+            }
+            mount(image, scanned.kept, scanned.count + 1)
+        }
+    }
+}
+
+// Opens the volume of an image: the anchor, the main volume descriptor sequence, and the file set descriptor.
+pub fn open_volume(image: &[u8]) -> Opened
+    ensures { λ r. ⌜ r ≡ openedOf (ran (disc (now (image .entry))) opening) ⌝ }
+{
+    if held_from(image, Sector(256)) == 0 {
+        return refused(1, 1);
+    }
+    open_from(
+        image,
+        AnchorVolumeDescriptorPointer::parse(sector_at(image, Sector(256))),
+    )
+}

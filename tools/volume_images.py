@@ -1,0 +1,209 @@
+#!/usr/bin/env python3
+"""Writes the images that the program `volume_cases` opens, into crates/volume_cases/data/images. Run it from the root of the repository.
+
+The file has one record after the other: u16 name length, name, u32 packed length, packed image. A packed image is u32 image length, u32
+number of runs, and each run: u32 offset, u32 length, that many bytes. All numbers are little-endian. Every other byte of an image is 0.
+
+An image has sectors of 2,048 bytes. Where a case says nothing else: the recognition sequence is in 16 to 18, the main volume descriptor
+sequence has 16 sectors from 32 on (primary, partition, logical volume and terminating descriptor), the anchor is in 256, the partition
+starts at 288, the file set descriptor is its block 2, and the image has 320 sectors.
+"""
+
+import struct
+
+SECTOR = 2048
+MAIN, ANCHOR, START, BLOCK, SECTORS = 32, 256, 288, 2, 320
+
+
+def tag(identifier, sector, ruined=False):
+    """A descriptor tag (ECMA-167 3/7.2); a ruined one has a wrong checksum."""
+    t = bytearray(struct.pack("<HHBBHHHI", identifier, 3, 0, 0, 1, 0, 0, sector))
+    t[4] = (sum(t) + (1 if ruined else 0)) % 256
+    return bytes(t)
+
+
+def filled(size, *parts):
+    """`size` bytes with each (offset, bytes) in its place."""
+    b = bytearray(size)
+    for at, text in parts:
+        b[at : at + len(text)] = text
+    return bytes(b)
+
+
+def field(text, size):
+    """A d-string in a field of `size` bytes, whose last byte is its length (1/7.2.12)."""
+    return filled(size, (0, text), (size - 1, bytes([len(text)])))
+
+
+def long_ad(length, block, partition, use=b"", kind=0):
+    return struct.pack("<IIH6s", length | kind << 30, block, partition, use)
+
+
+def anchor(sector=ANCHOR, identifier=2, location=MAIN, length=16 * SECTOR, ruined=False):
+    return filled(SECTOR, (0, tag(identifier, sector, ruined)), (16, struct.pack("<IIII", length, location, length, 64)))
+
+
+def primary(sector, label=b"\x08VOLUME", ruined=False, raw=None):
+    return filled(SECTOR, (0, tag(1, sector, ruined)), (16, struct.pack("<II", 1, 0)), (24, raw or field(label, 32)))
+
+
+def partition(sector, number=0, start=START, ruined=False):
+    return filled(SECTOR, (0, tag(5, sector, ruined)), (16, struct.pack("<IHH", 2, 1, number)), (188, struct.pack("<II", start, 32)))
+
+
+def logical(sector, number=0, block=BLOCK, size=SECTOR, label=b"\x08LOGICAL", ruined=False):
+    return filled(
+        SECTOR,
+        (0, tag(6, sector, ruined)),
+        (16, struct.pack("<I", 3)),
+        (84, field(label, 128)),
+        (212, struct.pack("<I", size)),
+        (248, long_ad(SECTOR, block, number)),
+    )
+
+
+def other(identifier):
+    """A descriptor that is skipped, or that ends the sequence, by its id alone."""
+    return lambda sector, ruined=False: filled(SECTOR, (0, tag(identifier, sector, ruined)), (16, b"\x04"))
+
+
+def file_set(sector, identifier=256, ruined=False, root=None):
+    return filled(SECTOR, (0, tag(identifier, sector, ruined)), (400, root or long_ad(SECTOR, 5, 0, b"\x01\x02\x03\x04\x05\x06")))
+
+
+def made(maker, **said):
+    return lambda sector: maker(sector, **said)
+
+
+GOOD = [primary, partition, logical, other(8)]
+RECOGNITION = [b"BEA01", b"NSR03", b"TEA01"]
+
+
+def image(sequence=GOOD, recognition=RECOGNITION, kind=0, anchored=None, main=MAIN, fsd=file_set, fsd_at=START + BLOCK, length=SECTORS * SECTOR):
+    """The sectors that hold something, each with its bytes, and the image's length."""
+    held = {16 + i: filled(SECTOR, (0, bytes([kind])), (6 - len(name), name), (6, b"\x01")) for i, name in enumerate(recognition)}
+    held.update({main + i: make(main + i) for i, make in enumerate(sequence)})
+    held[ANCHOR] = (anchored or anchor)(ANCHOR)
+    if fsd:
+        held[fsd_at] = fsd(fsd_at)
+    return held, length
+
+
+def packed(held, length):
+    """The runs of an image: zeros are left out where that is shorter than one run more."""
+    flat = bytearray(length)
+    for sector, text in held.items():
+        room = max(0, length - sector * SECTOR)
+        flat[sector * SECTOR : sector * SECTOR + len(text)] = text[:room]
+    runs, at = [], 0
+    while at < length:
+        while at < length and not flat[at]:
+            at += 1
+        end = at
+        while any(flat[end : end + 9]):
+            end += next(i for i, b in enumerate(flat[end : end + 9]) if b) + 1
+        if end > at:
+            runs.append((at, bytes(flat[at:end])))
+        at = max(end, at + 1)
+    return struct.pack("<II", length, len(runs)) + b"".join(struct.pack("<II", at, len(b)) + b for at, b in runs)
+
+
+def without(*left_out):
+    return [make for i, make in enumerate(GOOD) if i not in left_out]
+
+
+def instead(place, make):
+    return [make if i == place else m for i, m in enumerate(GOOD)]
+
+
+def labelled(label):
+    return image(sequence=instead(0, made(primary, label=label)))
+
+
+TERMINATOR = other(8)
+
+CASES = {
+    "good": image(),
+    # each refusal in turn
+    "no_bytes": ({}, 0),
+    "nothing_at_256": image(length=256 * SECTOR, fsd=None),
+    "a_byte_short_at_256": image(length=257 * SECTOR - 1, fsd=None),
+    "anchor_tag_ruined": image(anchored=made(anchor, ruined=True)),
+    "anchor_id_3": image(anchored=made(anchor, identifier=3)),
+    "anchor_id_unlisted": image(anchored=made(anchor, identifier=10)),
+    "sequence_runs_off_the_image": image(main=300, sequence=GOOD[:3], anchored=made(anchor, location=300), length=304 * SECTOR),
+    "sequence_at_the_last_number": image(anchored=made(anchor, location=0xFFFFFFFF)),
+    "primary_tag_ruined": image(sequence=instead(0, made(primary, ruined=True))),
+    "partition_tag_ruined": image(sequence=instead(1, made(partition, ruined=True))),
+    "logical_tag_ruined": image(sequence=instead(2, made(logical, ruined=True))),
+    "primary_label_of_id_9": labelled(b"\x09VOLUME"),
+    "primary_label_of_odd_length": labelled(b"\x10\x00A\x00"),
+    "primary_label_too_long": image(sequence=instead(0, made(primary, raw=filled(32, (0, b"\x08A"), (31, b"\x20"))))),
+    "logical_label_of_id_9": image(sequence=instead(2, made(logical, label=b"\x09LOGICAL"))),
+    "no_primary": image(sequence=without(0)),
+    "no_partition": image(sequence=without(1)),
+    "no_logical": image(sequence=without(2)),
+    "block_size_512": image(sequence=instead(2, made(logical, size=512))),
+    "block_size_4096": image(sequence=instead(2, made(logical, size=4096))),
+    "another_partition": image(sequence=instead(2, made(logical, number=1))),
+    "file_set_missing": image(sequence=instead(2, made(logical, block=40)), fsd=None),
+    "file_set_at_the_last_numbers": image(sequence=[primary, made(partition, start=0xFFFFFFFF), made(logical, block=0xFFFFFFFF), TERMINATOR]),
+    "file_set_a_byte_short": image(length=(START + BLOCK + 1) * SECTOR - 1),
+    "file_set_tag_ruined": image(fsd=made(file_set, ruined=True)),
+    "file_set_id_257": image(fsd=made(file_set, identifier=257)),
+    "file_set_of_zeros": image(fsd=None),
+    # which descriptor counts
+    "two_primaries": image(sequence=[primary, made(primary, label=b"\x08LATER"), partition, logical, TERMINATOR]),
+    "two_partitions": image(
+        sequence=[primary, made(partition, start=200), logical, partition, TERMINATOR],
+    ),
+    "two_partitions_of_two_numbers": image(sequence=[primary, partition, logical, made(partition, number=7), TERMINATOR]),
+    "two_logicals": image(sequence=[primary, partition, made(logical, size=512), logical, TERMINATOR]),
+    "later_primary_ruined": image(sequence=[primary, made(primary, ruined=True), partition, logical, TERMINATOR]),
+    "partition_number_7": image(sequence=[primary, made(partition, number=7), made(logical, number=7), TERMINATOR]),
+    # the end of the sequence
+    "terminator_first": image(sequence=[TERMINATOR] + GOOD),
+    "terminator_with_a_ruined_tag": image(sequence=GOOD[:3] + [made(TERMINATOR, ruined=True)]),
+    "ruined_behind_the_terminator": image(sequence=GOOD + [made(primary, ruined=True)]),
+    "no_terminator": image(sequence=GOOD[:3], anchored=made(anchor, length=3 * SECTOR + 2047)),
+    "sequence_under_a_sector": image(anchored=made(anchor, length=2047)),
+    "sequence_cut_before_the_logical": image(anchored=made(anchor, length=2 * SECTOR)),
+    # what is skipped
+    "unlisted_id_between": image(sequence=[primary, made(other(77), ruined=True), partition, logical, TERMINATOR]),
+    "other_ids_between": image(sequence=[primary, other(4), made(other(7), ruined=True), partition, other(9), made(other(256), ruined=True), logical, TERMINATOR]),
+    # labels and roots
+    "label_of_8_bits": labelled(b"\x08Caf\xe9 \xa9"),
+    "label_of_16_bits": labelled(b"\x10\x00A\x03\xb1\x20\xac\xd8\x00\x00Z"),
+    "label_up_to_a_zero": labelled(b"\x08DISC\x00more"),
+    "label_empty": labelled(b""),
+    "label_of_id_0": labelled(b"\x00VOLUME"),
+    "label_full": labelled(b"\x08" + b"\xff" * 30),
+    "root_of_type_2": image(fsd=made(file_set, root=long_ad(0x3FFFFFFF, 0xFFFFFFFF, 0xFFFF, b"\xff" * 6, kind=2))),
+    "bytes_behind_the_last_sector": image(length=SECTORS * SECTOR + 77),
+    # recognition sequences
+    "no_recognition": image(recognition=[]),
+    "recognition_of_nsr02": image(recognition=[b"BEA01", b"NSR02", b"TEA01"]),
+    "recognition_without_nsr": image(recognition=[b"BEA01", b"TEA01"]),
+    "recognition_without_bea": image(recognition=[b"NSR03", b"TEA01"]),
+    "recognition_without_tea": image(recognition=[b"BEA01", b"NSR03"]),
+    "recognition_nsr_before_bea": image(recognition=[b"NSR02", b"BEA01", b"TEA01"]),
+    "recognition_nsr_behind_tea": image(recognition=[b"BEA01", b"TEA01", b"NSR02", b"TEA01"]),
+    "recognition_cd001_first": image(recognition=[b"CD001", b"BEA01", b"NSR02", b"TEA01"]),
+    "recognition_tea_eighth": image(recognition=[b"CD001", b"CDW02", b"CD001", b"CD001", b"BEA01", b"NSR02", b"NSR03", b"TEA01"]),
+    "recognition_tea_ninth": image(recognition=[b"CD001"] * 6 + [b"BEA01", b"NSR02", b"TEA01"]),
+    "recognition_unknown_between": image(recognition=[b"BEA01", b"NSR04", b"NSR03", b"TEA01"]),
+    "recognition_with_boot2": image(recognition=[b"BEA01", b"BOOT2", b"NSR03", b"TEA01"]),
+    "recognition_of_kind_1": image(kind=1),
+    "recognition_of_a_bridge_disc": image(recognition=[b"\x01CD001", b"\xffCD001", b"BEA01", b"NSR02", b"TEA01"]),
+    "recognition_off_the_image": image(length=18 * SECTOR, fsd=None),
+}
+
+
+def main():
+    with open("crates/volume_cases/data/images", "wb") as out:
+        for name, (held, length) in CASES.items():
+            one = packed(held, length)
+            out.write(struct.pack("<H", len(name)) + name.encode() + struct.pack("<I", len(one)) + one)
+
+
+main()
