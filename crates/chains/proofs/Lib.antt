@@ -1,0 +1,4 @@
+-- Laws of chains: what a cursor stands for, one step at a time; a chain followed to its end; how many sectors it asks for.
+pub mod WalkLaws
+pub mod FollowLaws
+pub mod AskedLaws

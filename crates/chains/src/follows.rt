@@ -1,0 +1,50 @@
+// A chain followed to its end.
+ghost use mathlib.Core.Path.{_≡_};
+ghost use Rattle.chains.specs.Follows.{Followed};
+use crate::continuations::NextArea;
+use crate::continuations::next_area;
+use crate::cursors::ChainCursor;
+use areas::AdCursor;
+use areas::AdEnding;
+use areas::ending_of;
+use disc::refusals::Refusal;
+
+// What following a chain comes to: the sectors asked for, or a refusal and the sectors asked for.
+pub enum Chain {
+    Whole(u64),
+    Refused(Refusal, u64),
+}
+
+pub fn follow(image: &[u8], start: u32, partition: u16, kind: u8, first: ChainCursor) -> Chain
+    ensures { λ r. ⌜ Followed (now (image .entry)) start partition kind first r ⌝ }
+{
+    let mut c = first;
+    let mut count: u64 = 0;
+    loop {
+        let here = AdCursor {
+            at: c.at,
+            left: c.left,
+        };
+        match ending_of(image, kind, here) {
+            AdEnding::End => return Chain::Whole(count),
+            AdEnding::Refused(why) => return Chain::Refused(why, count),
+            AdEnding::Continuation(a) => {
+                let hops = c.hops;
+                if hops == 0 {
+                    return Chain::Refused(Refusal::Malformed, count);
+                }
+                match next_area(image, start, partition, a) {
+                    NextArea::Refused(why, n) => return Chain::Refused(why, count + n),
+                    NextArea::Found { at, size, sectors } => {
+                        count += sectors;
+                        c = ChainCursor {
+                            at: at,
+                            left: size,
+                            hops: hops - 1,
+                        };
+                    }
+                }
+            }
+        }
+    }
+}

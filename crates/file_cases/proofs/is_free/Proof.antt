@@ -1,0 +1,24 @@
+-- `file_cases::is_free` is safe and ends: the index goes up to the row's length. Assumes nothing.
+use Prim.Native.Nat.{_≤_, _-_}
+use lib.ListN.{length}
+use borrow.Author.Needs.{needs}
+use Rattle.file_cases.proofs.is_free.Statement.{statement}
+use Rattle.file_cases.proofs.is_free.Tie as tie
+
+abbrev Inv-loop : tie.InvT-loop
+Inv-loop row from i₀ i = from ≤ i
+
+abbrev μ-loop : tie.MeasureT-loop
+μ-loop row from i₀ i = length row - i
+
+pub is-free-spec : {M : Type 1} → statement M
+is-free-spec =
+    tie.close (tie.spec Inv-loop μ-loop
+    (λ c. search needs)
+    (λ c. search needs)
+    (λ c. search needs)
+    (λ c. search needs)
+    (λ c. search needs)
+    (λ c. search needs)
+    (λ c. search needs)
+    (λ c. search needs))

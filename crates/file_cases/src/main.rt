@@ -1,0 +1,274 @@
+// Reads the files of the images in data/images, which tools/file_images.py writes, by each call there is: for each image its name, and
+// for each query what is asked, and what was answered. `read` has the sum of the whole lent output, which came full of A5; `part` the sum of
+// the part; `extents` each extent, and whether the slots behind are as they came.
+//
+// What is expected are the original's answers; where it aborts, at an absurd information length, they are those of document 01.
+ghost use mathlib.Core.Path.{_≡_};
+ghost use Prim.Native.Nat.{_≤_, _<_, _^_};
+ghost use lib.ListN.{length};
+use disc::refusals::Refusal;
+use files::reads::read_file;
+use layouts::lists::file_extents;
+use layouts::parts::file_part;
+use libc::STDOUT_FILENO;
+use records::allocations::LongAd;
+use records::allocations::long_at;
+use records::bytes::le16;
+use records::bytes::le32;
+use sparse::expand;
+
+// What a slot holds when it is lent: no length, type, block or partition of the images.
+const FREE: u32 = 4294901760;
+
+fn say(text: &[u8]) {
+    io::write_all(STDOUT_FILENO, text);
+}
+
+fn say_number(name: &[u8], n: u64) {
+    say(name);
+    io::print_decimal(STDOUT_FILENO, n);
+}
+
+fn say_answer(call: &[u8], answer: u64, count: u64, length: u64) {
+    say_number(call, answer);
+    say_number(b" count ", count);
+    say_number(b" length ", length);
+}
+
+fn wide(b: u8) -> u64
+    ensures { λ r. ⌜ r < 2 ^ 8 ⌝ }
+{
+    b as u64
+}
+
+fn slot(row: &[u32], i: usize) -> u32 {
+    if row.len() <= i {
+        return 0;
+    }
+    row[i]
+}
+
+fn least(a: usize, b: usize) -> usize
+    ensures { λ r. ⌜ (r ≤ a) × (r ≤ b) ⌝ }
+{
+    if a < b { a } else { b }
+}
+
+// The bytes from a to e, or none where they aren't there.
+fn part(s: &[u8], a: usize, e: usize) -> &[u8] {
+    if s.len() < e {
+        return &s[0..0];
+    }
+    if e < a {
+        return &s[0..0];
+    }
+    &s[a..e]
+}
+
+// A sum that tells where each byte stands.
+fn sum(b: &[u8]) -> u64 {
+    let mut s: u64 = 0;
+    let mut i = 0;
+    while i < b.len() {
+        s = (s * 31 + wide(b[i])) % 4294967296;
+        i += 1;
+    }
+    s
+}
+
+fn fill(out: &mut [u8]) {
+    let mut i = 0;
+    while i < out.len() {
+        out[i] = 0xa5;
+        i += 1;
+    }
+}
+
+// Whether the slots from `from` on are as they came.
+fn is_free(row: &[u32], from: usize) -> bool {
+    let mut i = from;
+    while i < row.len() {
+        if row[i] != FREE {
+            return false;
+        }
+        i += 1;
+    }
+    true
+}
+
+// ---- the three calls
+
+fn say_read(image: &[u8], start: u32, partition: u16, icb: LongAd, out: &mut [u8]) {
+    fill(out);
+    let r = read_file(image, start, partition, icb, out, Refusal::NoRoom);
+    say_answer(b"read ", r.answer, r.count, r.length);
+    say_number(b" sum ", sum(out));
+    say(b"\n");
+}
+
+fn say_part(image: &[u8], start: u32, partition: u16, icb: LongAd) {
+    let mut answer: u64 = 99;
+    let mut count: u64 = 99;
+    let p = file_part(image, start, partition, icb, &mut answer, &mut count);
+    say_answer(b"part ", answer, count, p.len() as u64);
+    say_number(b" sum ", sum(p));
+    say(b"\n");
+}
+
+fn say_slot(i: usize, lengths: &[u32], types: &[u32], blocks: &[u32], partitions: &[u32]) {
+    say_number(b" (", slot(lengths, i) as u64);
+    say_number(b" ", slot(types, i) as u64);
+    say_number(b" ", slot(blocks, i) as u64);
+    say_number(b" ", slot(partitions, i) as u64);
+    say(b")");
+}
+
+// The first n slots, and whether those behind are free.
+fn say_slots(n: usize, lengths: &[u32], types: &[u32], blocks: &[u32], partitions: &[u32]) {
+    let mut i = 0;
+    while i < n {
+        say_slot(i, lengths, types, blocks, partitions);
+        i += 1;
+    }
+    if is_free(lengths, n) & is_free(types, n) & is_free(blocks, n) & is_free(partitions, n) {
+        say(b" kept\n");
+    } else {
+        say(b" changed\n");
+    }
+}
+
+// The first n slots of each row are lent.
+fn lend_rows(
+    image: &[u8],
+    start: u32,
+    partition: u16,
+    icb: LongAd,
+    n: usize,
+    lengths: &mut [u32],
+    types: &mut [u32],
+    blocks: &mut [u32],
+    partitions: &mut [u32],
+)
+    requires { ⌜ (n ≤ length (now lengths)) × (n ≤ length (now types)) ⌝ }
+    requires { ⌜ (n ≤ length (now blocks)) × (n ≤ length (now partitions)) ⌝ }
+{
+    let r = file_extents(
+        image,
+        start,
+        partition,
+        icb,
+        &mut lengths[..n],
+        &mut types[..n],
+        &mut blocks[..n],
+        &mut partitions[..n],
+    );
+    say_answer(b"extents ", r.answer, r.count, r.length);
+    say_slots(r.length as usize, lengths, types, blocks, partitions);
+}
+
+fn say_extents(image: &[u8], start: u32, partition: u16, icb: LongAd, n: usize)
+    requires { ⌜ n ≤ 256 ⌝ }
+{
+    let mut lengths = [FREE; 256];
+    let mut types = [FREE; 256];
+    let mut blocks = [FREE; 256];
+    let mut partitions = [FREE; 256];
+    lend_rows(
+        image,
+        start,
+        partition,
+        icb,
+        n,
+        &mut lengths,
+        &mut types,
+        &mut blocks,
+        &mut partitions,
+    );
+}
+
+// ---- the file of images
+
+fn say_query(q: &[u8], icb: LongAd) {
+    say_number(b"icb ", icb.length as u64);
+    say_number(b" ", icb.extent_type as u64);
+    say_number(b" ", icb.location.block as u64);
+    say_number(b" ", icb.location.partition_ref as u64);
+    say_number(b" start ", le32(q, 0) as u64);
+    say_number(b" partition ", le16(q, 4) as u64);
+    say_number(b" room ", le32(q, 22) as u64);
+    say_number(b" slots ", le16(q, 26) as u64);
+    say(b"\n");
+}
+
+fn query(image: &[u8], q: &[u8], out: &mut [u8]) {
+    let icb = long_at(q, 6);
+    say_query(q, icb);
+    let room = least(le32(q, 22) as usize, out.len());
+    say_read(image, le32(q, 0), le16(q, 4), icb, &mut out[..room]);
+    say_part(image, le32(q, 0), le16(q, 4), icb);
+    say_extents(
+        image,
+        le32(q, 0),
+        le16(q, 4),
+        icb,
+        least(le16(q, 26) as usize, 256),
+    );
+}
+
+// The queries of 28 bytes each.
+fn queries(image: &[u8], all: &[u8], out: &mut [u8]) {
+    let mut i = 0;
+    while i < all.len() {
+        let end = i + 28;
+        query(image, part(all, i, end), out);
+        i = end;
+    }
+}
+
+// The image at i and its queries; where the next one stands.
+fn run(all: &[u8], i: usize, image: &mut [u8], out: &mut [u8]) -> usize
+    requires { ⌜ i < length (now all) ⌝ }
+    ensures { λ r. ⌜ i < r ⌝ }
+{
+    let packed = i + 2 + le16(all, i) as usize;
+    say(part(all, i + 2, packed));
+    say(b"\n");
+    let end = packed + 4 + le32(all, packed) as usize;
+    let n = expand(part(all, packed + 4, end), image);
+    let next = end + 2 + 28 * le16(all, end) as usize;
+    queries(part(image, 0, n), part(all, end + 2, next), out);
+    next
+}
+
+fn run_all(all: &[u8], image: &mut [u8], out: &mut [u8]) {
+    let mut i = 0;
+    while i < all.len() {
+        i = run(all, i, image, out);
+    }
+}
+
+// 2 MiB: the longest continuation that is followed has 1 MiB.
+fn image_space() -> [u8; 2097152]
+    ensures { λ r. ⌜ 2097152 ≡ length r ⌝ }
+{
+    [0; 2097152]
+}
+
+fn images_space() -> [u8; 131072]
+    ensures { λ r. ⌜ 131072 ≡ length r ⌝ }
+{
+    [0; 131072]
+}
+
+fn main() {
+    let fd = os::open_read(b"images");
+    if fd < 0 {
+        os::fail(b"images");
+        return;
+    }
+    let mut all = images_space();
+    let n = io::read_full(fd, &mut all);
+    let mut image = image_space();
+    let mut out = io::large_buffer();
+    run_all(&all[..n], &mut image, &mut out);
+}

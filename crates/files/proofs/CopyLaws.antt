@@ -1,0 +1,160 @@
+-- The pass that copies, one turn at a time. Assumes nothing.
+use mathlib.Core.Path.{_≡_, refl, ap, sym, _∙_}
+use mathlib.Core.Bool.{Bool, true, false}
+use mathlib.Core.List.{List, [], _++_, append-nil, append-assoc}
+use mathlib.Core.Logic.{⊎-elim}
+use Prim.Native.Nat.{ℕ, _+_, _-_, _≤_, _<_, _^_}
+use native.Mathlib.Nat.{add-sub-cancel-left, zero-add}
+use native.Mathlib.Omega.{arith}
+use lib.ListN.{length, take, drop, length-append, length-take, length-drop, drop-of-length-le}
+use lib.Seq.{take-all, drop-drop, length-take-le, sets, length-sets, sets-eq}
+use mir.Syntax.{w64}
+use mir.Val.{Fits}
+use borrow.Author.Tests.{le-leb, lt-leb}
+use borrow.Rule.Slice.PartMut.{midOf, putMid}
+use Rattle.disc.specs.Ask.{Outcome}
+use Rattle.disc.specs.Ask.Outcome.{answered, refused}
+use Rattle.disc.specs.Ran.{Ran}
+use Rattle.disc.specs.Images.{bytesOf, isAnswered}
+use Rattle.disc.specs.Moves.{over}
+use Rattle.disc.specs.declared.refusals.Refusal.{Refusal}
+use Rattle.disc.proofs.ImageLaws.{split}
+use Rattle.disc.proofs.MoveLaws.{over-fits, sets-append, sets-front}
+use Rattle.chains.specs.Walks.{weight}
+use Rattle.chains.specs.declared.cursors.ChainCursor.{ChainCursor}
+use Rattle.files.specs.declared.pieces.Turn.{Turn}
+use Rattle.files.specs.declared.pieces.Turn.the-variants.{Piece, Hop, Refused as Stopped, End}
+use Rattle.files.specs.Pieces.{beforeOutcome, inFront, restAt, Lies, PieceTurn, HopTurn, Turned}
+use Rattle.files.specs.Passes.{Copies, Wrote}
+use Rattle.files.proofs.PieceLaws.{part-long}
+
+-- ---- stores
+
+pub copied : (image out : List ℕ) {z : List ℕ} (from n : ℕ) → (n ≤ length image - from) × (n ≤ length out) → z ≡ over (take (from + n - from) (drop from image)) out
+    → z ≡ take n (drop from image) ++ drop n out
+copied image out from n h e =
+    let l : length (take n (drop from image)) ≡ n = length-take-le n (drop from image) (rw length-drop (h .0)) in
+    (rw add-sub-cancel-left at e) ∙ over-fits (take n (drop from image)) out (rw l (h .1)) ∙ rw l
+
+-- a tail of xs that was lent came back with v written over its front
+tail-sets : (a : ℕ) (xs v ys : List ℕ) (n : ℕ) → n ≡ length v → a + n ≤ length xs → ys ≡ v ++ drop n (midOf a (length xs - a) xs) → putMid a (length xs - a) xs ys ≡ sets xs a v
+tail-sets a xs v ys n l h e =
+    let k : length (drop a xs) ≤ length xs - a = rw length-drop (omega arith) in
+    rw (e, take-all (length xs - a) (drop a xs), drop-of-length-le (drop a xs) k, drop-drop, l) (rw (append-nil, ← append-assoc (take a xs) v) (sym (sets-eq v xs a (omega arith))))
+
+-- ---- what is answered, piece by piece
+
+never : {A : Type 0} → _≡_ {A = Bool} false true → A
+never {A} e = absurd (let z : _≡_ {A = ℕ} 0 1 = cc in omega arith)
+
+front-answers : (b : List ℕ) (o : Outcome (List ℕ)) → isAnswered (beforeOutcome b o) ≡ isAnswered o
+front-answers b (answered a) = refl
+front-answers b (refused a) = refl
+
+front-bytes : (b : List ℕ) (o : Outcome (List ℕ)) → isAnswered o ≡ true → bytesOf (beforeOutcome b o) ≡ b ++ bytesOf o
+front-bytes b (answered a) h = refl
+front-bytes b (refused a) h = never h
+
+-- ---- the loop
+
+module _ (image : List ℕ) (start partition kind want : ℕ) (out₀ : List ℕ) (c₀ : ChainCursor) where
+  abbrev rest : ChainCursor → ℕ → Ran (List ℕ)
+  rest c w = restAt image start partition kind c w
+
+  abbrev whole : List ℕ
+  whole = bytesOf (rest c₀ want .outcome)
+
+  pub record Copying (out : List ℕ) (c : ChainCursor) (filled : ℕ) : Type 0 where
+    pub stores : sets out filled (bytesOf (rest c (want - filled) .outcome)) ≡ sets out₀ 0 whole
+    pub answers : isAnswered (rest c (want - filled) .outcome) ≡ true
+    pub room : filled + length (bytesOf (rest c (want - filled) .outcome)) ≤ length out
+    pub long : length out ≡ length out₀
+    pub low : filled ≤ want
+    pub wide : want < 2 ^ 64
+    pub fits : length whole ≤ length out₀
+
+  pub copy-starts : want < 2 ^ 64 → Copies (rest c₀ want) (length out₀) → Copying out₀ c₀ 0
+  copy-starts g k =
+      let z : want - 0 ≡ want = omega arith in
+      record { stores = rw z; answers = rw z (k .answers); room = rw (z, zero-add) (k .fits); long = refl; low = omega arith; wide = g; fits = k .fits }
+
+  module _ (out : List ℕ) (c : ChainCursor) (filled : ℕ) (i : Copying out c filled) (t : Turn) (p : Turned image start partition kind c (want - filled) t) where
+    ended : sets out filled [] ≡ sets out₀ 0 whole → Wrote (rest c₀ want) out₀ out
+    ended e = record { bytes = e ∙ sets-front whole out₀ (i .fits) }
+
+    pub copy-end : t ≡ End → Wrote (rest c₀ want) out₀ out
+    copy-end e =
+        let q : Turned image start partition kind c (want - filled) End = rw e at p in
+        ended (rw q at (i .stores))
+
+    pub copy-refused : {a : Refusal} {n : ℕ} → t ≡ Stopped a n → Wrote (rest c₀ want) out₀ out
+    copy-refused {a} {n} e =
+        let q : Turned image start partition kind c (want - filled) (Stopped a n) = rw e at p in
+        never (rw q at (i .answers))
+
+    pub copy-hop : {c′ : ChainCursor} → t ≡ Hop c′ → Copying out c′ filled
+    copy-hop {c′} e =
+        let q : Turned image start partition kind c (want - filled) (Hop c′) = rw e at p in
+        record { stores = (rw (q .runs) at (i .stores)); answers = (rw (q .runs) at (i .answers)); room = (rw (q .runs) at (i .room)); long = i .long; low = i .low; wide = i .wide; fits = i .fits }
+
+    pub copy-hop-less : {c′ : ChainCursor} → t ≡ Hop c′ → weight c′ < weight c
+    copy-hop-less {c′} e =
+        let q : Turned image start partition kind c (want - filled) (Hop c′) = rw e at p in q .less
+
+    module _ {from n k : ℕ} {c′ : ChainCursor} (e : t ≡ Piece from n k c′) where
+      turn : PieceTurn image start partition kind c (want - filled) from n k c′
+      turn = rw e at p
+
+      pub copy-less : weight c′ < weight c
+      copy-less = turn .less
+
+      part-size : length (take k (drop from image)) ≡ k
+      part-size = part-long image from k (want - filled) (turn .lies)
+
+      -- what the piece and the rest are, where more is wanted and where not
+      all-wanted : want ≤ filled + k → rest c (want - filled) ≡ record { outcome = answered (take k (drop from image)); count = n }
+      all-wanted h = turn .runs ∙ rw (le-leb (want - filled) k (omega arith))
+
+      more-wanted : filled + k < want → rest c (want - filled) ≡ inFront (take k (drop from image)) n (rest c′ (want - (filled + k)))
+      more-wanted h =
+          let g : want - (filled + k) ≡ want - filled - k = omega arith in
+          rw g (turn .runs ∙ rw (lt-leb (want - filled) k (omega arith)))
+
+      more-answers : filled + k < want → isAnswered (rest c′ (want - (filled + k)) .outcome) ≡ true
+      more-answers h = sym (front-answers (take k (drop from image)) (rest c′ (want - (filled + k)) .outcome)) ∙ (rw (more-wanted h) at (i .answers))
+
+      more-bytes : (h : filled + k < want) → bytesOf (rest c (want - filled) .outcome) ≡ take k (drop from image) ++ bytesOf (rest c′ (want - (filled + k)) .outcome)
+      more-bytes h = ap (λ r. bytesOf (r .outcome)) (more-wanted h) ∙ front-bytes (take k (drop from image)) (rest c′ (want - (filled + k)) .outcome) (more-answers h)
+
+      pub copy-room : filled + k ≤ length out
+      copy-room = ⊎-elim
+          (λ (h : want ≤ filled + k). omega (arith, part-size, (rw (all-wanted h) at (i .room))))
+          (λ (h : filled + k < want). omega (arith, part-size, (rw (more-bytes h, length-append) at (i .room))))
+          (split want (filled + k))
+
+      pub copy-adds : Fits w64 (filled + k)
+      copy-adds = omega (arith, turn .lies .small, i .low, i .wide)
+
+      pub copy-source : k ≤ length image - from
+      copy-source = turn .lies .within
+
+      pub copy-target : k ≤ length (midOf filled (length out - filled) out)
+      copy-target = simp (length-take, length-drop) (omega (arith, copy-room))
+
+      module _ {ys : List ℕ} (w : ys ≡ take k (drop from image) ++ drop k (midOf filled (length out - filled) out)) where
+        stored : putMid filled (length out - filled) out ys ≡ sets out filled (take k (drop from image))
+        stored = tail-sets filled out (take k (drop from image)) ys k (sym part-size) copy-room w
+
+        pub copy-enough : want ≤ filled + k → Wrote (rest c₀ want) out₀ (putMid filled (length out - filled) out ys)
+        copy-enough h = record { bytes = stored ∙ (rw (all-wanted h) at (i .stores)) ∙ sets-front whole out₀ (i .fits) }
+
+        pub copy-next : filled + k < want → Copying (putMid filled (length out - filled) out ys) c′ (filled + k)
+        copy-next h = record {
+          stores = rw stored (rw (more-bytes h, sets-append, part-size) at (i .stores));
+          answers = more-answers h;
+          room = rw stored (rw length-sets (omega (arith, part-size, (rw (more-bytes h, length-append) at (i .room)))));
+          long = rw (stored, length-sets) (i .long);
+          low = omega arith;
+          wide = i .wide;
+          fits = i .fits;
+        }

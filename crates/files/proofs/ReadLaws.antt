@@ -1,0 +1,197 @@
+-- A read, put together from its passes. Assumes nothing.
+use mathlib.Core.Path.{_≡_, refl, ap, sym, _∙_}
+use mathlib.Core.Bool.{Bool, true, false}
+use mathlib.Core.List.{List, [], _++_}
+use Prim.Native.Nat.{ℕ, _+_, _-_, _*_, _≤_, _<_, _^_, min}
+use native.Mathlib.Omega.{arith}
+use lib.ListN.{length, take, drop, length-drop}
+use lib.Seq.{length-take-le}
+use lib.Dec.{eqb}
+use mir.Syntax.{w64}
+use mir.Val.{Fits}
+use borrow.Author.Tests.{eq-eqb, ne-eqb, le-leb, lt-leb}
+use Rattle.disc.specs.Choice.{pick}
+use Rattle.disc.specs.Counts.{reported}
+use Rattle.disc.specs.Refusals.{number}
+use Rattle.disc.specs.Ask.{Ask, Outcome, then}
+use Rattle.disc.specs.Ask.Outcome.{answered, refused}
+use Rattle.disc.specs.Ran.{Ran, ran, after, followed}
+use Rattle.disc.specs.Images.{disc, bytesOf, isAnswered}
+use Rattle.disc.specs.Replies.{Replied}
+use Rattle.disc.specs.declared.refusals.Refusal.{Refusal}
+use Rattle.disc.specs.declared.replies.Reply.{Reply}
+use Rattle.disc.proofs.RanLaws.{ran-then}
+use Rattle.disc.proofs.ReplyLaws.{reply-refused}
+use Rattle.records.specs.declared.allocations.LongAd.{LongAd}
+use Rattle.chains.specs.declared.cursors.ChainCursor.{ChainCursor}
+use Rattle.chains.specs.declared.follows.Chain.{Chain}
+use Rattle.chains.specs.declared.follows.Chain.the-variants.{Whole, Refused as BrokenOff}
+use Rattle.chains.specs.Follows.{chainAt, WholeChain, BrokenChain, Followed}
+use Rattle.files.specs.declared.icbs.Place.{Place}
+use Rattle.files.specs.declared.icbs.PlaceRead.{PlaceRead}
+use Rattle.files.specs.declared.icbs.PlaceRead.the-variants.{Found, Refused as NoPlace}
+use Rattle.files.specs.declared.extents.Measured.{Measured}
+use Rattle.files.specs.declared.extents.Measured.the-variants.{Sized, Refused}
+use Rattle.files.specs.Files.{fileBytes, bytesAt}
+use Rattle.files.specs.Pieces.{restAt}
+use Rattle.files.specs.Passes.{sizedBy, sized, Copies, Wrote}
+use Rattle.files.specs.Places.{placeOf}
+use Rattle.files.specs.Wholes.{embeddedIn, embeddedRun, frontOf, bytesFrom, FoundPlace, Locates}
+use Rattle.files.proofs.EntryLaws.{locates}
+
+-- a reply is right where what is answered is right
+pub replied-as : {full : Refusal} {r s : Ran (List ℕ)} → r ≡ s → {a b : List ℕ} {x : Reply} → Replied full s a b x → Replied full r a b x
+replied-as e p = rw e p
+
+-- ---- the bytes in the entry
+
+module _ (full : Refusal) (image : List ℕ) (p : Place) (h : p .at + p .size ≤ length image) {n : ℕ} (e : n ≡ min (p .size) (p .information)) (out : List ℕ) where
+  long : length (embeddedIn image p) ≡ n
+  long = rw (← e) (length-take-le n (drop (p .at) image) (rw length-drop (omega arith)))
+
+  pub embedded-full : length out < n → {m : ℕ} → m ≡ number full → {x : Reply} → x ≡ record { answer = m; count = 1; length = 0 }
+      → Replied full (after 1 (embeddedRun image p)) out out x
+  embedded-full k f g = record { says = rw (long, lt-leb n (length out) k, g, f); leaves = rw (long, lt-leb n (length out) k) }
+
+  pub embedded-source : n ≤ length image - p .at
+  embedded-source = omega arith
+
+  pub embedded-done : n ≤ length out → {z : List ℕ} → z ≡ take n (drop (p .at) image) ++ drop n out
+      → Replied full (after 1 (embeddedRun image p)) out z (record { answer = 0; count = 1; length = n })
+  embedded-done k w = record { says = rw (long, le-leb n (length out) k); leaves = rw (long, le-leb n (length out) k) (w ∙ rw e) }
+
+-- ---- the bytes of extents that were measured
+
+record Told (r : Ran (List ℕ)) (size m : ℕ) : Type 0 where
+  answers : isAnswered (r .outcome) ≡ true
+  is : size ≡ length (bytesOf (r .outcome))
+  count : m ≡ reported (r .count)
+
+told-sized : (o : Outcome (List ℕ)) (j size m : ℕ) → Sized size m ≡ sizedBy 0 (reported (0 + j)) o → Told (record { outcome = o; count = j }) size m
+told-sized (answered b) j size m e =
+    let p : size ≡ 0 + length b = cc in
+    let q : m ≡ reported (0 + j) = cc in
+    record { answers = refl; is = omega arith; count = omega arith }
+told-sized (refused a) j size m e = absurd (let z : _≡_ {A = ℕ} 0 1 = cc in omega arith)
+
+record ToldRefused (r : Ran (List ℕ)) (a : Refusal) (m : ℕ) : Type 0 where
+  outcome : r .outcome ≡ refused a
+  count : m ≡ reported (r .count)
+
+told-refused : (o : Outcome (List ℕ)) (j : ℕ) (a : Refusal) (m : ℕ) → Refused a m ≡ sizedBy 0 (reported (0 + j)) o → ToldRefused (record { outcome = o; count = j }) a m
+told-refused (answered b) j a m e = absurd (let z : _≡_ {A = ℕ} 0 1 = cc in omega arith)
+told-refused (refused b) j a m e =
+    let q : m ≡ reported (0 + j) = cc in
+    record { outcome = cc; count = omega arith }
+
+-- an answer that fits, and one that doesn't
+fits : (full : Refusal) (r : Ran (List ℕ)) (before after : List ℕ) → isAnswered (r .outcome) ≡ true → length (bytesOf (r .outcome)) ≤ length before → Wrote r before after
+    → Replied full r before after (record { answer = 0; count = reported (r .count); length = length (bytesOf (r .outcome)) })
+fits full r before after h k w = by (r .outcome) h k (w .bytes)
+  where
+    by : (o : Outcome (List ℕ)) → isAnswered o ≡ true → length (bytesOf o) ≤ length before → after ≡ bytesOf o ++ drop (length (bytesOf o)) before
+        → Replied full (record { outcome = o; count = r .count }) before after (record { answer = 0; count = reported (r .count); length = length (bytesOf o) })
+    by (answered b) h k w = record { says = rw (le-leb _ _ k); leaves = rw (le-leb _ _ k) w }
+    by (refused a) h k w = absurd (let z : _≡_ {A = ℕ} 0 1 = cc in omega arith)
+
+too-many : (full : Refusal) (r : Ran (List ℕ)) (before : List ℕ) → isAnswered (r .outcome) ≡ true → length before < length (bytesOf (r .outcome))
+    → Replied full r before before (record { answer = number full; count = reported (r .count); length = 0 })
+too-many full r before h k = by (r .outcome) h k
+  where
+    by : (o : Outcome (List ℕ)) → isAnswered o ≡ true → length before < length (bytesOf o)
+        → Replied full (record { outcome = o; count = r .count }) before before (record { answer = number full; count = reported (r .count); length = 0 })
+    by (answered b) h k = record { says = rw (lt-leb _ _ k); leaves = rw (lt-leb _ _ k) }
+    by (refused a) h k = absurd (let z : _≡_ {A = ℕ} 0 1 = cc in omega arith)
+
+module _ (full : Refusal) (rest : Ran (List ℕ)) (n : ℕ) {m : Measured} (q : m ≡ sized 0 0 rest) (out : List ℕ) where
+  module _ {why : Refusal} {j : ℕ} (f : m ≡ Refused why j) where
+    told-no : ToldRefused rest why j
+    unfolding sized
+    told-no = told-refused (rest .outcome) (rest .count) why j (sym f ∙ q)
+
+    pub whole-refused : {a : ℕ} → a ≡ number why → {k : ℕ} → k ≡ reported (n + j) → {x : Reply} → x ≡ record { answer = a; count = k; length = 0 } → Replied full (after n rest) out out x
+    whole-refused g {k} h e =
+        let t = told-no in
+        rw (t .outcome) (reply-refused why (n + rest .count) k (omega (arith, t .count)) (e ∙ rw g))
+
+  module _ {size j : ℕ} (f : m ≡ Sized size j) where
+    told-yes : Told rest size j
+    unfolding sized
+    told-yes = told-sized (rest .outcome) (rest .count) size j (sym f ∙ q)
+
+    pub whole-copies : size ≤ length out → Copies rest (length out)
+    whole-copies h = let t = told-yes in record { answers = t .answers; fits = omega (arith, t .is) }
+
+    module _ {k : ℕ} (g : k ≡ reported (n + j)) where
+      counted : reported (n + rest .count) ≡ k
+      counted = let t = told-yes in omega (arith, t .count)
+
+      pub whole-full : length out < size → {a : ℕ} → a ≡ number full → {x : Reply} → x ≡ record { answer = a; count = k; length = 0 } → Replied full (after n rest) out out x
+      whole-full h d y =
+          let t = told-yes in
+          rw (y, d, ← counted) (too-many full (after n rest) out (t .answers) (omega (arith, t .is)))
+
+      pub whole-done : size ≤ length out → {z : List ℕ} → Wrote rest out z → Replied full (after n rest) out z (record { answer = 0; count = k; length = size })
+      whole-done h {z} w =
+          let t = told-yes in
+          rw (← counted, t .is) (fits full (after n rest) out z (t .answers) (omega (arith, t .is)) (record { bytes = w .bytes }))
+
+-- ---- the bytes of the extents of a chain: r is what `follow` found
+
+module _ (image : List ℕ) (start partition : ℕ) (p : Place) (r : Chain) (y : Followed image start partition (p .kind) (frontOf p) r) where
+  module _ {why : Refusal} {n : ℕ} (e : r ≡ BrokenOff why n) where
+    broken : BrokenChain image start partition (p .kind) (frontOf p) why n
+    broken = rw e at y
+
+    pub cut-fits : Fits w64 (n + 1)
+    cut-fits = omega (arith, broken .few)
+
+    pub extents-cut : (full : Refusal) {a : ℕ} → a ≡ number why → (out : List ℕ) {x : Reply} → x ≡ record { answer = a; count = n + 1; length = 0 }
+        → Replied full (after 1 (bytesFrom image start partition p)) out out x
+    extents-cut full g out f = rw (broken .runs) (reply-refused why (1 + n) (n + 1) (omega (arith, broken .few)) (f ∙ rw g))
+
+  module _ {n : ℕ} (e : r ≡ Whole n) where
+    whole : WholeChain image start partition (p .kind) (frontOf p) n
+    whole = rw e at y
+
+    pub whole-fits : Fits w64 (n + 1)
+    whole-fits = omega (arith, whole .few)
+
+    pub extents-read : (full : Refusal) (out : List ℕ) {z : List ℕ} {x : Reply}
+        → Replied full (after (n + 1) (restAt image start partition (p .kind) (frontOf p) (p .information))) out z x
+        → Replied full (after 1 (bytesFrom image start partition p)) out z x
+    extents-read full out q =
+        let g : (k : ℕ) → 1 + (n + k) ≡ n + 1 + k = λ k. omega arith in
+        rw (whole .runs, g) q
+
+-- ---- a file: r is what `locate` found
+
+module _ (image : List ℕ) (start : ℕ) (icb : LongAd) {r : PlaceRead} (y : r ≡ placeOf image start icb) where
+  -- the entry's area, or the embedded file, lies in the image and in one sector
+  module _ {p : Place} (e : r ≡ Found p) where
+    found : FoundPlace image start icb p
+    found = locates image start icb (sym e ∙ y)
+
+    pub place-inside : p .at + p .size ≤ length image
+    place-inside = found .inside
+
+    pub place-small : p .size ≤ 2048
+    place-small = found .small
+
+  module _ (full : Refusal) (partition : ℕ) (out : List ℕ) where
+    abbrev file : Ran (List ℕ)
+    file = ran (disc image) (fileBytes start partition icb)
+
+    pub read-refused : {why : Refusal} {n : ℕ} → r ≡ NoPlace why n → n < 2 ^ 64 → {a : ℕ} → a ≡ number why → {x : Reply} → x ≡ record { answer = a; count = n; length = 0 }
+        → Replied full file out out x
+    unfolding fileBytes
+    read-refused {why} {n} e k g f =
+        let q : Locates image start icb (NoPlace why n) = locates image start icb (sym e ∙ y) in
+        rw (ran-then, q) (reply-refused why n n (omega arith) (f ∙ rw g))
+
+    module _ {p : Place} (e : r ≡ Found p) where
+      pub read-in : p .kind ≡ 3 → {z : List ℕ} {x : Reply} → Replied full (after 1 (embeddedRun image p)) out z x → Replied full file out z x
+      read-in k q = replied-as (found e .bytes partition ∙ rw (eq-eqb (p .kind) 3 k)) q
+
+      pub read-out : (p .kind ≡ 3 → ⊥) → {z : List ℕ} {x : Reply} → Replied full (after 1 (bytesFrom image start partition p)) out z x → Replied full file out z x
+      read-out k q = replied-as (found e .bytes partition ∙ rw (ne-eqb (p .kind) 3 k)) q

@@ -1,0 +1,19 @@
+-- `files::icbs::locate` meets its contract: the ICB's length, the sector, the entry. Assumes nothing.
+use borrow.Author.Needs.{needs}
+use Rattle.files.proofs.EntryLaws.{locate-zero, locate-missing, locate-room, locate-entry}
+use Rattle.files.proofs.icbs.locate.Statement.{statement}
+use Rattle.files.proofs.icbs.locate.Tie as tie
+
+ruleset locates = (locate-zero, locate-missing, locate-room, locate-entry, needs)
+
+pub locate-spec : {M : Type 1} → statement M
+locate-spec =
+    tie.close (tie.spec
+    (λ c. search locates)
+    (λ c κs. search locates)
+    (λ c κs. search locates)
+    (λ c. search locates)
+    (λ c κs. search locates)
+    (λ c. search locates)
+    (λ c κs. search locates)
+    (λ c. search locates))

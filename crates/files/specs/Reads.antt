@@ -1,0 +1,42 @@
+-- A file's bytes, read from its extents: document 01, "Reading a file". Assumes nothing: these are definitions.
+use Prim.Native.Nat.{ℕ, zero, suc, _+_, _-_, _*_}
+use mathlib.Core.Bool.{Bool, true, false}
+use mathlib.Core.List.{List, [], _∷_, _++_}
+use lib.ListN.{length, take, drop}
+use lib.Dec.{eqb, leb}
+use Rattle.disc.specs.Choice.{pick}
+use Rattle.disc.specs.Ask.{Ask, then}
+use Rattle.disc.specs.Ask.Ask.{done, refuse, ask}
+use Rattle.disc.specs.declared.refusals.Refusal.the-variants.{Unsupported}
+use Rattle.areas.specs.declared.AllocExtent.{AllocExtent}
+use Rattle.chains.specs.Chains.{sectorsFor, foreign}
+
+-- the read stops if it has the `want` bytes that are missing, and what is past them is cut; else more is joined
+abbrev pub joining : ℕ → List ℕ → Ask (List ℕ) → Ask (List ℕ)
+joining want bytes more = pick (leb want (length bytes)) (done (take want bytes)) (then more (λ rest. done (bytes ++ rest)))
+
+-- the bytes of n sectors in turn, of which `size` bytes count
+unfoldable pub extentBytes : ℕ → ℕ → ℕ → ℕ → Ask (List ℕ)
+extentBytes zero at size want = done []
+extentBytes (suc n) at size want =
+    ask at (λ b. joining want (take size b) (extentBytes n (at + 1) (size - 2048) (want - length (take size b))))
+
+-- the bytes of extents in turn: each is recorded (type 0, ECMA-167 4/14.14.1.1) and of the volume's partition
+unfoldable pub extentsBytes : ℕ → ℕ → List AllocExtent → ℕ → Ask (List ℕ)
+extentsBytes start partition [] want = done []
+extentsBytes start partition (e ∷ es) want =
+    pick (eqb (e .«extent_type») 0)
+    (pick (foreign partition (e .«partition_ref»)) (refuse Unsupported)
+    (then (extentBytes (sectorsFor (e .length)) (start + e .block) (e .length) want) (λ b.
+    joining want b (extentsBytes start partition es (want - length b)))))
+    (refuse Unsupported)
+
+-- how many extents a read begins: it visits the first even for no byte
+unfoldable pub visited : List AllocExtent → ℕ → ℕ
+visited [] want = 0
+visited (e ∷ es) want = 1 + pick (leb want (e .length)) 0 (visited es (want - e .length))
+
+-- what extents hold in an image, all of it joined: what a read is cut from
+unfoldable pub extentsHold : List ℕ → ℕ → List AllocExtent → List ℕ
+extentsHold image start [] = []
+extentsHold image start (e ∷ es) = take (e .length) (drop (2048 * (start + e .block)) image) ++ extentsHold image start es

@@ -1,0 +1,103 @@
+// A file's extents in passes: measured, with the refusals and the count; then copied, which can't fail.
+ghost use mathlib.Core.Path.{_≡_};
+ghost use mathlib.Core.List.{_++_};
+ghost use Prim.Native.Nat.{_-_, _≤_};
+ghost use lib.ListN.{length, take, drop};
+ghost use Rattle.files.specs.Pieces.{restAt};
+ghost use Rattle.files.specs.Passes.{sized, Wrote, Copies};
+use crate::pieces::Turn;
+use crate::pieces::next_piece;
+use chains::cursors::ChainCursor;
+use disc::counts::add_counts;
+use disc::refusals::Refusal;
+
+// What the extents come to: their bytes and the sectors asked for, or a refusal and the sectors asked for.
+pub enum Measured {
+    Sized(u64, u64),
+    Refused(Refusal, u64),
+}
+
+pub(crate) fn measure(
+    image: &[u8],
+    start: u32,
+    partition: u16,
+    kind: u8,
+    first: ChainCursor,
+    want: u64,
+) -> Measured
+    ensures { λ r. ⌜ r ≡ sized 0 0 (restAt (now (image .entry)) start partition kind first want) ⌝ }
+{
+    let mut c = first;
+    let mut size: u64 = 0;
+    let mut count: u64 = 0;
+    loop {
+        match next_piece(image, start, partition, kind, c, want - size) {
+            Turn::End => return Measured::Sized(size, count),
+            Turn::Refused(why, n) => return Measured::Refused(why, add_counts(count, n)),
+            Turn::Hop(next) => c = next,
+            Turn::Piece {
+                from: _,
+                sectors,
+                bytes,
+                next,
+            } => {
+                count = add_counts(count, sectors);
+                size += bytes;
+                if want <= size {
+                    return Measured::Sized(size, count);
+                }
+                c = next;
+            }
+        }
+    }
+}
+
+// Copies n bytes of the image from `from` on to the front of out. For no byte `from` may lie past the image.
+pub(crate) fn copy_piece(image: &[u8], from: u64, n: u64, out: &mut [u8])
+    requires { ⌜ (n ≤ length (now image) - from) × (n ≤ length (now out)) ⌝ }
+    ensures { λ _. ⌜ now (out .exit) ≡ take n (drop from (now (image .entry))) ++ drop n (now (out .entry)) ⌝ }
+{
+    if n == 0 {
+        return;
+    }
+    let at = from as usize;
+    let end = at + n as usize;
+    disc::moves::copy(&image[at..end], out);
+}
+
+// Writes the bytes of the extents to the front of out, each behind the one before. They were measured: none is refused, and they fit.
+pub(crate) fn copy(
+    image: &[u8],
+    start: u32,
+    partition: u16,
+    kind: u8,
+    first: ChainCursor,
+    want: u64,
+    out: &mut [u8],
+)
+    requires { ⌜ Copies (restAt (now image) start partition kind first want) (length (now out)) ⌝ }
+    ensures { λ _. ⌜ Wrote (restAt (now (image .entry)) start partition kind first want) (now (out .entry)) (now (out .exit)) ⌝ }
+{
+    let mut c = first;
+    let mut filled: usize = 0;
+    loop {
+        match next_piece(image, start, partition, kind, c, want - filled as u64) {
+            Turn::End => return,
+            Turn::Refused(_, _) => return,
+            Turn::Hop(next) => c = next,
+            Turn::Piece {
+                from,
+                sectors: _,
+                bytes,
+                next,
+            } => {
+                copy_piece(image, from, bytes, &mut out[filled..]);
+                filled += bytes as usize;
+                if want <= filled as u64 {
+                    return;
+                }
+                c = next;
+            }
+        }
+    }
+}

@@ -1,0 +1,5 @@
+// Files of a UDF disc: their entries, their extents and their bytes.
+pub mod extents;
+pub mod icbs;
+pub mod pieces;
+pub mod reads;

@@ -1,0 +1,128 @@
+// A file read: its entry, its chain, its extents measured, and then copied.
+ghost use mathlib.Core.Path.{_≡_};
+ghost use Prim.Native.Nat.{_+_, _≤_};
+ghost use lib.ListN.{length};
+ghost use Rattle.disc.specs.Ran.{ran, after};
+ghost use Rattle.disc.specs.Images.{disc};
+ghost use Rattle.disc.specs.Replies.{Replied};
+ghost use Rattle.files.specs.Files.{fileBytes};
+ghost use Rattle.files.specs.Pieces.{restAt};
+ghost use Rattle.files.specs.Wholes.{embeddedRun, bytesFrom};
+use crate::extents::Measured;
+use crate::extents::copy;
+use crate::extents::copy_piece;
+use crate::extents::measure;
+use crate::icbs::Place;
+use crate::icbs::PlaceRead;
+use crate::icbs::locate;
+use crate::pieces::lesser;
+use chains::cursors::ChainCursor;
+use chains::follows::Chain;
+use chains::follows::follow;
+use disc::counts::add_counts;
+use disc::refusals::Refusal;
+use disc::replies::Reply;
+use disc::replies::refusal;
+use records::allocations::LongAd;
+
+// The bytes that stand in the entry itself.
+fn read_embedded(image: &[u8], p: Place, out: &mut [u8], full: Refusal) -> Reply
+    requires { ⌜ p .at + p .size ≤ length (now image) ⌝ }
+    ensures { λ r. ⌜ Replied full (after 1 (embeddedRun (now (image .entry)) p)) (now (out .entry)) (now (out .exit)) r ⌝ }
+{
+    let n = lesser(p.size as u64, p.information);
+    if (out.len() as u64) < n {
+        return refusal(full.number(), 1);
+    }
+    copy_piece(image, p.at as u64, n, out);
+    Reply {
+        answer: 0,
+        count: 1,
+        length: n,
+    }
+}
+
+// The bytes of the extents of a chain that is whole, behind `n` sectors.
+fn read_whole(
+    image: &[u8],
+    start: u32,
+    partition: u16,
+    kind: u8,
+    first: ChainCursor,
+    want: u64,
+    out: &mut [u8],
+    full: Refusal,
+    n: u64,
+) -> Reply
+    ensures { λ r. ⌜ Replied full (after n (restAt (now (image .entry)) start partition kind first want)) (now (out .entry)) (now (out .exit)) r ⌝ }
+{
+    match measure(image, start, partition, kind, first, want) {
+        Measured::Refused(why, m) => refusal(why.number(), add_counts(n, m)),
+        Measured::Sized(size, m) => {
+            let count = add_counts(n, m);
+            if (out.len() as u64) < size {
+                return refusal(full.number(), count);
+            }
+            copy(image, start, partition, kind, first, want, out);
+            Reply {
+                answer: 0,
+                count: count,
+                length: size,
+            }
+        }
+    }
+}
+
+// The bytes of the extents of a chain, behind the sector of the entry.
+fn read_extents(
+    image: &[u8],
+    start: u32,
+    partition: u16,
+    p: Place,
+    out: &mut [u8],
+    full: Refusal,
+) -> Reply
+    ensures { λ r. ⌜ Replied full (after 1 (bytesFrom (now (image .entry)) start partition p)) (now (out .entry)) (now (out .exit)) r ⌝ }
+{
+    let first = ChainCursor {
+        at: p.at,
+        left: p.size,
+        hops: 32,
+    };
+    match follow(image, start, partition, p.kind, first) {
+        Chain::Refused(why, n) => refusal(why.number(), n + 1),
+        Chain::Whole(n) => read_whole(
+            image,
+            start,
+            partition,
+            p.kind,
+            first,
+            p.information,
+            out,
+            full,
+            n + 1,
+        ),
+    }
+}
+
+// The file's bytes over the front of out, where they fit: else the refusal `full`, after every other.
+pub fn read_file(
+    image: &[u8],
+    start: u32,
+    partition: u16,
+    icb: LongAd,
+    out: &mut [u8],
+    full: Refusal,
+) -> Reply
+    ensures { λ r. ⌜ Replied full (ran (disc (now (image .entry))) (fileBytes start partition icb)) (now (out .entry)) (now (out .exit)) r ⌝ }
+{
+    match locate(image, start, icb) {
+        PlaceRead::Refused(why, n) => refusal(why.number(), n),
+        PlaceRead::Found(p) => {
+            if p.kind == 3 {
+                return read_embedded(image, p, out, full);
+            }
+            read_extents(image, start, partition, p, out, full)
+        }
+    }
+}
