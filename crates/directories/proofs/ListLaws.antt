@@ -1,0 +1,57 @@
+-- A directory listed, against its tree. Assumes nothing.
+use mathlib.Core.Path.{_≡_, refl, sym, ap, _∙_}
+use mathlib.Core.Bool.{Bool, true, false}
+use mathlib.Core.List.{List}
+use Prim.Native.Nat.{ℕ, _+_, _-_}
+use lib.ListN.{length, take, drop}
+use lib.Dec.{leb}
+use Rattle.disc.specs.Choice.{pick}
+use Rattle.disc.specs.Refusals.{number}
+use Rattle.disc.specs.Counts.{reported}
+use Rattle.disc.specs.Ask.{Disc, Outcome}
+use Rattle.disc.specs.Ask.Outcome.{answered, refused}
+use Rattle.disc.specs.Ran.{Ran, ran}
+use Rattle.disc.specs.Replies.{replyBy, Replied}
+use Rattle.disc.specs.declared.refusals.Refusal.{Refusal}
+use Rattle.disc.specs.declared.refusals.Refusal.the-variants.{NoRoom}
+use Rattle.disc.specs.declared.replies.Reply.{Reply}
+use Rattle.records.specs.declared.allocations.LongAd.{LongAd}
+use Rattle.listings.specs.Listings.{listing, told}
+use Rattle.directories.specs.Directories.{directoryBytes, listingAt}
+use Rattle.directories.specs.Places.{andThen, replyTo, Reads}
+use Rattle.directories.proofs.SpaceLaws.{ran-known, reads-count, reads-room, reads-bytes}
+
+-- the same reply with another count
+pub recount : (full : Refusal) (room a n : ℕ) (o : Outcome (List ℕ)) {l : Reply} → l ≡ replyBy full room a o
+    → _≡_ {A = Reply} (record { answer = l .answer; count = n; length = l .length }) (replyBy full room n o)
+recount full room a n (refused r) e = rw e
+recount full room a n (answered b) {l} e = by (leb (length b) room) e
+  where
+    by : (t : Bool) → l ≡ pick t (record { answer = 0; count = a; length = length b }) (record { answer = number full; count = a; length = 0 })
+        → _≡_ {A = Reply} (record { answer = l .answer; count = n; length = l .length }) (pick t (record { answer = 0; count = n; length = length b }) (record { answer = number full; count = n; length = 0 }))
+    by true e = rw e
+    by false e = rw e
+
+-- a read that was refused refuses what follows it
+refused-replied : (o : Outcome (List ℕ)) (n : ℕ) {reply : Reply} → reply ≡ replyTo o (reported n) → (reply .answer ≡ 0 → ⊥) → (f : List ℕ → Outcome (List ℕ)) (d : List ℕ)
+    → Replied NoRoom (record { outcome = andThen o f; count = n }) d d reply
+refused-replied (answered b) n p h f d = absurd (h (rw p))
+refused-replied (refused r) n p h f d = record { says = p; leaves = refl }
+
+module _ (d : Disc) (start partition : ℕ) (icb : LongAd) (w w′ : List ℕ) {read : Reply} (p : Reads (ran d (directoryBytes start partition (length w) icb)) w w′ read) where
+  abbrev R : Ran (List ℕ)
+  R = ran d (directoryBytes start partition (length w) icb)
+
+  listing-is : ran d (listingAt start partition (length w) icb) ≡ record { outcome = andThen (R .outcome) listing; count = R .count }
+  unfolding listingAt
+  listing-is = ran-known d (directoryBytes start partition (length w) icb) listing
+
+  pub list-refused : (read .answer ≡ 0 → ⊥) → (o : List ℕ) → Replied NoRoom (ran d (listingAt start partition (length w) icb)) o o read
+  list-refused h o = rw listing-is (refused-replied (R .outcome) (R .count) (p .says) h listing o)
+
+  pub list-listed : read .answer ≡ 0 → {o o′ : List ℕ} (l : Reply) → Replied NoRoom (told (listing (take (read .length - 0) (drop 0 w′)))) o o′ l
+      → Replied NoRoom (ran d (listingAt start partition (length w) icb)) o o′ (record { answer = l .answer; count = read .count; length = l .length })
+  list-listed h {o} l e =
+      let b : List ℕ = take (read .length - 0) (drop 0 w′) in
+      rw (listing-is, reads-bytes p h, reads-count p)
+      (record { says = recount NoRoom (length o) 0 (reported (R .count)) (listing b) (e .says); leaves = e .leaves })

@@ -1,0 +1,94 @@
+-- What is asked of a path, by the walk's end. Assumes nothing.
+use mathlib.Core.Path.{_≡_, refl, sym, ap, _∙_}
+use mathlib.Core.Bool.{Bool, true, false}
+use mathlib.Core.List.{List}
+use Prim.Native.Nat.{ℕ, _+_, _-_}
+use lib.ListN.{length, take, drop}
+use lib.Dec.{leb}
+use Rattle.disc.specs.Choice.{pick}
+use Rattle.disc.specs.Refusals.{number}
+use Rattle.disc.specs.Counts.{reported}
+use Rattle.disc.specs.Ask.{Disc, Ask, Outcome, outcome}
+use Rattle.disc.specs.Ask.Outcome.{answered, refused}
+use Rattle.disc.specs.Ran.{Ran, ran, after, onward, followed}
+use Rattle.disc.specs.Replies.{replyBy, Replied}
+use Rattle.disc.specs.declared.refusals.Refusal.the-variants.{NoRoom}
+use Rattle.disc.specs.declared.replies.Reply.{Reply}
+use Rattle.disc.proofs.CountLaws.{reported-sum}
+use Rattle.disc.proofs.RanLaws.{ran-then}
+use Rattle.disc.proofs.ReplyLaws.{reply-refused}
+use Rattle.records.specs.declared.allocations.LongAd.{LongAd}
+use Rattle.files.specs.Files.{fileBytes}
+use Rattle.directories.specs.Lookups.{Sought, seekPath, icbOf, lookupOf, lostOf, readPathOf, foundTo, foundOf}
+use Rattle.directories.specs.Places.{andThen, endOf, Walks}
+use Rattle.directories.specs.declared.lookups.Found.{Found}
+use Rattle.directories.specs.declared.walks.Place.{Place}
+use Rattle.directories.proofs.SpaceLaws.{number-some, ran-known}
+use Rattle.directories.proofs.ListLaws.{recount}
+
+-- ---- a lookup, and the component that failed
+
+module _ (d : Disc) (start partition work : ℕ) (root : LongAd) (path : List ℕ) where
+  pub look-is : ran d (lookupOf start partition work root path) ≡ record { outcome = andThen (ran d (seekPath start partition work root path) .outcome) icbOf; count = ran d (seekPath start partition work root path) .count }
+  unfolding lookupOf
+  look-is = ran-known d (seekPath start partition work root path) icbOf
+
+  module _ {q : Place} (w : Walks d start partition work root path q) where
+    pub look-found : record { answer = q .answer; count = q .count; icb = q .icb } ≡ foundOf (ran d (lookupOf start partition work root path))
+    look-found = w .found ∙ ap foundOf (sym look-is)
+
+    pub look-lost : take (q .end - q .from) (drop (q .from) path) ≡ lostOf (outcome d (seekPath start partition work root path))
+    unfolding ran
+    look-lost = w .lost
+
+    pub look-answer : q .answer ≡ foundOf (ran d (lookupOf start partition work root path)) .answer
+    look-answer = ap (λ (f : Found). f .answer) look-found
+
+    pub look-count : q .count ≡ foundOf (ran d (lookupOf start partition work root path)) .count
+    look-count = ap (λ (f : Found). f .count) look-found
+
+-- ---- a file read by its path
+
+-- a lookup that was refused refuses the read
+refused-path : (o : Outcome LongAd) (n : ℕ) {found : Found} → found ≡ foundTo o (reported n) → (found .answer ≡ 0 → ⊥) → (f : LongAd → Ran (List ℕ)) (lent : List ℕ) {reply : Reply}
+    → reply ≡ record { answer = found .answer; count = found .count; length = 0 } → Replied NoRoom (onward o n f) lent lent reply
+refused-path (answered icb) n p h f lent q = absurd (h (rw p))
+refused-path (refused r) n p h f lent q = reply-refused r n (reported n) refl (q ∙ rw p)
+
+-- the count that a reply has
+reply-counts : (room n : ℕ) (o : Outcome (List ℕ)) {reply : Reply} → reply ≡ replyBy NoRoom room n o → reply .count ≡ n
+reply-counts room n (refused r) e = rw e
+reply-counts room n (answered b) {reply} e = by (leb (length b) room) e
+  where
+    by : (t : Bool) → reply ≡ pick t (record { answer = 0; count = n; length = length b }) (record { answer = number NoRoom; count = n; length = 0 }) → reply .count ≡ n
+    by true e = rw e
+    by false e = rw e
+
+-- one that was answered goes on at its ICB, counts added
+found-path : (o : Outcome LongAd) (n : ℕ) {found : Found} → found ≡ foundTo o (reported n) → found .answer ≡ 0 → (f : LongAd → Ran (List ℕ)) {lent after : List ℕ} (read : Reply)
+    → Replied NoRoom (f (found .icb)) lent after read → {c : ℕ} → c ≡ reported (found .count + read .count)
+    → Replied NoRoom (onward o n f) lent after (record { answer = read .answer; count = c; length = read .length })
+found-path (refused r) n p h f read q e = absurd (number-some r (sym (ap (λ (x : Found). x .answer) p) ∙ h))
+found-path (answered icb) n {found} p h f {lent} read q {c} e =
+    let i : found .icb ≡ icb = rw p in
+    let a : found .count ≡ reported n = rw p in
+    let s : Replied NoRoom (f icb) lent _ read = rw i at q in
+    let b : read .count ≡ reported (f icb .count) = reply-counts (length lent) (reported (f icb .count)) (f icb .outcome) (s .says) in
+    record {
+      says = rw (e, a, b, reported-sum) (recount NoRoom (length lent) (reported (f icb .count)) (reported (n + f icb .count)) (f icb .outcome) (s .says));
+      leaves = s .leaves;
+    }
+
+module _ (d : Disc) (start partition work : ℕ) (root : LongAd) (path : List ℕ) {found : Found} (p : found ≡ foundOf (ran d (lookupOf start partition work root path))) where
+  path-is : ran d (readPathOf start partition work root path) ≡ followed (ran d (lookupOf start partition work root path)) (λ icb. ran d (fileBytes start partition icb))
+  unfolding readPathOf
+  path-is = ran-then d (lookupOf start partition work root path) (λ icb. fileBytes start partition icb)
+
+  pub path-refused : (found .answer ≡ 0 → ⊥) → (lent : List ℕ) {reply : Reply} → reply ≡ record { answer = found .answer; count = found .count; length = 0 }
+      → Replied NoRoom (ran d (readPathOf start partition work root path)) lent lent reply
+  path-refused h lent q = rw path-is (refused-path (ran d (lookupOf start partition work root path) .outcome) (ran d (lookupOf start partition work root path) .count) p h (λ icb. ran d (fileBytes start partition icb)) lent q)
+
+  pub path-read : found .answer ≡ 0 → {lent after : List ℕ} (read : Reply) → Replied NoRoom (ran d (fileBytes start partition (found .icb))) lent after read
+      → {c : ℕ} → c ≡ reported (found .count + read .count)
+      → Replied NoRoom (ran d (readPathOf start partition work root path)) lent after (record { answer = read .answer; count = c; length = read .length })
+  path-read h read q e = rw path-is (found-path (ran d (lookupOf start partition work root path) .outcome) (ran d (lookupOf start partition work root path) .count) p h (λ icb. ran d (fileBytes start partition icb)) read q e)

@@ -1,0 +1,245 @@
+-- The walk along a path's components against its tree. Assumes nothing.
+use mathlib.Core.Path.{_≡_, refl, sym, ap, _∙_}
+use mathlib.Core.Bool.{Bool, true, false}
+use mathlib.Core.List.{List, [], _∷_, _++_}
+use mathlib.Core.Option.{Option, none, some}
+use Prim.Native.Nat.{ℕ, _+_, _-_, _<_, _≤_, zero-le}
+use native.Mathlib.Nat.{zero-add, add-sub-cancel-left}
+use native.Mathlib.Omega.{arith}
+use lib.ListN.{length, take, drop, length-drop, drop-of-length-le}
+use lib.Seq.{drop-drop}
+use lib.Dec.{eqb}
+use borrow.Author.Tests.{ne-eqb, eq-eqb}
+use Rattle.disc.specs.Choice.{pick}
+use Rattle.disc.specs.Refusals.{number}
+use Rattle.disc.specs.Counts.{reported}
+use Rattle.disc.specs.Ask.{Disc, Ask, Outcome, outcome, asked, then}
+use Rattle.disc.specs.Ask.Outcome.{answered, refused}
+use Rattle.disc.specs.Ran.{Ran, ran, after, onward, followed}
+use Rattle.disc.specs.declared.refusals.Refusal.the-variants.{Malformed}
+use Rattle.disc.specs.declared.replies.Reply.{Reply}
+use Rattle.disc.proofs.RanLaws.{ran-then}
+use Rattle.records.specs.Allocations.{noLong}
+use Rattle.records.specs.declared.allocations.LongAd.{LongAd}
+use Rattle.identifiers.specs.Identifiers.{isDirectory}
+use Rattle.listings.specs.Entries.{Entry, entries, sound}
+use Rattle.listings.specs.Listings.{firstNamed, findIn, namedTo, namedOf}
+use Rattle.listings.specs.Paths.{front, behind, components, slashes}
+use Rattle.listings.specs.declared.finds.Named.{Named}
+use Rattle.listings.proofs.PathLaws.{behind-slashes, front-is, slashes-long, no-more-slashes, first-component, front-some, component-within}
+use Rattle.directories.specs.Directories.{directoryBytes}
+use Rattle.directories.specs.Lookups.{Sought, entering, orLost, seeking, seekPath, icbOf, lostOf, foundTo}
+use Rattle.directories.specs.Lookups.Sought.{reached, lost}
+use Rattle.directories.specs.Places.{andThen, replyTo, Reads, enteredTo, enteredOf, beyondOf, End, endOf, leadsTo, On, left, Steps, Walks}
+use Rattle.directories.specs.declared.lookups.Found.{Found}
+use Rattle.directories.specs.declared.walks.Entered.{Entered}
+use Rattle.directories.specs.declared.walks.Place.{Place}
+use Rattle.directories.proofs.SpaceLaws.{number-some, ran-known, reads-count, reads-room, reads-bytes}
+
+-- ---- one component
+
+-- a directory that was not read refuses its entry
+refused-entered : (o : Outcome (List ℕ)) (n : ℕ) {reply : Reply} → reply ≡ replyTo o n → (reply .answer ≡ 0 → ⊥) → (f : List ℕ → Outcome (Option Entry))
+    → record { answer = reply .answer; lost = false; icb = noLong; directory = false; count = reply .count } ≡ enteredTo (andThen o f) n
+refused-entered (answered b) n p h f = absurd (h (rw p))
+refused-entered (refused r) n p h f = rw p
+
+-- what `find` says, with a count
+named-entered : (component b : List ℕ) (n : ℕ) {r : Named} → r ≡ namedOf (findIn component b)
+    → record { answer = r .answer; lost = eqb (r .answer) 3; icb = r .icb; directory = r .directory; count = n } ≡ enteredTo (findIn component b) n
+unfolding findIn
+named-entered component b n {r} e = by (sound (entries b)) (firstNamed component (entries b)) e
+  where
+    by : (s : Bool) (o : Option Entry) → r ≡ namedOf (pick s (answered o) (refused Malformed))
+        → record { answer = r .answer; lost = eqb (r .answer) 3; icb = r .icb; directory = r .directory; count = n } ≡ enteredTo (pick s (answered o) (refused Malformed)) n
+    by true none e = rw e
+    by true (some x) e = rw e
+    by false o e = rw e
+
+module _ (d : Disc) (start partition : ℕ) (icb : LongAd) (component : List ℕ) (w w′ : List ℕ) {read : Reply} (p : Reads (ran d (directoryBytes start partition (length w) icb)) w w′ read) where
+  abbrev R : Ran (List ℕ)
+  R = ran d (directoryBytes start partition (length w) icb)
+
+  entering-is : ran d (entering start partition (length w) icb component) ≡ record { outcome = andThen (R .outcome) (findIn component); count = R .count }
+  unfolding entering
+  entering-is = ran-known d (directoryBytes start partition (length w) icb) (findIn component)
+
+  pub enter-refused : (read .answer ≡ 0 → ⊥) → {l : LongAd} → l ≡ noLong
+      → record { answer = read .answer; lost = false; icb = l; directory = false; count = read .count } ≡ enteredOf (ran d (entering start partition (length w) icb component))
+  enter-refused h e = rw (e, entering-is) (refused-entered (R .outcome) (reported (R .count)) (p .says) h (findIn component))
+
+  pub enter-found : read .answer ≡ 0 → (r : Named) → r ≡ namedOf (findIn component (take (read .length - 0) (drop 0 w′)))
+      → record { answer = r .answer; lost = eqb (r .answer) 3; icb = r .icb; directory = r .directory; count = read .count } ≡ enteredOf (ran d (entering start partition (length w) icb component))
+  enter-found h r e =
+      rw (entering-is, reads-bytes p h, reads-count p)
+      (named-entered component (take (read .length - 0) (drop 0 w′)) (reported (R .count)) e)
+
+entered-count : (o : Outcome (Option Entry)) (n : ℕ) → enteredTo o n .count ≡ n
+entered-count (answered (some e)) n = refl
+entered-count (answered none) n = refl
+entered-count (refused r) n = refl
+
+-- ---- the walk
+
+abbrev notFound : ℕ → ℕ → Found
+notFound answer n = record { answer = answer; count = n; icb = noLong }
+
+end-reported : (r : Ran Sought) (a k : ℕ) → endOf (after (reported (a + reported k)) r) ≡ endOf (after a (after k r))
+end-reported r a k = ap (λ n. record { found = foundTo (andThen (r .outcome) icbOf) n; lost = lostOf (r .outcome) }) (omega arith)
+
+both : {f f′ : Found} {l l′ : List ℕ} → f ≡ f′ → l ≡ l′ → _≡_ {A = End} (record { found = f; lost = l }) (record { found = f′; lost = l′ })
+both p q = rw (p, q)
+
+-- behind the slashes at e
+module _ (path : List ℕ) (e : ℕ) {a : ℕ} (p : a ≡ e + slashes (drop e path)) where
+  skipped : drop a path ≡ drop (slashes (drop e path)) (drop e path)
+  skipped = rw (p, drop-drop)
+
+  same-components : components (drop a path) ≡ components (drop e path)
+  same-components = rw skipped (behind-slashes (drop e path))
+
+  none-left : slashes (drop a path) ≡ 0
+  none-left = rw skipped (no-more-slashes (drop e path))
+
+  skip-within : e ≤ length path → a ≤ length path
+  skip-within h = omega (arith, p, slashes-long (drop e path), length-drop e path)
+
+module _ (d : Disc) (start partition work : ℕ) (path : List ℕ) {p : Place} (g : p .going ≡ true) (on : On path p) where
+  ahead : leadsTo d start partition work path p ≡ endOf (after (p .count) (ran d (seeking start partition work (components (drop (p .from) path)) (p .icb) (p .directory))))
+  unfolding leadsTo
+  ahead = rw g
+
+  far : left path p ≡ 1 + (length path - p .from)
+  far = rw g
+
+  counts : reported (p .count + 0) ≡ p .count
+  counts = omega (arith, on .counted)
+
+  -- an end of the walk at which a part of the path is lost
+  ends-here : (a b answer : ℕ) (icb : LongAd) (n : ℕ) → a ≤ b → b ≤ length path → n ≤ 0xffff_ffff_ffff_ffff
+      → record { found = record { answer = answer; count = n; icb = icb }; lost = take (b - a) (drop a path) } ≡ leadsTo d start partition work path p
+      → Steps d start partition work path p (record { going = false; answer = answer; icb = icb; directory = false; count = n; from = a; end = b })
+  unfolding leadsTo
+  ends-here a b answer icb n u v c s =
+      record {
+        same = s;
+        on = record { ordered = u; within = v; counted = c; clean = λ x. absurd (let y : _≡_ {A = ℕ} 0 1 = cc in omega arith) };
+        less = rw far (omega arith);
+      }
+
+  pub step-arrives : length path ≤ p .from → {q : Place}
+      → q ≡ record { going = false; answer = 0; icb = p .icb; directory = false; count = p .count; from = 0; end = 0 } → Steps d start partition work path p q
+  unfolding components front behind seeking ran outcome asked
+  step-arrives h e =
+      let z : drop (p .from) path ≡ [] = drop-of-length-le path h in
+      rw e
+      (ends-here 0 0 0 (p .icb) (p .count) zero-le zero-le (on .counted)
+      (sym (ahead ∙ rw z (both (ap (λ n. record { answer = 0; count = n; icb = p .icb }) counts) refl))))
+
+  module _ (h : p .from < length path) {end : ℕ} (k : end ≡ p .from + length (front (drop (p .from) path))) where
+    some-left : components (drop (p .from) path) ≡ front (drop (p .from) path) ∷ components (drop end path)
+    some-left = first-component (drop (p .from) path) (on .clean g) (rw length-drop (omega arith)) ∙ rw (drop-drop, ← k)
+
+    end-within : end ≤ length path
+    end-within = component-within path (p .from) h k
+
+    further : p .from < end
+    further = omega (arith, k, front-some (drop (p .from) path) (on .clean g) (rw length-drop (omega arith)))
+
+    component-is : take (end - p .from) (drop (p .from) path) ≡ front (drop (p .from) path)
+    component-is = rw (k, add-sub-cancel-left) (front-is (drop (p .from) path))
+
+    pub step-dead : p .directory ≡ false → {l : LongAd} → l ≡ noLong → {q : Place}
+        → q ≡ record { going = false; answer = 3; icb = l; directory = false; count = p .count; from = p .from; end = end } → Steps d start partition work path p q
+    unfolding seeking ran outcome asked
+    step-dead t j e =
+        rw (e, j)
+        (ends-here (p .from) end 3 noLong (p .count) (omega (arith, further)) end-within (on .counted)
+        (sym (ahead ∙ rw (some-left, t) (both (ap (notFound 3) counts) (sym component-is)))))
+
+    module _ (t : p .directory ≡ true) where
+      abbrev C : List ℕ
+      C = take (end - p .from) (drop (p .from) path)
+
+      abbrev rest : Option Entry → Ask Sought
+      rest o = orLost C o (λ e. seeking start partition work (components (drop end path)) (e .identifier .icb) (isDirectory (e .identifier)))
+
+      turn : leadsTo d start partition work path p ≡ endOf (after (p .count) (followed (ran d (entering start partition work (p .icb) C)) (λ o. ran d (rest o))))
+      unfolding seeking
+      turn =
+          ahead
+          ∙ rw (some-left, t, ← component-is)
+          (ap (λ x. endOf (after (p .count) x)) (ran-then d (entering start partition work (p .icb) C) rest))
+
+      -- on to the next component
+      goes-on : (icb : LongAd) (directory : Bool) (n : ℕ) → n ≤ 0xffff_ffff_ffff_ffff
+          → endOf (after n (ran d (seeking start partition work (components (drop end path)) icb directory))) ≡ leadsTo d start partition work path p
+          → Steps d start partition work path p (record { going = true; answer = 0; icb = icb; directory = directory; count = n; from = end + slashes (drop end path); end = length path })
+      unfolding leadsTo
+      goes-on icb directory n c s =
+          record {
+            same = rw (same-components path end refl) s;
+            on = record { ordered = skip-within path end refl end-within; within = omega arith; counted = c; clean = λ x. none-left path end refl };
+            less = rw far (omega (arith, further));
+          }
+
+      by-outcome : (o : Outcome (Option Entry)) (m : ℕ) → leadsTo d start partition work path p ≡ endOf (after (p .count) (onward o m (λ o. ran d (rest o))))
+          → Steps d start partition work path p (beyondOf path (enteredTo o (reported m)) (reported (p .count + reported m)) (p .from) end)
+      unfolding beyondOf ran outcome asked
+      by-outcome (answered (some e)) m s =
+          goes-on (e .identifier .icb) (isDirectory (e .identifier)) _ (omega arith) (end-reported (ran d (rest (some e))) (p .count) m ∙ sym s)
+      by-outcome (answered none) m s =
+          ends-here (p .from) end 3 noLong _ (omega (arith, further)) end-within (omega arith) (both (ap (notFound 3) (omega arith)) refl ∙ sym s)
+      by-outcome (refused r) m s =
+          simp (ne-eqb _ _ (number-some r))
+          (ends-here 0 0 (number r) noLong _ zero-le zero-le (omega arith) (both (ap (notFound (number r)) (omega arith)) refl ∙ sym s))
+
+      pub step-enters : {e : Entered} → e ≡ enteredOf (ran d (entering start partition work (p .icb) C)) → {n : ℕ} → n ≡ reported (p .count + e .count)
+          → {q : Place} → q ≡ beyondOf path e n (p .from) end → Steps d start partition work path p q
+      step-enters {e} x {n} y z =
+          let R : Ran (Option Entry) = ran d (entering start partition work (p .icb) C) in
+          let c : e .count ≡ reported (R .count) = rw x (entered-count (R .outcome) (reported (R .count))) in
+          let m : n ≡ reported (p .count + reported (R .count)) = y ∙ ap (λ k. reported (p .count + k)) c in
+          rw (z, m, x) (by-outcome (R .outcome) (R .count) turn)
+
+-- the walk has come to p
+pub record Walking (d : Disc) (start partition work : ℕ) (root : LongAd) (path : List ℕ) (p : Place) : Type 0 where
+  pub on : On path p
+  pub same : leadsTo d start partition work path p ≡ endOf (ran d (seekPath start partition work root path))
+
+pub walk-starts : (d : Disc) (start partition work : ℕ) (root : LongAd) (path : List ℕ) (a : ℕ) → a ≡ 0 + slashes (drop 0 path)
+    → Walking d start partition work root path (record { going = true; answer = 0; icb = root; directory = true; count = 0; from = a; end = length path })
+unfolding leadsTo seekPath
+walk-starts d start partition work root path a e =
+    record {
+      on = record { ordered = skip-within path 0 e zero-le; within = omega arith; counted = zero-le; clean = λ x. none-left path 0 e };
+      same = rw (same-components path 0 e) (simp zero-add);
+    }
+
+module _ {d : Disc} {start partition work : ℕ} {root : LongAd} {path : List ℕ} {p : Place} (w : Walking d start partition work root path p) where
+  pub walk-next : (v : ℕ) → v ≡ work → {q : Place} → Steps d start partition v path p q → Walking d start partition work root path q
+  walk-next v l s = record { on = s .on; same = (rw l at (s .same)) ∙ w .same }
+
+  pub walk-ends : p .going ≡ false → Walks d start partition work root path p
+  unfolding leadsTo
+  walk-ends g =
+      let e = rw g at (w .same) in
+      record { found = ap (λ (x : End). x .found) e; lost = ap (λ (x : End). x .lost) e; ordered = w .on .ordered; within = w .on .within }
+
+-- the returns of `beyond`
+module _ (path : List ℕ) (e : Entered) (count from end : ℕ) where
+  pub beyond-lost : e .lost ≡ true → {q : Place} → q ≡ record { going = false; answer = e .answer; icb = e .icb; directory = false; count = count; from = from; end = end }
+      → q ≡ beyondOf path e count from end
+  unfolding beyondOf
+  beyond-lost h k = rw h k
+
+  module _ (h : e .lost ≡ false) where
+    pub beyond-refused : (e .answer ≡ 0 → ⊥) → {q : Place} → q ≡ record { going = false; answer = e .answer; icb = e .icb; directory = false; count = count; from = 0; end = 0 }
+        → q ≡ beyondOf path e count from end
+    unfolding beyondOf
+    beyond-refused z k = rw (h, ne-eqb (e .answer) 0 z) k
+
+    pub beyond-on : e .answer ≡ 0 → (a : ℕ) → a ≡ end + slashes (drop end path)
+        → record { going = true; answer = 0; icb = e .icb; directory = e .directory; count = count; from = a; end = length path } ≡ beyondOf path e count from end
+    unfolding beyondOf
+    beyond-on z a k = rw (h, eq-eqb (e .answer) 0 z, k)

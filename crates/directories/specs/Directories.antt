@@ -1,0 +1,24 @@
+-- A directory listed from its ICB: document 01, "Directories and paths" and "Answer numbers". Assumes nothing: these are definitions.
+use Prim.Native.Nat.{ℕ}
+use mathlib.Core.List.{List}
+use lib.ListN.{length}
+use lib.Dec.{leb}
+use Rattle.disc.specs.Choice.{pick}
+use Rattle.disc.specs.Ask.{Ask, Outcome, then, ended}
+use Rattle.disc.specs.Ask.Outcome.{answered, refused}
+use Rattle.disc.specs.declared.refusals.Refusal.the-variants.{NoWork}
+use Rattle.records.specs.declared.allocations.LongAd.{LongAd}
+use Rattle.files.specs.Files.{fileBytes}
+use Rattle.listings.specs.Listings.{listing}
+
+-- a directory whose bytes exceed the work space is refused, after every refusal of reading it
+unfoldable pub within : ℕ → List ℕ → Outcome (List ℕ)
+within work b = pick (leb (length b) work) (answered b) (refused NoWork)
+
+-- a directory is a file (ECMA-167 4/8.6), read into a work space of so many bytes
+unfoldable pub directoryBytes : ℕ → ℕ → ℕ → LongAd → Ask (List ℕ)
+directoryBytes start partition work icb = then (fileBytes start partition icb) (λ b. ended (within work b))
+
+-- its listing
+unfoldable pub listingAt : ℕ → ℕ → ℕ → LongAd → Ask (List ℕ)
+listingAt start partition work icb = then (directoryBytes start partition work icb) (λ b. ended (listing b))

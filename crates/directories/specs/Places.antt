@@ -1,0 +1,100 @@
+-- What the private functions promise each other: a directory read into the work space, and the walk along a path as steps from place to
+-- place. There is nothing to believe here. Assumes nothing: these are definitions.
+use Prim.Native.Nat.{ℕ, _+_, _-_, _≤_, _<_}
+use mathlib.Core.Path.{_≡_}
+use mathlib.Core.Bool.{Bool, true, false}
+use mathlib.Core.List.{List, [], _++_}
+use mathlib.Core.Option.{Option, none, some}
+use lib.ListN.{length, take, drop}
+use lib.Dec.{eqb}
+use Rattle.disc.specs.Choice.{pick}
+use Rattle.disc.specs.Refusals.{number}
+use Rattle.disc.specs.Counts.{reported}
+use Rattle.disc.specs.Ask.{Disc, Outcome}
+use Rattle.disc.specs.Ask.Outcome.{answered, refused}
+use Rattle.disc.specs.Ran.{Ran, ran, after}
+use Rattle.disc.specs.declared.replies.Reply.{Reply}
+use Rattle.records.specs.Allocations.{noLong}
+use Rattle.records.specs.declared.allocations.LongAd.{LongAd}
+use Rattle.identifiers.specs.Identifiers.{isDirectory}
+use Rattle.listings.specs.Entries.{Entry}
+use Rattle.listings.specs.Paths.{components, slashes}
+use Rattle.directories.specs.Lookups.{Sought, seeking, seekPath, lostOf, foundTo, icbOf}
+use Rattle.directories.specs.declared.lookups.Found.{Found}
+use Rattle.directories.specs.declared.walks.Entered.{Entered}
+use Rattle.directories.specs.declared.walks.Place.{Place}
+
+abbrev pub andThen : {A B : Type 0} → Outcome A → (A → Outcome B) → Outcome B
+andThen (answered a) f = f a
+andThen (refused r) f = refused r
+
+-- ---- a directory's bytes in the work space
+
+abbrev pub replyTo : Outcome (List ℕ) → ℕ → Reply
+replyTo (answered b) n = record { answer = 0; count = n; length = length b }
+replyTo (refused r) n = record { answer = number r; count = n; length = 0 }
+
+abbrev pub onFront : Outcome (List ℕ) → List ℕ → List ℕ
+onFront (answered b) d = b ++ drop (length b) d
+onFront (refused r) d = d
+
+pub record Reads (r : Ran (List ℕ)) (before after : List ℕ) (reply : Reply) : Type 0 where
+  pub says : reply ≡ replyTo (r .outcome) (reported (r .count))
+  pub leaves : after ≡ onFront (r .outcome) before
+
+-- ---- the walk
+
+-- what entering a directory gives: an entry, no entry, or a refusal
+abbrev pub enteredTo : Outcome (Option Entry) → ℕ → Entered
+enteredTo (answered (some e)) n = record { answer = 0; lost = false; icb = e .identifier .icb; directory = isDirectory (e .identifier); count = n }
+enteredTo (answered none) n = record { answer = 3; lost = true; icb = noLong; directory = false; count = n }
+enteredTo (refused r) n = record { answer = number r; lost = false; icb = noLong; directory = false; count = n }
+
+abbrev pub enteredOf : Ran (Option Entry) → Entered
+enteredOf r = enteredTo (r .outcome) (reported (r .count))
+
+-- the place behind a component that was entered
+unfoldable pub beyondOf : List ℕ → Entered → ℕ → ℕ → ℕ → Place
+beyondOf path e count from end =
+    pick (e .lost) (record { going = false; answer = e .answer; icb = e .icb; directory = false; count = count; from = from; end = end })
+    (pick (eqb (e .answer) 0) (record { going = true; answer = 0; icb = e .icb; directory = e .directory; count = count; from = end + slashes (drop end path); end = length path })
+    (record { going = false; answer = e .answer; icb = e .icb; directory = false; count = count; from = 0; end = 0 }))
+
+-- how a walk ends: the answer, and the lost component
+pub record End : Type 0 where
+  pub found : Found
+  pub lost : List ℕ
+
+abbrev pub endOf : Ran Sought → End
+endOf r = record { found = foundTo (andThen (r .outcome) icbOf) (reported (r .count)); lost = lostOf (r .outcome) }
+
+-- the end that a place leads to: it is there already, or the rest of the path is yet to be walked
+unfoldable pub leadsTo : Disc → ℕ → ℕ → ℕ → List ℕ → Place → End
+leadsTo d start partition work path p =
+    pick (p .going)
+    (endOf (after (p .count) (ran d (seeking start partition work (components (drop (p .from) path)) (p .icb) (p .directory)))))
+    (record { found = record { answer = p .answer; count = p .count; icb = p .icb }; lost = take (p .end - p .from) (drop (p .from) path) })
+
+-- a place on the path: while going, where a component starts or the path ends
+pub record On (path : List ℕ) (p : Place) : Type 0 where
+  pub ordered : p .from ≤ p .end
+  pub within : p .end ≤ length path
+  pub counted : p .count ≤ 0xffff_ffff_ffff_ffff
+  pub clean : p .going ≡ true → slashes (drop (p .from) path) ≡ 0
+
+-- how far it is to the end
+abbrev pub left : List ℕ → Place → ℕ
+left path p = pick (p .going) (1 + (length path - p .from)) 0
+
+-- one step: to a place on the path, nearer the end, that leads to the same end
+pub record Steps (d : Disc) (start partition work : ℕ) (path : List ℕ) (p q : Place) : Type 0 where
+  pub same : leadsTo d start partition work path q ≡ leadsTo d start partition work path p
+  pub on : On path q
+  pub less : left path q < left path p
+
+-- a whole walk
+pub record Walks (d : Disc) (start partition work : ℕ) (root : LongAd) (path : List ℕ) (q : Place) : Type 0 where
+  pub found : record { answer = q .answer; count = q .count; icb = q .icb } ≡ endOf (ran d (seekPath start partition work root path)) .found
+  pub lost : take (q .end - q .from) (drop (q .from) path) ≡ endOf (ran d (seekPath start partition work root path)) .lost
+  pub ordered : q .from ≤ q .end
+  pub within : q .end ≤ length path

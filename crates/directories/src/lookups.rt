@@ -1,0 +1,97 @@
+// Paths looked up, and files read by them. The work space is all zero on return from each.
+ghost use mathlib.Core.Path.{_≡_};
+ghost use lib.ListN.{length, replicate};
+ghost use Rattle.disc.specs.Ask.{outcome};
+ghost use Rattle.disc.specs.Ran.{ran};
+ghost use Rattle.disc.specs.Images.{disc};
+ghost use Rattle.disc.specs.Replies.{Replied};
+ghost use Rattle.disc.specs.declared.refusals.Refusal.the-variants.{NoRoom};
+ghost use Rattle.directories.specs.Lookups.{seekPath, lookupOf, lostOf, readPathOf, foundOf};
+use crate::walks::walk;
+use disc::counts::add_counts;
+use disc::moves::clear;
+use disc::refusals::Refusal;
+use disc::replies::Reply;
+use disc::replies::refusal;
+use files::reads::read_file;
+use records::allocations::LongAd;
+
+// The answer number, the count of sectors, and the ICB that a path names; zeros where the lookup was refused.
+pub struct Found {
+    pub answer: u64,
+    pub count: u64,
+    pub icb: LongAd,
+}
+
+// The ICB that the path names.
+pub fn lookup(
+    image: &[u8],
+    start: u32,
+    partition: u16,
+    root: LongAd,
+    path: &[u8],
+    work: &mut [u8],
+) -> Found
+    ensures { λ r. ⌜ r ≡ foundOf (ran (disc (now (image .entry))) (lookupOf start partition (length (now (work .entry))) root (now (path .entry)))) ⌝ }
+    ensures { λ _. ⌜ now (work .exit) ≡ replicate (length (now (work .entry))) 0 ⌝ }
+{
+    let p = walk(image, start, partition, root, path, work);
+    clear(work);
+    let icb = p.icb;
+    Found {
+        answer: p.answer,
+        count: p.count,
+        icb,
+    }
+}
+
+// The component at which a lookup is refused by 3, as a part of the path; empty if it isn't. The answer and the count are the lookup's.
+pub fn failed<'i, 'p>(
+    image: &'i [u8],
+    start: u32,
+    partition: u16,
+    root: LongAd,
+    path: &'p [u8],
+    work: &mut [u8],
+    answer: &mut u64,
+    count: &mut u64,
+) -> &'p [u8]
+    ensures { λ r. ⌜ now r ≡ lostOf (outcome (disc (now (image .entry))) (seekPath start partition (length (now (work .entry))) root (now (path .entry)))) ⌝ }
+    ensures { λ _. ⌜ now (answer .exit) ≡ foundOf (ran (disc (now (image .entry))) (lookupOf start partition (length (now (work .entry))) root (now (path .entry)))) .answer ⌝ }
+    ensures { λ _. ⌜ now (count .exit) ≡ foundOf (ran (disc (now (image .entry))) (lookupOf start partition (length (now (work .entry))) root (now (path .entry)))) .count ⌝ }
+    ensures { λ _. ⌜ now (work .exit) ≡ replicate (length (now (work .entry))) 0 ⌝ }
+{
+    let p = walk(image, start, partition, root, path, work);
+    clear(work);
+    *answer = p.answer;
+    *count = p.count;
+    let from = p.from;
+    let end = p.end;
+    &path[from..end]
+}
+
+// The bytes of the file that the path names, over the front of out.
+pub fn read_path(
+    image: &[u8],
+    start: u32,
+    partition: u16,
+    root: LongAd,
+    path: &[u8],
+    out: &mut [u8],
+    work: &mut [u8],
+) -> Reply
+    ensures { λ r. ⌜ Replied NoRoom (ran (disc (now (image .entry))) (readPathOf start partition (length (now (work .entry))) root (now (path .entry)))) (now (out .entry)) (now (out .exit)) r ⌝ }
+    ensures { λ _. ⌜ now (work .exit) ≡ replicate (length (now (work .entry))) 0 ⌝ }
+{
+    let found = lookup(image, start, partition, root, path, work);
+    if found.answer != 0 {
+        return refusal(found.answer, found.count);
+    }
+    let icb = found.icb;
+    let read = read_file(image, start, partition, icb, out, Refusal::NoRoom);
+    Reply {
+        answer: read.answer,
+        count: add_counts(found.count, read.count),
+        length: read.length,
+    }
+}

@@ -1,0 +1,151 @@
+// The walk along a path, a component at a time.
+ghost use mathlib.Core.Path.{_≡_};
+ghost use mathlib.Core.Bool.{true, false};
+ghost use lib.ListN.{length};
+ghost use Rattle.disc.specs.Ran.{ran};
+ghost use Rattle.disc.specs.Images.{disc};
+ghost use Rattle.directories.specs.Lookups.{entering};
+ghost use Rattle.directories.specs.Places.{enteredOf, beyondOf, On, Steps, Walks};
+use crate::spaces::read_directory;
+use disc::counts::add_counts;
+use listings::finds::find;
+use listings::paths::component_end;
+use listings::paths::component_from;
+use records::allocations::LongAd;
+use records::allocations::no_long;
+
+// The entry of one component; `lost` where there is none.
+pub struct Entered {
+    pub answer: u64,
+    pub lost: bool,
+    pub icb: LongAd,
+    pub directory: bool,
+    pub count: u64,
+}
+
+// A place on the walk along a path: while going, the directory or file at which the component from `from` on is looked for;
+// at the end, the answer, and from `from` to `end` the component that was lost.
+pub struct Place {
+    pub going: bool,
+    pub answer: u64,
+    pub icb: LongAd,
+    pub directory: bool,
+    pub count: u64,
+    pub from: usize,
+    pub end: usize,
+}
+
+// The entry of a component in the directory at icb, which is read into the work space and left there.
+fn enter(
+    image: &[u8],
+    start: u32,
+    partition: u16,
+    icb: LongAd,
+    component: &[u8],
+    work: &mut [u8],
+) -> Entered
+    ensures { λ r. ⌜ r ≡ enteredOf (ran (disc (now (image .entry))) (entering start partition (length (now (work .entry))) icb (now (component .entry)))) ⌝ }
+{
+    let read = read_directory(image, start, partition, icb, work);
+    if read.answer != 0 {
+        return Entered {
+            answer: read.answer,
+            lost: false,
+            icb: no_long(),
+            directory: false,
+            count: read.count,
+        };
+    }
+    let n = read.length as usize;
+    let e = find(&work[0..n], component);
+    let icb = e.icb;
+    Entered {
+        answer: e.answer,
+        lost: e.answer == 3,
+        icb,
+        directory: e.directory,
+        count: read.count,
+    }
+}
+
+// The end of a walk: with an answer, and where a component was lost, its place.
+fn stopped(answer: u64, icb: LongAd, count: u64, from: usize, end: usize) -> Place
+    ensures { λ r. ⌜ r ≡ record { going = false; answer = answer; icb = icb; directory = false; count = count; from = from; end = end } ⌝ }
+{
+    Place {
+        going: false,
+        answer,
+        icb,
+        directory: false,
+        count,
+        from,
+        end,
+    }
+}
+
+// Beyond a component that was entered, or stopped there.
+fn beyond(path: &[u8], e: Entered, count: u64, from: usize, end: usize) -> Place
+    ensures { λ r. ⌜ r ≡ beyondOf (now (path .entry)) e count from end ⌝ }
+{
+    let icb = e.icb;
+    if e.lost {
+        return stopped(e.answer, icb, count, from, end);
+    }
+    if e.answer != 0 {
+        return stopped(e.answer, icb, count, 0, 0);
+    }
+    Place {
+        going: true,
+        answer: 0,
+        icb,
+        directory: e.directory,
+        count,
+        from: component_from(path, end),
+        end: path.len(),
+    }
+}
+
+// One step of the walk.
+fn step(image: &[u8], start: u32, partition: u16, path: &[u8], p: Place, work: &mut [u8]) -> Place
+    requires { ⌜ (p .going ≡ true) × On (now path) p ⌝ }
+    ensures { λ q. ⌜ Steps (disc (now (image .entry))) start partition (length (now (work .entry))) (now (path .entry)) p q ⌝ }
+{
+    let icb = p.icb;
+    let from = p.from;
+    if path.len() <= from {
+        return stopped(0, icb, p.count, 0, 0);
+    }
+    let end = component_end(path, from);
+    if !p.directory {
+        return stopped(3, no_long(), p.count, from, end);
+    }
+    let e = enter(image, start, partition, icb, &path[from..end], work);
+    beyond(path, e, add_counts(p.count, e.count), from, end)
+}
+
+// The whole walk. What is left in the work space is of no use to the caller.
+pub(crate) fn walk(
+    image: &[u8],
+    start: u32,
+    partition: u16,
+    root: LongAd,
+    path: &[u8],
+    work: &mut [u8],
+) -> Place
+    ensures { λ r. ⌜ Walks (disc (now (image .entry))) start partition (length (now (work .entry))) root (now (path .entry)) r ⌝ }
+{
+    let mut p = Place {
+        going: true,
+        answer: 0,
+        icb: root,
+        directory: true,
+        count: 0,
+        from: component_from(path, 0),
+        end: path.len(),
+    };
+    while p.going {
+        let q = step(image, start, partition, path, p, work);
+        p = q;
+    }
+    p
+}

@@ -1,0 +1,5 @@
+-- Laws of a directory's bytes and of a path's components; crates above cite them.
+pub mod PathLaws
+pub mod EntryLaws
+pub mod WalkLaws
+pub mod Promises

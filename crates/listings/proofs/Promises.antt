@@ -1,0 +1,94 @@
+-- What is proved of a directory's bytes: the first entry of a name wins, what it is to have the name, that each contract leaves one result,
+-- and worked cases. Assumes nothing.
+use mathlib.Core.Path.{_≡_, refl, sym, ap, _∙_}
+use mathlib.Core.Bool.{Bool, true, false}
+use mathlib.Core.List.{List, [], _∷_, map}
+use mathlib.Core.Option.{Option, none, some}
+use Prim.Native.Nat.{ℕ}
+use native.Mathlib.Omega.{arith}
+use lib.ListN.{length}
+use lib.Dec.{ltb}
+use Rattle.disc.specs.Choice.{pick}
+use Rattle.disc.specs.Ask.Outcome.{answered, refused}
+use Rattle.disc.specs.Replies.{Replied}
+use Rattle.disc.specs.declared.refusals.Refusal.the-variants.{Malformed, NoRoom}
+use Rattle.disc.specs.declared.replies.Reply.{Reply}
+use Rattle.disc.proofs.ReplyLaws.{replied-one}
+use Rattle.names.specs.Names.{pairs, untilZero, surrogate, dropSurrogates, encode, utf8, nameOf, written, lower, sameName, matched, isNamed}
+use Rattle.names.proofs.Promises.{same-folded}
+use Rattle.identifiers.specs.Identifiers.{nameAt, nameEnd, recordedName, nextAt, identifierOf, identifierSized, identifierNamed, identifierAfter, readIdentifier}
+use Rattle.listings.specs.Entries.{Entry, Entries, entryOf, isGood, isSkipped, nameIn, entriesFrom, entries, sound}
+use Rattle.listings.specs.Entries.Entries.{end, bad, entry}
+use Rattle.listings.specs.Listings.{recordHead, shown, records, isLong, anyLong, listing, told, answersTo, firstNamed, findIn, namedOf}
+use Rattle.listings.specs.Paths.{front, behind, components}
+use Rattle.listings.specs.declared.finds.Named.{Named}
+
+-- ---- the first entry of a name
+
+-- entries in front of others
+unfoldable pub inFront : List Entry → Entries → Entries
+inFront [] es = es
+inFront (e ∷ more) es = entry e (inFront more es)
+
+-- none of them answers to the component
+unfoldable pub NoneAnswers : List ℕ → List Entry → Type 0
+NoneAnswers component [] = Unit {0}
+NoneAnswers component (e ∷ more) = (answersTo component e ≡ false) × NoneAnswers component more
+
+-- whatever stands behind it, an entry that answers is taken where none before it does
+pub first-wins : (component : List ℕ) (before : List Entry) (e : Entry) (rest : Entries) → NoneAnswers component before → answersTo component e ≡ true
+    → firstNamed component (inFront before (entry e rest)) ≡ some e
+unfolding firstNamed inFront NoneAnswers
+first-wins component [] e rest n h = rw h
+first-wins component (x ∷ more) e rest n h = rw (n .0) (first-wins component more e rest (n .1) h)
+
+-- and no entry is found where none answers
+pub none-found : (component : List ℕ) (all : List Entry) → NoneAnswers component all → firstNamed component (inFront all end) ≡ none
+unfolding firstNamed inFront NoneAnswers
+none-found component [] n = refl
+none-found component (x ∷ more) n = rw (n .0) (none-found component more (n .1))
+
+never : {A : Type 0} → _≡_ {A = Bool} false true → A
+never {A} e = absurd (let z : _≡_ {A = ℕ} 0 1 = cc in omega arith)
+
+-- an entry that answers is not skipped, and its name is the component with ASCII case ignored
+pub answers-folded : (component : List ℕ) (e : Entry) → answersTo component e ≡ true → (isSkipped (e .identifier) ≡ false) × (map lower (nameIn e) ≡ map lower component)
+unfolding answersTo isNamed nameIn
+answers-folded component e h = by (isSkipped (e .identifier)) (ltb 255 (length (e .recorded))) (nameOf (e .recorded)) refl h
+  where
+    by : (s t : Bool) (o : Option (List ℕ)) → isSkipped (e .identifier) ≡ s → pick s false (pick t false (matched o component)) ≡ true → (isSkipped (e .identifier) ≡ false) × (map lower (written o) ≡ map lower component)
+    by true t o k h = never h
+    by false true o k h = never h
+    by false false none k h = never h
+    by false false (some name) k h = (k, same-folded name component .0 h)
+
+-- ---- each contract leaves one result
+
+pub list-one : (raw : List ℕ) {out a a′ : List ℕ} {r r′ : Reply} → Replied NoRoom (told (listing raw)) out a r → Replied NoRoom (told (listing raw)) out a′ r′ → (r ≡ r′) × (a ≡ a′)
+list-one raw p q = replied-one p q
+
+pub find-one : (component raw : List ℕ) {r r′ : Named} → r ≡ namedOf (findIn component raw) → r′ ≡ namedOf (findIn component raw) → r ≡ r′
+find-one component raw p q = p ∙ sym q
+
+-- ---- worked cases
+
+-- an entry "A", a directory at block 5
+abbrev pub entryA : List ℕ
+entryA =
+    0x01 ∷ 0x01 ∷ 0x02 ∷ 0x00 ∷ 0x04 ∷ 0x00 ∷ 0x00 ∷ 0x00 ∷ 0x00 ∷ 0x00 ∷ 0x00 ∷ 0x00 ∷ 0x00 ∷ 0x00 ∷ 0x00 ∷ 0x00 ∷ 0x01 ∷ 0x00 ∷ 0x02 ∷ 0x02
+    ∷ 0x00 ∷ 0x08 ∷ 0x00 ∷ 0x00 ∷ 0x05 ∷ 0x00 ∷ 0x00 ∷ 0x00 ∷ 0x00 ∷ 0x00 ∷ 0x00 ∷ 0x00 ∷ 0x00 ∷ 0x00 ∷ 0x00 ∷ 0x00 ∷ 0x00 ∷ 0x00 ∷ 0x08 ∷ 0x41 ∷ []
+
+pub one-listed : listing entryA
+    ≡ answered (0x44 ∷ 0x45 ∷ 1 ∷ 0x00 ∷ 0x08 ∷ 0x00 ∷ 0x00 ∷ 0x05 ∷ 0x00 ∷ 0x00 ∷ 0x00 ∷ 0x00 ∷ 0x00 ∷ 0x00 ∷ 0x00 ∷ 0x00 ∷ 0x00 ∷ 0x00 ∷ 0x00 ∷ 1 ∷ 0 ∷ 0x41 ∷ [])
+unfolding pairs untilZero surrogate dropSurrogates encode utf8 nameOf nameAt nameEnd recordedName nextAt identifierOf identifierSized identifierNamed identifierAfter readIdentifier entryOf isGood isSkipped nameIn entriesFrom entries sound recordHead shown records isLong anyLong listing
+one-listed = refl
+
+-- three bytes hold no entry, and 38 or more that are none refuse the listing
+pub none-listed : (listing (0 ∷ 0 ∷ 0 ∷ []) ≡ answered []) × (listing (0 ∷ entryA) ≡ refused Malformed)
+unfolding pairs untilZero surrogate dropSurrogates encode utf8 nameOf nameAt nameEnd recordedName nextAt identifierOf identifierSized identifierNamed identifierAfter readIdentifier entryOf isGood isSkipped nameIn entriesFrom entries sound recordHead shown records isLong anyLong listing
+none-listed = (refl, refl)
+
+-- "/a//b/" has the components "a" and "b"
+pub two-components : components (0x2f ∷ 0x61 ∷ 0x2f ∷ 0x2f ∷ 0x62 ∷ 0x2f ∷ []) ≡ (0x61 ∷ []) ∷ (0x62 ∷ []) ∷ []
+unfolding components front behind
+two-components = refl

@@ -1,0 +1,13 @@
+-- `listings::directory_entries::entry_at` meets its contract: what reading an identifier says, with what follows of a good one. Assumes nothing.
+use borrow.Author.Needs.{needs}
+use Rattle.listings.proofs.EntryLaws.{parsed-is}
+use Rattle.listings.proofs.directory_entries.entry_at.Statement.{statement}
+use Rattle.listings.proofs.directory_entries.entry_at.Tie as tie
+
+ruleset reads = (parsed-is, needs)
+
+pub entry-at-spec : {M : Type 1} → statement M
+entry-at-spec =
+    tie.close (tie.spec
+    (λ c κs. search reads)
+    (λ c. search reads))

@@ -1,0 +1,5 @@
+-- What the contracts cite: what a reader must believe, then what the private functions alone cite.
+pub mod Entries
+pub mod Listings
+pub mod Paths
+pub mod Passes

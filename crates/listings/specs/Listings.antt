@@ -1,0 +1,84 @@
+-- What a directory's bytes list, and which entry has a name: document 01, "Directories and paths". Assumes nothing: these are definitions.
+use Prim.Native.Nat.{ℕ}
+use mathlib.Core.Bool.{Bool, true, false}
+use mathlib.Core.List.{List, [], _∷_, _++_}
+use mathlib.Core.Option.{Option, none, some}
+use lib.ListN.{length}
+use lib.Dec.{ltb}
+use Rattle.disc.specs.Choice.{pick}
+use Rattle.disc.specs.Refusals.{number}
+use Rattle.disc.specs.Ask.{Outcome}
+use Rattle.disc.specs.Ask.Outcome.{answered, refused}
+use Rattle.disc.specs.Ran.{Ran}
+use Rattle.disc.specs.declared.refusals.Refusal.the-variants.{Malformed, LongName}
+use Rattle.records.specs.Bytes.{le16}
+use Rattle.records.specs.Allocations.{encodeLong, noLong}
+use Rattle.records.specs.declared.allocations.LongAd.{LongAd}
+use Rattle.names.specs.Names.{isNamed}
+use Rattle.identifiers.specs.Identifiers.{isDirectory}
+use Rattle.listings.specs.Entries.{Entry, Entries, isSkipped, nameIn, entries, sound}
+use Rattle.listings.specs.Entries.Entries.{end, bad, entry}
+use Rattle.listings.specs.declared.finds.Named.{Named}
+
+-- ---- the listing
+
+-- a record: mark, 1 for a directory, the ICB's 16 bytes, the name's length, and behind them the name
+unfoldable pub recordHead : Bool → LongAd → ℕ → List ℕ
+recordHead directory icb n = 0x44 ∷ 0x45 ∷ pick directory 1 0 ∷ (encodeLong icb ++ le16 n)
+
+-- deleted and parent entries are skipped
+unfoldable pub shown : Entry → List ℕ
+shown e =
+    pick (isSkipped (e .identifier)) []
+    (recordHead (isDirectory (e .identifier)) (e .identifier .icb) (length (nameIn e)) ++ nameIn e)
+
+unfoldable pub records : Entries → List ℕ
+records end = []
+records bad = []
+records (entry e es) = shown e ++ records es
+
+-- a listed name that exceeds 65,535 bytes
+unfoldable pub isLong : Entry → Bool
+isLong e = pick (isSkipped (e .identifier)) false (ltb 65535 (length (nameIn e)))
+
+unfoldable pub anyLong : Entries → Bool
+anyLong end = false
+anyLong bad = false
+anyLong (entry e es) = pick (isLong e) true (anyLong es)
+
+-- a bad entry is refused first, then a long name
+unfoldable pub listing : List ℕ → Outcome (List ℕ)
+listing s =
+    pick (sound (entries s))
+    (pick (anyLong (entries s)) (refused LongName) (answered (records (entries s))))
+    (refused Malformed)
+
+-- what is known of bytes at hand asks for no sector
+abbrev pub told : {A : Type 0} → Outcome A → Ran A
+told o = record { outcome = o; count = 0 }
+
+-- ---- the first entry of a name
+
+unfoldable pub answersTo : List ℕ → Entry → Bool
+answersTo component e = pick (isSkipped (e .identifier)) false (isNamed (e .recorded) component)
+
+unfoldable pub firstNamed : List ℕ → Entries → Option Entry
+firstNamed component end = none
+firstNamed component bad = none
+firstNamed component (entry e es) = pick (answersTo component e) (some e) (firstNamed component es)
+
+-- the whole directory is parsed before a name is matched
+unfoldable pub findIn : List ℕ → List ℕ → Outcome (Option Entry)
+findIn component s = pick (sound (entries s)) (answered (firstNamed component (entries s))) (refused Malformed)
+
+-- the same as the code reports it: no entry is 3
+abbrev pub unnamed : ℕ → Named
+unnamed n = record { answer = n; icb = noLong; directory = false }
+
+abbrev pub namedTo : Option Entry → Named
+namedTo none = unnamed 3
+namedTo (some e) = record { answer = 0; icb = e .identifier .icb; directory = isDirectory (e .identifier) }
+
+abbrev pub namedOf : Outcome (Option Entry) → Named
+namedOf (answered o) = namedTo o
+namedOf (refused r) = unnamed (number r)

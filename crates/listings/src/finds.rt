@@ -1,0 +1,65 @@
+// The first entry of a name.
+ghost use mathlib.Core.Path.{_≡_};
+ghost use Rattle.listings.specs.Entries.{entryOf};
+ghost use Rattle.listings.specs.Listings.{findIn, namedOf, unnamed};
+ghost use Rattle.listings.specs.Passes.{Good, earlierOf};
+use crate::directory_entries::answers_to;
+use crate::directory_entries::entry_at;
+use identifiers::FileIdentifierDescriptor;
+use records::allocations::LongAd;
+use records::allocations::no_long;
+
+// The ICB of an entry, and whether it is a directory; zeros where the answer is a refusal.
+pub struct Named {
+    pub answer: u64,
+    pub icb: LongAd,
+    pub directory: bool,
+}
+
+fn no_entry(answer: u64) -> Named
+    ensures { λ r. ⌜ r ≡ unnamed answer ⌝ }
+{
+    Named {
+        answer,
+        icb: no_long(),
+        directory: false,
+    }
+}
+
+// What was found already, else the entry f at the front of s if it answers to the component.
+fn earlier(found: Named, s: &[u8], f: FileIdentifierDescriptor, component: &[u8]) -> Named
+    requires { ⌜ Good (now s) f ⌝ }
+    ensures { λ r. ⌜ r ≡ earlierOf found (now (component .entry)) (entryOf (now (s .entry))) ⌝ }
+{
+    if found.answer == 0 {
+        return found;
+    }
+    if answers_to(s, f, component) {
+        let icb = f.icb;
+        return Named {
+            answer: 0,
+            icb,
+            directory: f.is_directory(),
+        };
+    }
+    found
+}
+
+// The entry of a name in a directory's bytes. One bad entry refuses the directory, so that the walk goes on past the entry.
+pub fn find(raw: &[u8], component: &[u8]) -> Named
+    ensures { λ r. ⌜ r ≡ namedOf (findIn (now (component .entry)) (now (raw .entry))) ⌝ }
+{
+    let mut found = no_entry(3);
+    let mut at: usize = 0;
+    while at + 38 <= raw.len() {
+        let s = &raw[at..];
+        let r = entry_at(s);
+        if r.answer != 0 {
+            return no_entry(2);
+        }
+        let f = r.descriptor;
+        at += f.total_size;
+        found = earlier(found, s, f, component);
+    }
+    found
+}
