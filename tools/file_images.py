@@ -5,8 +5,7 @@ The file is a row of records, with little-endian numbers:
 
     u16 length of the name, the name, u32 length of the packed image, the packed image, u16 number of queries, the queries
 
-A packed image (crate `sparse`) is u32 image length, u32 number of runs, then each run: u32 offset, u32 length, the bytes. Every other byte
-of the image is 0. A query has 28 bytes:
+tools/udf.py says what a packed image is. A query has 28 bytes:
 
     u32 the partition's start, u16 the volume's partition number, 16 bytes the ICB (a long_ad), u32 room of the output, u16 slots of the row
 
@@ -14,84 +13,19 @@ Usage: tools/file_images.py. Needs Python's standard library alone, prints nothi
 """
 
 import os
-import re
 import struct
+import sys
 
-SECTOR = 2048
+sys.dont_write_bytecode = True
+import udf
+from udf import ALLOCATED, DESCRIPTOR, EMBEDDED, EXT, EXTENDED_FILE_ENTRY, FILE_ENTRY, LONG, NEXT, PARTITION, RECORDED, SECTOR, SHORT, UNALLOCATED
+from udf import aed, entry, ext_ad, long_ad, short_ad
+
 START = 3  # The partition's first sector.
-PARTITION = 5  # The volume's partition number.
-OTHER = 6  # Another partition's.
-RECORDED, ALLOCATED, UNALLOCATED, NEXT = 0, 1, 2, 3  # Types of an extent (ECMA-167 4/14.14.1.1).
-SHORT, LONG, EXT, EMBEDDED = 0, 1, 2, 3  # Kinds of an area (ECMA-167 4/14.6.8).
-FILE_ENTRY, EXTENDED_FILE_ENTRY, ALLOCATION_EXTENT = 261, 266, 258
+OTHER = 6  # Another partition's number.
 MOST = 1048576  # The longest continuation that is followed.
 ROOM = 8192  # The output's room and the row's slots, where a query says nothing else.
 SLOTS = 8
-
-
-# ---- descriptors
-
-
-def tag(identifier, location=0, reserved=0, wrong=0):
-    """A descriptor tag (ECMA-167 4/7.2); `wrong` is added to its checksum."""
-    t = bytearray(struct.pack("<HHBBHHHI", identifier, 3, 0, reserved, 1, 0, 0, location))
-    t[4] = (sum(t) + wrong) % 256
-    return bytes(t)
-
-
-def raw(length, kind):
-    return length | kind << 30
-
-
-def short_ad(length, block, kind=RECORDED):
-    """ECMA-167 4/14.14.1."""
-    return struct.pack("<II", raw(length, kind), block)
-
-
-def long_ad(length, block, kind=RECORDED, partition=PARTITION):
-    """ECMA-167 4/14.14.2; the implementation use is 1 2 3 4 5 6, so that a reader of the wrong width is caught."""
-    return struct.pack("<IIH6s", raw(length, kind), block, partition, bytes([1, 2, 3, 4, 5, 6]))
-
-
-def ext_ad(length, block, kind=RECORDED, partition=PARTITION, recorded=None, information=None):
-    """ECMA-167 4/14.14.3; the recorded and the information length are the stored length unless given."""
-    recorded = length if recorded is None else recorded
-    information = length if information is None else information
-    return struct.pack("<IIIIH2s", raw(length, kind), recorded, information, block, partition, bytes([1, 2]))
-
-
-DESCRIPTOR = [short_ad, long_ad, ext_ad]  # By the kind of the area.
-
-
-def entry(
-    kind,
-    area,
-    information,
-    identifier=FILE_ENTRY,
-    attributes=b"",
-    flags=None,
-    attribute_length=None,
-    area_length=None,
-    reserved=0,
-    wrong=0,
-):
-    """A file entry (ECMA-167 4/14.9) or an extended one (4/14.17). The lengths are those of what is given, unless they are given too."""
-    extended = identifier == EXTENDED_FILE_ENTRY
-    size = 216 if extended else 176
-    e = bytearray(size)
-    e[0:16] = tag(identifier, reserved=reserved, wrong=wrong)
-    struct.pack_into("<IHHHBB6sH", e, 16, 0, 4, 0, 1, 0, 5, bytes(6), kind if flags is None else flags)
-    struct.pack_into("<Q", e, 56, information)
-    attribute_length = len(attributes) if attribute_length is None else attribute_length
-    area_length = len(area) if area_length is None else area_length
-    struct.pack_into("<II", e, size - 8, attribute_length, area_length)
-    return bytes(e) + attributes + area
-
-
-def aed(area, area_length=None, identifier=ALLOCATION_EXTENT, reserved=0, wrong=0):
-    """An Allocation Extent Descriptor (ECMA-167 4/14.5) and the area behind it."""
-    area_length = len(area) if area_length is None else area_length
-    return tag(identifier, reserved=reserved, wrong=wrong) + struct.pack("<II", 0, area_length) + area
 
 
 # ---- images
@@ -110,20 +44,11 @@ def full(block):
     return bytes((block * 5 + i * 7 + i // 251) % 255 + 1 for i in range(SECTOR))
 
 
-class Image:
-    """An image under the name of its case, with blocks put into it, and what is asked of it."""
-
-    def __init__(self, name, sectors, more=0):
-        self.name = name
-        self.bytes = bytearray(sectors * SECTOR + more)
-        self.queries = []
+class Image(udf.Image):
+    """An image, its partition from START on, and files asked for."""
 
     def put(self, block, what, start=START):
-        """Puts bytes at a block where nothing stands yet; what has no room in the image is left out."""
-        at = (start + block) * SECTOR
-        what = what[: max(len(self.bytes) - at, 0)]
-        assert not any(self.bytes[at : at + len(what)]), self.name
-        self.bytes[at : at + len(what)] = what
+        self.lay(start + block, what)
 
     def marked(self, *blocks):
         for block in blocks:
@@ -138,17 +63,8 @@ class Image:
         self.put(block, what)
         self.ask(block, **how)
 
-    def packed(self):
-        # Zeros between two runs are kept where they cost less than a run's head.
-        runs = [(m.start(), m.group()) for m in re.finditer(rb"[^\0]+(?:\0{1,8}[^\0]+)*", self.bytes)]
-        body = b"".join(struct.pack("<II", at, len(run)) + run for at, run in runs)
-        return struct.pack("<II", len(self.bytes), len(runs)) + body
-
     def record(self):
-        name = self.name.encode("ascii")
-        image = self.packed()
-        front = struct.pack("<H", len(name)) + name + struct.pack("<I", len(image)) + image
-        return front + struct.pack("<H", len(self.queries)) + b"".join(self.queries)
+        return udf.record(self.name, self.bytes) + struct.pack("<H", len(self.queries)) + b"".join(self.queries)
 
 
 # ---- cases
@@ -668,10 +584,7 @@ def main():
     root = os.path.dirname(os.path.dirname(os.path.abspath(__file__)))
     folder = os.path.join(root, "crates", "file_cases", "data")
     os.makedirs(folder, exist_ok=True)
-    with open(os.path.join(folder, "images"), "wb") as out:
-        for case in CASES:
-            for image in case():
-                out.write(image.record())
+    udf.write_records(os.path.join(folder, "images"), (image.record() for case in CASES for image in case()))
 
 
 if __name__ == "__main__":

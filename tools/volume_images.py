@@ -1,81 +1,25 @@
 #!/usr/bin/env python3
 """Writes the images that the program `volume_cases` opens, into crates/volume_cases/data/images. Run it from the root of the repository.
 
-The file has one record after the other: u16 name length, name, u32 packed length, packed image. A packed image is u32 image length, u32
-number of runs, and each run: u32 offset, u32 length, that many bytes. All numbers are little-endian. Every other byte of an image is 0.
-
-An image has sectors of 2,048 bytes. Where a case says nothing else: the recognition sequence is in 16 to 18, the main volume descriptor
-sequence has 16 sectors from 32 on (primary, partition, logical volume and terminating descriptor), the anchor is in 256, the partition
-starts at 288, the file set descriptor is its block 2, and the image has 320 sectors.
+The file has one record after the other: u16 name length, name, u32 packed length, packed image. tools/udf.py says what a packed image is,
+and the layout of a volume. Where a case says nothing else, the recognition sequence is in 16 to 18, the main sequence has a primary, a
+partition, a logical volume and a terminating descriptor, and the image has 320 sectors.
 """
 
-import struct
+import sys
 
-SECTOR = 2048
-MAIN, ANCHOR, START, BLOCK, SECTORS = 32, 256, 288, 2, 320
+sys.dont_write_bytecode = True
+import udf
+from udf import ANCHOR, BLOCK, MAIN, SECTOR, START, TERMINATOR, anchor, file_set, filled, logical, long_ad, other, partition, primary
 
-
-def tag(identifier, sector, ruined=False):
-    """A descriptor tag (ECMA-167 3/7.2); a ruined one has a wrong checksum."""
-    t = bytearray(struct.pack("<HHBBHHHI", identifier, 3, 0, 0, 1, 0, 0, sector))
-    t[4] = (sum(t) + (1 if ruined else 0)) % 256
-    return bytes(t)
-
-
-def filled(size, *parts):
-    """`size` bytes with each (offset, bytes) in its place."""
-    b = bytearray(size)
-    for at, text in parts:
-        b[at : at + len(text)] = text
-    return bytes(b)
-
-
-def field(text, size):
-    """A d-string in a field of `size` bytes, whose last byte is its length (1/7.2.12)."""
-    return filled(size, (0, text), (size - 1, bytes([len(text)])))
-
-
-def long_ad(length, block, partition, use=b"", kind=0):
-    return struct.pack("<IIH6s", length | kind << 30, block, partition, use)
-
-
-def anchor(sector=ANCHOR, identifier=2, location=MAIN, length=16 * SECTOR, ruined=False):
-    return filled(SECTOR, (0, tag(identifier, sector, ruined)), (16, struct.pack("<IIII", length, location, length, 64)))
-
-
-def primary(sector, label=b"\x08VOLUME", ruined=False, raw=None):
-    return filled(SECTOR, (0, tag(1, sector, ruined)), (16, struct.pack("<II", 1, 0)), (24, raw or field(label, 32)))
-
-
-def partition(sector, number=0, start=START, ruined=False):
-    return filled(SECTOR, (0, tag(5, sector, ruined)), (16, struct.pack("<IHH", 2, 1, number)), (188, struct.pack("<II", start, 32)))
-
-
-def logical(sector, number=0, block=BLOCK, size=SECTOR, label=b"\x08LOGICAL", ruined=False):
-    return filled(
-        SECTOR,
-        (0, tag(6, sector, ruined)),
-        (16, struct.pack("<I", 3)),
-        (84, field(label, 128)),
-        (212, struct.pack("<I", size)),
-        (248, long_ad(SECTOR, block, number)),
-    )
-
-
-def other(identifier):
-    """A descriptor that is skipped, or that ends the sequence, by its id alone."""
-    return lambda sector, ruined=False: filled(SECTOR, (0, tag(identifier, sector, ruined)), (16, b"\x04"))
-
-
-def file_set(sector, identifier=256, ruined=False, root=None):
-    return filled(SECTOR, (0, tag(identifier, sector, ruined)), (400, root or long_ad(SECTOR, 5, 0, b"\x01\x02\x03\x04\x05\x06")))
+SECTORS = 320
 
 
 def made(maker, **said):
     return lambda sector: maker(sector, **said)
 
 
-GOOD = [primary, partition, logical, other(8)]
+GOOD = [primary, partition, logical, TERMINATOR]
 RECOGNITION = [b"BEA01", b"NSR03", b"TEA01"]
 
 
@@ -89,23 +33,13 @@ def image(sequence=GOOD, recognition=RECOGNITION, kind=0, anchored=None, main=MA
     return held, length
 
 
-def packed(held, length):
-    """The runs of an image: zeros are left out where that is shorter than one run more."""
-    flat = bytearray(length)
+def flat(held, length):
+    """The image's bytes; what has no room in it is left out."""
+    whole = bytearray(length)
     for sector, text in held.items():
         room = max(0, length - sector * SECTOR)
-        flat[sector * SECTOR : sector * SECTOR + len(text)] = text[:room]
-    runs, at = [], 0
-    while at < length:
-        while at < length and not flat[at]:
-            at += 1
-        end = at
-        while any(flat[end : end + 9]):
-            end += next(i for i, b in enumerate(flat[end : end + 9]) if b) + 1
-        if end > at:
-            runs.append((at, bytes(flat[at:end])))
-        at = max(end, at + 1)
-    return struct.pack("<II", length, len(runs)) + b"".join(struct.pack("<II", at, len(b)) + b for at, b in runs)
+        whole[sector * SECTOR : sector * SECTOR + len(text)] = text[:room]
+    return whole
 
 
 def without(*left_out):
@@ -119,8 +53,6 @@ def instead(place, make):
 def labelled(label):
     return image(sequence=instead(0, made(primary, label=label)))
 
-
-TERMINATOR = other(8)
 
 CASES = {
     "good": image(),
@@ -178,7 +110,7 @@ CASES = {
     "label_empty": labelled(b""),
     "label_of_id_0": labelled(b"\x00VOLUME"),
     "label_full": labelled(b"\x08" + b"\xff" * 30),
-    "root_of_type_2": image(fsd=made(file_set, root=long_ad(0x3FFFFFFF, 0xFFFFFFFF, 0xFFFF, b"\xff" * 6, kind=2))),
+    "root_of_type_2": image(fsd=made(file_set, root=long_ad(0x3FFFFFFF, 0xFFFFFFFF, 2, 0xFFFF, b"\xff" * 6))),
     "bytes_behind_the_last_sector": image(length=SECTORS * SECTOR + 77),
     # recognition sequences
     "no_recognition": image(recognition=[]),
@@ -200,10 +132,7 @@ CASES = {
 
 
 def main():
-    with open("crates/volume_cases/data/images", "wb") as out:
-        for name, (held, length) in CASES.items():
-            one = packed(held, length)
-            out.write(struct.pack("<H", len(name)) + name.encode() + struct.pack("<I", len(one)) + one)
+    udf.write_records("crates/volume_cases/data/images", (udf.record(name, flat(*one)) for name, one in CASES.items()))
 
 
 main()

@@ -1,4 +1,5 @@
--- Laws of chains: what a cursor stands for, one step at a time; a chain followed to its end; how many sectors it asks for.
+-- Laws of chains: what a cursor stands for, one step at a time; a chain followed to its end; how many sectors it asks for, and how many bytes its extents hold.
 pub mod WalkLaws
 pub mod FollowLaws
 pub mod AskedLaws
+pub mod TotalLaws

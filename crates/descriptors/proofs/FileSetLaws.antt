@@ -2,15 +2,22 @@
 use Prim.Native.Nat.{ℕ}
 use mathlib.Core.Path.{_≡_}
 use mathlib.Core.List.{List}
+use Rattle.disc.specs.Refusals.{number}
 use Rattle.disc.specs.declared.refusals.Refusal.{Refusal}
-use Rattle.records.specs.Allocations.{longOf}
+use Rattle.records.specs.Allocations.{longOf, noLong}
 use Rattle.records.specs.declared.allocations.LongAd.{LongAd}
+use Rattle.tags.specs.Answers.{noTag}
 use Rattle.tags.specs.declared.DescriptorTag.{DescriptorTag}
 use Rattle.tags.specs.declared.TagRead.{TagRead}
 use Rattle.tags.specs.declared.TagRead.the-variants.{Read, Refused}
 use Rattle.descriptors.specs.Heads.{readHead}
 use Rattle.descriptors.specs.FileSets.{noFileSet, readFileSet}
 use Rattle.descriptors.specs.declared.file_sets.FileSetRead.{FileSetRead}
+
+-- the return of `no_file_set`
+pub file-set-none : (why : Refusal) {n : ℕ} {t : DescriptorTag} {root : LongAd} → n ≡ number why → t ≡ noTag → root ≡ noLong
+    → record { answer = n; descriptor = record { tag = t; «root_directory_icb» = root } } ≡ noFileSet why
+file-set-none why p q r = rw (p, q, r)
 
 -- ---- what the reader's proof cites: `x` is what `read_head` gave
 

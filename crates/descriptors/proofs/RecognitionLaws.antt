@@ -1,8 +1,9 @@
 -- A sector's structure by its first byte and its identifier. Assumes nothing.
 use Prim.Native.Nat.{ℕ}
 use mathlib.Core.Path.{_≡_}
-use mathlib.Core.Bool.{Bool, _||_}
+use mathlib.Core.Bool.{Bool, _&&_, _||_}
 use mathlib.Core.List.{List}
+use lib.Dec.{eqb}
 use borrow.Author.Tests.{eq-eqb, ne-eqb}
 use Rattle.records.specs.Bytes.{byte}
 use Rattle.descriptors.specs.Recognition.{identified, nsr, other, identityOf, structureOf}
@@ -17,6 +18,12 @@ module _ (s : List ℕ) {b : ℕ} where
   pub type-zero : {r : Structure} → b ≡ byte s 0 → b ≡ 0 → r ≡ identityOf s → r ≡ structureOf s
   unfolding structureOf
   type-zero e h k = rw (← e, eq-eqb b 0 h) k
+
+-- The five bytes of an identifier, each as the call that read it ensures.
+pub identified-bytes : (s : List ℕ) (a b c d e : ℕ) {p q r t u : ℕ} → p ≡ byte s 1 → q ≡ byte s 2 → r ≡ byte s 3 → t ≡ byte s 4 → u ≡ byte s 5
+    → (eqb p a && eqb q b && eqb r c && eqb t d && eqb u e) ≡ identified s a b c d e
+unfolding identified
+identified-bytes s a b c d e f g h k l = rw (f, g, h, k, l)
 
 -- Either of two identifiers.
 module _ (s : List ℕ) {a b : Bool} where

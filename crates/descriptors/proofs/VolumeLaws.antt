@@ -3,13 +3,15 @@ use Prim.Native.Nat.{ℕ}
 use mathlib.Core.Path.{_≡_}
 use mathlib.Core.Bool.{Bool, true, false}
 use mathlib.Core.List.{List}
-use lib.ListN.{take, drop}
+use lib.ListN.{take, drop, replicate}
+use Rattle.disc.specs.Refusals.{number}
 use Rattle.disc.specs.declared.refusals.Refusal.{Refusal}
 use Rattle.disc.specs.declared.refusals.Refusal.the-variants.{Malformed}
 use Rattle.records.specs.Bytes.{u16at, u32at}
-use Rattle.records.specs.Allocations.{extentOf, longOf}
+use Rattle.records.specs.Allocations.{extentOf, longOf, noLong}
 use Rattle.records.specs.declared.allocations.ExtentAd.{ExtentAd}
 use Rattle.records.specs.declared.allocations.LongAd.{LongAd}
+use Rattle.tags.specs.Answers.{noTag}
 use Rattle.tags.specs.declared.DescriptorTag.{DescriptorTag}
 use Rattle.tags.specs.declared.TagRead.{TagRead}
 use Rattle.tags.specs.declared.TagRead.the-variants.{Read as ATag, Refused as NoTag}
@@ -19,6 +21,26 @@ use Rattle.descriptors.specs.declared.anchors.AnchorRead.the-variants.{R
 use Rattle.descriptors.specs.declared.primaries.PrimaryRead.{PrimaryRead}
 use Rattle.descriptors.specs.declared.partitions.PartitionRead.the-variants.{Read as APartition, Refused as NoPartition}
 use Rattle.descriptors.specs.declared.logicals.LogicalRead.{LogicalRead}
+
+-- the returns of `no_primary` and `no_logical`
+module _ (why : Refusal) {n : ℕ} {t : DescriptorTag} (p : n ≡ number why) (q : t ≡ noTag) where
+  pub primary-none : record {
+    answer = n;
+    descriptor = record { tag = t; «volume_descriptor_sequence_number» = 0; «primary_volume_descriptor_number» = 0; «volume_identifier» = replicate 32 0 };
+  } ≡ noPrimary why
+  primary-none = rw (p, q)
+
+  pub logical-none : {location : LongAd} → location ≡ noLong → record {
+    answer = n;
+    descriptor = record {
+      tag = t;
+      «volume_descriptor_sequence_number» = 0;
+      «logical_volume_identifier» = replicate 128 0;
+      «logical_block_size» = 0;
+      «file_set_descriptor_location» = location;
+    };
+  } ≡ noLogical why
+  logical-none r = rw (p, q, r)
 
 -- ---- what each reader's proof cites: `x` is what `read_head` gave
 

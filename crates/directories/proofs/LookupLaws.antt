@@ -2,27 +2,33 @@
 use mathlib.Core.Path.{_≡_, refl, sym, ap, _∙_}
 use mathlib.Core.Bool.{Bool, true, false}
 use mathlib.Core.List.{List}
-use Prim.Native.Nat.{ℕ, _+_, _-_}
-use lib.ListN.{length, take, drop}
+use Prim.Native.Nat.{ℕ, _+_, _-_, _≤_, _<_, _^_}
+use native.Mathlib.Omega.{arith}
+use lib.ListN.{length, take, drop, length-drop}
+use lib.Seq.{length-take-le}
 use lib.Dec.{leb}
+use mir.Syntax.{w64}
+use mir.Val.{Fits}
 use Rattle.disc.specs.Choice.{pick}
 use Rattle.disc.specs.Refusals.{number}
 use Rattle.disc.specs.Counts.{reported}
-use Rattle.disc.specs.Ask.{Disc, Ask, Outcome, outcome}
+use Rattle.disc.specs.Ask.{Disc, Outcome, outcome}
 use Rattle.disc.specs.Ask.Outcome.{answered, refused}
 use Rattle.disc.specs.Ran.{Ran, ran, after, onward, followed}
 use Rattle.disc.specs.Replies.{replyBy, Replied}
 use Rattle.disc.specs.declared.refusals.Refusal.the-variants.{NoRoom}
 use Rattle.disc.specs.declared.replies.Reply.{Reply}
+use Rattle.disc.proofs.PartLaws.{part-slice}
 use Rattle.disc.proofs.CountLaws.{reported-sum}
 use Rattle.disc.proofs.RanLaws.{ran-then}
 use Rattle.disc.proofs.ReplyLaws.{reply-refused}
 use Rattle.records.specs.declared.allocations.LongAd.{LongAd}
 use Rattle.files.specs.Files.{fileBytes}
-use Rattle.directories.specs.Lookups.{Sought, seekPath, icbOf, lookupOf, lostOf, readPathOf, foundTo, foundOf}
-use Rattle.directories.specs.Places.{andThen, endOf, Walks}
+use Rattle.directories.specs.Lookups.{seekPath, icbOf, lookupOf, lostOf, readPathOf, foundTo, foundOf, lostAt, lostReply}
+use Rattle.directories.specs.Places.{andThen, Walks}
 use Rattle.directories.specs.declared.lookups.Found.{Found}
 use Rattle.directories.specs.declared.walks.Place.{Place}
+use Rattle.directories.proofs.PlaceLaws.{failed-stands}
 use Rattle.directories.proofs.SpaceLaws.{number-some, ran-known}
 use Rattle.directories.proofs.ListLaws.{recount}
 
@@ -41,11 +47,35 @@ module _ (d : Disc) (start partition work : ℕ) (root : LongAd) (path : List �
     unfolding ran
     look-lost = w .lost
 
-    pub look-answer : q .answer ≡ foundOf (ran d (lookupOf start partition work root path)) .answer
-    look-answer = ap (λ (f : Found). f .answer) look-found
+    pub look-at : q .from ≡ lostAt d start partition work root path
+    look-at = w .at
 
-    pub look-count : q .count ≡ foundOf (ran d (lookupOf start partition work root path)) .count
-    look-count = ap (λ (f : Found). f .count) look-found
+    pub look-length : record { answer = q .answer; count = q .count; length = q .end - q .from }
+        ≡ lostReply (ran d (lookupOf start partition work root path)) (outcome d (seekPath start partition work root path))
+    look-length =
+        let n : length (take (q .end - q .from) (drop (q .from) path)) ≡ q .end - q .from =
+        length-take-le (q .end - q .from) (drop (q .from) path) (rw length-drop (omega (arith, w .within))) in
+        rw (← look-found, ← look-lost, n)
+
+-- ---- the component as a part of the path
+
+module _ (d : Disc) (start partition work : ℕ) (root : LongAd) (path : List ℕ) {reply : Reply}
+    (e : reply ≡ lostReply (ran d (lookupOf start partition work root path)) (outcome d (seekPath start partition work root path))) where
+  pub failed-answer : reply .answer ≡ foundOf (ran d (lookupOf start partition work root path)) .answer
+  failed-answer = rw e
+
+  pub failed-count : reply .count ≡ foundOf (ran d (lookupOf start partition work root path)) .count
+  failed-count = rw e
+
+  module _ {at : ℕ} (h : at ≡ lostAt d start partition work root path) where
+    pub failed-part : take (at + reply .length - at) (drop at path) ≡ lostOf (outcome d (seekPath start partition work root path))
+    failed-part = rw (e, h) (part-slice (failed-stands d start partition work root path))
+
+    pub failed-room : at + reply .length ≤ length path
+    failed-room = rw (e, h) (failed-stands d start partition work root path .inside)
+
+    pub failed-fits : length path < 2 ^ 64 → Fits w64 (at + reply .length)
+    failed-fits l = omega (arith, failed-room)
 
 -- ---- a file read by its path
 

@@ -1,76 +1,32 @@
--- What is proved of the calls on directories and paths: demand 3 of each, that each contract leaves one result, that the first entry of a
--- name wins, and what the ends of a path come to. Assumes nothing.
-use mathlib.Core.Path.{_≡_, refl, sym, ap, _∙_}
+-- What is proved of directories and paths: what the call for the component that failed asks for, that the first entry of a name wins, and what
+-- the ends of a path come to. Assumes nothing.
+use mathlib.Core.Path.{_≡_, refl, ap, _∙_}
 use mathlib.Core.Bool.{Bool, true, false}
 use mathlib.Core.List.{List, [], _∷_, _++_, append-nil}
-use mathlib.Core.Option.{Option, none, some}
-use Prim.Native.Nat.{ℕ, _<_}
-use lib.ListN.{length, replicate}
+use mathlib.Core.Option.{some, Option, none}
+use Prim.Native.Nat.{ℕ, _<_, suc}
+use lib.ListN.{length}
 use borrow.Author.Tests.{lt-leb}
-use Rattle.disc.specs.Choice.{pick}
 use Rattle.disc.specs.Ask.{Disc, Ask, Outcome, outcome, asked, then, ended, Agree}
 use Rattle.disc.specs.Ask.Outcome.{answered, refused}
-use Rattle.disc.specs.Images.{disc}
-use Rattle.disc.specs.Ran.{Ran, ran}
-use Rattle.disc.specs.Replies.{Replied}
-use Rattle.disc.specs.declared.refusals.Refusal.the-variants.{NoRoom, NoWork}
-use Rattle.disc.specs.declared.replies.Reply.{Reply}
-use Rattle.disc.proofs.AskLaws.{same-outcome, asked-then, askedBehind}
-use Rattle.disc.proofs.RanLaws.{same-ran, ran-done}
-use Rattle.disc.proofs.ReplyLaws.{replied-one, same-replied}
+use Rattle.disc.specs.Ran.{ran}
+use Rattle.disc.specs.declared.refusals.Refusal.the-variants.{NoWork}
+use Rattle.disc.proofs.AskLaws.{asked-then, askedBehind, same-outcome, agree-front, agree-back}
+use Rattle.disc.proofs.RanLaws.{ran-done}
 use Rattle.records.specs.declared.allocations.LongAd.{LongAd}
+use Rattle.identifiers.specs.Identifiers.{isDirectory}
 use Rattle.files.specs.Files.{fileBytes}
 use Rattle.listings.specs.Entries.{Entry, Entries, entries, sound}
 use Rattle.listings.specs.Entries.Entries.{entry}
-use Rattle.listings.specs.Listings.{answersTo, firstNamed, findIn}
+use Rattle.listings.specs.Listings.{answersTo, findIn}
 use Rattle.listings.specs.Paths.{front, behind, components}
 use Rattle.listings.proofs.Promises.{inFront, NoneAnswers, first-wins}
-use Rattle.directories.specs.Directories.{within, directoryBytes, listingAt}
-use Rattle.directories.specs.Lookups.{Sought, entering, seeking, seekPath, icbOf, lookupOf, lostOf, readPathOf, foundOf}
+use Rattle.directories.specs.Directories.{within, directoryBytes}
+use Rattle.directories.specs.Lookups.{entering, seeking, seekPath, icbOf, lookupOf, Sought, orLost, enteredBy, entered, lostAt}
 use Rattle.directories.specs.Lookups.Sought.{reached, lost}
-use Rattle.directories.specs.declared.lookups.Found.{Found}
 use Rattle.directories.proofs.SpaceLaws.{ran-known}
 
--- ---- what each call leaves: its contract in one record
-
-module _ (image : List ℕ) (start partition : ℕ) where
-  pub record Listed (icb : LongAd) (out work out′ work′ : List ℕ) (reply : Reply) : Type 0 where
-    pub replied : Replied NoRoom (ran (disc image) (listingAt start partition (length work) icb)) out out′ reply
-    pub zero : work′ ≡ replicate (length work) 0
-
-  pub record LookedUp (root : LongAd) (path work work′ : List ℕ) (found : Found) : Type 0 where
-    pub says : found ≡ foundOf (ran (disc image) (lookupOf start partition (length work) root path))
-    pub zero : work′ ≡ replicate (length work) 0
-
-  pub record Failed (root : LongAd) (path work work′ component : List ℕ) (answer count : ℕ) : Type 0 where
-    pub part : component ≡ lostOf (outcome (disc image) (seekPath start partition (length work) root path))
-    pub number : answer ≡ foundOf (ran (disc image) (lookupOf start partition (length work) root path)) .answer
-    pub sectors : count ≡ foundOf (ran (disc image) (lookupOf start partition (length work) root path)) .count
-    pub zero : work′ ≡ replicate (length work) 0
-
-  pub record ReadByPath (root : LongAd) (path out work out′ work′ : List ℕ) (reply : Reply) : Type 0 where
-    pub replied : Replied NoRoom (ran (disc image) (readPathOf start partition (length work) root path)) out out′ reply
-    pub zero : work′ ≡ replicate (length work) 0
-
--- ---- each contract leaves one result
-
-module _ {image : List ℕ} {start partition : ℕ} where
-  pub list-one : {icb : LongAd} {out work a a′ w w′ : List ℕ} {r r′ : Reply} → Listed image start partition icb out work a w r → Listed image start partition icb out work a′ w′ r′
-      → (r ≡ r′) × (a ≡ a′) × (w ≡ w′)
-  list-one p q = let e = replied-one (p .replied) (q .replied) in (e .0, e .1, p .zero ∙ sym (q .zero))
-
-  pub lookup-one : {root : LongAd} {path work w w′ : List ℕ} {f f′ : Found} → LookedUp image start partition root path work w f → LookedUp image start partition root path work w′ f′ → (f ≡ f′) × (w ≡ w′)
-  lookup-one p q = (p .says ∙ sym (q .says), p .zero ∙ sym (q .zero))
-
-  pub failed-one : {root : LongAd} {path work w w′ c c′ : List ℕ} {a a′ n n′ : ℕ} → Failed image start partition root path work w c a n → Failed image start partition root path work w′ c′ a′ n′
-      → (c ≡ c′) × (a ≡ a′) × (n ≡ n′) × (w ≡ w′)
-  failed-one p q = (p .part ∙ sym (q .part), p .number ∙ sym (q .number), p .sectors ∙ sym (q .sectors), p .zero ∙ sym (q .zero))
-
-  pub read-path-one : {root : LongAd} {path out work a a′ w w′ : List ℕ} {r r′ : Reply} → ReadByPath image start partition root path out work a w r → ReadByPath image start partition root path out work a′ w′ r′
-      → (r ≡ r′) × (a ≡ a′) × (w ≡ w′)
-  read-path-one p q = let e = replied-one (p .replied) (q .replied) in (e .0, e .1, p .zero ∙ sym (q .zero))
-
--- ---- demand 3: images that agree on a call's list give the same answer, count and memory
+-- ---- what is known without a question
 
 asked-ended : {A : Type 0} (d : Disc) (o : Outcome A) → asked d (ended o) ≡ []
 unfolding asked
@@ -90,35 +46,36 @@ pub failed-asks : (d : Disc) (start partition work : ℕ) (root : LongAd) (path 
 unfolding lookupOf
 failed-asks d start partition work root path = asked-known d (seekPath start partition work root path) icbOf
 
-module _ (image image′ : List ℕ) (start partition : ℕ) where
-  pub list-same : {icb : LongAd} {out work a a′ w w′ : List ℕ} {r r′ : Reply} → Agree (disc image) (disc image′) (asked (disc image) (listingAt start partition (length work) icb))
-      → Listed image start partition icb out work a w r → Listed image′ start partition icb out work a′ w′ r′ → (r ≡ r′) × (a ≡ a′) × (w ≡ w′)
-  list-same {icb} {out} {work} h p q =
-      list-one (record { replied = same-replied (listingAt start partition (length work) icb) (disc image) (disc image′) h (p .replied); zero = p .zero }) q
+-- and so has its place the lookup's list
+module _ (d e : Disc) (start partition work : ℕ) where
+  same-entered : (cs : List (List ℕ)) (icb : LongAd) (directory : Bool) → Agree d e (asked d (seeking start partition work cs icb directory))
+      → entered d start partition work cs icb directory ≡ entered e start partition work cs icb directory
+  unfolding seeking entered
+  same-entered [] icb directory h = refl
+  same-entered (c ∷ cs) icb false h = refl
+  same-entered (c ∷ cs) icb true h =
+      let m : Ask (Option Entry) = entering start partition work icb c in
+      let k = rw (asked-then d m rest) at h in
+      let o : outcome d m ≡ outcome e m = same-outcome m d e (agree-front d e (asked d m) _ k) in
+      rw (← o) (by (λ x. same-entered cs (x .identifier .icb) (isDirectory (x .identifier))) (outcome d m) (agree-back d e (asked d m) _ k))
+    where
+      rest : Option Entry → Ask Sought
+      rest o = orLost c o (λ x. seeking start partition work cs (x .identifier .icb) (isDirectory (x .identifier)))
 
-  pub lookup-same : {root : LongAd} {path work w w′ : List ℕ} {f f′ : Found} → Agree (disc image) (disc image′) (asked (disc image) (lookupOf start partition (length work) root path))
-      → LookedUp image start partition root path work w f → LookedUp image′ start partition root path work w′ f′ → (f ≡ f′) × (w ≡ w′)
-  lookup-same {root} {path} {work} h p q =
-      lookup-one (record { says = rw (same-ran (lookupOf start partition (length work) root path) (disc image) (disc image′) h) at (p .says); zero = p .zero }) q
+      by : ((x : Entry) → Agree d e (asked d (seeking start partition work cs (x .identifier .icb) (isDirectory (x .identifier))))
+          → entered d start partition work cs (x .identifier .icb) (isDirectory (x .identifier)) ≡ entered e start partition work cs (x .identifier .icb) (isDirectory (x .identifier)))
+          → (o : Outcome (Option Entry)) → Agree d e (askedBehind d o rest)
+          → enteredBy o (λ x. entered d start partition work cs (x .identifier .icb) (isDirectory (x .identifier)))
+          ≡ enteredBy o (λ x. entered e start partition work cs (x .identifier .icb) (isDirectory (x .identifier)))
+      by ih (answered (some x)) g = ap suc (ih x g)
+      by ih (answered none) g = refl
+      by ih (refused r) g = refl
 
-  pub failed-same : {root : LongAd} {path work w w′ c c′ : List ℕ} {a a′ n n′ : ℕ} → Agree (disc image) (disc image′) (asked (disc image) (lookupOf start partition (length work) root path))
-      → Failed image start partition root path work w c a n → Failed image′ start partition root path work w′ c′ a′ n′ → (c ≡ c′) × (a ≡ a′) × (n ≡ n′) × (w ≡ w′)
-  failed-same {root} {path} {work} h p q =
-      let s = same-ran (lookupOf start partition (length work) root path) (disc image) (disc image′) h in
-      let k : Agree (disc image) (disc image′) (asked (disc image) (seekPath start partition (length work) root path)) = rw (failed-asks (disc image) start partition (length work) root path) at h in
-      failed-one
-      (record {
-        part = rw (same-outcome (seekPath start partition (length work) root path) (disc image) (disc image′) k) at (p .part);
-        number = rw s at (p .number);
-        sectors = rw s at (p .sectors);
-        zero = p .zero;
-      })
-      q
-
-  pub read-path-same : {root : LongAd} {path out work a a′ w w′ : List ℕ} {r r′ : Reply} → Agree (disc image) (disc image′) (asked (disc image) (readPathOf start partition (length work) root path))
-      → ReadByPath image start partition root path out work a w r → ReadByPath image′ start partition root path out work a′ w′ r′ → (r ≡ r′) × (a ≡ a′) × (w ≡ w′)
-  read-path-same {root} {path} {out} {work} h p q =
-      read-path-one (record { replied = same-replied (readPathOf start partition (length work) root path) (disc image) (disc image′) h (p .replied); zero = p .zero }) q
+  pub same-place : (root : LongAd) (path : List ℕ) → Agree d e (asked d (seekPath start partition work root path))
+      → lostAt d start partition work root path ≡ lostAt e start partition work root path
+  unfolding lostAt seekPath
+  same-place root path h =
+      rw (same-entered (components path) root true h, same-outcome (seekPath start partition work root path) d e h)
 
 -- ---- what a path comes to
 

@@ -6,7 +6,7 @@ ghost use Rattle.disc.specs.Ran.{ran};
 ghost use Rattle.disc.specs.Images.{disc};
 ghost use Rattle.disc.specs.Replies.{Replied};
 ghost use Rattle.disc.specs.declared.refusals.Refusal.the-variants.{NoRoom};
-ghost use Rattle.directories.specs.Lookups.{seekPath, lookupOf, lostOf, readPathOf, foundOf};
+ghost use Rattle.directories.specs.Lookups.{seekPath, lookupOf, lostOf, lostAt, lostReply, readPathOf, foundOf};
 use crate::walks::walk;
 use disc::counts::add_counts;
 use disc::moves::clear;
@@ -17,6 +17,7 @@ use files::reads::read_file;
 use records::allocations::LongAd;
 
 // The answer number, the count of sectors, and the ICB that a path names; zeros where the lookup was refused.
+#[repr(C)]
 pub struct Found {
     pub answer: u64,
     pub count: u64,
@@ -45,7 +46,32 @@ pub fn lookup(
     }
 }
 
-// The component at which a lookup is refused by 3, as a part of the path; empty if it isn't. The answer and the count are the lookup's.
+// The length of the component at which a lookup is refused by 3, and in `at` its place in the path; zeros if it isn't. The answer and the
+// count are the lookup's.
+pub fn failed_at(
+    image: &[u8],
+    start: u32,
+    partition: u16,
+    root: LongAd,
+    path: &[u8],
+    work: &mut [u8],
+    at: &mut usize,
+) -> Reply
+    ensures { λ r. ⌜ r ≡ lostReply (ran (disc (now (image .entry))) (lookupOf start partition (length (now (work .entry))) root (now (path .entry)))) (outcome (disc (now (image .entry))) (seekPath start partition (length (now (work .entry))) root (now (path .entry)))) ⌝ }
+    ensures { λ _. ⌜ now (at .exit) ≡ lostAt (disc (now (image .entry))) start partition (length (now (work .entry))) root (now (path .entry)) ⌝ }
+    ensures { λ _. ⌜ now (work .exit) ≡ replicate (length (now (work .entry))) 0 ⌝ }
+{
+    let p = walk(image, start, partition, root, path, work);
+    clear(work);
+    *at = p.from;
+    Reply {
+        answer: p.answer,
+        count: p.count,
+        length: (p.end - p.from) as u64,
+    }
+}
+
+// That component, as a part of the path.
 pub fn failed<'i, 'p>(
     image: &'i [u8],
     start: u32,
@@ -61,13 +87,12 @@ pub fn failed<'i, 'p>(
     ensures { λ _. ⌜ now (count .exit) ≡ foundOf (ran (disc (now (image .entry))) (lookupOf start partition (length (now (work .entry))) root (now (path .entry)))) .count ⌝ }
     ensures { λ _. ⌜ now (work .exit) ≡ replicate (length (now (work .entry))) 0 ⌝ }
 {
-    let p = walk(image, start, partition, root, path, work);
-    clear(work);
-    *answer = p.answer;
-    *count = p.count;
-    let from = p.from;
-    let end = p.end;
-    &path[from..end]
+    let mut at = 0;
+    let reply = failed_at(image, start, partition, root, path, work, &mut at);
+    *answer = reply.answer;
+    *count = reply.count;
+    let end = at + reply.length as usize;
+    &path[at..end]
 }
 
 // The bytes of the file that the path names, over the front of out.

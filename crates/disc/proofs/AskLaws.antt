@@ -38,6 +38,17 @@ same-asked (ask s k) d e h =
     (agree-step d e (d s) (e s) (h .0) (λ b. asked d (k b)) (λ b. asked e (k b)) [] (λ b. asked d (k b)) (h .1)
     (λ b g. same-asked (k b) d e g))
 
+-- discs that agree on two lists joined agree on each
+pub agree-front : (d e : Disc) (a b : List ℕ) → Agree d e (a ++ b) → Agree d e a
+unfolding Agree
+agree-front d e [] b h = tt
+agree-front d e (s ∷ a) b h = (h .0, agree-front d e a b (h .1))
+
+pub agree-back : (d e : Disc) (a b : List ℕ) → Agree d e (a ++ b) → Agree d e b
+unfolding Agree
+agree-back d e [] b h = h
+agree-back d e (s ∷ a) b h = agree-back d e a b (h .1)
+
 -- ---- a disc that has all that another has gives the same outcome, or the other's was refused for a missing sector
 
 grown-step : {A : Type 0} (x y : Held) → ((b : List ℕ) → x ≡ holds b → y ≡ holds b) → (o o′ : List ℕ → Outcome A)

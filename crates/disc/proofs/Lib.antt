@@ -6,4 +6,5 @@ pub mod RanLaws
 pub mod CountLaws
 pub mod ImageLaws
 pub mod MoveLaws
+pub mod PartLaws
 pub mod ReplyLaws

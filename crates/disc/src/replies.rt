@@ -2,6 +2,7 @@
 ghost use mathlib.Core.Path.{_≡_};
 
 // The answer number, the count of sectors, and how many bytes were written: 0 where the call was refused.
+#[repr(C)]
 pub struct Reply {
     pub answer: u64,
     pub count: u64,

@@ -1,3 +1,4 @@
 -- Laws of entries.
 pub mod NumberLaws
+pub mod FieldLaws
 pub mod EntryLaws

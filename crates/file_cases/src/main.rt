@@ -8,7 +8,7 @@ ghost use Prim.Native.Nat.{_≤_, _<_, _^_};
 ghost use lib.ListN.{length};
 use disc::refusals::Refusal;
 use files::reads::read_file;
-use layouts::lists::file_extents;
+use layouts::lists::file_words;
 use layouts::parts::file_part;
 use libc::STDOUT_FILENO;
 use records::allocations::LongAd;
@@ -41,9 +41,10 @@ fn wide(b: u8) -> u64
     b as u64
 }
 
-fn slot(row: &[u32], i: usize) -> u32 {
+// The numbers of a slot, or zeros past the end.
+fn slot(row: &[[u32; 4]], i: usize) -> [u32; 4] {
     if row.len() <= i {
-        return 0;
+        return [0; 4];
     }
     row[i]
 }
@@ -84,11 +85,15 @@ fn fill(out: &mut [u8]) {
     }
 }
 
+fn is_free_slot(w: [u32; 4]) -> bool {
+    (w[0] == FREE) & (w[1] == FREE) & (w[2] == FREE) & (w[3] == FREE)
+}
+
 // Whether the slots from `from` on are as they came.
-fn is_free(row: &[u32], from: usize) -> bool {
+fn is_free(row: &[[u32; 4]], from: usize) -> bool {
     let mut i = from;
     while i < row.len() {
-        if row[i] != FREE {
+        if !is_free_slot(slot(row, i)) {
             return false;
         }
         i += 1;
@@ -115,75 +120,43 @@ fn say_part(image: &[u8], start: u32, partition: u16, icb: LongAd) {
     say(b"\n");
 }
 
-fn say_slot(i: usize, lengths: &[u32], types: &[u32], blocks: &[u32], partitions: &[u32]) {
-    say_number(b" (", slot(lengths, i) as u64);
-    say_number(b" ", slot(types, i) as u64);
-    say_number(b" ", slot(blocks, i) as u64);
-    say_number(b" ", slot(partitions, i) as u64);
+fn say_slot(w: [u32; 4]) {
+    say_number(b" (", w[0] as u64);
+    say_number(b" ", w[1] as u64);
+    say_number(b" ", w[2] as u64);
+    say_number(b" ", w[3] as u64);
     say(b")");
 }
 
 // The first n slots, and whether those behind are free.
-fn say_slots(n: usize, lengths: &[u32], types: &[u32], blocks: &[u32], partitions: &[u32]) {
+fn say_slots(n: usize, row: &[[u32; 4]]) {
     let mut i = 0;
     while i < n {
-        say_slot(i, lengths, types, blocks, partitions);
+        say_slot(slot(row, i));
         i += 1;
     }
-    if is_free(lengths, n) & is_free(types, n) & is_free(blocks, n) & is_free(partitions, n) {
+    if is_free(row, n) {
         say(b" kept\n");
     } else {
         say(b" changed\n");
     }
 }
 
-// The first n slots of each row are lent.
-fn lend_rows(
-    image: &[u8],
-    start: u32,
-    partition: u16,
-    icb: LongAd,
-    n: usize,
-    lengths: &mut [u32],
-    types: &mut [u32],
-    blocks: &mut [u32],
-    partitions: &mut [u32],
-)
-    requires { ⌜ (n ≤ length (now lengths)) × (n ≤ length (now types)) ⌝ }
-    requires { ⌜ (n ≤ length (now blocks)) × (n ≤ length (now partitions)) ⌝ }
+// The first n slots of the row are lent.
+fn lend_row(image: &[u8], start: u32, partition: u16, icb: LongAd, n: usize, row: &mut [[u32; 4]])
+    requires { ⌜ n ≤ length (now row) ⌝ }
 {
-    let r = file_extents(
-        image,
-        start,
-        partition,
-        icb,
-        &mut lengths[..n],
-        &mut types[..n],
-        &mut blocks[..n],
-        &mut partitions[..n],
-    );
+    let r = file_words(image, start, partition, icb, &mut row[..n]);
     say_answer(b"extents ", r.answer, r.count, r.length);
-    say_slots(r.length as usize, lengths, types, blocks, partitions);
+    say_slots(r.length as usize, row);
 }
 
 fn say_extents(image: &[u8], start: u32, partition: u16, icb: LongAd, n: usize)
     requires { ⌜ n ≤ 256 ⌝ }
 {
-    let mut lengths = [FREE; 256];
-    let mut types = [FREE; 256];
-    let mut blocks = [FREE; 256];
-    let mut partitions = [FREE; 256];
-    lend_rows(
-        image,
-        start,
-        partition,
-        icb,
-        n,
-        &mut lengths,
-        &mut types,
-        &mut blocks,
-        &mut partitions,
-    );
+    let free = [FREE; 4];
+    let mut row = [free; 256];
+    lend_row(image, start, partition, icb, n, &mut row);
 }
 
 // ---- the file of images

@@ -2,12 +2,14 @@
 use mathlib.Core.Path.{_≡_, refl, ap, sym, _∙_}
 use mathlib.Core.Bool.{Bool, true, false}
 use mathlib.Core.List.{List, [], _∷_, _++_}
-use Prim.Native.Nat.{ℕ, suc, _+_, _-_, _*_, _/_, _≤_, _<_, min}
+use Prim.Native.Nat.{ℕ, suc, _+_, _-_, _*_, _/_, _≤_, _<_, _^_, min}
 use native.Mathlib.Omega.{arith}
-use lib.ListN.{length, take, drop}
+use lib.ListN.{length, take, drop, length-append, length-take}
 use lib.Seq.{take-all}
 use lib.Dec.{eqb}
+use borrow.Author.Tests.{le-leb}
 use Rattle.disc.specs.Choice.{pick}
+use Rattle.disc.specs.Counts.{reported}
 use Rattle.disc.specs.Ask.{Held, Disc, Ask, Outcome, asked, then, Agree}
 use Rattle.disc.specs.Ask.Held.{holds, lacks}
 use Rattle.disc.specs.Ask.Ask.{done, refuse, ask}
@@ -25,14 +27,18 @@ use Rattle.areas.specs.declared.PartitionRef.the-variants.{Unnamed}
 use Rattle.areas.specs.declared.AllocExtent.{AllocExtent}
 use Rattle.areas.specs.declared.AdEnding.the-variants.{End}
 use Rattle.areas.specs.Areas.{Area, extent, areaAt, descriptors, descriptorAt, says, sizeOf}
+use Rattle.areas.proofs.TotalLaws.{total, area-total}
 use Rattle.entries.specs.FileEntries.{readEntry}
 use Rattle.entries.specs.declared.«file_entries».EntryRead.{EntryRead}
 use Rattle.entries.specs.declared.«file_entries».EntryRead.the-variants.{Read, Refused}
 use Rattle.chains.specs.Chains.{continued, chain}
 use Rattle.chains.proofs.AskedLaws.{AtMost, done-asks, refuse-asks, pick-asks, ask-asks, chain-asks}
+use Rattle.chains.proofs.TotalLaws.{chain-within}
 use Rattle.files.specs.Reads.{extentsBytes, visited, extentsHold}
 use Rattle.files.specs.Files.{Located, located, entryAt, isEmbedded, embeddedBytes, chainOf, bytesAt, fileBytes, extentsAt, fileVisited, visitsIn}
+use Rattle.files.specs.Places.{placeOf}
 use Rattle.files.specs.Pieces.{sectorsRead, restOf, HeldPiece}
+use Rattle.files.proofs.EntryLaws.{locates}
 use Rattle.files.proofs.PieceLaws.{weigh-type, weigh-held}
 use Rattle.files.proofs.BoundLaws.{never, extents-cut, extents-bound}
 
@@ -122,6 +128,17 @@ module _ (d : Disc) (start : ℕ) (icb : LongAd) {x : Located} (h : ran d (entry
   pub embedded-one : (partition : ℕ) → isEmbedded x ≡ true → ran d (fileBytes start partition icb) ≡ record { outcome = answered (embeddedBytes x); count = 1 }
   embedded-one partition e = file-runs partition ∙ rw (e, ran-done)
 
+-- the area of an entry lies in its sector
+area-small : (image : List ℕ) (start : ℕ) (icb : LongAd) {x : Located} → ran (disc image) (entryAt start icb) .outcome ≡ answered x → x .entry .«area_length» ≤ 2048
+unfolding placeOf
+area-small image start icb h = (rw h at (locates image start icb refl)) .small
+
+-- extents hold no more than they say
+held-total : (image : List ℕ) (start : ℕ) (es : List AllocExtent) → length (extentsHold image start es) ≤ total es
+unfolding extentsHold total
+held-total image start [] = omega arith
+held-total image start (e ∷ es) = simp (length-append, length-take) (omega (arith, held-total image start es))
+
 -- cutting where the read stops is cutting the joined bytes at the end: es are the file's extents
 module _ (image : List ℕ) (start partition : ℕ) (icb : LongAd) {x : Located} (h : ran (disc image) (entryAt start icb) .outcome ≡ answered x) (n : isEmbedded x ≡ false)
     {es : List AllocExtent} (k : ran (disc image) (chainOf start partition x) .outcome ≡ answered es) where
@@ -134,9 +151,29 @@ module _ (image : List ℕ) (start partition : ℕ) (icb : LongAd) {x : Located}
   pub read-cut : {b : List ℕ} → ran (disc image) (fileBytes start partition icb) .outcome ≡ answered b → b ≡ take (x .entry .«information_length») (extentsHold image start es)
   read-cut {b} q = extents-cut image start partition es (x .entry .«information_length») b (sym (ap (λ (y : Ran (List ℕ)). y .outcome) chain-runs) ∙ q)
 
-  -- an absurd information length is an ordinary number: the file is answered with what its extents hold
+  -- short totals are accepted
   pub read-short : {b : List ℕ} → ran (disc image) (fileBytes start partition icb) .outcome ≡ answered b → length (extentsHold image start es) ≤ x .entry .«information_length» → b ≡ extentsHold image start es
   read-short q l = read-cut q ∙ take-all _ (extentsHold image start es) l
+
+  -- no chain lists 2^53 bytes: 2,048 bytes of descriptors in the entry, and 32 times 1,048,576 behind it
+  pub chain-small : length (extentsHold image start es) < 2 ^ 53
+  chain-small =
+      let own : Area = areaAt (x .entry .kind) (x .sector) (x .entry .«area_at») (x .entry .«area_length») in
+      let a : total (own .extents) ≤ 2 ^ 38 = omega (arith, area-total (x .entry .kind) (x .sector) (x .entry .«area_at») (x .entry .«area_length»), area-small image start icb h) in
+      let t : total es ≤ 32 * 2 ^ 47 + 2 ^ 38 = rw k at (chain-within start partition (x .entry .kind) 32 (2 ^ 38) own a .most (disc image)) in
+      omega (arith, held-total image start es)
+
+  -- an information length of 2^64 - 1 is an ordinary number: the file is answered with what its extents hold
+  module _ (l : x .entry .«information_length» ≡ 0xffff_ffff_ffff_ffff) {b : List ℕ} (q : ran (disc image) (fileBytes start partition icb) .outcome ≡ answered b) where
+    pub read-endless : b ≡ extentsHold image start es
+    read-endless = read-short q (omega (arith, chain-small))
+
+    pub endless-reply : {full : Refusal} {before after : List ℕ} {reply : Reply} → Replied full (ran (disc image) (fileBytes start partition icb)) before after reply → length (extentsHold image start es) ≤ length before
+        → (reply ≡ record { answer = 0; count = reported (ran (disc image) (fileBytes start partition icb) .count); length = length (extentsHold image start es) })
+        × (after ≡ extentsHold image start es ++ drop (length (extentsHold image start es)) before)
+    endless-reply {full} {before} p r =
+        let g = le-leb (length (extentsHold image start es)) (length before) r in
+        (p .says ∙ rw (q, read-endless, g), p .leaves ∙ rw (q, read-endless, g))
 
 -- ---- document 01's example: short extents 3,000 at block 10, 100 at 20, 5,000 of type 1 at 30
 

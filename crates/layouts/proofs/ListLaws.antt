@@ -2,16 +2,20 @@
 use mathlib.Core.Path.{_≡_, refl, ap, sym, _∙_}
 use mathlib.Core.Bool.{Bool, true, false}
 use mathlib.Core.List.{List, [], _∷_, _++_, map}
-use Prim.Native.Nat.{ℕ, _+_, _-_, _*_, _≤_, _<_, _^_, min}
+use Prim.Native.Nat.{ℕ, zero, suc, _+_, _-_, _*_, _≤_, _<_, _^_, min}
 use native.Mathlib.Omega.{arith}
-use native.Mathlib.Nat.{add-zero}
+use native.Mathlib.Nat.{add-zero, zero-add}
 use native.Mathlib.Numerals.{add-one}
-use lib.ListN.{length, drop, set, length-map, length-set}
-use lib.Seq.{sets}
+use lib.ListN.{length, drop, set, length-map, length-set, drop-of-length-le}
+use lib.Dec.{leb}
+use lib.Seq.{sets, sets-eq}
 use mir.Syntax.{w64}
 use mir.Val.{Fits}
-use borrow.Author.Tests.{eq-eqb, ne-eqb, le-leb, lt-leb}
+use borrow.Author.Tests.{eq-eqb, ne-eqb, le-leb, lt-leb, leb-true}
 use Rattle.disc.specs.Refusals.{number}
+use Rattle.disc.specs.Choice.{pick}
+use Rattle.disc.specs.Counts.{reported}
+use Rattle.disc.specs.Ask.{Outcome}
 use Rattle.disc.specs.Ask.Outcome.{answered, refused}
 use Rattle.disc.specs.Ran.{Ran, ran, after}
 use Rattle.disc.specs.Images.{disc}
@@ -19,10 +23,7 @@ use Rattle.disc.specs.declared.refusals.Refusal.{Refusal}
 use Rattle.disc.specs.declared.refusals.Refusal.the-variants.{NoSlot}
 use Rattle.disc.specs.declared.replies.Reply.{Reply}
 use Rattle.disc.proofs.RanLaws.{ran-then}
-use Rattle.disc.proofs.MoveLaws.{sets-front}
 use Rattle.records.specs.declared.allocations.LongAd.{LongAd}
-use Rattle.areas.specs.declared.PartitionRef.{PartitionRef}
-use Rattle.areas.specs.declared.PartitionRef.the-variants.{Unnamed, Named}
 use Rattle.areas.specs.declared.AllocExtent.{AllocExtent}
 use Rattle.chains.specs.declared.cursors.ChainCursor.{ChainCursor}
 use Rattle.chains.specs.declared.cursors.ChainStep.{ChainStep}
@@ -36,227 +37,265 @@ use Rattle.files.specs.declared.icbs.Place.{Place}
 use Rattle.files.specs.declared.icbs.PlaceRead.{PlaceRead}
 use Rattle.files.specs.declared.icbs.PlaceRead.the-variants.{Found, Refused as NoPlace}
 use Rattle.files.specs.Files.{fileExtents}
-use Rattle.layouts.specs.Calls.{Columns, referenceOf, partitionOf, slotsOf, fronted, filled, Listed}
-use Rattle.layouts.specs.Lists.{Slot, Put, Filled, listedRun}
 use Rattle.files.specs.Places.{placeOf}
 use Rattle.files.specs.Wholes.{frontOf, FoundPlace, Locates}
 use Rattle.files.proofs.EntryLaws.{locates}
+use Rattle.layouts.specs.declared.lists.Extent.{Extent}
+use Rattle.layouts.specs.declared.lists.Listing.{Listing}
+use Rattle.layouts.specs.Calls.{referenceOf, extentOf, fieldsOf, wordsOf, listReply, listLeft, Listed}
+use Rattle.layouts.specs.Lists.{storedOf, Front, Stands, Planned, listedRun}
 
--- ---- the returns of `reference_number` and `put`
+-- ---- the return of `extent_of`
 
-pub reference-none : {r : PartitionRef} → r ≡ Unnamed → 65536 ≡ referenceOf r
-reference-none e = rw e
+pub extent-is : (e : AllocExtent) {m : ℕ} → m ≡ referenceOf (e .«partition_ref»)
+    → record { length = e .length; «extent_type» = e .«extent_type»; block = e .block; partition = m } ≡ extentOf e
+extent-is e f = rw f
 
-pub reference-named : {r : PartitionRef} {p : ℕ} → r ≡ Named p → p ≡ referenceOf r
-reference-named e = rw e
+-- ---- a step of the cursor
 
-pub put-is : (e : AllocExtent) (i : ℕ) (l t b p : List ℕ) {m : ℕ} → m ≡ partitionOf e
-    → Put e i (record { lengths = l; types = t; blocks = b; partitions = p })
-    (record { lengths = set l i (e .length); types = set t i (e .«extent_type»); blocks = set b i (e .block); partitions = set p i m }) (i + 1)
-put-is e i l t b p f = record { behind = refl; lengths = refl; types = refl; blocks = refl; partitions = rw f }
+module _ (image : List ℕ) (start kind : ℕ) (c : ChainCursor) {r : ChainStep} (p : r ≡ stepOf image start kind c) (b : Bytes image) where
+  stepped : {x : ChainStep} → r ≡ x → Stepped image start kind c x
+  stepped e = rw (sym p ∙ e) at (steps image start kind b c)
+
+  ended : r ≡ Ends → left image start kind c ≡ []
+  ended e = stepped e
+
+  module _ {c′ : ChainCursor} where
+    hopped : r ≡ Hops c′ → Hopped image start kind c c′
+    hopped e = stepped e
+
+    pub hop-less : r ≡ Hops c′ → weight c′ < weight c
+    hop-less e = hopped e .less
+
+    module _ {x : AllocExtent} where
+      taken : r ≡ Takes x c′ → Taken image start kind c x c′
+      taken e = stepped e
+
+      pub take-less : r ≡ Takes x c′ → weight c′ < weight c
+      take-less e = taken e .less
 
 -- ---- the loop that counts
 
-module _ (image : List ℕ) (start kind : ℕ) where
-  -- what a step leaves
-  steps-to : Bytes image → (c : ChainCursor) {r x : ChainStep} → r ≡ stepOf image start kind c → r ≡ x → Stepped image start kind c x
-  steps-to b c p e = rw (sym p ∙ e) at (steps image start kind b c)
+module _ (image : List ℕ) (start kind : ℕ) (c₀ : ChainCursor) where
+  pub record Counting (c : ChainCursor) (n : ℕ) : Type 0 where
+    pub total : n + length (left image start kind c) ≡ length (left image start kind c₀)
+    pub room : n + weight c ≤ weight c₀
+    pub deep : weight c₀ < 2 ^ 63
 
-  module _ (c₀ : ChainCursor) where
-    pub record Counting (c : ChainCursor) (n : ℕ) : Type 0 where
-      pub total : n + length (left image start kind c) ≡ length (left image start kind c₀)
-      pub room : n + weight c ≤ weight c₀
-      pub deep : weight c₀ < 2 ^ 63
+  pub count-starts : c₀ .left ≤ 2048 → c₀ .hops < 2 ^ 8 → Counting c₀ 0
+  count-starts h k = record { total = omega arith; room = omega arith; deep = omega arith }
 
-    pub count-starts : c₀ .left ≤ 2048 → c₀ .hops < 2 ^ 8 → Counting c₀ 0
-    count-starts h k = record { total = omega arith; room = omega arith; deep = omega arith }
+  module _ (c : ChainCursor) (n : ℕ) (i : Counting c n) {r : ChainStep} (p : r ≡ stepOf image start kind c) (b : Bytes image) where
+    pub count-ends : r ≡ Ends → n ≡ length (left image start kind c₀)
+    count-ends e = sym (add-zero n) ∙ (rw (ended image start kind c p b e) at (i .total))
 
-    module _ (c : ChainCursor) (n : ℕ) (i : Counting c n) {r : ChainStep} (p : r ≡ stepOf image start kind c) (b : Bytes image) where
-      pub count-ends : r ≡ Ends → n ≡ length (left image start kind c₀)
-      count-ends e =
-          let q : Stepped image start kind c Ends = steps-to b c p e in
-          sym (add-zero n) ∙ (rw q at (i .total))
-
-      pub count-hop : {c′ : ChainCursor} → r ≡ Hops c′ → Counting c′ n
-      count-hop {c′} e =
-          let q : Stepped image start kind c (Hops c′) = steps-to b c p e in
-          record { total = (rw (q .list) at (i .total)); room = omega (arith, i .room, q .less); deep = i .deep }
-
-      pub count-hop-less : {c′ : ChainCursor} → r ≡ Hops c′ → weight c′ < weight c
-      count-hop-less {c′} e = let q : Stepped image start kind c (Hops c′) = steps-to b c p e in q .less
-
-      module _ {x : AllocExtent} {c′ : ChainCursor} (e : r ≡ Takes x c′) where
-        taken : Taken image start kind c x c′
-        taken = steps-to b c p e
-
-        pub count-less : weight c′ < weight c
-        count-less = taken .less
-
-        pub count-adds : Fits w64 (n + 1)
-        count-adds = omega (arith, i .room, i .deep, taken .less)
-
-        pub count-next : Counting c′ (n + 1)
-        count-next =
-            let t : n + length (x ∷ left image start kind c′) ≡ length (left image start kind c₀) = (rw (taken .list) at (i .total)) in
-            record { total = omega (arith, t); room = omega (arith, i .room, taken .less); deep = i .deep }
-
--- ---- one column of the loop that stores
-
-pub record Column (f : AllocExtent → ℕ) (vs₀ vs : List AllocExtent) (d₀ d : List ℕ) (i : ℕ) : Type 0 where
-  pub rest : sets d i (map f vs) ≡ sets d₀ 0 (map f vs₀)
-  pub room : i + length vs ≤ length d
-  pub fits : length vs₀ ≤ length d₀
-  pub long : length d ≡ length d₀
-
-module _ (f : AllocExtent → ℕ) where
-  column-starts : (vs : List AllocExtent) (d : List ℕ) → length vs ≤ length d → Column f vs vs d d 0
-  column-starts vs d h = record { rest = refl; room = omega arith; fits = h; long = refl }
-
-  module _ {vs₀ vs : List AllocExtent} {d₀ d : List ℕ} {i : ℕ} (c : Column f vs₀ vs d₀ d i) where
-    column-same : {vs′ : List AllocExtent} → vs ≡ vs′ → Column f vs₀ vs′ d₀ d i
-    column-same e = rw e at c
-
-    column-ends : vs ≡ [] → d ≡ fronted f vs₀ d₀
-    column-ends e = (rw e at (c .rest)) ∙ sets-front (map f vs₀) d₀ (rw length-map (c .fits)) ∙ rw length-map
-
-    module _ {x : AllocExtent} {vs′ : List AllocExtent} (e : vs ≡ x ∷ vs′) where
-      column-room : i < length d
-      column-room = let r : i + length (x ∷ vs′) ≤ length d = (rw e at (c .room)) in omega (arith, r)
-
-      column-next : {d′ : List ℕ} → d′ ≡ set d i (f x) → Column f vs₀ vs′ d₀ d′ (i + 1)
-      column-next h =
-          let r : i + length (x ∷ vs′) ≤ length d = (rw e at (c .room)) in
-          rw (h, add-one) (record { rest = (rw e at (c .rest)); room = rw length-set (omega (arith, r)); fits = c .fits; long = rw length-set (c .long) })
-
--- ---- the loop that stores
-
-module _ (image : List ℕ) (start kind : ℕ) (c₀ : ChainCursor) (d₀ : Columns) where
-  abbrev vs₀ : List AllocExtent
-  vs₀ = left image start kind c₀
-
-  pub record Filling (c : ChainCursor) (d : Columns) (i : ℕ) : Type 0 where
-    pub lengths : Column (λ e. e .length) vs₀ (left image start kind c) (d₀ .lengths) (d .lengths) i
-    pub types : Column (λ e. e .«extent_type») vs₀ (left image start kind c) (d₀ .types) (d .types) i
-    pub blocks : Column (λ e. e .block) vs₀ (left image start kind c) (d₀ .blocks) (d .blocks) i
-    pub partitions : Column partitionOf vs₀ (left image start kind c) (d₀ .partitions) (d .partitions) i
-
-  pub fill-starts : length vs₀ ≤ slotsOf d₀ → Filling c₀ d₀ 0
-  fill-starts h = record {
-    lengths = column-starts _ vs₀ (d₀ .lengths) (omega arith);
-    types = column-starts _ vs₀ (d₀ .types) (omega arith);
-    blocks = column-starts _ vs₀ (d₀ .blocks) (omega arith);
-    partitions = column-starts partitionOf vs₀ (d₀ .partitions) (omega arith);
-  }
-
-  module _ (c : ChainCursor) (d : Columns) (i : ℕ) (g : Filling c d i) {r : ChainStep} (p : r ≡ stepOf image start kind c) (b : Bytes image) where
-    pub fill-ends : r ≡ Ends → Filled vs₀ d₀ d
-    fill-ends e =
-        let q : left image start kind c ≡ [] = steps-to image start kind b c p e in
-        record {
-          columns = λ j. record {
-            lengths = column-ends (λ e. e .length) (g .lengths) q j;
-            types = column-ends (λ e. e .«extent_type») (g .types) q j;
-            blocks = column-ends (λ e. e .block) (g .blocks) q j;
-            partitions = column-ends partitionOf (g .partitions) q j;
-          };
-        }
-
-    pub fill-hop : {c′ : ChainCursor} → r ≡ Hops c′ → Filling c′ d i
-    fill-hop {c′} e =
-        let q : Stepped image start kind c (Hops c′) = steps-to image start kind b c p e in
-        record {
-          lengths = column-same _ (g .lengths) (q .list);
-          types = column-same _ (g .types) (q .list);
-          blocks = column-same _ (g .blocks) (q .list);
-          partitions = column-same _ (g .partitions) (q .list);
-        }
-
-    pub fill-hop-less : {c′ : ChainCursor} → r ≡ Hops c′ → weight c′ < weight c
-    fill-hop-less {c′} e = let q : Stepped image start kind c (Hops c′) = steps-to image start kind b c p e in q .less
+    pub count-hop : {c′ : ChainCursor} → r ≡ Hops c′ → Counting c′ n
+    count-hop {c′} e =
+        let q : Hopped image start kind c c′ = hopped image start kind c p b e in
+        record { total = (rw (q .list) at (i .total)); room = omega (arith, i .room, q .less); deep = i .deep }
 
     module _ {x : AllocExtent} {c′ : ChainCursor} (e : r ≡ Takes x c′) where
-      takes : Taken image start kind c x c′
-      takes = steps-to image start kind b c p e
+      pub count-adds : Fits w64 (n + 1)
+      count-adds = omega (arith, i .room, i .deep, take-less image start kind c p b e)
 
-      pub fill-less : weight c′ < weight c
-      fill-less = takes .less
+      pub count-next : Counting c′ (n + 1)
+      count-next =
+          let q : Taken image start kind c x c′ = taken image start kind c p b e in
+          let t : n + length (x ∷ left image start kind c′) ≡ length (left image start kind c₀) = (rw (q .list) at (i .total)) in
+          record { total = omega (arith, t); room = omega (arith, i .room, q .less); deep = i .deep }
 
-      pub fill-next : {d′ : Columns} {i′ : ℕ} → Put x i d d′ i′ → Filling c′ d′ i′
-      fill-next h = rw (h .behind) (record {
-        lengths = column-next _ (g .lengths) (takes .list) (h .lengths);
-        types = column-next _ (g .types) (takes .list) (h .types);
-        blocks = column-next _ (g .blocks) (takes .list) (h .blocks);
-        partitions = column-next _ (g .partitions) (takes .list) (h .partitions);
-      })
+-- ---- the loop that makes a listing
 
-      pub fill-slot : Slot i d
-      fill-slot = record {
-        lengths = column-room _ (g .lengths) (takes .list);
-        types = column-room _ (g .types) (takes .list);
-        blocks = column-room _ (g .blocks) (takes .list);
-        partitions = column-room _ (g .partitions) (takes .list);
-      }
+-- any listing stands for no extents
+stands-empty : (image : List ℕ) {es : List AllocExtent} → es ≡ [] → {reply : Reply} {l : Listing} → l .reply ≡ reply → Stands image es reply l
+stands-empty image h e = record { same = e; next = λ x rest k. absurd (let z : _≡_ {A = ℕ} 0 1 = cc in omega arith) }
+
+module _ (image : List ℕ) (start kind : ℕ) (c₀ : ChainCursor) where
+  pub record Walking (c : ChainCursor) : Type 0 where
+    pub list : left image start kind c ≡ left image start kind c₀
+
+  pub walk-starts : Walking c₀
+  walk-starts = record { list = refl }
+
+  module _ (c : ChainCursor) (w : Walking c) {r : ChainStep} (p : r ≡ stepOf image start kind c) (b : Bytes image) where
+    pub walk-hop : {c′ : ChainCursor} → r ≡ Hops c′ → Walking c′
+    walk-hop e = record { list = sym (hopped image start kind c p b e .list) ∙ w .list }
+
+    pub walk-ends : r ≡ Ends → {reply : Reply} {l : Listing} → l .reply ≡ reply → Stands image (left image start kind c₀) reply l
+    walk-ends e f = stands-empty image (sym (w .list) ∙ ended image start kind c p b e) f
+
+    pub walk-takes : {x : AllocExtent} {c′ : ChainCursor} → r ≡ Takes x c′ → (reply : Reply) {e : Extent} → e ≡ extentOf x
+        → Stands image (left image start kind c₀) reply (record { reply = reply; start = start; kind = kind; front = e; behind = c′ })
+    walk-takes {x} {c′} e reply f = record {
+      same = refl;
+      next = λ y rest k.
+          let h : x ∷ left image start kind c′ ≡ y ∷ rest = sym (taken image start kind c p b e .list) ∙ w .list ∙ k in
+          record { front = cc; behind = cc };
+    }
 
 -- ---- the returns of `list_whole`
 
-module _ (image : List ℕ) (start kind : ℕ) (c : ChainCursor) (n : ℕ) (small : n < 2 ^ 64) {m : ℕ} (e : m ≡ length (left image start kind c)) (l t b p : List ℕ)
-    {room : ℕ} (f : room ≡ min (min (length l) (length t)) (min (length b) (length p))) where
-  abbrev cols : Columns
-  cols = record { lengths = l; types = t; blocks = b; partitions = p }
-
-  pub list-full : room < m → {a : ℕ} → a ≡ number NoSlot → {x : Reply} → x ≡ record { answer = a; count = n; length = 0 } → Listed (listedRun image start kind c n) cols cols x
-  list-full h g k =
-      let s : slotsOf cols < length (left image start kind c) = omega arith in
+module _ (image : List ℕ) (start kind : ℕ) (c : ChainCursor) (n : ℕ) (small : n < 2 ^ 64) {m : ℕ} (e : m ≡ length (left image start kind c)) (room : ℕ) where
+  pub list-full : room < m → {a : ℕ} → a ≡ number NoSlot → {x : Reply} → x ≡ record { answer = a; count = n; length = 0 } → {l : Listing} → l .reply ≡ x
+      → Planned image (listedRun image start kind c n) room l
+  list-full h g k j =
+      let s : room < length (left image start kind c) = omega arith in
       let z : min n 0xffff_ffff_ffff_ffff ≡ n = omega arith in
-      record { says = rw (lt-leb _ _ s, z, k, g); leaves = rw (lt-leb _ _ s) }
+      rw (lt-leb _ _ s, z) (stands-empty image refl (j ∙ k ∙ rw g))
 
-  module _ (h : m ≤ room) where
-    pub list-fits : length (left image start kind c) ≤ min (min (length l) (length t)) (min (length b) (length p))
-    list-fits = omega arith
-
-    pub list-done : {d : Columns} → Filled (left image start kind c) cols d → Listed (listedRun image start kind c n) cols d (record { answer = 0; count = n; length = m })
-    list-done g =
-        let s : length (left image start kind c) ≤ slotsOf cols = omega arith in
-        let z : min n 0xffff_ffff_ffff_ffff ≡ n = omega arith in
-        record { says = rw (le-leb _ _ s, z, e); leaves = rw (le-leb _ _ s) (g .columns) }
+  pub list-done : m ≤ room → {l : Listing} → Stands image (left image start kind c) (record { answer = 0; count = n; length = m }) l
+      → Planned image (listedRun image start kind c n) room l
+  list-done h g =
+      let s : length (left image start kind c) ≤ room = omega arith in
+      let z : min n 0xffff_ffff_ffff_ffff ≡ n = omega arith in
+      rw (le-leb _ _ s, z, ← e) g
 
 -- ---- the returns of `list_chain`
 
-module _ (image : List ℕ) (start partition : ℕ) (p : Place) (r : Chain) (y : Followed image start partition (p .kind) (frontOf p) r) (cols : Columns) where
+module _ (image : List ℕ) (start partition : ℕ) (p : Place) (r : Chain) (y : Followed image start partition (p .kind) (frontOf p) r) (room : ℕ) where
   pub list-cut : {why : Refusal} {n : ℕ} → r ≡ BrokenOff why n → {a : ℕ} → a ≡ number why → {x : Reply} → x ≡ record { answer = a; count = n + 1; length = 0 }
-      → Listed (after 1 (chainAt image start partition (p .kind) (frontOf p))) cols cols x
-  list-cut {why} {n} e f g =
+      → {l : Listing} → l .reply ≡ x → Planned image (after 1 (chainAt image start partition (p .kind) (frontOf p))) room l
+  list-cut {why} {n} e f g j =
       let b : BrokenChain image start partition (p .kind) (frontOf p) why n = rw e at y in
       let z : min (1 + n) 0xffff_ffff_ffff_ffff ≡ n + 1 = omega (arith, b .few) in
-      rw (b .runs) (record { says = rw (z, g, f); leaves = refl })
+      rw (b .runs) (stands-empty image refl (rw z (j ∙ g ∙ rw f)))
 
-  pub list-whole : {n : ℕ} → r ≡ Whole n → {d : Columns} {x : Reply} → Listed (listedRun image start (p .kind) (frontOf p) (n + 1)) cols d x
-      → Listed (after 1 (chainAt image start partition (p .kind) (frontOf p))) cols d x
+  pub list-whole : {n : ℕ} → r ≡ Whole n → {l : Listing} → Planned image (listedRun image start (p .kind) (frontOf p) (n + 1)) room l
+      → Planned image (after 1 (chainAt image start partition (p .kind) (frontOf p))) room l
   list-whole {n} e g =
       let w : WholeChain image start partition (p .kind) (frontOf p) n = rw e at y in
       let z : 1 + n ≡ n + 1 = omega arith in
       rw (w .runs, z) g
 
--- ---- the returns of `file_extents`
+-- ---- the returns of `plan`
 
-module _ (image : List ℕ) (start partition : ℕ) (icb : LongAd) {r : PlaceRead} (y : r ≡ placeOf image start icb) (cols : Columns) where
+module _ (image : List ℕ) (start partition : ℕ) (icb : LongAd) {r : PlaceRead} (y : r ≡ placeOf image start icb) (room : ℕ) where
   abbrev file : Ran (List AllocExtent)
   file = ran (disc image) (fileExtents start partition icb)
 
   pub list-refused : {why : Refusal} {n : ℕ} → r ≡ NoPlace why n → n < 2 ^ 64 → {a : ℕ} → a ≡ number why → {x : Reply} → x ≡ record { answer = a; count = n; length = 0 }
-      → Listed file cols cols x
+      → {l : Listing} → l .reply ≡ x → Planned image file room l
   unfolding fileExtents
-  list-refused {why} {n} e k g f =
+  list-refused {why} {n} e k g f j =
       let q : Locates image start icb (NoPlace why n) = locates image start icb (sym e ∙ y) in
       let z : min n 0xffff_ffff_ffff_ffff ≡ n = omega arith in
-      rw (ran-then, q) (record { says = rw (z, f, g); leaves = refl })
+      rw (ran-then, q) (stands-empty image refl (rw z (j ∙ f ∙ rw g)))
 
   module _ {p : Place} (e : r ≡ Found p) where
     found : FoundPlace image start icb p
     found = locates image start icb (sym e ∙ y)
 
-    pub list-in : p .kind ≡ 3 → Listed file cols cols (record { answer = 0; count = 1; length = 0 })
-    list-in k = rw (found .extents partition, eq-eqb (p .kind) 3 k) (record { says = rw (le-leb 0 (slotsOf cols) (omega arith)); leaves = rw (le-leb 0 (slotsOf cols) (omega arith)) })
+    pub list-in : p .kind ≡ 3 → {l : Listing} → l .reply ≡ record { answer = 0; count = 1; length = 0 } → Planned image file room l
+    list-in k j = rw (found .extents partition, eq-eqb (p .kind) 3 k) (stands-empty image (rw (le-leb 0 room (omega arith))) (rw (le-leb 0 room (omega arith)) j))
 
-    pub list-out : (p .kind ≡ 3 → ⊥) → {d : Columns} {x : Reply} → Listed (after 1 (chainAt image start partition (p .kind) (frontOf p))) cols d x → Listed file cols d x
+    pub list-out : (p .kind ≡ 3 → ⊥) → {l : Listing} → Planned image (after 1 (chainAt image start partition (p .kind) (frontOf p))) room l → Planned image file room l
     list-out k g = rw (found .extents partition, ne-eqb (p .kind) 3 k) g
+
+-- ---- the loop that stores: what is stored and what is left to store are all there is
+
+-- the extent at i
+record At (es : List AllocExtent) (i : ℕ) : Type 0 where
+  e : AllocExtent
+  is : drop i es ≡ e ∷ drop (suc i) es
+
+at : (es : List AllocExtent) (i : ℕ) → i < length es → At es i
+at [] i h = absurd (omega arith)
+at (x ∷ es) zero h = record { e = x; is = refl }
+at (x ∷ es) (suc i) h = let k = at es i (omega arith) in record { e = k .e; is = k .is }
+
+-- what is stored fits the row, is counted by the reply, and stands over the row's front
+record Fit {A : Type 0} (f : AllocExtent → A) (row : List A) (stored : List AllocExtent) (left : List A) (reply : Reply) : Type 0 where
+  fits : length stored ≤ length row
+  counts : reply .length ≡ length stored
+  leaves : left ≡ map f stored ++ drop (length stored) row
+
+fit-by : {A : Type 0} (f : AllocExtent → A) (row : List A) (n : ℕ) (es : List AllocExtent) (b : Bool) → (b ≡ true → length es ≤ length row)
+    → Fit f row (pick b es []) (pick b (map f es ++ drop (length es) row) row)
+    (pick b (record { answer = 0; count = n; length = length es }) (record { answer = number NoSlot; count = n; length = 0 }))
+fit-by f row n es true h = record { fits = h refl; counts = refl; leaves = refl }
+fit-by f row n es false h = record { fits = omega arith; counts = refl; leaves = refl }
+
+fit : {A : Type 0} (f : AllocExtent → A) (row : List A) (n : ℕ) (o : Outcome (List AllocExtent)) → Fit f row (storedOf (length row) o) (listLeft f row o) (listReply (length row) n o)
+fit f row n (refused r) = record { fits = omega arith; counts = refl; leaves = refl }
+fit f row n (answered es) = fit-by f row n es (leb (length es) (length row)) (leb-true (length es) (length row))
+
+-- the extents of a run that a row has slots for
+abbrev stored : {A : Type 0} → Ran (List AllocExtent) → List A → List AllocExtent
+stored r row = storedOf (length row) (r .outcome)
+
+-- f is what a slot holds of an extent, by its record
+pub record Storing {A : Type 0} (f : Extent → A) (image : List ℕ) (r : Ran (List AllocExtent)) (d₀ d : List A) (l : Listing) (n i : ℕ) : Type 0 where
+  pub stands : Stands image (drop i (stored r d₀)) (listReply (length d₀) (reported (r .count)) (r .outcome)) l
+  pub rest : sets d i (map (λ e. f (extentOf e)) (drop i (stored r d₀))) ≡ sets d₀ 0 (map (λ e. f (extentOf e)) (stored r d₀))
+  pub long : length d ≡ length d₀
+  pub many : n ≡ length (stored r d₀)
+
+module _ {A : Type 0} (f : Extent → A) (image : List ℕ) (r : Ran (List AllocExtent)) (d₀ : List A) where
+  abbrev fitted : Fit (λ e. f (extentOf e)) d₀ (stored r d₀) (listLeft (λ e. f (extentOf e)) d₀ (r .outcome)) (listReply (length d₀) (reported (r .count)) (r .outcome))
+  fitted = fit (λ e. f (extentOf e)) d₀ (reported (r .count)) (r .outcome)
+
+  pub store-starts : {l : Listing} → Planned image r (length d₀) l → Storing f image r d₀ d₀ l (l .reply .length) 0
+  store-starts p = record { stands = p; rest = refl; long = refl; many = ap (λ (x : Reply). x .length) (p .same) ∙ fitted .counts }
+
+  pub store-few : {l : Listing} → Planned image r (length d₀) l → l .reply .length ≤ length d₀
+  store-few p = omega (arith, store-starts p .many, fitted .fits)
+
+  module _ {d : List A} {l : Listing} {n i : ℕ} (s : Storing f image r d₀ d l n i) where
+    pub store-ends : n ≤ i → Listed (λ e. f (extentOf e)) r d₀ d (l .reply)
+    store-ends h =
+        let past : drop i (stored r d₀) ≡ [] = drop-of-length-le (stored r d₀) {i = i} (omega (arith, s .many)) in
+        let all : d ≡ sets d₀ 0 (map (λ e. f (extentOf e)) (stored r d₀)) = rw past at (s .rest) in
+        let room : 0 + length (map (λ e. f (extentOf e)) (stored r d₀)) ≤ length d₀ = rw (zero-add, length-map) (fitted .fits) in
+        record {
+          says = s .stands .same;
+          leaves = all ∙ sets-eq (map (λ e. f (extentOf e)) (stored r d₀)) d₀ 0 room ∙ rw (zero-add, length-map) (sym (fitted .leaves));
+        }
+
+    module _ (h : i < n) where
+      abbrev here : At (stored r d₀) i
+      here = at (stored r d₀) i (omega (arith, s .many))
+
+      abbrev front : Front image (here .e) (drop (suc i) (stored r d₀)) l
+      front = s .stands .next (here .e) (drop (suc i) (stored r d₀)) (here .is)
+
+      pub store-slot : i < length d
+      store-slot = omega (arith, s .many, s .long, fitted .fits)
+
+      pub store-next : {v : A} → v ≡ f (l .front) → {l′ : Listing} → Stands image (left image (l .start) (l .kind) (l .behind)) (l .reply) l′
+          → Storing f image r d₀ (set d i v) l′ n (i + 1)
+      store-next e t = rw (add-one, e, front .front) (record {
+        stands = rw (s .stands .same, front .behind) at t;
+        rest = rw (here .is) at (s .rest);
+        long = rw length-set (s .long);
+        many = s .many;
+      })
+
+-- the same where the run is known only from the listing that the loop began with
+pub record Stores {A : Type 0} (f : Extent → A) (image : List ℕ) (l₀ : Listing) (d₀ d : List A) (l : Listing) (n i : ℕ) : Type 0 where
+  pub whole : (r : Ran (List AllocExtent)) → Planned image r (length d₀) l₀ → Storing f image r d₀ d l n i
+
+pub stores-start : {A : Type 0} (f : Extent → A) (image : List ℕ) (l : Listing) (d : List A) → Stores f image l d d l (l .reply .length) 0
+stores-start f image l d = record { whole = λ r p. store-starts f image r d p }
+
+module _ {A : Type 0} (f : Extent → A) (image : List ℕ) (r : Ran (List AllocExtent)) (l₀ : Listing) (d₀ : List A) (p : Planned image r (length d₀) l₀)
+    {d : List A} {l : Listing} {n i : ℕ} (s : Stores f image l₀ d₀ d l n i) where
+  pub stores-slot : i < n → i < length d
+  stores-slot h = store-slot f image r d₀ (s .whole r p) h
+
+  pub stores-long : length d ≡ length d₀
+  stores-long = s .whole r p .long
+
+  -- that a slot's number and its place in bytes fit is known of the row as it was lent
+  pub stores-below : i < n → i < length d₀
+  stores-below h = omega (arith, stores-slot h, stores-long)
+
+  pub stores-adds : i < n → length d₀ < 2 ^ 64 → Fits w64 (i + 1)
+  stores-adds h k = omega (arith, stores-below h)
+
+pub stores-next : {A : Type 0} (f : Extent → A) (image : List ℕ) (l₀ : Listing) (d₀ : List A) {d : List A} {l : Listing} {n i : ℕ} → Stores f image l₀ d₀ d l n i → i < n
+    → {v : A} → v ≡ f (l .front) → {l′ : Listing} → Stands image (left image (l .start) (l .kind) (l .behind)) (l .reply) l′ → Stores f image l₀ d₀ (set d i v) l′ n (i + 1)
+stores-next f image l₀ d₀ s h e t = record { whole = λ r p. store-next f image r d₀ (s .whole r p) h e t }
+
+pub words-end : (image : List ℕ) (r : Ran (List AllocExtent)) (l₀ : Listing) (d₀ : List (List ℕ)) → Planned image r (length d₀) l₀
+    → {d : List (List ℕ)} {l : Listing} {n i : ℕ} → Stores fieldsOf image l₀ d₀ d l n i → n ≤ i → Listed wordsOf r d₀ d (l .reply)
+words-end image r l₀ d₀ p s h = store-ends fieldsOf image r d₀ (s .whole r p) h

@@ -1,9 +1,9 @@
 -- What the calls on a file say beside its bytes: the answer with a part of the image, and the answer with a list of extents. Assumes nothing: these are
 -- definitions.
-use Prim.Native.Nat.{ℕ, min}
+use Prim.Native.Nat.{ℕ}
 use mathlib.Core.Path.{_≡_}
 use mathlib.Core.Bool.{Bool, true, false}
-use mathlib.Core.List.{List, _++_, map}
+use mathlib.Core.List.{List, [], _∷_, _++_, map}
 use lib.ListN.{length, drop}
 use lib.Dec.{leb}
 use Rattle.disc.specs.Choice.{pick}
@@ -19,6 +19,7 @@ use Rattle.disc.specs.declared.replies.Reply.{Reply}
 use Rattle.areas.specs.declared.PartitionRef.{PartitionRef}
 use Rattle.areas.specs.declared.PartitionRef.the-variants.{Unnamed, Named}
 use Rattle.areas.specs.declared.AllocExtent.{AllocExtent}
+use Rattle.layouts.specs.declared.lists.Extent.{Extent}
 
 -- ---- a part of the image, with two lent numbers
 
@@ -36,37 +37,22 @@ pub record Gave (bytes : List ℕ) (a n : ℕ) (part : List ℕ) (answer count :
 abbrev pub PartReplied : Ran (List ℕ) → List ℕ → ℕ → ℕ → Type 0
 PartReplied r part answer count = Gave (bytesOf (r .outcome)) (answerOf (r .outcome)) (reported (r .count)) part answer count
 
--- ---- a list of extents in four lent slices of numbers
-
-pub record Columns : Type 0 where
-  pub lengths : List ℕ
-  pub types : List ℕ
-  pub blocks : List ℕ
-  pub partitions : List ℕ
+-- ---- a list of extents in a lent row, a slot for each
 
 -- the partition that an extent names, 65,536 where it names none
 abbrev pub referenceOf : PartitionRef → ℕ
 referenceOf Unnamed = 65536
 referenceOf (Named p) = p
 
-abbrev pub partitionOf : AllocExtent → ℕ
-partitionOf e = referenceOf (e .«partition_ref»)
+-- effective length, type, block and partition reference of an extent: as a record, and as four numbers
+abbrev pub extentOf : AllocExtent → Extent
+extentOf e = record { length = e .length; «extent_type» = e .«extent_type»; block = e .block; partition = referenceOf (e .«partition_ref») }
 
--- a slot is a number in each slice
-abbrev pub slotsOf : Columns → ℕ
-slotsOf c = min (min (length (c .lengths)) (length (c .types))) (min (length (c .blocks)) (length (c .partitions)))
+abbrev pub fieldsOf : Extent → List ℕ
+fieldsOf e = e .length ∷ e .«extent_type» ∷ e .block ∷ e .partition ∷ []
 
--- numbers over the front of a slice
-abbrev pub fronted : (AllocExtent → ℕ) → List AllocExtent → List ℕ → List ℕ
-fronted f es lent = map f es ++ drop (length es) lent
-
-abbrev pub filled : List AllocExtent → Columns → Columns
-filled es c = record {
-  lengths = fronted (λ e. e .length) es (c .lengths);
-  types = fronted (λ e. e .«extent_type») es (c .types);
-  blocks = fronted (λ e. e .block) es (c .blocks);
-  partitions = fronted partitionOf es (c .partitions);
-}
+abbrev pub wordsOf : AllocExtent → List ℕ
+wordsOf e = fieldsOf (extentOf e)
 
 -- more extents than slots are refused after every other refusal
 abbrev pub listReply : ℕ → ℕ → Outcome (List AllocExtent) → Reply
@@ -76,11 +62,12 @@ listReply room count (answered es) =
     (record { answer = 0; count = count; length = length es })
     (record { answer = number NoSlot; count = count; length = 0 })
 
--- a refusal changes no slot
-abbrev pub listLeft : Columns → Outcome (List AllocExtent) → Columns
-listLeft c (refused r) = c
-listLeft c (answered es) = pick (leb (length es) (slotsOf c)) (filled es c) c
+-- what slots hold, over the front of a row; a refusal changes no slot
+abbrev pub listLeft : {A : Type 0} → (AllocExtent → A) → List A → Outcome (List AllocExtent) → List A
+listLeft f row (refused r) = row
+listLeft f row (answered es) = pick (leb (length es) (length row)) (map f es ++ drop (length es) row) row
 
-pub record Listed (r : Ran (List AllocExtent)) (before after : Columns) (reply : Reply) : Type 0 where
-  pub says : reply ≡ listReply (slotsOf before) (reported (r .count)) (r .outcome)
-  pub leaves : after ≡ listLeft before (r .outcome)
+-- the reply, and the row as the call leaves it, for whatever f a slot holds of an extent
+pub record Listed {A : Type 0} (f : AllocExtent → A) (r : Ran (List AllocExtent)) (before after : List A) (reply : Reply) : Type 0 where
+  pub says : reply ≡ listReply (length before) (reported (r .count)) (r .outcome)
+  pub leaves : after ≡ listLeft f before (r .outcome)

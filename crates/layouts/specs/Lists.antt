@@ -1,34 +1,40 @@
 -- What the passes over a list of extents say: for the contracts of private functions. There is nothing to believe here.
 -- Assumes nothing: these are definitions.
-use Prim.Native.Nat.{ℕ, _+_, _<_}
+use Prim.Native.Nat.{ℕ}
 use mathlib.Core.Path.{_≡_}
-use mathlib.Core.List.{List}
-use lib.ListN.{length, set}
-use Rattle.areas.specs.declared.AllocExtent.{AllocExtent}
-use Rattle.disc.specs.Ask.Outcome.{answered}
+use mathlib.Core.List.{List, [], _∷_}
+use lib.ListN.{length}
+use lib.Dec.{leb}
+use Rattle.disc.specs.Choice.{pick}
+use Rattle.disc.specs.Counts.{reported}
+use Rattle.disc.specs.Ask.{Outcome}
+use Rattle.disc.specs.Ask.Outcome.{answered, refused}
 use Rattle.disc.specs.Ran.{Ran}
+use Rattle.disc.specs.declared.replies.Reply.{Reply}
+use Rattle.areas.specs.declared.AllocExtent.{AllocExtent}
 use Rattle.chains.specs.Walks.{left}
 use Rattle.chains.specs.declared.cursors.ChainCursor.{ChainCursor}
-use Rattle.layouts.specs.Calls.{Columns, partitionOf, filled}
+use Rattle.layouts.specs.Calls.{extentOf, listReply}
+use Rattle.layouts.specs.declared.lists.Listing.{Listing}
 
--- slot i is in each slice
-pub record Slot (i : ℕ) (c : Columns) : Type 0 where
-  pub lengths : i < length (c .lengths)
-  pub types : i < length (c .types)
-  pub blocks : i < length (c .blocks)
-  pub partitions : i < length (c .partitions)
+-- the extents that are stored: none where the call is refused
+abbrev pub storedOf : ℕ → Outcome (List AllocExtent) → List AllocExtent
+storedOf room (refused r) = []
+storedOf room (answered es) = pick (leb (length es) room) es []
 
--- an extent stored into slot i, and the slot behind it
-pub record Put (e : AllocExtent) (i : ℕ) (before after : Columns) (next : ℕ) : Type 0 where
-  pub behind : next ≡ i + 1
-  pub lengths : after .lengths ≡ set (before .lengths) i (e .length)
-  pub types : after .types ≡ set (before .types) i (e .«extent_type»)
-  pub blocks : after .blocks ≡ set (before .blocks) i (e .block)
-  pub partitions : after .partitions ≡ set (before .partitions) i (partitionOf e)
+-- a listing has the front of the extents that are left at hand, and a cursor at those behind it
+pub record Front (image : List ℕ) (e : AllocExtent) (es : List AllocExtent) (l : Listing) : Type 0 where
+  pub front : l .front ≡ extentOf e
+  pub behind : left image (l .start) (l .kind) (l .behind) ≡ es
 
--- extents stored from the first slot on
-pub record Filled (es : List AllocExtent) (before after : Columns) : Type 0 where
-  pub columns : after ≡ filled es before
+-- a listing where es are left, if any
+pub record Stands (image : List ℕ) (es : List AllocExtent) (reply : Reply) (l : Listing) : Type 0 where
+  pub same : l .reply ≡ reply
+  pub next : (e : AllocExtent) (rest : List AllocExtent) → es ≡ e ∷ rest → Front image e rest l
+
+-- the listing of a call whose run is r, before any extent is stored
+abbrev pub Planned : List ℕ → Ran (List AllocExtent) → ℕ → Listing → Type 0
+Planned image r room l = Stands image (storedOf room (r .outcome)) (listReply room (reported (r .count)) (r .outcome)) l
 
 -- what a chain that is whole comes to, after n sectors
 abbrev pub listedRun : List ℕ → ℕ → ℕ → ChainCursor → ℕ → Ran (List AllocExtent)

@@ -1,15 +1,16 @@
-// A file's extents as a list, in four lent slices of numbers: a slot is a number in each.
+// A file's extents as a list in a lent row, a slot for each. The chain is followed and its extents are counted before a slot is written;
+// then they are stored one at a time from a listing, which is passed by value.
 ghost use mathlib.Core.Path.{_≡_};
-ghost use Prim.Native.Nat.{_+_, _≤_, _<_, min};
-ghost use lib.ListN.{length, set};
+ghost use Prim.Native.Nat.{_≤_};
+ghost use lib.ListN.{length};
 ghost use Rattle.disc.specs.Ran.{ran, after};
 ghost use Rattle.disc.specs.Images.{disc};
 ghost use Rattle.chains.specs.Follows.{chainAt};
 ghost use Rattle.chains.specs.Walks.{left};
 ghost use Rattle.files.specs.Files.{fileExtents};
-ghost use Rattle.layouts.specs.Calls.{referenceOf, slotsOf, Listed};
-ghost use Rattle.layouts.specs.Lists.{Slot, Put, Filled, listedRun};
 ghost use Rattle.files.specs.Wholes.{frontOf};
+ghost use Rattle.layouts.specs.Calls.{referenceOf, extentOf, fieldsOf, wordsOf, Listed};
+ghost use Rattle.layouts.specs.Lists.{Stands, Planned, listedRun};
 use areas::AllocExtent;
 use areas::PartitionRef;
 use chains::cursors::ChainCursor;
@@ -23,8 +24,25 @@ use disc::replies::refusal;
 use files::icbs::Place;
 use files::icbs::PlaceRead;
 use files::icbs::locate;
-use files::pieces::lesser;
 use records::allocations::LongAd;
+
+// What a slot says of an extent: its effective length, type, block and partition reference, 65,536 where it names none.
+#[repr(C)]
+pub struct Extent {
+    pub length: u32,
+    pub extent_type: u32,
+    pub block: u32,
+    pub partition: u32,
+}
+
+// A list under way: the reply of the whole call, the next extent to store, and the cursor at those behind it.
+struct Listing {
+    reply: Reply,
+    start: u32,
+    kind: u8,
+    front: Extent,
+    behind: ChainCursor,
+}
 
 // The partition that a descriptor names, 65,536 where it names none.
 pub fn reference_number(r: PartitionRef) -> u32
@@ -34,6 +52,81 @@ pub fn reference_number(r: PartitionRef) -> u32
         PartitionRef::Unnamed => 65536,
         PartitionRef::Named(p) => p as u32,
     }
+}
+
+// The record of an extent.
+fn extent_of(e: AllocExtent) -> Extent
+    ensures { λ r. ⌜ r ≡ extentOf e ⌝ }
+{
+    let reference = e.partition_ref;
+    Extent {
+        length: e.length,
+        extent_type: e.extent_type as u32,
+        block: e.block,
+        partition: reference_number(reference),
+    }
+}
+
+// The record as four numbers.
+fn words(e: Extent) -> [u32; 4]
+    ensures { λ r. ⌜ r ≡ fieldsOf e ⌝ }
+{
+    [e.length, e.extent_type, e.block, e.partition]
+}
+
+// ---- the listing
+
+// A listing with nothing to store.
+fn empty(reply: Reply) -> Listing
+    ensures { λ r. ⌜ r .reply ≡ reply ⌝ }
+{
+    Listing {
+        reply,
+        start: 0,
+        kind: 0,
+        front: Extent {
+            length: 0,
+            extent_type: 0,
+            block: 0,
+            partition: 0,
+        },
+        behind: ChainCursor {
+            at: 0,
+            left: 0,
+            hops: 0,
+        },
+    }
+}
+
+// The listing of the extents that are left at a cursor.
+fn listing_at(image: &[u8], start: u32, kind: u8, first: ChainCursor, reply: Reply) -> Listing
+    ensures { λ r. ⌜ Stands (now (image .entry)) (left (now (image .entry)) start kind first) reply r ⌝ }
+{
+    let mut c = first;
+    loop {
+        match advance(image, start, kind, c) {
+            ChainStep::Ends => return empty(reply),
+            ChainStep::Hops(next) => c = next,
+            ChainStep::Takes(e, next) => {
+                return Listing {
+                    reply,
+                    start,
+                    kind,
+                    front: extent_of(e),
+                    behind: next,
+                }
+            }
+        }
+    }
+}
+
+// The listing without its front.
+fn further(image: &[u8], l: Listing) -> Listing
+    ensures { λ r. ⌜ Stands (now (image .entry)) (left (now (image .entry)) (l .start) (l .kind) (l .behind)) (l .reply) r ⌝ }
+{
+    let behind = l.behind;
+    let reply = l.reply;
+    listing_at(image, l.start, l.kind, behind, reply)
 }
 
 // How many extents are left at a cursor.
@@ -55,63 +148,6 @@ fn count_extents(image: &[u8], start: u32, kind: u8, first: ChainCursor) -> u64
     }
 }
 
-// Stores an extent into slot i, and gives the slot behind it.
-fn put(
-    e: AllocExtent,
-    i: usize,
-    lengths: &mut [u32],
-    types: &mut [u32],
-    blocks: &mut [u32],
-    partitions: &mut [u32],
-) -> usize
-    requires { ⌜ Slot i (record { lengths = now lengths; types = now types; blocks = now blocks; partitions = now partitions }) ⌝ }
-    ensures { λ r. ⌜ Put e i (record { lengths = now (lengths .entry); types = now (types .entry); blocks = now (blocks .entry); partitions = now (partitions .entry) }) (record { lengths = now (lengths .exit); types = now (types .exit); blocks = now (blocks .exit); partitions = now (partitions .exit) }) r ⌝ }
-{
-    let reference = e.partition_ref;
-    lengths[i] = e.length;
-    types[i] = e.extent_type as u32;
-    blocks[i] = e.block;
-    partitions[i] = reference_number(reference);
-    i + 1
-}
-
-// How many slots there are, from the lengths of the four slices.
-fn slots(lengths: usize, types: usize, blocks: usize, partitions: usize) -> u64
-    ensures { λ r. ⌜ r ≡ min (min lengths types) (min blocks partitions) ⌝ }
-{
-    let a = lesser(lengths as u64, types as u64);
-    let b = lesser(blocks as u64, partitions as u64);
-    lesser(a, b)
-}
-
-// Stores the extents that are left at a cursor from the first slot on. They were counted: they fit.
-fn fill(
-    image: &[u8],
-    start: u32,
-    kind: u8,
-    first: ChainCursor,
-    lengths: &mut [u32],
-    types: &mut [u32],
-    blocks: &mut [u32],
-    partitions: &mut [u32],
-)
-    requires { ⌜ length (left (now image) start kind first) ≤ slotsOf (record { lengths = now lengths; types = now types; blocks = now blocks; partitions = now partitions }) ⌝ }
-    ensures { λ _. ⌜ Filled (left (now (image .entry)) start kind first) (record { lengths = now (lengths .entry); types = now (types .entry); blocks = now (blocks .entry); partitions = now (partitions .entry) }) (record { lengths = now (lengths .exit); types = now (types .exit); blocks = now (blocks .exit); partitions = now (partitions .exit) }) ⌝ }
-{
-    let mut c = first;
-    let mut i: usize = 0;
-    loop {
-        match advance(image, start, kind, c) {
-            ChainStep::Ends => return,
-            ChainStep::Hops(next) => c = next,
-            ChainStep::Takes(e, next) => {
-                i = put(e, i, lengths, types, blocks, partitions);
-                c = next;
-            }
-        }
-    }
-}
-
 // The extents of a chain that is whole, after n sectors.
 fn list_whole(
     image: &[u8],
@@ -119,49 +155,32 @@ fn list_whole(
     kind: u8,
     first: ChainCursor,
     n: u64,
-    lengths: &mut [u32],
-    types: &mut [u32],
-    blocks: &mut [u32],
-    partitions: &mut [u32],
-) -> Reply
+    room: usize,
+) -> Listing
     requires { ⌜ first .left ≤ 2048 ⌝ }
-    ensures { λ r. ⌜ Listed (listedRun (now (image .entry)) start kind first n) (record { lengths = now (lengths .entry); types = now (types .entry); blocks = now (blocks .entry); partitions = now (partitions .entry) }) (record { lengths = now (lengths .exit); types = now (types .exit); blocks = now (blocks .exit); partitions = now (partitions .exit) }) r ⌝ }
+    ensures { λ r. ⌜ Planned (now (image .entry)) (listedRun (now (image .entry)) start kind first n) room r ⌝ }
 {
     let m = count_extents(image, start, kind, first);
-    let room = slots(lengths.len(), types.len(), blocks.len(), partitions.len());
-    if room < m {
-        return refusal(Refusal::NoSlot.number(), n);
+    if (room as u64) < m {
+        return empty(refusal(Refusal::NoSlot.number(), n));
     }
-    fill(
+    listing_at(
         image,
         start,
         kind,
         first,
-        lengths,
-        types,
-        blocks,
-        partitions,
-    );
-    Reply {
-        answer: 0,
-        count: n,
-        length: m,
-    }
+        Reply {
+            answer: 0,
+            count: n,
+            length: m,
+        },
+    )
 }
 
 // The extents of a chain, behind the sector of the entry.
-fn list_chain(
-    image: &[u8],
-    start: u32,
-    partition: u16,
-    p: Place,
-    lengths: &mut [u32],
-    types: &mut [u32],
-    blocks: &mut [u32],
-    partitions: &mut [u32],
-) -> Reply
+fn list_chain(image: &[u8], start: u32, partition: u16, p: Place, room: usize) -> Listing
     requires { ⌜ p .size ≤ 2048 ⌝ }
-    ensures { λ r. ⌜ Listed (after 1 (chainAt (now (image .entry)) start partition (p .kind) (frontOf p))) (record { lengths = now (lengths .entry); types = now (types .entry); blocks = now (blocks .entry); partitions = now (partitions .entry) }) (record { lengths = now (lengths .exit); types = now (types .exit); blocks = now (blocks .exit); partitions = now (partitions .exit) }) r ⌝ }
+    ensures { λ r. ⌜ Planned (now (image .entry)) (after 1 (chainAt (now (image .entry)) start partition (p .kind) (frontOf p))) room r ⌝ }
 {
     let first = ChainCursor {
         at: p.at,
@@ -169,54 +188,65 @@ fn list_chain(
         hops: 32,
     };
     match follow(image, start, partition, p.kind, first) {
-        Chain::Refused(why, n) => refusal(why.number(), n + 1),
-        Chain::Whole(n) => list_whole(
-            image,
-            start,
-            p.kind,
-            first,
-            n + 1,
-            lengths,
-            types,
-            blocks,
-            partitions,
-        ),
+        Chain::Refused(why, n) => empty(refusal(why.number(), n + 1)),
+        Chain::Whole(n) => list_whole(image, start, p.kind, first, n + 1, room),
     }
 }
 
-// Effective length, type, block and partition of every extent of the file's chain, a slot for each; an embedded file has none.
-pub fn file_extents(
+// The listing of a file for so many slots: every refusal is known, and the extents that are left fit.
+fn plan(image: &[u8], start: u32, partition: u16, icb: LongAd, room: usize) -> Listing
+    ensures { λ r. ⌜ Planned (now (image .entry)) (ran (disc (now (image .entry))) (fileExtents start partition icb)) room r ⌝ }
+{
+    match locate(image, start, icb) {
+        PlaceRead::Refused(why, n) => empty(refusal(why.number(), n)),
+        PlaceRead::Found(p) => {
+            if p.kind == 3 {
+                return empty(Reply {
+                    answer: 0,
+                    count: 1,
+                    length: 0,
+                });
+            }
+            list_chain(image, start, partition, p, room)
+        }
+    }
+}
+
+// ---- the two forms of a row
+
+// Effective length, type, block and partition of every extent of the file's chain, four numbers in a slot; an embedded file has none.
+pub fn file_words(
     image: &[u8],
     start: u32,
     partition: u16,
     icb: LongAd,
-    lengths: &mut [u32],
-    types: &mut [u32],
-    blocks: &mut [u32],
-    partitions: &mut [u32],
+    row: &mut [[u32; 4]],
 ) -> Reply
-    ensures { λ r. ⌜ Listed (ran (disc (now (image .entry))) (fileExtents start partition icb)) (record { lengths = now (lengths .entry); types = now (types .entry); blocks = now (blocks .entry); partitions = now (partitions .entry) }) (record { lengths = now (lengths .exit); types = now (types .exit); blocks = now (blocks .exit); partitions = now (partitions .exit) }) r ⌝ }
+    ensures { λ r. ⌜ Listed wordsOf (ran (disc (now (image .entry))) (fileExtents start partition icb)) (now (row .entry)) (now (row .exit)) r ⌝ }
 {
-    match locate(image, start, icb) {
-        PlaceRead::Refused(why, n) => refusal(why.number(), n),
-        PlaceRead::Found(p) => {
-            if p.kind == 3 {
-                return Reply {
-                    answer: 0,
-                    count: 1,
-                    length: 0,
-                };
-            }
-            list_chain(
-                image,
-                start,
-                partition,
-                p,
-                lengths,
-                types,
-                blocks,
-                partitions,
-            )
-        }
+    let mut l = plan(image, start, partition, icb, row.len());
+    let n = l.reply.length as usize;
+    let mut i = 0;
+    while i < n {
+        let front = l.front;
+        row[i] = words(front);
+        l = further(image, l);
+        i += 1;
     }
+    l.reply
+}
+
+// The same in a row of records. The borrow checker doesn't cover a lent slice of structs: this one function is proved by a walk of its MIR.
+pub fn file_rows(image: &[u8], start: u32, partition: u16, icb: LongAd, row: &mut [Extent]) -> Reply
+    ensures { λ r. ⌜ Listed extentOf (ran (disc (now (image .entry))) (fileExtents start partition icb)) (now (row .entry)) (now (row .exit)) r ⌝ }
+{
+    let mut l = plan(image, start, partition, icb, row.len());
+    let n = l.reply.length as usize;
+    let mut i: usize = 0;
+    while i < n {
+        row[i] = l.front;
+        l = further(image, l);
+        i += 1;
+    }
+    l.reply
 }

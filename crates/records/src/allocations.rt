@@ -121,6 +121,7 @@ impl ShortAd {
     }
 }
 
+#[repr(C)]
 pub struct LbAddr {
     pub block: u32,
     pub partition_ref: u16,
@@ -159,6 +160,7 @@ impl LbAddr {
     }
 }
 
+#[repr(C)]
 pub struct LongAd {
     pub length: u32,
     pub extent_type: u8,

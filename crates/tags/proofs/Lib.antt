@@ -1,3 +1,4 @@
--- What is promised of tags.
+-- Laws of tags, and what is promised of them.
+pub mod FieldLaws
 pub mod RoundTrips
 pub mod Table

@@ -18,6 +18,10 @@ use Rattle.volumes.specs.declared.probes.Seen.{Seen}
 
 -- ---- one sector
 
+-- the returns of `step`: what a case of `stepOf` says
+pub step-told : {s t : Structure} (b n : Bool) {r : Seen} → s ≡ t → r ≡ stepOf t b n → r ≡ stepOf s b n
+step-told b n e q = rw e q
+
 step-on : (s : Structure) (b n : Bool) (rest : Bool → Bool → Ask Bool) → stepOf s b n .going ≡ true
     → probedBy s b n rest ≡ rest (stepOf s b n .began) (stepOf s b n .named)
 step-on Beginning b n rest e = refl

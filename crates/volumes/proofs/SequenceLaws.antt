@@ -5,17 +5,24 @@ use mathlib.Core.List.{List}
 use Prim.Native.Nat.{ℕ, suc, _+_, _-_, _*_, _/_, _<_, _≤_, _^_}
 use native.Mathlib.Nat.{add-zero, sub-zero}
 use native.Mathlib.Omega.{arith}
-use lib.ListN.{length, take, drop}
+use lib.ListN.{length, take, drop, replicate}
 use Rattle.disc.specs.Ask.{Disc, Ask, bytesIn}
 use Rattle.disc.specs.Ran.{ran, after}
 use Rattle.disc.specs.Images.{disc, heldFrom}
 use Rattle.disc.proofs.RanLaws.{ran-done, ran-refuse, ran-there, ran-missing, after-none, after-twice}
 use Rattle.disc.proofs.ImageLaws.{held, missing}
+use Rattle.records.specs.Allocations.{noLong}
+use Rattle.records.specs.declared.allocations.LongAd.{LongAd}
 use Rattle.volumes.specs.Sequences.{nothing, Says, saysIn, goOn, scan, turnOf, scannedOf}
 use Rattle.volumes.specs.Sequences.Says.{on, over, fails}
 use Rattle.volumes.specs.declared.sequences.Kept.{Kept}
 use Rattle.volumes.specs.declared.sequences.Turn.{Turn}
 use Rattle.volumes.specs.declared.sequences.Scanned.{Scanned}
+
+-- the return of `nothing_kept`
+pub kept-none : {root : LongAd} → root ≡ noLong
+    → record { «has_primary» = false; label = replicate 32 0; «has_partition» = false; «partition_number» = 0; «partition_start» = 0; «has_logical» = false; «block_size» = 0; «file_set» = root } ≡ nothing
+kept-none e = rw e
 
 -- ---- one sector
 

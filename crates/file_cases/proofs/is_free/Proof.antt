@@ -15,8 +15,8 @@ pub is-free-spec : {M : Type 1} → statement M
 is-free-spec =
     tie.close (tie.spec Inv-loop μ-loop
     (λ c. search needs)
-    (λ c. search needs)
-    (λ c. search needs)
+    (λ c κs. search needs)
+    (λ c κs. search needs)
     (λ c. search needs)
     (λ c. search needs)
     (λ c. search needs)

@@ -1,7 +1,8 @@
 -- `tags::aed_after` meets its contract: each arm and each test says which case of `aedAfter` holds.
 -- Assumes nothing.
 use borrow.Author.Needs.{needs}
-use borrow.Author.Tests.{eq-eqb, ne-eqb}
+use borrow.Author.Tests.{ne-eqb}
+use Rattle.tags.proofs.FieldLaws.{header-fields}
 use Rattle.tags.proofs.aed_after.Statement.{statement}
 use Rattle.tags.proofs.aed_after.Tie as tie
 
@@ -9,9 +10,7 @@ returns : tie.Need-returns
 returns c = simp (c .before .r .given .1)
 
 returns-2 : tie.Need-returns-2
-returns-2 c =
-    let b = c .before .before in
-    simp (b .before .before .before .r2 .given .1, eq-eqb _ _ (b .if1 .taken)) cc
+returns-2 c = search (header-fields, needs)
 
 returns-3 : tie.Need-returns-3
 returns-3 c = simp (c .before .before .before .r2 .given .1, ne-eqb _ _ (c .if1 .left))

@@ -1,5 +1,6 @@
 -- `descriptors::file_sets::no_file_set` meets its contract: from what its callees ensure. Assumes nothing.
 use borrow.Author.Needs.{needs}
+use Rattle.descriptors.proofs.FileSetLaws.{file-set-none}
 use Rattle.descriptors.proofs.file_sets.no_file_set.Statement.{statement}
 use Rattle.descriptors.proofs.file_sets.no_file_set.Tie as tie
 
@@ -9,4 +10,4 @@ no-file-set-spec =
     (λ c κs. search needs)
     (λ c κs. search needs)
     (λ c κs. search needs)
-    (λ c. cc))
+    (λ c. search (file-set-none, needs)))

@@ -1,5 +1,6 @@
 -- `descriptors::logicals::no_logical` meets its contract: from what its callees ensure. Assumes nothing.
 use borrow.Author.Needs.{needs}
+use Rattle.descriptors.proofs.VolumeLaws.{logical-none}
 use Rattle.descriptors.proofs.logicals.no_logical.Statement.{statement}
 use Rattle.descriptors.proofs.logicals.no_logical.Tie as tie
 
@@ -9,4 +10,4 @@ no-logical-spec =
     (λ c κs. search needs)
     (λ c κs. search needs)
     (λ c κs. search needs)
-    (λ c. cc))
+    (λ c. search (logical-none, needs)))

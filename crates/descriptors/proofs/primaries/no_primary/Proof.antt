@@ -1,5 +1,6 @@
 -- `descriptors::primaries::no_primary` meets its contract: from what its callees ensure. Assumes nothing.
 use borrow.Author.Needs.{needs}
+use Rattle.descriptors.proofs.VolumeLaws.{primary-none}
 use Rattle.descriptors.proofs.primaries.no_primary.Statement.{statement}
 use Rattle.descriptors.proofs.primaries.no_primary.Tie as tie
 
@@ -8,4 +9,4 @@ no-primary-spec =
     tie.close (tie.spec
     (λ c κs. search needs)
     (λ c κs. search needs)
-    (λ c. cc))
+    (λ c. search (primary-none, needs)))

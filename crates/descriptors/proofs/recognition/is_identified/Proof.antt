@@ -1,11 +1,10 @@
 -- `descriptors::recognition::is_identified` meets its contract: each byte is what the call that read it ensures. Assumes nothing.
 use borrow.Author.Needs.{needs}
-use Rattle.descriptors.specs.Recognition.{identified}
+use Rattle.descriptors.proofs.RecognitionLaws.{identified-bytes}
 use Rattle.descriptors.proofs.recognition.is_identified.Statement.{statement}
 use Rattle.descriptors.proofs.recognition.is_identified.Tie as tie
 
 pub is-identified-spec : {M : Type 1} → statement M
-unfolding identified
 is-identified-spec =
     tie.close (tie.spec
     (λ c κs. search needs)
@@ -13,4 +12,4 @@ is-identified-spec =
     (λ c κs. search needs)
     (λ c κs. search needs)
     (λ c κs. search needs)
-    (λ c. cc))
+    (λ c. search (identified-bytes, needs)))

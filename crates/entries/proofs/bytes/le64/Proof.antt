@@ -1,6 +1,7 @@
 -- `entries::bytes::le64` meets its contract: past the end every number is 0. Assumes nothing.
 use borrow.Author.Needs.{needs}
 use Rattle.entries.proofs.NumberLaws.{u64-past}
+use Rattle.entries.proofs.FieldLaws.{u64-parts}
 use Rattle.entries.proofs.bytes.le64.Statement.{statement}
 use Rattle.entries.proofs.bytes.le64.Tie as tie
 
@@ -14,4 +15,4 @@ le64-spec =
     (λ c. search needs)
     (λ c κs. search needs)
     (λ c κs. search needs)
-    (λ c. cc))
+    (λ c. search (u64-parts, needs)))

@@ -1,11 +1,11 @@
 -- `layouts::lists::count_extents` meets its contract: what is counted and what is left are all there is. Assumes nothing.
 use borrow.Author.Needs.{needs}
 use Rattle.chains.specs.Walks.{weight}
-use Rattle.layouts.proofs.ListLaws.{Counting, count-starts, count-ends, count-hop, count-hop-less, count-less, count-adds, count-next}
+use Rattle.layouts.proofs.ListLaws.{Counting, count-starts, count-ends, count-hop, hop-less, take-less, count-adds, count-next}
 use Rattle.layouts.proofs.lists.count_extents.Statement.{statement}
 use Rattle.layouts.proofs.lists.count_extents.Tie as tie
 
-ruleset counts = (count-starts, count-ends, count-hop, count-hop-less, count-less, count-adds, count-next, needs)
+ruleset counts = (count-starts, count-ends, count-hop, hop-less, take-less, count-adds, count-next, needs)
 
 abbrev Inv-loop : tie.InvT-loop
 Inv-loop image start kind c₀ n₀ c n = Counting image start kind c₀ c n

@@ -1,10 +1,10 @@
--- `layouts::lists::list_whole` meets its contract: more extents than slots, or all stored. Assumes nothing.
+-- `layouts::lists::list_whole` meets its contract: more extents than slots, or a listing of them all. Assumes nothing.
 use borrow.Author.Needs.{needs}
-use Rattle.layouts.proofs.ListLaws.{list-full, list-fits, list-done}
+use Rattle.layouts.proofs.ListLaws.{list-full, list-done}
 use Rattle.layouts.proofs.lists.list_whole.Statement.{statement}
 use Rattle.layouts.proofs.lists.list_whole.Tie as tie
 
-ruleset lists = (list-full, list-fits, list-done, needs)
+ruleset lists = (list-full, list-done, needs)
 
 pub list-whole-spec : {M : Type 1} → statement M
 list-whole-spec =
@@ -15,8 +15,4 @@ list-whole-spec =
     (λ c κs. search lists)
     (λ c. search lists)
     (λ c κs. search lists)
-    (λ c. search lists)
-    (λ c. search lists)
-    (λ c. search lists)
-    (λ c. search lists)
     (λ c. search lists))

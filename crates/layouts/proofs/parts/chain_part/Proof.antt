@@ -17,6 +17,5 @@ chain-part-spec =
     (λ c κs. search parts)
     (λ c. search parts)
     (λ c. search parts)
-    (λ c κs. search parts)
     (λ c. search parts)
     (λ c. search parts))

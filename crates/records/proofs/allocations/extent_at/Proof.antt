@@ -1,6 +1,7 @@
 -- `records::allocations::extent_at` meets its contract: past the end it is zeros, and else each field is what the call that read it ensures.
 -- Assumes nothing.
 use borrow.Author.Needs.{needs}
+use Rattle.records.proofs.FieldLaws.{extent-fields}
 use Rattle.records.proofs.PastLaws.{extent-past}
 use Rattle.records.proofs.allocations.extent_at.Statement.{statement}
 use Rattle.records.proofs.allocations.extent_at.Tie as tie
@@ -14,4 +15,4 @@ extent-at-spec =
     (λ c κs. search needs)
     (λ c. search needs)
     (λ c κs. search needs)
-    (λ c. cc))
+    (λ c. search (extent-fields, needs)))

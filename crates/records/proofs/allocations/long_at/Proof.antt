@@ -1,6 +1,7 @@
 -- `records::allocations::long_at` meets its contract: past the end it is zeros, and else each field is what the call that read it ensures.
 -- Assumes nothing.
 use borrow.Author.Needs.{needs}
+use Rattle.records.proofs.FieldLaws.{long-fields}
 use Rattle.records.proofs.PastLaws.{long-past}
 use Rattle.records.proofs.allocations.long_at.Statement.{statement}
 use Rattle.records.proofs.allocations.long_at.Tie as tie
@@ -20,4 +21,4 @@ long-at-spec =
     (λ c κs. search needs)
     (λ c. search needs)
     (λ c κs. search needs)
-    (λ c. cc))
+    (λ c. search (long-fields, needs)))

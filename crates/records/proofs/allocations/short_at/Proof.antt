@@ -1,6 +1,7 @@
 -- `records::allocations::short_at` meets its contract: past the end it is zeros, and else each field is what the call that read it ensures.
 -- Assumes nothing.
 use borrow.Author.Needs.{needs}
+use Rattle.records.proofs.FieldLaws.{short-fields}
 use Rattle.records.proofs.PastLaws.{short-past}
 use Rattle.records.proofs.allocations.short_at.Statement.{statement}
 use Rattle.records.proofs.allocations.short_at.Tie as tie
@@ -15,4 +16,4 @@ short-at-spec =
     (λ c. search needs)
     (λ c. search needs)
     (λ c κs. search needs)
-    (λ c. cc))
+    (λ c. search (short-fields, needs)))

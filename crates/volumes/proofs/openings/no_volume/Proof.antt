@@ -1,5 +1,6 @@
 -- `volumes::openings::no_volume` meets its contract: from what its callee ensures. Assumes nothing.
 use borrow.Author.Needs.{needs}
+use Rattle.volumes.proofs.OpeningLaws.{volume-none}
 use Rattle.volumes.proofs.openings.no_volume.Statement.{statement}
 use Rattle.volumes.proofs.openings.no_volume.Tie as tie
 
@@ -7,4 +8,4 @@ pub no-volume-spec : {M : Type 1} → statement M
 no-volume-spec =
     tie.close (tie.spec
     (λ c κs. search needs)
-    (λ c. cc))
+    (λ c. search (volume-none, needs)))

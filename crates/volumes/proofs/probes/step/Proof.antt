@@ -1,5 +1,6 @@
 -- `volumes::probes::step` meets its contract: each arm is a case of `stepOf`. Assumes nothing.
 use borrow.Author.Needs.{needs}
+use Rattle.volumes.proofs.ProbeLaws.{step-told}
 use Rattle.volumes.proofs.probes.step.Statement.{statement}
 use Rattle.volumes.proofs.probes.step.Tie as tie
 
@@ -16,8 +17,8 @@ step-spec =
     (λ c κs. search needs)
     (λ c. search needs)
     (λ c κs. search needs)
-    (λ c. cc)
-    (λ c. cc)
-    (λ c. cc)
-    (λ c. cc)
-    (λ c. cc))
+    (λ c. search (step-told, needs))
+    (λ c. search (step-told, needs))
+    (λ c. search (step-told, needs))
+    (λ c. search (step-told, needs))
+    (λ c. search (step-told, needs)))

@@ -1,0 +1,6 @@
+-- What the calls leave, from the contracts of the crates below, and the promises.
+pub mod CallLaws
+pub mod Soundness
+pub mod Sectors
+pub mod Orders
+pub mod Matching

@@ -1,0 +1,138 @@
+-- The order of refusals 5, 6, 7 and 8 against the original's: the answer number of each call that can give one, by what it comes to without them.
+-- Assumes nothing.
+use mathlib.Core.Path.{_≡_, refl, ap, _∙_}
+use mathlib.Core.Bool.{Bool, true, false}
+use mathlib.Core.List.{List}
+use Prim.Native.Nat.{ℕ}
+use lib.ListN.{length}
+use lib.Dec.{leb}
+use Rattle.disc.specs.Choice.{pick}
+use Rattle.disc.specs.Refusals.{number}
+use Rattle.disc.specs.Counts.{reported}
+use Rattle.disc.specs.Ask.{Disc, Outcome}
+use Rattle.disc.specs.Ask.Outcome.{answered, refused}
+use Rattle.disc.specs.Images.{disc}
+use Rattle.disc.specs.Ran.{Ran, ran, onward}
+use Rattle.disc.specs.Replies.{replyBy}
+use Rattle.disc.specs.declared.refusals.Refusal.the-variants.{Malformed, NoRoom, NoWork, NoSlot, LongName}
+use Rattle.disc.specs.declared.replies.Reply.{Reply}
+use Rattle.disc.proofs.RanLaws.{ran-then}
+use Rattle.records.specs.declared.allocations.LongAd.{LongAd}
+use Rattle.volumes.specs.Labels.{labelling}
+use Rattle.areas.specs.declared.AllocExtent.{AllocExtent}
+use Rattle.layouts.specs.Calls.{listReply}
+use Rattle.files.specs.Files.{fileBytes}
+use Rattle.listings.specs.Entries.{entries, sound}
+use Rattle.listings.specs.Listings.{records, anyLong, listing as listingOf}
+use Rattle.directories.specs.Directories.{within, directoryBytes, listingAt}
+use Rattle.directories.specs.Lookups.{readPathOf}
+use Rattle.directories.specs.Places.{andThen}
+use Rattle.directories.proofs.SpaceLaws.{ran-known}
+use Rattle.vault.specs.Calls.{reading, extentListing, listing, finding, pathReading, labels, reads, lists, readsPath, extents}
+use Rattle.vault.specs.declared.volume.Volume.{Volume}
+
+-- ---- 5 comes after every other refusal
+
+-- the answer number of bytes, where there is room for so many
+abbrev pub roomed : ℕ → Outcome (List ℕ) → ℕ
+roomed room (refused why) = number why
+roomed room (answered b) = pick (leb (length b) room) 0 5
+
+room-last : (room n : ℕ) (o : Outcome (List ℕ)) → replyBy NoRoom room n o .answer ≡ roomed room o
+room-last room n (refused why) = refl
+room-last room n (answered b) = by (leb (length b) room)
+  where
+    by : (t : Bool) → pick {A = Reply} t (record { answer = 0; count = n; length = length b }) (record { answer = number NoRoom; count = n; length = 0 }) .answer ≡ pick t 0 5
+    by true = refl
+    by false = refl
+
+pub label-order : (image out : List ℕ) → labels image out .reply .answer ≡ roomed (length out) (ran (disc image) labelling .outcome)
+label-order image out = room-last (length out) _ (ran (disc image) labelling .outcome)
+
+pub read-order : (image : List ℕ) (v : Volume) (icb : LongAd) (out : List ℕ) → reads image v icb out .reply .answer ≡ roomed (length out) (ran (disc image) (reading v icb) .outcome)
+read-order image v icb out = room-last (length out) _ (ran (disc image) (reading v icb) .outcome)
+
+-- ---- 7 comes after every other refusal
+
+-- the answer number of extents, where there are so many slots
+abbrev pub slotted : ℕ → Outcome (List AllocExtent) → ℕ
+slotted slots (refused why) = number why
+slotted slots (answered es) = pick (leb (length es) slots) 0 7
+
+pub extents-order : {A : Type 0} (f : AllocExtent → A) (image : List ℕ) (v : Volume) (icb : LongAd) (row : List A)
+    → extents f image v icb row .reply .answer ≡ slotted (length row) (ran (disc image) (extentListing v icb) .outcome)
+extents-order f image v icb row = by (ran (disc image) (extentListing v icb) .outcome) (reported (ran (disc image) (extentListing v icb) .count))
+  where
+    fits : (es : List AllocExtent) (n : ℕ) (t : Bool)
+        → pick {A = Reply} t (record { answer = 0; count = n; length = length es }) (record { answer = number NoSlot; count = n; length = 0 }) .answer ≡ pick t 0 7
+    fits es n true = refl
+    fits es n false = refl
+
+    by : (o : Outcome (List AllocExtent)) (n : ℕ) → listReply (length row) n o .answer ≡ slotted (length row) o
+    by (refused why) n = refl
+    by (answered es) n = fits es n (leb (length es) (length row))
+
+-- ---- a listing: the refusals of reading the directory, 6, a bad entry, 8, and then 5
+
+abbrev pub listingAnswer : ℕ → ℕ → Outcome (List ℕ) → ℕ
+listingAnswer work room (refused why) = number why
+listingAnswer work room (answered b) =
+    pick (leb (length b) work)
+    (pick (sound (entries b))
+    (pick (anyLong (entries b)) 8
+    (pick (leb (length (records (entries b))) room) 0 5))
+    2)
+    6
+
+-- what a listing comes to, by what reading the directory comes to
+listing-is : (d : Disc) (start partition work : ℕ) (icb : LongAd)
+    → ran d (listingAt start partition work icb) .outcome ≡ andThen (andThen (ran d (fileBytes start partition icb) .outcome) (within work)) listingOf
+unfolding listingAt directoryBytes
+listing-is d start partition work icb =
+    ap (λ (r : Ran (List ℕ)). r .outcome) (ran-known d (directoryBytes start partition work icb) listingOf)
+    ∙ ap (λ (r : Ran (List ℕ)). andThen (r .outcome) listingOf) (ran-known d (fileBytes start partition icb) (within work))
+
+entries-ordered : (room : ℕ) (b : List ℕ) → roomed room (listingOf b) ≡ pick (sound (entries b)) (pick (anyLong (entries b)) 8 (pick (leb (length (records (entries b))) room) 0 5)) 2
+unfolding listingOf
+entries-ordered room b = by (sound (entries b)) (anyLong (entries b))
+  where
+    by : (t u : Bool) → roomed room (pick t (pick u (refused LongName) (answered (records (entries b)))) (refused Malformed)) ≡ pick t (pick u 8 (pick (leb (length (records (entries b))) room) 0 5)) 2
+    by false u = refl
+    by true true = refl
+    by true false = refl
+
+ordered : (work room : ℕ) (o : Outcome (List ℕ)) → roomed room (andThen (andThen o (within work)) listingOf) ≡ listingAnswer work room o
+unfolding within
+ordered work room (refused why) = refl
+ordered work room (answered b) = by (leb (length b) work)
+  where
+    by : (t : Bool) → roomed room (andThen (pick t (answered b) (refused NoWork)) listingOf)
+        ≡ pick t (pick (sound (entries b)) (pick (anyLong (entries b)) 8 (pick (leb (length (records (entries b))) room) 0 5)) 2) 6
+    by false = refl
+    by true = entries-ordered room b
+
+pub list-order : (image : List ℕ) (v : Volume) (icb : LongAd) (out work : List ℕ)
+    → lists image v icb out work .reply .answer ≡ listingAnswer (length work) (length out) (ran (disc image) (reading v icb) .outcome)
+list-order image v icb out work =
+    room-last (length out) _ (ran (disc image) (listing v (length work) icb) .outcome)
+    ∙ ap (roomed (length out)) (listing-is (disc image) (v .start) (v .partition) (length work) icb)
+    ∙ ordered (length work) (length out) (ran (disc image) (reading v icb) .outcome)
+
+-- ---- a read by path: the lookup's refusals, and then those of the read
+
+abbrev pub pathAnswer : ℕ → Outcome LongAd → (LongAd → Outcome (List ℕ)) → ℕ
+pathAnswer room (refused why) f = number why
+pathAnswer room (answered icb) f = roomed room (f icb)
+
+pub read-path-order : (image : List ℕ) (v : Volume) (path out work : List ℕ)
+    → readsPath image v path out work .reply .answer
+    ≡ pathAnswer (length out) (ran (disc image) (finding v (length work) path) .outcome) (λ icb. ran (disc image) (reading v icb) .outcome)
+unfolding readPathOf
+read-path-order image v path out work =
+    room-last (length out) _ (ran (disc image) (pathReading v (length work) path) .outcome)
+    ∙ ap (λ (r : Ran (List ℕ)). roomed (length out) (r .outcome)) (ran-then (disc image) (finding v (length work) path) (λ icb. reading v icb))
+    ∙ by (ran (disc image) (finding v (length work) path) .outcome) (ran (disc image) (finding v (length work) path) .count) (λ icb. ran (disc image) (reading v icb))
+  where
+    by : (o : Outcome LongAd) (n : ℕ) (f : LongAd → Ran (List ℕ)) → roomed (length out) (onward o n f .outcome) ≡ pathAnswer (length out) o (λ icb. f icb .outcome)
+    by (answered icb) n f = refl
+    by (refused why) n f = refl

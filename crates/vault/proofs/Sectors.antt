@@ -1,0 +1,193 @@
+-- Demand 3: each call has its list of sectors. The count that it reports is min(the list's length, 2^64 - 1), images that agree on the list give the
+-- same answer, count and memory, and a read by ICB asks for no more sectors than its bytes and extents warrant. Assumes nothing.
+use mathlib.Core.Path.{_≡_, refl, ap, _∙_}
+use mathlib.Core.Bool.{Bool, true, false}
+use mathlib.Core.List.{List}
+use Prim.Native.Nat.{ℕ, _+_, _/_, _≤_, min}
+use native.Mathlib.Omega.{arith}
+use lib.ListN.{length}
+use lib.Dec.{leb}
+use Rattle.disc.specs.Choice.{pick}
+use Rattle.disc.specs.Refusals.{number}
+use Rattle.disc.specs.Counts.{reported}
+use Rattle.disc.specs.Ask.{Ask, Outcome, outcome, asked, Agree}
+use Rattle.disc.specs.Ask.Outcome.{answered, refused}
+use Rattle.disc.specs.Images.{disc}
+use Rattle.disc.specs.Ran.{Ran, ran}
+use Rattle.disc.specs.Replies.{replyBy}
+use Rattle.disc.specs.declared.refusals.Refusal.the-variants.{NoRoom, NoSlot}
+use Rattle.disc.specs.declared.replies.Reply.{Reply}
+use Rattle.disc.proofs.AskLaws.{same-outcome}
+use Rattle.disc.proofs.RanLaws.{same-ran}
+use Rattle.disc.proofs.RefusalLaws.{refusal-numbered}
+use Rattle.records.specs.declared.allocations.LongAd.{LongAd}
+use Rattle.volumes.specs.Openings.{opening}
+use Rattle.volumes.specs.Labels.{labelling}
+use Rattle.volumes.specs.declared.openings.VolumeRecord.{VolumeRecord}
+use Rattle.files.specs.Files.{fileVisited, visitsIn}
+use Rattle.files.proofs.Promises.{read-bound}
+use Rattle.areas.specs.declared.AllocExtent.{AllocExtent}
+use Rattle.layouts.specs.Calls.{listReply}
+use Rattle.directories.specs.Lookups.{foundTo, lostAt}
+use Rattle.directories.proofs.Promises.{failed-asks, same-place}
+use Rattle.vault.specs.Calls.{reading, parting, extentListing, listing, seeking, finding, pathReading, openedTo, openedBy, opens, written, labels, reads, worked, lists, readsPath, looked, finds, lost, fails, parted, parts, rowed, extents, lostPlace, failsAt, partedPlace, partsAt}
+use Rattle.layouts.specs.Places.{partPlace}
+use Rattle.areas.specs.declared.AllocExtent.{AllocExtent}
+use Rattle.layouts.specs.Calls.{listReply}
+use Rattle.directories.specs.Lookups.{foundTo}
+use Rattle.directories.proofs.Promises.{failed-asks}
+use Rattle.layouts.specs.Places.{partPlace}
+use Rattle.layouts.proofs.Promises
+use Rattle.vault.specs.declared.volume.Volume.{Volume}
+
+-- ---- images that agree on a call's list
+
+-- whatever is told by a run is the same
+same : {A R : Type 0} (told : Ran A → R) (call : Ask A) (image other : List ℕ) → Agree (disc image) (disc other) (asked (disc image) call)
+    → told (ran (disc image) call) ≡ told (ran (disc other) call)
+same told call image other h = ap told (same-ran call (disc image) (disc other) h)
+
+module _ (image other : List ℕ) where
+  pub open-same : Agree (disc image) (disc other) (asked (disc image) opening) → opens image ≡ opens other
+  open-same h = same openedBy opening image other h
+
+  pub label-same : (out : List ℕ) → Agree (disc image) (disc other) (asked (disc image) labelling) → labels image out ≡ labels other out
+  label-same out h = same (written out) labelling image other h
+
+  module _ (v : Volume) where
+    pub read-same : (icb : LongAd) (out : List ℕ) → Agree (disc image) (disc other) (asked (disc image) (reading v icb)) → reads image v icb out ≡ reads other v icb out
+    read-same icb out h = same (written out) (reading v icb) image other h
+
+    pub part-same : (icb : LongAd) → Agree (disc image) (disc other) (asked (disc image) (parting v icb)) → parts image v icb ≡ parts other v icb
+    part-same icb h = same parted (parting v icb) image other h
+
+    pub part-at-same : (icb : LongAd) → Agree (disc image) (disc other) (asked (disc image) (parting v icb)) → partsAt image v icb ≡ partsAt other v icb
+    part-at-same icb h =
+        ap (λ r. partedPlace r (partPlace (disc image) (v .start) icb)) (same-ran (parting v icb) (disc image) (disc other) h)
+        ∙ ap (λ at. partedPlace (ran (disc other) (parting v icb)) at) (Rattle.layouts.proofs.Promises.part-at-same image other (v .start) (v .partition) icb h)
+
+    pub extents-same : {A : Type 0} (f : AllocExtent → A) (icb : LongAd) (row : List A) → Agree (disc image) (disc other) (asked (disc image) (extentListing v icb)) → extents f image v icb row ≡ extents f other v icb row
+    extents-same f icb row h = same (rowed f row) (extentListing v icb) image other h
+
+    pub list-same : (icb : LongAd) (out work : List ℕ) → Agree (disc image) (disc other) (asked (disc image) (listing v (length work) icb)) → lists image v icb out work ≡ lists other v icb out work
+    list-same icb out work h = same (worked out work) (listing v (length work) icb) image other h
+
+    pub lookup-same : (path work : List ℕ) → Agree (disc image) (disc other) (asked (disc image) (finding v (length work) path)) → finds image v path work ≡ finds other v path work
+    lookup-same path work h = same (looked work) (finding v (length work) path) image other h
+
+    pub read-path-same : (path out work : List ℕ) → Agree (disc image) (disc other) (asked (disc image) (pathReading v (length work) path)) → readsPath image v path out work ≡ readsPath other v path out work
+    read-path-same path out work h = same (worked out work) (pathReading v (length work) path) image other h
+
+    -- the component that failed and its place have the lookup's list
+    module _ (path work : List ℕ) (h : Agree (disc image) (disc other) (asked (disc image) (finding v (length work) path))) where
+      seeks : Agree (disc image) (disc other) (asked (disc image) (seeking v (length work) path))
+      seeks = rw (failed-asks (disc image) (v .start) (v .partition) (length work) (v .root) path) at h
+
+      same-sought : outcome (disc image) (seeking v (length work) path) ≡ outcome (disc other) (seeking v (length work) path)
+      same-sought = same-outcome (seeking v (length work) path) (disc image) (disc other) seeks
+
+      pub failed-same : fails image v path work ≡ fails other v path work
+      failed-same =
+          ap (λ o. lost work o (ran (disc image) (finding v (length work) path))) same-sought
+          ∙ same (λ r. lost work (outcome (disc other) (seeking v (length work) path)) r) (finding v (length work) path) image other h
+
+      pub failed-at-same : failsAt image v path work ≡ failsAt other v path work
+      failed-at-same =
+          ap (λ o. lostPlace work o (ran (disc image) (finding v (length work) path)) (lostAt (disc image) (v .start) (v .partition) (length work) (v .root) path)) same-sought
+          ∙ ap (λ at. lostPlace work (outcome (disc other) (seeking v (length work) path)) (ran (disc image) (finding v (length work) path)) at)
+          (same-place (disc image) (disc other) (v .start) (v .partition) (length work) (v .root) path seeks)
+          ∙ same (λ r. lostPlace work (outcome (disc other) (seeking v (length work) path)) r (lostAt (disc other) (v .start) (v .partition) (length work) (v .root) path)) (finding v (length work) path) image other h
+
+-- ---- the count that is reported
+
+abbrev pub listed : {A : Type 0} → List ℕ → Ask A → ℕ
+listed image call = min (length (asked (disc image) call)) 0xffff_ffff_ffff_ffff
+
+reply-counts : (room n : ℕ) (o : Outcome (List ℕ)) → replyBy NoRoom room n o .count ≡ n
+reply-counts room n (refused why) = refl
+reply-counts room n (answered b) = by (leb (length b) room)
+  where
+    by : (t : Bool) → pick {A = Reply} t (record { answer = 0; count = n; length = length b }) (record { answer = number NoRoom; count = n; length = 0 }) .count ≡ n
+    by true = refl
+    by false = refl
+
+slots-count : (room n : ℕ) (o : Outcome (List AllocExtent)) → listReply room n o .count ≡ n
+slots-count room n (refused why) = refl
+slots-count room n (answered es) = by (leb (length es) room)
+  where
+    by : (t : Bool) → pick {A = Reply} t (record { answer = 0; count = n; length = length es }) (record { answer = number NoSlot; count = n; length = 0 }) .count ≡ n
+    by true = refl
+    by false = refl
+
+written-counts : (image out : List ℕ) (call : Ask (List ℕ)) → written out (ran (disc image) call) .reply .count ≡ listed image call
+unfolding ran
+written-counts image out call = reply-counts (length out) (listed image call) (outcome (disc image) call)
+
+opened-counts : (o : Outcome VolumeRecord) (n : ℕ) → openedTo o n .count ≡ n
+opened-counts (answered v) n = refl
+opened-counts (refused why) n = refl
+
+found-counts : (o : Outcome LongAd) (n : ℕ) → foundTo o n .count ≡ n
+found-counts (answered icb) n = refl
+found-counts (refused why) n = refl
+
+module _ (image : List ℕ) where
+  pub open-counts : opens image .count ≡ listed image opening
+  unfolding ran
+  open-counts = opened-counts (outcome (disc image) opening) (listed image opening)
+
+  pub label-counts : (out : List ℕ) → labels image out .reply .count ≡ listed image labelling
+  label-counts out = written-counts image out labelling
+
+  module _ (v : Volume) where
+    pub read-counts : (icb : LongAd) (out : List ℕ) → reads image v icb out .reply .count ≡ listed image (reading v icb)
+    read-counts icb out = written-counts image out (reading v icb)
+
+    pub part-counts : (icb : LongAd) → parts image v icb .count ≡ listed image (parting v icb)
+    unfolding ran
+    part-counts icb = refl
+
+    pub part-at-counts : (icb : LongAd) → partsAt image v icb .reply .count ≡ listed image (parting v icb)
+    part-at-counts icb = part-counts icb
+
+    pub extents-counts : {A : Type 0} (f : AllocExtent → A) (icb : LongAd) (row : List A) → extents f image v icb row .reply .count ≡ listed image (extentListing v icb)
+    unfolding ran
+    extents-counts f icb row = slots-count (length row) (listed image (extentListing v icb)) (outcome (disc image) (extentListing v icb))
+
+    pub list-counts : (icb : LongAd) (out work : List ℕ) → lists image v icb out work .reply .count ≡ listed image (listing v (length work) icb)
+    list-counts icb out work = written-counts image out (listing v (length work) icb)
+
+    pub lookup-counts : (path work : List ℕ) → finds image v path work .found .count ≡ listed image (finding v (length work) path)
+    unfolding ran
+    lookup-counts path work = found-counts (outcome (disc image) (finding v (length work) path)) (listed image (finding v (length work) path))
+
+    pub failed-counts : (path work : List ℕ) → fails image v path work .count ≡ listed image (finding v (length work) path)
+    failed-counts path work = lookup-counts path work
+
+    pub failed-at-counts : (path work : List ℕ) → failsAt image v path work .reply .count ≡ listed image (finding v (length work) path)
+    failed-at-counts path work = lookup-counts path work
+
+    pub read-path-counts : (path out work : List ℕ) → readsPath image v path out work .reply .count ≡ listed image (pathReading v (length work) path)
+    read-path-counts path out work = written-counts image out (pathReading v (length work) path)
+
+-- ---- the bound: a read by ICB that answers L bytes after E extents asked for at most 16,385 + L div 2,048 + E sectors
+
+abbrev pub visits : List ℕ → Volume → LongAd → ℕ
+visits image v icb = visitsIn (ran (disc image) (fileVisited (v .start) (v .partition) icb) .outcome)
+
+pub reads-within : (image : List ℕ) (v : Volume) (icb : LongAd) (out : List ℕ) → reads image v icb out .reply .answer ≡ 0
+    → reads image v icb out .reply .count ≤ 16385 + reads image v icb out .reply .length / 2048 + visits image v icb
+reads-within image v icb out e = by (ran (disc image) (reading v icb) .outcome) (ran (disc image) (reading v icb) .count) (visits image v icb) (read-bound image (v .start) (v .partition) icb) e
+  where
+    fits : (n e : ℕ) (b : List ℕ) → n ≤ 16385 + length b / 2048 + e → (t : Bool)
+        → pick {A = Reply} t (record { answer = 0; count = reported n; length = length b }) (record { answer = number NoRoom; count = reported n; length = 0 }) .answer ≡ 0
+        → pick {A = Reply} t (record { answer = 0; count = reported n; length = length b }) (record { answer = number NoRoom; count = reported n; length = 0 }) .count
+        ≤ 16385 + pick {A = Reply} t (record { answer = 0; count = reported n; length = length b }) (record { answer = number NoRoom; count = reported n; length = 0 }) .length / 2048 + e
+    fits n e b h true q = omega arith
+    fits n e b h false q = omega arith
+
+    by : (o : Outcome (List ℕ)) (n e : ℕ) → ((b : List ℕ) → o ≡ answered b → n ≤ 16385 + length b / 2048 + e)
+        → replyBy NoRoom (length out) (reported n) o .answer ≡ 0
+        → replyBy NoRoom (length out) (reported n) o .count ≤ 16385 + replyBy NoRoom (length out) (reported n) o .length / 2048 + e
+    by (refused why) n e h q = absurd (refusal-numbered why q)
+    by (answered b) n e h q = fits n e b (h b refl) (leb (length b) (length out)) q

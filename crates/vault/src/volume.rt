@@ -1,0 +1,165 @@
+// A volume by value, and the calls on it.
+ghost use mathlib.Core.Path.{_≡_};
+ghost use Rattle.layouts.specs.Calls.{wordsOf, extentOf};
+ghost use Rattle.volumes.specs.Probes.{probed};
+ghost use Rattle.vault.specs.Calls.{opens, labels, reads, lists, readsPath, finds, fails, failsAt, parts, partsAt, extents};
+use directories::lists::list_directory;
+use directories::lookups::Found;
+use disc::refusals::Refusal;
+use disc::replies::Reply;
+use files::reads::read_file;
+use layouts::lists::Extent;
+use layouts::lists::file_rows;
+use layouts::lists::file_words;
+use layouts::parts::file_part;
+use records::allocations::LongAd;
+use volumes::openings::open_volume;
+
+// An opened volume: where its partition starts, the partition's number, its root directory and its label as recorded.
+#[repr(C)]
+pub struct Volume {
+    pub start: u32,
+    pub partition: u16,
+    pub root: LongAd,
+    pub label: [u8; 32],
+}
+
+// The answer number, the count of sectors, and the volume: zeros where it was refused.
+#[repr(C)]
+pub struct Opened {
+    pub answer: u64,
+    pub count: u64,
+    pub volume: Volume,
+}
+
+impl Volume {
+    // Opens the volume that an image holds.
+    pub fn open(image: &[u8]) -> Opened
+        ensures { λ r. ⌜ r ≡ opens (now (image .entry)) ⌝ }
+    {
+        let o = open_volume(image);
+        let v = o.volume;
+        let root = v.root;
+        let label = v.label;
+        Opened {
+            answer: o.answer,
+            count: o.count,
+            volume: Volume {
+                start: v.start,
+                partition: v.partition_number,
+                root,
+                label,
+            },
+        }
+    }
+
+    // The ICB that a path names. The work space holds one directory at a time, and is all zero on return.
+    pub fn lookup(self, image: &[u8], path: &[u8], work: &mut [u8]) -> Found
+        ensures { λ r. ⌜ record { found = r; work = now (work .exit) } ≡ finds (now (image .entry)) self (now (path .entry)) (now (work .entry)) ⌝ }
+    {
+        let root = self.root;
+        directories::lookups::lookup(image, self.start, self.partition, root, path, work)
+    }
+
+    // The component at which a lookup is refused by 3, as a part of the path; empty if it isn't.
+    pub fn failed<'i, 'p>(
+        self,
+        image: &'i [u8],
+        path: &'p [u8],
+        work: &mut [u8],
+        answer: &mut u64,
+        count: &mut u64,
+    ) -> &'p [u8]
+        ensures { λ r. ⌜ record { component = now r; answer = now (answer .exit); count = now (count .exit); work = now (work .exit) } ≡ fails (now (image .entry)) self (now (path .entry)) (now (work .entry)) ⌝ }
+    {
+        let root = self.root;
+        directories::lookups::failed(
+            image,
+            self.start,
+            self.partition,
+            root,
+            path,
+            work,
+            answer,
+            count,
+        )
+    }
+
+    // The length of that component, and in `at` its place in the path; zeros if there is none.
+    pub fn failed_at(self, image: &[u8], path: &[u8], work: &mut [u8], at: &mut usize) -> Reply
+        ensures { λ r. ⌜ record { reply = r; at = now (at .exit); work = now (work .exit) } ≡ failsAt (now (image .entry)) self (now (path .entry)) (now (work .entry)) ⌝ }
+    {
+        let root = self.root;
+        directories::lookups::failed_at(image, self.start, self.partition, root, path, work, at)
+    }
+
+    // The listing of the directory at icb, over the front of out.
+    pub fn list(self, image: &[u8], icb: LongAd, out: &mut [u8], work: &mut [u8]) -> Reply
+        ensures { λ r. ⌜ record { reply = r; out = now (out .exit); work = now (work .exit) } ≡ lists (now (image .entry)) self icb (now (out .entry)) (now (work .entry)) ⌝ }
+    {
+        list_directory(image, self.start, self.partition, icb, out, work)
+    }
+
+    // The bytes of the file at icb, over the front of out.
+    pub fn read(self, image: &[u8], icb: LongAd, out: &mut [u8]) -> Reply
+        ensures { λ r. ⌜ record { reply = r; out = now (out .exit) } ≡ reads (now (image .entry)) self icb (now (out .entry)) ⌝ }
+    {
+        read_file(image, self.start, self.partition, icb, out, Refusal::NoRoom)
+    }
+
+    // The bytes of an embedded file without a copy; an empty part for any other file, or where the call is refused.
+    pub fn part<'i>(
+        self,
+        image: &'i [u8],
+        icb: LongAd,
+        answer: &mut u64,
+        count: &mut u64,
+    ) -> &'i [u8]
+        ensures { λ r. ⌜ record { part = now r; answer = now (answer .exit); count = now (count .exit) } ≡ parts (now (image .entry)) self icb ⌝ }
+    {
+        file_part(image, self.start, self.partition, icb, answer, count)
+    }
+
+    // The length of that part, and in `at` its place in the image; zeros if there is none.
+    pub fn part_at(self, image: &[u8], icb: LongAd, at: &mut usize) -> Reply
+        ensures { λ r. ⌜ record { reply = r; at = now (at .exit) } ≡ partsAt (now (image .entry)) self icb ⌝ }
+    {
+        layouts::parts::part_at(image, self.start, self.partition, icb, at)
+    }
+
+    // Effective length, type, block and partition of every extent of the file at icb, four numbers to a slot; an embedded file has none.
+    pub fn extent_words(self, image: &[u8], icb: LongAd, row: &mut [[u32; 4]]) -> Reply
+        ensures { λ r. ⌜ record { reply = r; row = now (row .exit) } ≡ extents wordsOf (now (image .entry)) self icb (now (row .entry)) ⌝ }
+    {
+        file_words(image, self.start, self.partition, icb, row)
+    }
+
+    // The same in a row of records: proved by a walk of its MIR, since the borrow checker doesn't cover a lent slice of structs.
+    pub fn extents(self, image: &[u8], icb: LongAd, row: &mut [Extent]) -> Reply
+        ensures { λ r. ⌜ record { reply = r; row = now (row .exit) } ≡ extents extentOf (now (image .entry)) self icb (now (row .entry)) ⌝ }
+    {
+        file_rows(image, self.start, self.partition, icb, row)
+    }
+
+    // The bytes of the file that a path names: a lookup, then a read, counts added.
+    pub fn read_path(self, image: &[u8], path: &[u8], out: &mut [u8], work: &mut [u8]) -> Reply
+        ensures { λ r. ⌜ record { reply = r; out = now (out .exit); work = now (work .exit) } ≡ readsPath (now (image .entry)) self (now (path .entry)) (now (out .entry)) (now (work .entry)) ⌝ }
+    {
+        let root = self.root;
+        directories::lookups::read_path(image, self.start, self.partition, root, path, out, work)
+    }
+}
+
+// Opens an image and writes the name in its label, as UTF-8, over the front of out.
+pub fn label(image: &[u8], out: &mut [u8]) -> Reply
+    ensures { λ r. ⌜ record { reply = r; out = now (out .exit) } ≡ labels (now (image .entry)) (now (out .entry)) ⌝ }
+{
+    volumes::labels::label(image, out)
+}
+
+// Whether the image has a volume recognition sequence.
+pub fn probe(image: &[u8]) -> bool
+    ensures { λ r. ⌜ r ≡ probed (now (image .entry)) ⌝ }
+{
+    volumes::probes::probe(image)
+}

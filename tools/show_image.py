@@ -1,0 +1,58 @@
+#!/usr/bin/env python3
+"""Writes crates/first_cue/stdin: a small show as a packed image (tools/udf.py), with the directory SHOW and in it four cues.
+
+10.1A stands before 10.1a: matching ignores ASCII case, so a lookup of either name gives the first of the two.
+
+Usage: tools/show_image.py. Needs Python's standard library alone, prints nothing, and writes the same bytes each time.
+"""
+
+import os
+import struct
+import sys
+
+sys.dont_write_bytecode = True
+import udf
+from udf import BLOCK, EMBEDDED, FILE_IDENTIFIER, MAIN, PARTITION, SECTOR, SHORT, START
+from udf import entry, long_ad, short_ad, tag
+
+DIRECTORY, PARENT = 2, 8  # File characteristics (ECMA-167 4/14.4.3).
+CUES = [
+    ("9", b"cue 9\nhouse lights to half\n"),
+    ("10.1A", b"cue 10.1A\nfront wash 80, blue backs 40, follow 6 seconds\n"),
+    ("10.1a", b"cue 10.1a\nfront wash 20, the look before the interval\n"),
+    ("11", b"cue 11\nblackout\n"),
+]
+
+
+def identifier(name, block, marks=0):
+    """A file identifier descriptor (ECMA-167 4/14.4)."""
+    text = b"\x08" + name.encode("latin-1") if name else b""
+    whole = tag(FILE_IDENTIFIER) + struct.pack("<HBB16sH", 1, marks, len(text), long_ad(SECTOR, block), 0) + text
+    return whole + bytes(-len(whole) % 4)
+
+
+def show():
+    image = udf.Image("show", START + 16)
+    root, directory, first = BLOCK + 1, BLOCK + 2, BLOCK + 3
+    image.lay(udf.ANCHOR, udf.anchor())
+    image.lay(MAIN, udf.primary(MAIN, b"\x08SHOW 1"))
+    image.lay(MAIN + 1, udf.partition(MAIN + 1, PARTITION))
+    image.lay(MAIN + 2, udf.logical(MAIN + 2, PARTITION))
+    image.lay(MAIN + 3, udf.TERMINATOR(MAIN + 3))
+    image.lay(START + BLOCK, udf.file_set(START + BLOCK, root=long_ad(SECTOR, root)))
+    entries = identifier("", root, DIRECTORY | PARENT) + identifier("SHOW", directory, DIRECTORY)
+    image.lay(START + root, entry(EMBEDDED, entries, len(entries)))
+    entries = identifier("", root, DIRECTORY | PARENT)
+    for i, (name, look) in enumerate(CUES):
+        block = first + 2 * i
+        entries += identifier(name, block)
+        image.lay(START + block, entry(SHORT, short_ad(len(look), block + 1), len(look)))
+        image.lay(START + block + 1, look)
+    image.lay(START + directory, entry(EMBEDDED, entries, len(entries)))
+    return image.bytes
+
+
+if __name__ == "__main__":
+    here = os.path.dirname(os.path.abspath(__file__))
+    with open(os.path.join(here, "..", "crates", "first_cue", "stdin"), "wb") as out:
+        out.write(udf.packed(show()))
