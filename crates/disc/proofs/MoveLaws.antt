@@ -84,14 +84,14 @@ module _ {s d₀ d : List ℕ} {from at n i : ℕ} (p : Storing s d₀ d from at
 
 -- ---- a block by way of an array of 2,048 bytes
 
-pub block-ends : (s d a b : List ℕ) (i : ℕ) → (i + 2048 ≤ length s) × (i + 2048 ≤ length d)
-    → a ≡ sets (replicate 2048 0) 0 (take 2048 (drop i s))
-    → b ≡ sets d i (take 2048 (drop 0 a))
-    → b ≡ sets d i (take 2048 (drop i s))
+pub block-ends : (s d a b : List ℕ) (i : ℕ) → (i + 8192 ≤ length s) × (i + 8192 ≤ length d)
+    → a ≡ sets (replicate 8192 0) 0 (take 8192 (drop i s))
+    → b ≡ sets d i (take 8192 (drop 0 a))
+    → b ≡ sets d i (take 8192 (drop i s))
 block-ends s d a b i h e f =
-    let l : length (take 2048 (drop i s)) ≡ 2048 = part-size s i 2048 (h .0) in
-    let g : a ≡ take 2048 (drop i s) = e ∙ sets-whole (take 2048 (drop i s)) (replicate 2048 0) (l ∙ simp length-replicate) in
-    f ∙ rw g (ap (sets d i) (take-all 2048 (take 2048 (drop i s)) (omega arith)))
+    let l : length (take 8192 (drop i s)) ≡ 8192 = part-size s i 8192 (h .0) in
+    let g : a ≡ take 8192 (drop i s) = e ∙ sets-whole (take 8192 (drop i s)) (replicate 8192 0) (l ∙ simp length-replicate) in
+    f ∙ rw g (ap (sets d i) (take-all 8192 (take 8192 (drop i s)) (omega arith)))
 
 -- ---- the loop that copies s over the front of d₀ has come to i of n bytes
 
@@ -105,14 +105,14 @@ pub copy-starts : (s d : List ℕ) (n : ℕ) → n ≡ min (length s) (length d)
 copy-starts s d n e = record { both = e; within = omega arith; long = refl; rest = rw sub-zero }
 
 module _ {s d₀ d : List ℕ} {n i : ℕ} (p : Copying s d₀ d n i) where
-  pub copy-block : 2048 ≤ n - i → (i + 2048 ≤ length s) × (i + 2048 ≤ length d)
+  pub copy-block : 8192 ≤ n - i → (i + 8192 ≤ length s) × (i + 8192 ≤ length d)
   copy-block h = (omega (arith, p .both), omega (arith, p .both, p .long))
 
-  pub copy-next : 2048 ≤ n - i → {d′ : List ℕ} → d′ ≡ sets d i (take 2048 (drop i s)) → Copying s d₀ d′ n (i + 2048)
+  pub copy-next : 8192 ≤ n - i → {d′ : List ℕ} → d′ ≡ sets d i (take 8192 (drop i s)) → Copying s d₀ d′ n (i + 8192)
   copy-next h {d′} e =
-      let k : n - i ≡ 2048 + (n - (i + 2048)) = omega arith in
-      let l : length (take 2048 (drop i s)) ≡ 2048 = part-size s i 2048 (copy-block h .0) in
-      let q : sets d i (take (n - i) (drop i s)) ≡ sets d′ (i + 2048) (take (n - (i + 2048)) (drop (i + 2048) s)) =
+      let k : n - i ≡ 8192 + (n - (i + 8192)) = omega arith in
+      let l : length (take 8192 (drop i s)) ≡ 8192 = part-size s i 8192 (copy-block h .0) in
+      let q : sets d i (take (n - i) (drop i s)) ≡ sets d′ (i + 8192) (take (n - (i + 8192)) (drop (i + 8192) s)) =
       rw (k, take-add, sets-append, l, drop-drop, e) in
       record {
         both = p .both;

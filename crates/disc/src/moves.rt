@@ -23,14 +23,14 @@ fn store(s: &[u8], from: usize, out: &mut [u8], at: usize, n: usize)
     }
 }
 
-// One sector's worth by way of a local array: the compiler knows that the array overlaps neither side, and makes one move of both.
+// Four sectors' worth by way of a local array: the compiler knows that the array overlaps neither side, and makes one move of both.
 fn store_block(s: &[u8], i: usize, out: &mut [u8])
-    requires { ⌜ (i + 2048 ≤ length (now s)) × (i + 2048 ≤ length (now out)) ⌝ }
-    ensures { λ _. ⌜ now (out .exit) ≡ sets (now (out .entry)) i (take 2048 (drop i (now (s .entry)))) ⌝ }
+    requires { ⌜ (i + 8192 ≤ length (now s)) × (i + 8192 ≤ length (now out)) ⌝ }
+    ensures { λ _. ⌜ now (out .exit) ≡ sets (now (out .entry)) i (take 8192 (drop i (now (s .entry)))) ⌝ }
 {
-    let mut block = [0u8; 2048];
-    store(s, i, &mut block, 0, 2048);
-    store(&block, 0, out, i, 2048);
+    let mut block = [0u8; 8192];
+    store(s, i, &mut block, 0, 8192);
+    store(&block, 0, out, i, 8192);
 }
 
 // Copies text over the front of out; what has no room there is left out.
@@ -39,9 +39,9 @@ pub fn copy(text: &[u8], out: &mut [u8])
 {
     let n = least(text.len(), out.len());
     let mut i = 0;
-    while 2048 <= n - i {
+    while 8192 <= n - i {
         store_block(text, i, out);
-        i += 2048;
+        i += 8192;
     }
     store(text, i, out, i, n - i);
 }

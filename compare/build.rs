@@ -1,0 +1,128 @@
+//! Finds the original and the archive.
+//!
+//! The original stands in the folder `UDF_ORIGINAL`, by default ../shared/docs/src beside the repository, and is never copied into the
+//! tree. Its udf.rs is compiled word for word, with a module behind it: the entry of a file and the making of an opened disc are private
+//! there, and a module inside can reach them.
+//!
+//! The archive is target/staticlib/libvault_c.a. It is x86-64 code: linked where this program is that too, and on every machine linked
+//! with port.c into a program that answers through a pipe.
+
+use std::path::{Path, PathBuf};
+use std::process::Command;
+use std::{env, fs};
+
+const INSIDE: &str = "
+pub mod within {
+    use super::*;
+
+    /// An opened disc of these parts.
+    pub fn disc<R: Read + Seek>(reader: R, start: u32, number: u16, root: LongAd) -> UdfDisc<R> {
+        UdfDisc {
+            reader,
+            partition_start_sector: start as u64,
+            partition_number: number,
+            logical_block_size: 2048,
+            root_directory_icb: root,
+            volume_identifier: String::new(),
+        }
+    }
+
+    /// The entry of a file, its chain followed to the end.
+    pub fn entry<R: Read + Seek>(disc: &mut UdfDisc<R>, icb: LongAd) -> Result<FileEntry> {
+        disc.read_file_entry(icb)
+    }
+
+    pub fn reader<R: Read + Seek>(disc: &mut UdfDisc<R>) -> &mut R {
+        &mut disc.reader
+    }
+}
+";
+
+fn main() {
+    let here = PathBuf::from(env::var("CARGO_MANIFEST_DIR").unwrap());
+    let root = here.parent().unwrap();
+    let out = PathBuf::from(env::var("OUT_DIR").unwrap());
+    println!("cargo::rustc-check-cfg=cfg(original)");
+    println!("cargo::rustc-check-cfg=cfg(linked)");
+    println!("cargo::rerun-if-env-changed=UDF_ORIGINAL");
+    let folder = env::var("UDF_ORIGINAL").map(PathBuf::from).unwrap_or(root.join("../shared/docs/src"));
+    println!("cargo::rerun-if-changed={}", folder.join("src").display());
+    println!("cargo::rustc-env=ORIGINAL_FOLDER={}", folder.display());
+    if !original(&folder.join("src"), &out) {
+        return;
+    }
+    let archive = root.join("target/staticlib/libvault_c.a");
+    println!("cargo::rerun-if-changed={}", archive.display());
+    if !archive.exists() {
+        println!("cargo::error=target/staticlib/libvault_c.a is missing: make it with `rt staticlib vault_c`");
+        return;
+    }
+    if env::var("CARGO_CFG_TARGET_ARCH").unwrap() == "x86_64" {
+        println!("cargo::rustc-cfg=linked");
+        println!("cargo::rustc-link-search=native={}", archive.parent().unwrap().display());
+        println!("cargo::rustc-link-lib=static=vault_c");
+    }
+    port(root, &archive, &out);
+}
+
+/// Writes original.rs, which names the original's modules, where its two files are there.
+fn original(folder: &Path, out: &Path) -> bool {
+    let (Ok(udf), Ok(error)) = (fs::read_to_string(folder.join("udf.rs")), folder.join("error.rs").canonicalize()) else {
+        return false;
+    };
+    fs::write(out.join("udf.rs"), udf + INSIDE).unwrap();
+    let text = format!(
+        "#[allow(dead_code)]\n#[path = {:?}]\npub mod error;\n#[allow(dead_code)]\n#[path = {:?}]\npub mod udf;\n",
+        error,
+        out.join("udf.rs")
+    );
+    fs::write(out.join("original.rs"), text).unwrap();
+    println!("cargo::rustc-cfg=original");
+    true
+}
+
+/// The word that a command prints.
+fn said(command: &str, words: &[&str]) -> String {
+    let out = Command::new(command).args(words).output().unwrap_or_else(|e| panic!("{command}: {e}"));
+    String::from_utf8(out.stdout).unwrap().trim().to_string()
+}
+
+fn run(command: &mut Command) {
+    let out = command.output().unwrap_or_else(|e| panic!("{command:?}: {e}"));
+    assert!(out.status.success(), "{command:?}: {}", String::from_utf8_lossy(&out.stderr));
+}
+
+/// Compiles port.c with the kit's compiler and links it with the archive, as rt links a program.
+fn port(root: &Path, archive: &Path, out: &Path) {
+    let source = env::var("COMPARE_PORT").map(PathBuf::from).unwrap_or(root.join("compare/port.c"));
+    println!("cargo::rerun-if-env-changed=COMPARE_PORT");
+    println!("cargo::rerun-if-changed={}", source.display());
+    println!("cargo::rerun-if-changed={}", root.join("include/vault.h").display());
+    let kit = Path::new(&said("rt", &["doc"])).parent().unwrap().join("..");
+    let own = kit.join("on").join(said("uname", &["-m"]));
+    let tools = own.join("toolchain");
+    // The kit has no headers: stdint.h and its like are the machine's compiler's.
+    let headers = said("cc", &["-print-file-name=include"]);
+    let (object, program) = (out.join("port.o"), out.join("port"));
+    run(Command::new(tools.join("bin/clang"))
+        .args(["-target", "x86_64-unknown-linux-gnu", "-std=c11", "-O2", "-fPIE", "-Wall", "-Wextra", "-Werror"])
+        .args(["-ffreestanding", "-nostdinc", "-isystem", &headers, "-I"])
+        .arg(root.join("include"))
+        .arg("-I")
+        .arg(root.join("compare"))
+        .args(env::var("COMPARE_FLAGS").iter())
+        .arg("-c")
+        .arg(&source)
+        .arg("-o")
+        .arg(&object));
+    println!("cargo::rerun-if-env-changed=COMPARE_FLAGS");
+    run(Command::new(own.join("bin/rattle-link"))
+        .args(["--target", "x86_64-unknown-linux-gnu", "--toolchain"])
+        .arg(&tools)
+        .arg("-o")
+        .arg(&program)
+        .arg(&object)
+        .arg(archive));
+    println!("cargo::rustc-env=PORT={}", program.display());
+    println!("cargo::rustc-env=PORT_TOOLS={}", tools.display());
+}

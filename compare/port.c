@@ -1,0 +1,371 @@
+/* port.c: the calls of vault.h, made for a program at the other end of a pipe.
+ *
+ * The archive is x86-64 code. On another processor `compare` can't link it, so it runs this program under an emulator and asks it.
+ * Requests come on standard input, answers go to standard output; numbers are little-endian and nothing is padded.
+ *
+ *   'I' noise kind (1 byte), noise seed (4), packed length (4), packed image    the image that is asked about from now on, as
+ *                                                                               docs/COMPARING.md packs it
+ *   'Q' call (1), in noise (1), salt (1),                                       a query; with `in noise`, on an image that holds
+ *       volume (55), ICB (17), room (4), work (4),                              the kept sectors alone, and noise in all others
+ *       path length (4), path, kept sectors (4), each sector's number (4)
+ *   'T' times (4), and a query as behind 'Q'                                    the query so many times over: the answer is the
+ *                                                                               nanoseconds (8); call 10 copies `room` bytes
+ *   'F'                                                                         the answers to all queries so far are written
+ *
+ *   an answer: answer (8), count (8), length (8), place (8), volume (55), ICB (17), state (1), written length (4), written bytes
+ *
+ * An ICB is length (4), type (1), block (4), partition (2), implementation use (6); a volume is start (4), partition (2), root (17),
+ * label (32). Room counts bytes, and slots for the extent list. Answers are held back until 'F', so neither side waits for the other
+ * while both write.
+ *
+ * A lent buffer comes full of a pattern that tells where each byte stands, with GUARD bytes of it in front and behind. The state has a
+ * bit for each thing that held: 1 the guards of the output, 2 its bytes behind the answer (all of them, if refused), 4 the guards of the
+ * work space, 8 the work space all zero. The written bytes are the front of the output, as many as the reply's length says.
+ */
+#include "vault.h"
+
+/* What is used of the C library, declared here: the toolchain has its code for x86-64, and no headers. */
+extern long read(int fd, void *to, size_t n);
+extern long write(int fd, const void *from, size_t n);
+extern void *realloc(void *p, size_t n);
+extern void *memcpy(void *to, const void *from, size_t n);
+extern void *memset(void *to, int byte, size_t n);
+extern _Noreturn void exit(int status);
+struct timespec {
+    long seconds, nanoseconds;
+};
+extern int clock_gettime(int clock, struct timespec *now);
+
+enum { GUARD = 64, SECTOR = 2048 };
+enum { PROBE, OPEN, LABEL, LOOKUP, FAILED, LIST, READ, PART, EXTENTS, READ_PATH, COPY };
+
+typedef struct {
+    uint8_t *at;
+    size_t length, room;
+} buffer;
+
+typedef struct {
+    uint64_t answer, count, length;
+    size_t place;
+    vault_volume volume;
+    vault_long_ad icb;
+} outcome;
+
+typedef struct {
+    uint8_t call, in_noise, salt;
+    vault_volume volume;
+    vault_long_ad icb;
+    uint32_t room, work, path_length, kept;
+} query;
+
+static buffer image, noise, replies, lent_out, lent_work, path, kept;
+static uint8_t noise_kind;
+static uint32_t noise_seed;
+
+static void grow(buffer *b, size_t n) {
+    if (n > b->room) {
+        b->room = n + n / 2 + 4096;
+        b->at = realloc(b->at, b->room);
+        if (!b->at) exit(4);
+    }
+}
+
+/* ---- the pipe */
+
+static uint8_t inward[1 << 16];
+static size_t inward_at, inward_end;
+
+/* Whether n bytes came; none at all is the end of the work, and fewer than n a broken pipe. */
+static bool take(void *to, size_t n) {
+    uint8_t *p = to;
+    size_t had = 0;
+    while (had < n) {
+        if (inward_at == inward_end) {
+            long got = read(0, inward, sizeof inward);
+            if (got <= 0) {
+                if (had) exit(5);
+                return false;
+            }
+            inward_at = 0;
+            inward_end = (size_t)got;
+        }
+        size_t here = inward_end - inward_at < n - had ? inward_end - inward_at : n - had;
+        memcpy(p + had, inward + inward_at, here);
+        inward_at += here;
+        had += here;
+    }
+    return true;
+}
+
+static uint64_t take_number(size_t n) {
+    uint64_t v = 0;
+    if (!take(&v, n)) exit(5);
+    return v;
+}
+
+static void take_all(buffer *b, size_t n) {
+    grow(b, n);
+    b->length = n;
+    if (n && !take(b->at, n)) exit(5);
+}
+
+static void give(const void *from, size_t n) {
+    grow(&replies, replies.length + n);
+    memcpy(replies.at + replies.length, from, n);
+    replies.length += n;
+}
+
+static void give_number(uint64_t v, size_t n) { give(&v, n); }
+
+static void flush(void) {
+    size_t done = 0;
+    while (done < replies.length) {
+        long n = write(1, replies.at + done, replies.length - done);
+        if (n <= 0) exit(5);
+        done += (size_t)n;
+    }
+    replies.length = 0;
+}
+
+/* ---- records on the pipe */
+
+static vault_long_ad take_icb(void) {
+    vault_long_ad a;
+    a.length = (uint32_t)take_number(4);
+    a.extent_type = (uint8_t)take_number(1);
+    a.location.block = (uint32_t)take_number(4);
+    a.location.partition = (uint16_t)take_number(2);
+    if (!take(a.implementation_use, 6)) exit(5);
+    return a;
+}
+
+static void give_icb(vault_long_ad a) {
+    give_number(a.length, 4);
+    give_number(a.extent_type, 1);
+    give_number(a.location.block, 4);
+    give_number(a.location.partition, 2);
+    give(a.implementation_use, 6);
+}
+
+static vault_volume take_volume(void) {
+    vault_volume v;
+    v.start = (uint32_t)take_number(4);
+    v.partition = (uint16_t)take_number(2);
+    v.root = take_icb();
+    if (!take(v.label, 32)) exit(5);
+    return v;
+}
+
+static void give_volume(vault_volume v) {
+    give_number(v.start, 4);
+    give_number(v.partition, 2);
+    give_icb(v.root);
+    give(v.label, 32);
+}
+
+/* ---- images */
+
+static uint32_t number_at(const uint8_t *p) {
+    uint32_t v;
+    memcpy(&v, p, 4);
+    return v;
+}
+
+/* The noise of one sector: bytes at random, or another sector of the image, which looks like something. */
+static void make_noise(size_t sector) {
+    size_t from = sector * SECTOR, sectors = (image.length + SECTOR - 1) / SECTOR;
+    size_t n = image.length - from < SECTOR ? image.length - from : SECTOR;
+    if (noise_kind) {
+        size_t other = (sector + noise_seed % sectors) % sectors * SECTOR;
+        if (image.length - other < n) other = 0;
+        memcpy(noise.at + from, image.at + other, n);
+        return;
+    }
+    uint64_t x = (noise_seed + 1) * 0x9e3779b97f4a7c15u ^ (sector + 1) * 0xbf58476d1ce4e5b9u;
+    for (size_t i = 0; i < n; i += 8) {
+        x ^= x << 13;
+        x ^= x >> 7;
+        x ^= x << 17;
+        memcpy(noise.at + from + i, &x, n - i < 8 ? n - i : 8);
+    }
+}
+
+static void load_image(void) {
+    static buffer packed;
+    noise_kind = (uint8_t)take_number(1);
+    noise_seed = (uint32_t)take_number(4);
+    take_all(&packed, take_number(4));
+    image.length = number_at(packed.at);
+    noise.length = image.length;
+    grow(&image, image.length + 1);
+    grow(&noise, noise.length + 1);
+    memset(image.at, 0, image.length);
+    size_t at = 8;
+    for (uint32_t runs = number_at(packed.at + 4); runs; runs--) {
+        uint32_t n = number_at(packed.at + at + 4);
+        memcpy(image.at + number_at(packed.at + at), packed.at + at + 8, n);
+        at += 8 + n;
+    }
+    for (size_t s = 0; s * SECTOR < image.length; s++) make_noise(s);
+}
+
+/* The kept sectors come into the noise for one query, and go again. */
+static void keep(bool real) {
+    for (size_t i = 0; i < kept.length; i += 4) {
+        size_t s = number_at(kept.at + i), from = s * SECTOR;
+        if (from >= image.length) continue;
+        size_t n = image.length - from < SECTOR ? image.length - from : SECTOR;
+        if (real)
+            memcpy(noise.at + from, image.at + from, n);
+        else
+            make_noise(s);
+    }
+}
+
+/* ---- lent buffers */
+
+static uint8_t pattern(size_t i, uint8_t salt) { return (uint8_t)(i * 131 + salt + (i >> 8)) | 1; }
+
+static uint8_t *lend(buffer *b, size_t n, uint8_t salt) {
+    grow(b, n + 2 * GUARD);
+    b->length = n;
+    for (size_t i = 0; i < n + 2 * GUARD; i++) b->at[i] = pattern(i, salt);
+    return b->at + GUARD;
+}
+
+static bool as_it_came(const buffer *b, size_t from, size_t end, uint8_t salt) {
+    for (size_t i = from; i < end; i++)
+        if (b->at[i] != pattern(i, salt)) return false;
+    return true;
+}
+
+static uint8_t state(const query *q, size_t written) {
+    const buffer *o = &lent_out, *w = &lent_work;
+    size_t end = GUARD + o->length;
+    uint8_t held = 0;
+    if (as_it_came(o, 0, GUARD, q->salt) && as_it_came(o, end, end + GUARD, q->salt)) held |= 1;
+    if (as_it_came(o, GUARD + written, end, q->salt)) held |= 2;
+    end = GUARD + w->length;
+    if (as_it_came(w, 0, GUARD, q->salt) && as_it_came(w, end, end + GUARD, q->salt)) held |= 4;
+    bool zero = true;
+    for (size_t i = GUARD; i < end; i++) zero &= w->at[i] == 0;
+    return zero ? held | 8 : held;
+}
+
+/* ---- the calls */
+
+static void from_reply(outcome *o, vault_reply r) {
+    o->answer = r.answer;
+    o->count = r.count;
+    o->length = r.length;
+}
+
+static outcome call(const query *q, const uint8_t *disc, size_t n, uint8_t *out, uint8_t *work) {
+    outcome o;
+    memset(&o, 0, sizeof o);
+    const uint8_t *p = path.at;
+    size_t length = q->path_length;
+    switch (q->call) {
+    case PROBE: o.answer = vault_probe(disc, n); break;
+    case OPEN: {
+        vault_opened r = vault_open(disc, n);
+        o.answer = r.answer;
+        o.count = r.count;
+        o.volume = r.volume;
+        break;
+    }
+    case LABEL: from_reply(&o, vault_label(disc, n, out, q->room)); break;
+    case LOOKUP: {
+        vault_found r = vault_lookup(q->volume, disc, n, p, length, work, q->work);
+        o.answer = r.answer;
+        o.count = r.count;
+        o.icb = r.icb;
+        break;
+    }
+    case FAILED: from_reply(&o, vault_failed(q->volume, disc, n, p, length, work, q->work, &o.place)); break;
+    case LIST: from_reply(&o, vault_list(q->volume, disc, n, q->icb, out, q->room, work, q->work)); break;
+    case READ: from_reply(&o, vault_read(q->volume, disc, n, q->icb, out, q->room)); break;
+    case PART: from_reply(&o, vault_part(q->volume, disc, n, q->icb, &o.place)); break;
+    case EXTENTS: from_reply(&o, vault_extents(q->volume, disc, n, q->icb, (vault_extent *)(void *)out, q->room)); break;
+    case READ_PATH: from_reply(&o, vault_read_path(q->volume, disc, n, p, length, out, q->room, work, q->work)); break;
+    case COPY: memcpy(out, disc, q->room); break;
+    default: exit(6);
+    }
+    return o;
+}
+
+/* How many bytes of the lent output a reply says were written. */
+static size_t written(const query *q, const outcome *o) {
+    if (q->call == FAILED || q->call == PART || o->answer) return 0;
+    size_t n = q->call == EXTENTS ? o->length * sizeof(vault_extent) : o->length;
+    return n < lent_out.length ? n : lent_out.length;
+}
+
+static query take_query(void) {
+    query q;
+    q.call = (uint8_t)take_number(1);
+    q.in_noise = (uint8_t)take_number(1);
+    q.salt = (uint8_t)take_number(1);
+    q.volume = take_volume();
+    q.icb = take_icb();
+    q.room = (uint32_t)take_number(4);
+    q.work = (uint32_t)take_number(4);
+    q.path_length = (uint32_t)take_number(4);
+    grow(&path, q.path_length + 1);
+    take_all(&path, q.path_length);
+    q.kept = (uint32_t)take_number(4);
+    take_all(&kept, (size_t)q.kept * 4);
+    return q;
+}
+
+static void answer(void) {
+    query q = take_query();
+    uint8_t *out = lend(&lent_out, q.call == EXTENTS ? q.room * sizeof(vault_extent) : q.room, q.salt);
+    uint8_t *work = lend(&lent_work, q.work, q.salt);
+    if (q.in_noise) keep(true);
+    outcome o = call(&q, q.in_noise ? noise.at : image.at, image.length, out, work);
+    if (q.in_noise) keep(false);
+    size_t n = written(&q, &o);
+
+    give_number(o.answer, 8);
+    give_number(o.count, 8);
+    give_number(o.length, 8);
+    give_number(o.place, 8);
+    give_volume(o.volume);
+    give_icb(o.icb);
+    give_number(state(&q, n), 1);
+    give_number(n, 4);
+    give(out, n);
+}
+
+static uint64_t now(void) {
+    struct timespec t;
+    clock_gettime(1, &t);
+    return (uint64_t)t.seconds * 1000000000 + (uint64_t)t.nanoseconds;
+}
+
+/* The memory is lent once, so that it is warm from the second time on. */
+static void time_query(void) {
+    uint32_t times = (uint32_t)take_number(4);
+    query q = take_query();
+    uint8_t *out = lend(&lent_out, q.call == EXTENTS ? q.room * sizeof(vault_extent) : q.room, q.salt);
+    uint8_t *work = lend(&lent_work, q.work, q.salt);
+    call(&q, image.at, image.length, out, work);
+    uint64_t began = now();
+    for (uint32_t i = 0; i < times; i++) call(&q, image.at, image.length, out, work);
+    give_number(now() - began, 8);
+}
+
+int main(void) {
+    uint8_t what;
+    while (take(&what, 1)) {
+        switch (what) {
+        case 'I': load_image(); break;
+        case 'Q': answer(); break;
+        case 'T': time_query(); break;
+        case 'F': flush(); break;
+        default: return 6;
+        }
+    }
+    return 0;
+}

@@ -1,0 +1,22 @@
+//! Holds the archive of vault_c to the original that it was made from.
+//!
+//!     compare [--seconds N] [--seed S] [--port]
+//!
+//! Ends with 0 if all was the same, 1 at a mismatch, 2 if it was called wrongly, 3 where the original isn't there.
+
+#[cfg(original)]
+include!(concat!(env!("OUT_DIR"), "/original.rs"));
+
+#[cfg(original)]
+mod run;
+
+#[cfg(original)]
+fn main() {
+    run::main();
+}
+
+#[cfg(not(original))]
+fn main() {
+    eprintln!("compare: the original is not in {} (UDF_ORIGINAL names its folder)", env!("ORIGINAL_FOLDER"));
+    std::process::exit(3);
+}

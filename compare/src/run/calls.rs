@@ -1,0 +1,143 @@
+//! The calls of include/vault.h: what is asked, and what was answered.
+
+#[derive(Clone, Copy, PartialEq, Eq, Debug, PartialOrd, Ord)]
+#[repr(u8)]
+pub enum Call {
+    Probe,
+    Open,
+    Label,
+    Lookup,
+    Failed,
+    List,
+    Read,
+    Part,
+    Extents,
+    ReadPath,
+}
+
+impl Call {
+    pub const ALL: [Call; 10] = [
+        Call::Probe,
+        Call::Open,
+        Call::Label,
+        Call::Lookup,
+        Call::Failed,
+        Call::List,
+        Call::Read,
+        Call::Part,
+        Call::Extents,
+        Call::ReadPath,
+    ];
+
+    pub fn name(self) -> &'static str {
+        ["probe", "open", "label", "lookup", "failed", "list", "read", "part", "extents", "read_path"][self as usize]
+    }
+
+    pub fn has_work(self) -> bool {
+        matches!(self, Call::Lookup | Call::Failed | Call::List | Call::ReadPath)
+    }
+
+    pub fn has_room(self) -> bool {
+        matches!(self, Call::Label | Call::List | Call::Read | Call::Extents | Call::ReadPath)
+    }
+}
+
+/// A long_ad.
+#[derive(Clone, Copy, PartialEq, Eq, Debug, Default)]
+pub struct Icb {
+    pub length: u32,
+    pub extent_type: u8,
+    pub block: u32,
+    pub partition: u16,
+    pub implementation_use: [u8; 6],
+}
+
+impl Icb {
+    /// The usual ICB: one block.
+    pub fn at(block: u32, partition: u16) -> Icb {
+        Icb { length: 2048, block, partition, ..Icb::default() }
+    }
+
+    pub fn recorded(&self) -> [u8; 16] {
+        let mut b = [0; 16];
+        let raw = self.length & 0x3fff_ffff | (self.extent_type as u32) << 30;
+        b[0..4].copy_from_slice(&raw.to_le_bytes());
+        b[4..8].copy_from_slice(&self.block.to_le_bytes());
+        b[8..10].copy_from_slice(&self.partition.to_le_bytes());
+        b[10..16].copy_from_slice(&self.implementation_use);
+        b
+    }
+}
+
+#[derive(Clone, Copy, PartialEq, Eq, Debug, Default)]
+pub struct Volume {
+    pub start: u32,
+    pub partition: u16,
+    pub root: Icb,
+    pub label: [u8; 32],
+}
+
+/// What is asked of an image. Room counts bytes, and slots for the extent list.
+#[derive(Clone, Debug)]
+pub struct Query {
+    pub call: Call,
+    pub volume: Volume,
+    pub icb: Icb,
+    pub path: Vec<u8>,
+    pub room: usize,
+    pub work: usize,
+}
+
+/// Memory to spare: more than any answer has.
+pub const PLENTY: usize = usize::MAX;
+
+impl Query {
+    pub fn of(call: Call, volume: Volume) -> Query {
+        Query { call, volume, icb: Icb::default(), path: Vec::new(), room: PLENTY, work: PLENTY }
+    }
+
+    pub fn on(call: Call, volume: Volume, icb: Icb) -> Query {
+        Query { icb, ..Query::of(call, volume) }
+    }
+
+    pub fn along(call: Call, volume: Volume, path: &[u8]) -> Query {
+        Query { path: path.to_vec(), ..Query::of(call, volume) }
+    }
+
+    pub fn with(&self, room: usize, work: usize) -> Query {
+        Query { room, work, ..self.clone() }
+    }
+}
+
+/// The values of an answer. A call has zeros in those that it doesn't give.
+#[derive(Clone, PartialEq, Eq, Debug, Default)]
+pub struct Values {
+    pub answer: u64,
+    pub count: u64,
+    pub length: u64,
+    pub place: u64,
+    pub volume: Volume,
+    pub icb: Icb,
+    /// The front of the lent output.
+    pub written: Vec<u8>,
+}
+
+/// What held of the lent memory: the guards of the output, its bytes behind the answer, the guards of the work space, the work space
+/// all zero (or as it came, where the call has none).
+pub const HELD: u8 = 15;
+
+#[derive(Clone, Debug, Default)]
+pub struct Given {
+    pub values: Values,
+    pub held: u8,
+}
+
+/// An extent as a slot has it.
+pub fn slot(length: u32, extent_type: u8, block: u32, partition: Option<u16>) -> [u8; 16] {
+    let mut b = [0; 16];
+    b[0..4].copy_from_slice(&length.to_le_bytes());
+    b[4] = extent_type;
+    b[8..12].copy_from_slice(&block.to_le_bytes());
+    b[12..16].copy_from_slice(&partition.map_or(65536, u32::from).to_le_bytes());
+    b
+}

@@ -1,0 +1,270 @@
+//! The archive linked in: the calls of include/vault.h, with lent memory as port.c lends it.
+
+use super::calls::{Call, Given, Icb, Query, Values, Volume};
+use super::ours::{Ask, Noise, Ours, Timed};
+use super::random::Random;
+use std::hint::black_box;
+use std::time::Instant;
+
+#[repr(C)]
+#[derive(Clone, Copy)]
+struct LbAddr {
+    block: u32,
+    partition: u16,
+}
+
+#[repr(C)]
+#[derive(Clone, Copy)]
+struct LongAd {
+    length: u32,
+    extent_type: u8,
+    location: LbAddr,
+    implementation_use: [u8; 6],
+}
+
+#[repr(C)]
+#[derive(Clone, Copy)]
+struct CVolume {
+    start: u32,
+    partition: u16,
+    root: LongAd,
+    label: [u8; 32],
+}
+
+#[repr(C)]
+struct Opened {
+    answer: u64,
+    count: u64,
+    volume: CVolume,
+}
+
+#[repr(C)]
+struct Found {
+    answer: u64,
+    count: u64,
+    icb: LongAd,
+}
+
+#[repr(C)]
+#[derive(Default)]
+struct Reply {
+    answer: u64,
+    count: u64,
+    length: u64,
+}
+
+type Bytes = *const u8;
+type Lent = *mut u8;
+
+unsafe extern "C" {
+    fn vault_probe(image: Bytes, n: usize) -> bool;
+    fn vault_open(image: Bytes, n: usize) -> Opened;
+    fn vault_label(image: Bytes, n: usize, out: Lent, room: usize) -> Reply;
+    fn vault_lookup(v: CVolume, image: Bytes, n: usize, path: Bytes, m: usize, work: Lent, w: usize) -> Found;
+    fn vault_failed(v: CVolume, image: Bytes, n: usize, path: Bytes, m: usize, work: Lent, w: usize, at: *mut usize) -> Reply;
+    fn vault_list(v: CVolume, image: Bytes, n: usize, icb: LongAd, out: Lent, room: usize, work: Lent, w: usize) -> Reply;
+    fn vault_read(v: CVolume, image: Bytes, n: usize, icb: LongAd, out: Lent, room: usize) -> Reply;
+    fn vault_part(v: CVolume, image: Bytes, n: usize, icb: LongAd, at: *mut usize) -> Reply;
+    fn vault_extents(v: CVolume, image: Bytes, n: usize, icb: LongAd, row: *mut [u32; 4], slots: usize) -> Reply;
+    fn vault_read_path(v: CVolume, image: Bytes, n: usize, path: Bytes, m: usize, out: Lent, room: usize, work: Lent, w: usize) -> Reply;
+}
+
+impl From<Icb> for LongAd {
+    fn from(i: Icb) -> LongAd {
+        LongAd {
+            length: i.length,
+            extent_type: i.extent_type,
+            location: LbAddr { block: i.block, partition: i.partition },
+            implementation_use: i.implementation_use,
+        }
+    }
+}
+
+impl From<LongAd> for Icb {
+    fn from(l: LongAd) -> Icb {
+        Icb {
+            length: l.length,
+            extent_type: l.extent_type,
+            block: l.location.block,
+            partition: l.location.partition,
+            implementation_use: l.implementation_use,
+        }
+    }
+}
+
+const GUARD: usize = 64;
+
+fn pattern(i: usize, salt: u8) -> u8 {
+    ((i * 131 + (i >> 8)) as u8).wrapping_add(salt) | 1
+}
+
+/// A buffer to be lent, full of the pattern, with guards in front and behind. Numbers of 32 bits may be stored in it.
+struct Lending {
+    store: Vec<u32>,
+    length: usize,
+    salt: u8,
+}
+
+impl Lending {
+    fn new(length: usize, salt: u8) -> Lending {
+        let mut l = Lending { store: vec![0; (length + 2 * GUARD).div_ceil(4)], length, salt };
+        let n = length + 2 * GUARD;
+        l.bytes()[..n].iter_mut().enumerate().for_each(|(i, b)| *b = pattern(i, salt));
+        l
+    }
+
+    fn bytes(&mut self) -> &mut [u8] {
+        let n = self.store.len() * 4;
+        // A number is four bytes, and bytes need no alignment.
+        unsafe { std::slice::from_raw_parts_mut(self.store.as_mut_ptr().cast(), n) }
+    }
+
+    fn lent(&mut self) -> Lent {
+        self.bytes()[GUARD..].as_mut_ptr()
+    }
+
+    fn as_it_came(&mut self, from: usize, end: usize) -> bool {
+        let salt = self.salt;
+        (from..end).all(|i| self.bytes()[i] == pattern(i, salt))
+    }
+
+    fn guarded(&mut self) -> bool {
+        let end = GUARD + self.length;
+        self.as_it_came(0, GUARD) && self.as_it_came(end, end + GUARD)
+    }
+}
+
+/// The image, and the same with noise in place of what a call must not look at.
+pub struct Direct {
+    image: Vec<u8>,
+    noise: Vec<u8>,
+    kind: Noise,
+}
+
+impl Direct {
+    pub fn new() -> Direct {
+        Direct { image: Vec::new(), noise: Vec::new(), kind: Noise::Random(0) }
+    }
+
+    fn sector(&self, s: usize) -> std::ops::Range<usize> {
+        s * 2048..(s * 2048 + 2048).min(self.image.len())
+    }
+
+    fn make_noise(&mut self, s: usize) {
+        let to = self.sector(s);
+        match self.kind {
+            Noise::Random(seed) => {
+                let bytes = Random::new((seed as u64) << 32 | s as u64).bytes(to.len());
+                self.noise[to].copy_from_slice(&bytes);
+            }
+            Noise::Shifted(by) => {
+                let sectors = self.image.len().div_ceil(2048);
+                let other = (s + by as usize % sectors) % sectors * 2048;
+                let other = if self.image.len() - other < to.len() { 0 } else { other };
+                let n = to.len();
+                self.noise[to].copy_from_slice(&self.image[other..other + n]);
+            }
+        }
+    }
+
+    fn answer(&mut self, ask: &Ask) -> Given {
+        let kept: Vec<usize> =
+            ask.kept.unwrap_or(&[]).iter().map(|s| *s as usize).filter(|s| s.saturating_mul(2048) < self.image.len()).collect();
+        for s in &kept {
+            let at = self.sector(*s);
+            self.noise[at.clone()].copy_from_slice(&self.image[at]);
+        }
+        let disc = if ask.kept.is_some() { &self.noise } else { &self.image };
+        let given = call(ask.query, disc, ask.salt);
+        for s in kept {
+            self.make_noise(s);
+        }
+        given
+    }
+}
+
+impl Ours for Direct {
+    fn load(&mut self, image: &[u8], noise: Noise) {
+        self.image = image.to_vec();
+        self.noise = image.to_vec();
+        self.kind = noise;
+        for s in 0..image.len().div_ceil(2048) {
+            self.make_noise(s);
+        }
+    }
+
+    fn answers(&mut self, asks: &[Ask]) -> std::io::Result<Vec<Given>> {
+        Ok(asks.iter().map(|a| self.answer(a)).collect())
+    }
+
+    fn time(&mut self, timed: Timed, times: u32) -> std::io::Result<u64> {
+        let (room, work) = match timed {
+            Timed::Query(q) => (if q.call == Call::Extents { q.room * 16 } else { q.room }, q.work),
+            Timed::Copy(n) => (n, 0),
+        };
+        let (mut out, mut work) = (Lending::new(room, 0), Lending::new(work, 0));
+        let mut once = || match timed {
+            Timed::Query(q) => black_box(make(q, &self.image, out.lent(), work.lent())).answer,
+            Timed::Copy(n) => {
+                black_box(&mut out.bytes()[..n]).copy_from_slice(&self.image[..n]);
+                0
+            }
+        };
+        once();
+        let began = Instant::now();
+        for _ in 0..times {
+            once();
+        }
+        Ok(began.elapsed().as_nanos() as u64)
+    }
+}
+
+/// One call, and what held of the memory that was lent for it.
+fn call(q: &Query, disc: &[u8], salt: u8) -> Given {
+    let bytes = if q.call == Call::Extents { q.room * 16 } else { q.room };
+    let mut out = Lending::new(if q.call.has_room() { bytes } else { 0 }, salt);
+    let mut work = Lending::new(if q.call.has_work() { q.work } else { 0 }, salt);
+    let mut values = make(q, disc, out.lent(), work.lent());
+    let gives = q.call.has_room() && values.answer == 0;
+    let said = if q.call == Call::Extents { values.length.saturating_mul(16) } else { values.length };
+    let n = if gives { (said as usize).min(out.length) } else { 0 };
+    values.written = out.bytes()[GUARD..GUARD + n].to_vec();
+    let mut held = 0;
+    held |= out.guarded() as u8;
+    held |= (out.as_it_came(GUARD + n, GUARD + out.length) as u8) << 1;
+    held |= (work.guarded() as u8) << 2;
+    let end = GUARD + work.length;
+    held |= (work.bytes()[GUARD..end].iter().all(|b| *b == 0) as u8) << 3;
+    Given { values, held }
+}
+
+fn make(q: &Query, disc: &[u8], out: Lent, work: Lent) -> Values {
+    let v = CVolume { start: q.volume.start, partition: q.volume.partition, root: q.volume.root.into(), label: q.volume.label };
+    let (d, n, p, m) = (disc.as_ptr(), disc.len(), q.path.as_ptr(), q.path.len());
+    let (icb, mut place, mut values) = (LongAd::from(q.icb), 0usize, Values::default());
+    // The header's word: lent pieces are as long as said, and don't overlap.
+    let reply = unsafe {
+        match q.call {
+            Call::Probe => Reply { answer: vault_probe(d, n) as u64, ..Reply::default() },
+            Call::Open => {
+                let o = vault_open(d, n);
+                let root = o.volume.root.into();
+                values.volume = Volume { start: o.volume.start, partition: o.volume.partition, root, label: o.volume.label };
+                Reply { answer: o.answer, count: o.count, length: 0 }
+            }
+            Call::Label => vault_label(d, n, out, q.room),
+            Call::Lookup => {
+                let f = vault_lookup(v, d, n, p, m, work, q.work);
+                values.icb = f.icb.into();
+                Reply { answer: f.answer, count: f.count, length: 0 }
+            }
+            Call::Failed => vault_failed(v, d, n, p, m, work, q.work, &mut place),
+            Call::List => vault_list(v, d, n, icb, out, q.room, work, q.work),
+            Call::Read => vault_read(v, d, n, icb, out, q.room),
+            Call::Part => vault_part(v, d, n, icb, &mut place),
+            Call::Extents => vault_extents(v, d, n, icb, out.cast(), q.room),
+            Call::ReadPath => vault_read_path(v, d, n, p, m, out, q.room, work, q.work),
+        }
+    };
+    Values { answer: reply.answer, count: reply.count, length: reply.length, place: place as u64, ..values }
+}

@@ -1,0 +1,272 @@
+//! What a query must be answered with: the original's answer, with the refusals that lent memory adds.
+
+use super::calls::{Call, Icb, Query, Values, slot};
+use super::original::{self, Came, Original, icb};
+
+/// The answer, and what it took.
+pub struct Expected {
+    pub values: Values,
+    /// The sectors that the original asked for, in order, as far as the answer goes.
+    pub sectors: Vec<u64>,
+    /// The bytes of each directory that was read without a refusal of the original.
+    pub directories: Vec<usize>,
+    /// How much of the output the answer takes: bytes, or slots; 0 where the original refuses.
+    pub full: usize,
+    /// The original would ask for absurd memory, and was asked with the information length lowered.
+    pub absurd: bool,
+    /// An empty part of an embedded file has no place worth comparing.
+    pub any_place: bool,
+}
+
+impl Expected {
+    fn new(answer: u64, sectors: Vec<u64>) -> Expected {
+        let values = Values { answer, count: sectors.len() as u64, ..Values::default() };
+        Expected { values, sectors, directories: Vec::new(), full: 0, absurd: false, any_place: false }
+    }
+
+    /// An answer of bytes, which are refused where they don't fit.
+    fn bytes(mut self, bytes: Vec<u8>, slots: usize, room: usize, refusal: u64) -> Expected {
+        self.full = slots;
+        if slots > room {
+            self.values.answer = refusal;
+        } else {
+            self.values.length = slots as u64;
+            self.values.written = bytes;
+        }
+        self
+    }
+}
+
+pub fn expected(image: &[u8], q: &Query) -> Expected {
+    match q.call {
+        Call::Probe => Expected::new(original::probe(image) as u64, Vec::new()),
+        Call::Open => opening(image),
+        Call::Label => labelling(image, q),
+        Call::Lookup | Call::Failed => looking_up(image, q),
+        Call::ReadPath => reading_path(image, q),
+        Call::List => listing(image, q),
+        Call::Read => reading(image, q),
+        Call::Part => parting(image, q),
+        Call::Extents => extending(image, q),
+    }
+}
+
+fn opening(image: &[u8]) -> Expected {
+    let came = original::open(image);
+    match came.value {
+        Err(n) => Expected::new(n, came.asked),
+        Ok((volume, _)) => {
+            let mut e = Expected::new(0, came.asked);
+            e.values.volume = volume;
+            e
+        }
+    }
+}
+
+fn labelling(image: &[u8], q: &Query) -> Expected {
+    let came = original::open(image);
+    match came.value {
+        Err(n) => Expected::new(n, came.asked),
+        Ok((_, name)) => Expected::new(0, came.asked).bytes(name.clone().into_bytes(), name.len(), q.room, 5),
+    }
+}
+
+fn reading(image: &[u8], q: &Query) -> Expected {
+    let mut o = Original::new(image, q.volume);
+    let came = o.read(q.icb);
+    let mut e = match came.value {
+        Err(n) => Expected::new(n, came.asked),
+        Ok(b) => Expected::new(0, came.asked).bytes(b.clone(), b.len(), q.room, 5),
+    };
+    e.absurd = o.absurd;
+    e
+}
+
+fn listing(image: &[u8], q: &Query) -> Expected {
+    let mut o = Original::new(image, q.volume);
+    let read = o.read(q.icb);
+    let listed = o.list(q.icb);
+    let mut e = match (read.value, listed.value) {
+        (Err(n), _) => Expected::new(n, read.asked),
+        (Ok(b), _) if b.len() > q.work => sized(Expected::new(6, read.asked), b.len()),
+        (Ok(b), Err(n)) => sized(Expected::new(n, read.asked), b.len()),
+        (Ok(b), Ok(entries)) => {
+            let mut all = Vec::new();
+            for entry in entries {
+                all.extend([0x44, 0x45, entry.is_directory as u8]);
+                all.extend(icb(entry.icb).recorded());
+                // No name reaches 65,536 bytes: a name is recorded in 255 at most. So refusal 8 is never seen.
+                all.extend((entry.name.len() as u16).to_le_bytes());
+                all.extend(entry.name.as_bytes());
+            }
+            let n = all.len();
+            sized(Expected::new(0, read.asked).bytes(all, n, q.room, 5), b.len())
+        }
+    };
+    e.absurd = o.absurd;
+    e
+}
+
+fn sized(mut e: Expected, directory: usize) -> Expected {
+    e.directories.push(directory);
+    e
+}
+
+fn parting(image: &[u8], q: &Query) -> Expected {
+    let came = Original::new(image, q.volume).entry(q.icb);
+    match came.value {
+        Err(n) => Expected::new(n, came.asked),
+        Ok(entry) => {
+            let sector = came.asked[0];
+            let mut e = Expected::new(0, came.asked);
+            if let Some((at, length)) = Original::embedded(&entry) {
+                e.values.length = length as u64;
+                e.values.place = sector * 2048 + at as u64;
+                e.any_place = length == 0;
+            }
+            e
+        }
+    }
+}
+
+fn extending(image: &[u8], q: &Query) -> Expected {
+    let came = Original::new(image, q.volume).entry(q.icb);
+    match came.value {
+        Err(n) => Expected::new(n, came.asked),
+        Ok(entry) => {
+            let extents = Original::extents(&entry);
+            let rows = extents.iter().flat_map(|x| slot(x.length, x.extent_type, x.block, x.partition_ref)).collect();
+            Expected::new(0, came.asked).bytes(rows, extents.len(), q.room, 7)
+        }
+    }
+}
+
+/// A path cut at slashes: where each component that isn't empty stands.
+fn components(path: &[u8]) -> Vec<(usize, usize)> {
+    let mut found = Vec::new();
+    let mut from = 0;
+    for part in path.split(|b| *b == b'/') {
+        if !part.is_empty() {
+            found.push((from, part.len()));
+        }
+        from += part.len() + 1;
+    }
+    found
+}
+
+/// A component as the original can be asked for it. One that isn't UTF-8 names nothing, and so does this: names have 16 bits.
+fn spoken(component: &[u8]) -> &str {
+    std::str::from_utf8(component).unwrap_or("\u{10ffff}")
+}
+
+struct Walk {
+    answer: u64,
+    asked: Vec<u64>,
+    icb: Icb,
+    /// The component that isn't there: where it stands in the path, and its length.
+    lost: Option<(usize, usize)>,
+    directories: Vec<usize>,
+}
+
+impl Walk {
+    fn refused(self, answer: u64) -> Walk {
+        Walk { answer, ..self }
+    }
+
+    fn lost(self, component: (usize, usize)) -> Walk {
+        Walk { answer: 3, lost: Some(component), ..self }
+    }
+}
+
+/// A lookup, a component at a time, by the original's reading and listing of each directory.
+fn walk(o: &mut Original, q: &Query) -> Walk {
+    let mut w = Walk { answer: 0, asked: Vec::new(), icb: q.volume.root, lost: None, directories: Vec::new() };
+    let mut is_directory = true;
+    for (from, length) in components(&q.path) {
+        if !is_directory {
+            return w.lost((from, length));
+        }
+        let read = o.read(w.icb);
+        w.asked.extend(read.asked);
+        let size = match read.value {
+            Err(n) => return w.refused(n),
+            Ok(bytes) => bytes.len(),
+        };
+        w.directories.push(size);
+        if size > q.work {
+            return w.refused(6);
+        }
+        let entries = match o.list(w.icb).value {
+            Err(n) => return w.refused(n),
+            Ok(entries) => entries,
+        };
+        let name = spoken(&q.path[from..from + length]);
+        let Some(entry) = entries.iter().find(|e| e.name.eq_ignore_ascii_case(name)) else {
+            return w.lost((from, length));
+        };
+        w.icb = icb(entry.icb);
+        is_directory = entry.is_directory;
+    }
+    w
+}
+
+/// The path as the original can be asked for it.
+fn spoken_path(path: &[u8]) -> String {
+    let parts: Vec<&str> = path.split(|b| *b == b'/').map(spoken).collect();
+    parts.join("/")
+}
+
+/// The walk has to be the original's own lookup, where there is work space enough and nothing absurd.
+fn agree<T: PartialEq + std::fmt::Debug>(walked: (u64, &[u64], Option<&T>), own: &Came<T>) {
+    let came = (own.value.as_ref().err().copied().unwrap_or(0), own.asked.as_slice(), own.value.as_ref().ok());
+    assert!(walked == came, "the walk by components is not the original's own: {walked:?} and {came:?}");
+}
+
+fn looking_up(image: &[u8], q: &Query) -> Expected {
+    let mut o = Original::new(image, q.volume);
+    let w = walk(&mut o, q);
+    let (absurd, fits) = (o.absurd, w.answer != 6);
+    if !absurd && fits {
+        let own = o.lookup(&spoken_path(&q.path));
+        agree((w.answer, &w.asked, (w.answer == 0).then_some(&w.icb)), &own);
+    }
+    let mut e = Expected::new(w.answer, w.asked);
+    match (q.call, w.lost) {
+        (Call::Failed, Some((from, length))) => {
+            e.values.place = from as u64;
+            e.values.length = length as u64;
+        }
+        (Call::Lookup, _) if w.answer == 0 => e.values.icb = w.icb,
+        _ => {}
+    }
+    e.directories = w.directories;
+    e.absurd = absurd;
+    e
+}
+
+fn reading_path(image: &[u8], q: &Query) -> Expected {
+    let mut o = Original::new(image, q.volume);
+    let w = walk(&mut o, q);
+    let (mut answer, mut asked, mut bytes) = (w.answer, w.asked, None);
+    if answer == 0 {
+        let read = o.read(w.icb);
+        asked.extend(read.asked);
+        match read.value {
+            Err(n) => answer = n,
+            Ok(b) => bytes = Some(b),
+        }
+    }
+    let absurd = o.absurd;
+    if !absurd && answer != 6 {
+        let own = o.read_path(&spoken_path(&q.path));
+        agree((answer, &asked, bytes.as_ref()), &own);
+    }
+    let mut e = Expected::new(answer, asked);
+    if let Some(b) = bytes {
+        let n = b.len();
+        e = e.bytes(b, n, q.room, 5);
+    }
+    e.directories = w.directories;
+    e.absurd = absurd;
+    e
+}

@@ -1,0 +1,102 @@
+//! The program, where the original is there.
+
+mod aborts;
+mod bench;
+mod calls;
+mod compare;
+mod damage;
+#[cfg(linked)]
+mod direct;
+mod disc;
+mod expect;
+mod list;
+mod original;
+mod ours;
+mod port;
+mod queries;
+mod random;
+mod records;
+mod shapes_directories;
+mod shapes_files;
+mod shapes_opening;
+mod sparse;
+mod tally;
+mod volumes;
+mod wire;
+
+use ours::Way;
+use std::path::Path;
+use std::process::exit;
+
+const USAGE: &str = "usage: compare [--seconds N] [--seed S] [--first] [--port | --port=PROGRAM]
+       compare --bench [--port | --port=PROGRAM]
+       compare --list FOLDER";
+
+fn usage() -> ! {
+    eprintln!("{USAGE}");
+    exit(2);
+}
+
+/// What is to be done.
+#[derive(Default)]
+struct Options {
+    seconds: Option<u64>,
+    seed: Option<u64>,
+    /// The first mismatch is enough.
+    first: bool,
+    port: bool,
+    program: Option<String>,
+    bench: bool,
+    list: Option<String>,
+    child: bool,
+}
+
+fn options() -> Options {
+    let mut o = Options::default();
+    let mut words = std::env::args().skip(1);
+    while let Some(word) = words.next() {
+        let mut next = || words.next().unwrap_or_else(|| usage());
+        let number = |word: String| Some(word.parse().unwrap_or_else(|_| usage()));
+        match word.as_str() {
+            "--seconds" => o.seconds = number(next()),
+            "--seed" => o.seed = number(next()),
+            "--first" => o.first = true,
+            "--port" => o.port = true,
+            "--bench" => o.bench = true,
+            "--list" => o.list = Some(next()),
+            "--original-child" => o.child = true,
+            _ => o.program = Some(word.strip_prefix("--port=").unwrap_or_else(|| usage()).to_string()),
+        }
+    }
+    o
+}
+
+pub fn main() {
+    let o = options();
+    if o.child {
+        return aborts::child().expect("the request is whole");
+    }
+    if let Some(folder) = o.list {
+        return list::write(Path::new(&folder)).expect("the list is written");
+    }
+    let way = match &o.program {
+        Some(program) => Way::Program(program),
+        None if o.port => Way::Port,
+        None => Way::Best,
+    };
+    if o.bench {
+        let emulated = std::env::consts::ARCH != "x86_64" && o.program.is_none();
+        return bench::run(ours::ours(way).as_mut(), emulated).expect("our side answers");
+    }
+    let (seconds, seed) = (o.seconds.unwrap_or(60), o.seed.unwrap_or(1));
+    let enough = if o.first { 1 } else { 8 };
+    let mut comparison = compare::Comparison { ours: ours::ours(way), seed, enough, tally: tally::Tally::new() };
+    comparison.run(seconds);
+    let tally = &comparison.tally;
+    println!("{tally}, seed {seed}");
+    let unreached = compare::unreached(tally);
+    if !unreached.is_empty() {
+        println!("never answered: {}", unreached.join(", "));
+    }
+    exit(if tally.mismatches > 0 { 1 } else { 0 });
+}

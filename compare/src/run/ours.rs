@@ -1,0 +1,55 @@
+//! Our side: the archive, behind whichever way there is to call it.
+
+use super::calls::{Given, Query};
+
+/// What stands in the sectors that a call must not look at.
+#[derive(Clone, Copy)]
+pub enum Noise {
+    /// Bytes at random.
+    Random(u32),
+    /// The sector so many behind it, which looks like something.
+    Shifted(u32),
+}
+
+pub struct Ask<'q> {
+    pub query: &'q Query,
+    /// The sectors that the image keeps; every other is noise. Nothing: the image as it is.
+    pub kept: Option<&'q [u64]>,
+    /// Tells the pattern that lent memory comes full of.
+    pub salt: u8,
+}
+
+#[derive(Clone, Copy)]
+pub enum Timed<'q> {
+    Query(&'q Query),
+    Copy(usize),
+}
+
+pub trait Ours {
+    /// The image that is asked about from now on.
+    fn load(&mut self, image: &[u8], noise: Noise);
+
+    /// The answers, in order; an error where our side stopped without them.
+    fn answers(&mut self, asks: &[Ask]) -> std::io::Result<Vec<Given>>;
+
+    /// The nanoseconds that a query takes, so many times over, with memory that is warm; with no query, a copy of so many bytes.
+    fn time(&mut self, timed: Timed, times: u32) -> std::io::Result<u64>;
+}
+
+/// How our side is called.
+pub enum Way<'a> {
+    /// The archive linked in, or the port where it can't be.
+    Best,
+    Port,
+    /// Another port, a program of this machine.
+    Program(&'a str),
+}
+
+pub fn ours(way: Way) -> Box<dyn Ours> {
+    match way {
+        #[cfg(linked)]
+        Way::Best => Box::new(super::direct::Direct::new()),
+        Way::Program(program) => Box::new(super::port::Port::start(Some(program))),
+        _ => Box::new(super::port::Port::start(None)),
+    }
+}

@@ -1,0 +1,73 @@
+//! What was compared, by call and answer number.
+
+use super::calls::Call;
+use std::collections::BTreeMap;
+use std::fmt;
+use std::time::Instant;
+
+pub struct Tally {
+    began: Instant,
+    said: u64,
+    pub images: u64,
+    pub asked: BTreeMap<(Call, u64), u64>,
+    pub in_noise: u64,
+    pub mismatches: u64,
+    /// Our side came to an end by itself.
+    pub stopped: bool,
+    pub absurd: u64,
+    /// What became of the original where it was asked for absurd memory, in a process of its own.
+    pub ends: BTreeMap<String, u64>,
+}
+
+impl Tally {
+    pub fn new() -> Tally {
+        Tally {
+            began: Instant::now(),
+            said: 0,
+            images: 0,
+            asked: BTreeMap::new(),
+            in_noise: 0,
+            mismatches: 0,
+            stopped: false,
+            absurd: 0,
+            ends: BTreeMap::new(),
+        }
+    }
+
+    pub fn seconds(&self) -> u64 {
+        self.began.elapsed().as_secs()
+    }
+
+    pub fn queries(&self) -> u64 {
+        self.asked.values().sum()
+    }
+
+    /// A line now and then, so that whoever waits sees it go on.
+    pub fn progress(&mut self) {
+        let now = self.seconds();
+        if now >= self.said + 5 {
+            self.said = now;
+            eprintln!(
+                "compare: {now} s, {} images, {} queries, {} again in noise, {} mismatches",
+                self.images,
+                self.queries(),
+                self.in_noise,
+                self.mismatches
+            );
+        }
+    }
+}
+
+impl fmt::Display for Tally {
+    fn fmt(&self, f: &mut fmt::Formatter) -> fmt::Result {
+        writeln!(f, "{:10}{}", "call", (0..8).map(|n| format!("{n:>10}")).collect::<String>())?;
+        for call in Call::ALL {
+            let row: String = (0..8).map(|n| format!("{:>10}", self.asked.get(&(call, n)).unwrap_or(&0))).collect();
+            writeln!(f, "{:10}{row}", call.name())?;
+        }
+        writeln!(f, "images {}, queries {}, again in noise {}, seconds {}", self.images, self.queries(), self.in_noise, self.seconds())?;
+        let ends: Vec<String> = self.ends.iter().map(|(k, n)| format!("{n} {k}")).collect();
+        writeln!(f, "absurd information lengths {}; of these the original, in a process of its own: {}", self.absurd, ends.join(", "))?;
+        write!(f, "mismatches {}", self.mismatches)
+    }
+}
