@@ -4,12 +4,12 @@
 #![allow(clippy::missing_safety_doc)]
 
 use directories::lists::list_directory;
-use directories::lookups::{failed, lookup, read_path};
+use directories::lookups::{failed_at, lookup, read_path};
 use disc::refusals::Refusal;
 use disc::replies::Reply;
 use files::reads::read_file;
 use layouts::lists::file_words;
-use layouts::parts::file_part;
+use layouts::parts::part_at;
 use records::allocations::LongAd;
 use std::slice::{from_raw_parts, from_raw_parts_mut};
 use volumes::openings::open_volume;
@@ -81,12 +81,6 @@ fn reply(r: Reply) -> CReply {
     CReply { answer: r.answer, count: r.count, length: r.length }
 }
 
-/// A part of a lent slice: how long it is, and where it stands.
-fn part(answer: u64, count: u64, part: &[u8], whole: &[u8], at: &mut usize) -> CReply {
-    *at = if part.is_empty() { 0 } else { part.as_ptr() as usize - whole.as_ptr() as usize };
-    CReply { answer, count, length: part.len() as u64 }
-}
-
 #[unsafe(no_mangle)]
 pub unsafe extern "C" fn vault_probe(image: *const u8, n: usize) -> bool {
     volumes::probes::probe(unsafe { from_raw_parts(image, n) })
@@ -124,9 +118,7 @@ pub unsafe extern "C" fn vault_failed(
     at: &mut usize,
 ) -> CReply {
     let (image, path, work) = unsafe { (from_raw_parts(image, n), from_raw_parts(path, m), from_raw_parts_mut(work, w)) };
-    let (mut answer, mut count) = (0, 0);
-    let lost = failed(image, v.start, v.partition, inward(v.root), path, work, &mut answer, &mut count);
-    part(answer, count, lost, path, at)
+    reply(failed_at(image, v.start, v.partition, inward(v.root), path, work, at))
 }
 
 #[unsafe(no_mangle)]
@@ -153,9 +145,7 @@ pub unsafe extern "C" fn vault_read(v: CVolume, image: *const u8, n: usize, icb:
 #[unsafe(no_mangle)]
 pub unsafe extern "C" fn vault_part(v: CVolume, image: *const u8, n: usize, icb: CLongAd, at: &mut usize) -> CReply {
     let image = unsafe { from_raw_parts(image, n) };
-    let (mut answer, mut count) = (0, 0);
-    let here = file_part(image, v.start, v.partition, inward(icb), &mut answer, &mut count);
-    part(answer, count, here, image, at)
+    reply(part_at(image, v.start, v.partition, inward(icb), at))
 }
 
 #[unsafe(no_mangle)]

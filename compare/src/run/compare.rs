@@ -145,15 +145,11 @@ impl Comparison {
 
 /// What differs, if anything.
 fn difference(e: &Expected, given: &Given) -> Option<String> {
-    let mut want = e.values.clone();
-    if e.any_place && [0, want.place].contains(&given.values.place) {
-        want.place = given.values.place;
-    }
-    let got = &given.values;
+    let (want, got) = (&e.values, &given.values);
     if (want.answer, want.count) != (got.answer, got.count) {
         return Some(format!("answer {} count {}, and not {} {}", got.answer, got.count, want.answer, want.count));
     }
-    if want != *got {
+    if want != got {
         return Some("other values".to_string());
     }
     let names = ["a byte beside the output", "a byte behind the answer", "a byte beside the work space", "work space not zero"];

@@ -14,14 +14,12 @@ pub struct Expected {
     pub full: usize,
     /// The original would ask for absurd memory, and was asked with the information length lowered.
     pub absurd: bool,
-    /// An empty part of an embedded file has no place worth comparing.
-    pub any_place: bool,
 }
 
 impl Expected {
     fn new(answer: u64, sectors: Vec<u64>) -> Expected {
         let values = Values { answer, count: sectors.len() as u64, ..Values::default() };
-        Expected { values, sectors, directories: Vec::new(), full: 0, absurd: false, any_place: false }
+        Expected { values, sectors, directories: Vec::new(), full: 0, absurd: false }
     }
 
     /// An answer of bytes, which are refused where they don't fit.
@@ -122,7 +120,6 @@ fn parting(image: &[u8], q: &Query) -> Expected {
             if let Some((at, length)) = Original::embedded(&entry) {
                 e.values.length = length as u64;
                 e.values.place = sector * 2048 + at as u64;
-                e.any_place = length == 0;
             }
             e
         }
