@@ -1,6 +1,8 @@
 //! Holds the archive of vault_c to the original that it was made from.
 //!
-//!     compare [--seconds N] [--seed S] [--port]
+//!     compare [--seconds N] [--seed S] [--first] [--port | --port=PROGRAM]
+//!     compare --bench [--port]        how long the calls take
+//!     compare --list FOLDER           the list that crates/replay is held to
 //!
 //! Ends with 0 if all was the same, 1 at a mismatch, 2 if it was called wrongly, 3 where the original isn't there.
 

@@ -154,6 +154,17 @@ parted r = record { part = bytesOf (r .outcome); answer = answerOf (r .outcome);
 abbrev pub parts : List ℕ → Volume → LongAd → Parted
 parts image v icb = parted (ran (disc image) (parting v icb))
 
+-- the same by its place in the image: the reply has its length
+pub record PartedPlace : Type 0 where
+  pub reply : Reply
+  pub at : ℕ
+
+abbrev pub partedPlace : Ran (List ℕ) → ℕ → PartedPlace
+partedPlace r at = record { reply = partReply r; at = at }
+
+abbrev pub partsAt : List ℕ → Volume → LongAd → PartedPlace
+partsAt image v icb = partedPlace (ran (disc image) (parting v icb)) (partPlace (disc image) (v .start) icb)
+
 -- ---- the extents of a file in a row; f is what a slot holds of an extent. More extents than slots are refused by 7, after every other refusal
 
 pub record Rowed (A : Type 0) : Type 0 where
@@ -165,14 +176,3 @@ rowed f row r = record { reply = listReply (length row) (reported (r .count)) (r
 
 abbrev pub extents : {A : Type 0} → (AllocExtent → A) → List ℕ → Volume → LongAd → List A → Rowed A
 extents f image v icb row = rowed f row (ran (disc image) (extentListing v icb))
-
--- the same by its place in the image: the reply has its length
-pub record PartedPlace : Type 0 where
-  pub reply : Reply
-  pub at : ℕ
-
-abbrev pub partedPlace : Ran (List ℕ) → ℕ → PartedPlace
-partedPlace r at = record { reply = partReply r; at = at }
-
-abbrev pub partsAt : List ℕ → Volume → LongAd → PartedPlace
-partsAt image v icb = partedPlace (ran (disc image) (parting v icb)) (partPlace (disc image) (v .start) icb)
