@@ -52,7 +52,7 @@ fn refused_by(why: Refusal) -> IdentifierRead
 }
 
 // Where the name starts, behind the implementation use.
-fn name_at(s: &[u8]) -> usize
+pub fn name_at(s: &[u8]) -> usize
     ensures { λ r. ⌜ (r ≡ nameAt (now (s .entry))) × (r < 65574) ⌝ }
 {
     38 + le16(s, 36) as usize

@@ -3,32 +3,33 @@ use mathlib.Core.Path.{_≡_, refl, sym, ap, _∙_}
 use mathlib.Core.Bool.{Bool, true, false, _||_}
 use mathlib.Core.List.{List, [], _∷_, _++_, append-nil, append-assoc}
 use mathlib.Core.Option.{some}
-use Prim.Native.Nat.{ℕ, _+_, _-_, _<_, _≤_, _^_}
+use Prim.Native.Nat.{ℕ, _+_, _-_, _*_, _/_, _%_, _<_, _≤_, _^_}
 use native.Mathlib.Nat.{add-sub-cancel-left, zero-add}
 use native.Mathlib.Omega.{arith}
 use lib.ListN.{length, take, drop, length-append, length-take, length-drop, drop-of-length-le}
-use lib.Seq.{take-all, drop-drop, sets, length-sets, sets-eq}
+use lib.Seq.{take-all, drop-drop, drop-at, length-take-le, sets, length-sets, sets-eq}
 use lib.Dec.{eqb, ltb}
 use mir.Syntax.{w64}
 use mir.Val.{Fits}
-use borrow.Author.Tests.{eq-eqb, ne-eqb}
+use borrow.Author.Tests.{eq-eqb, ne-eqb, eqb-true, eqb-false}
 use borrow.Rule.Slice.PartMut.{midOf, putMid}
 use Rattle.disc.specs.Choice.{pick}
 use Rattle.disc.specs.Moves.{over}
-use Rattle.disc.proofs.MoveLaws.{over-fits, over-long, sets-append, sets-front}
-use Rattle.records.specs.Bytes.{sixteen, le16}
-use Rattle.records.specs.Allocations.{encodeLong}
+use Rattle.disc.proofs.MoveLaws.{over-fits}
+use Rattle.records.specs.Bytes.{byte, u16at, u32at, le16, le32, six}
+use Rattle.records.specs.Allocations.{encodeLong, longOf}
+use Rattle.records.proofs.Numbers.{le16-u16, le32-u32, u32-fits, raw-whole}
 use Rattle.records.specs.declared.allocations.LongAd.{LongAd}
 use Rattle.names.specs.Names.{Wrote, nameOf, written, isNamed}
 use Rattle.names.proofs.BodyLaws.{Bytes}
 use Rattle.identifiers.specs.declared.FileIdentifierDescriptor.{FileIdentifierDescriptor}
 use Rattle.identifiers.specs.declared.IdentifierRead.{IdentifierRead}
-use Rattle.identifiers.specs.Identifiers.{readIdentifier, recordedName, isDeleted, isParent, isDirectory}
+use Rattle.identifiers.specs.Identifiers.{readIdentifier, recordedName, nameAt, nameEnd, nextAt, bit, isDirectory}
 use Rattle.identifiers.specs.Wholes.{Whole}
 use Rattle.identifiers.proofs.IdentifierLaws.{read-identifier}
 use Rattle.listings.specs.Entries.{Entry, entryOf, isGood, isSkipped, nameIn}
 use Rattle.listings.specs.Listings.{recordHead, shown, isLong, answersTo, namedTo}
-use Rattle.listings.specs.Passes.{Good, Parsed, earlierOf}
+use Rattle.listings.specs.Passes.{Good, Parsed, Onward, icbIn, headIn, recordIn, earlierOf}
 use Rattle.listings.specs.declared.finds.Named.{Named}
 
 -- ---- a lent tail
@@ -40,6 +41,16 @@ tail-over a xs v ys h e =
     let l : length v ≤ length (drop a xs) = rw length-drop (omega arith) in
     rw (e, take-all (length xs - a) (drop a xs), over-fits v (drop a xs) l, drop-of-length-le (drop a xs) k, drop-drop)
     (rw (append-nil, ← append-assoc (take a xs) v) (sym (sets-eq v xs a h)))
+
+-- a text whose end was written first, and then its front
+front-over : (v w d : List ℕ) → length v + length w ≤ length d → over v (sets d (length v) w) ≡ over (v ++ w) d
+front-over v w d h =
+    let l : length v ≤ length (sets d (length v) w) = rw length-sets (omega arith) in
+    let k : length (take (length v) d) ≡ length v = length-take-le (length v) d (omega arith) in
+    let m : length (v ++ w) ≤ length d = rw length-append h in
+    over-fits v (sets d (length v) w) l
+    ∙ rw (sets-eq w d (length v) h, append-assoc (take (length v) d) w, drop-at (take (length v) d) (w ++ drop (length v + length w) d) (length v) k)
+    (rw (over-fits (v ++ w) d m, length-append) (sym (append-assoc v w _)))
 
 -- ---- reading
 
@@ -58,20 +69,30 @@ module _ {s : List ℕ} {r : IdentifierRead} where
   unfolding isGood
   bad-read p n = rw (← p .is) (ne-eqb _ _ n)
 
-pub skipped-is : (f : FileIdentifierDescriptor) {a b : Bool} → a ≡ isDeleted f → b ≡ isParent f → (a || b) ≡ isSkipped f
+pub skipped-is : (f : FileIdentifierDescriptor) {b : Bool} → b ≡ (bit 4 (f .«file_characteristics») || bit 8 (f .«file_characteristics»)) → b ≡ isSkipped f
 unfolding isSkipped
-skipped-is f e g = rw (e, g)
+skipped-is f e = e
 
 -- ---- a record's head
-
-pub head-is : (d : Bool) (icb : LongAd) (n : ℕ) {m : ℕ} {b r : List ℕ} → m ≡ pick d 1 0 → b ≡ encodeLong icb
-    → r ≡ 0x44 ∷ 0x45 ∷ m ∷ (sixteen b ++ le16 n) → r ≡ recordHead d icb n
-unfolding recordHead
-head-is d icb n e f g = rw (g, e, f)
 
 head-length : (d : Bool) (icb : LongAd) (n : ℕ) → length (recordHead d icb n) ≡ 21
 unfolding recordHead
 head-length d icb n = refl
+
+-- the ICB as it is recorded is what encoding it gives
+icb-recorded : (s : List ℕ) → Bytes s → encodeLong (longOf s 20) ≡ icbIn s
+icb-recorded s b =
+    let h : (i : ℕ) → byte s i < 256 = λ i. b i .fits in
+    ap (λ (n : ℕ). le32 n ++ le32 (u32at s 24) ++ le16 (u16at s 28) ++ six s 30) (raw-whole (u32at s 20) (u32-fits s h 20))
+    ∙ (λ i. le32-u32 s h 20 i ++ le32-u32 s h 24 i ++ le16-u16 s h 28 i ++ six s 30)
+
+-- a bit is its own byte
+bit-byte : (b : ℕ) → b / 2 % 2 ≡ pick (bit 2 b) 1 0
+bit-byte b = by (bit 2 b) refl
+  where
+    by : (t : Bool) → bit 2 b ≡ t → b / 2 % 2 ≡ pick t 1 0
+    by true e = eqb-true (b / 2 % 2) 1 e
+    by false e = let n : b / 2 % 2 ≡ 1 → ⊥ = eqb-false (b / 2 % 2) 1 e in omega (arith, n)
 
 -- ---- a good entry f at the front of s
 
@@ -121,43 +142,98 @@ module _ {s : List ℕ} {f : FileIdentifierDescriptor} (g : Good s f) where
     unfolding answersTo
     part-named h component k = rw (identifier-is, recorded-is, ← e, h) k
 
-    pub skipped-wrote : b ≡ true → (d : List ℕ) → Wrote (shown (entryOf s)) d d 0
+    skipped-wrote : b ≡ true → (d : List ℕ) → Wrote (shown (entryOf s)) d d 0
     skipped-wrote h d = rw (shown-by, ← e, h) (record { count = refl; bytes = sym (over-fits [] d (omega arith)) })
 
-    module _ (h : b ≡ false) {q : Bool} (k : q ≡ isDirectory f) {hd : List ℕ} (j : hd ≡ recordHead q (f .icb) (f .«name_size»)) where
-      shown-is : shown (entryOf s) ≡ hd ++ written (nameOf (part s f))
-      shown-is = rw (shown-by, ← e, h, j, k, name-is)
+    shown-is : b ≡ false → shown (entryOf s) ≡ recordHead (isDirectory f) (f .icb) (f .«name_size») ++ nameIn (entryOf s)
+    shown-is h = rw (shown-by, ← e, h)
 
-      head-long : length hd ≡ 21
-      head-long = rw j (head-length _ _ _)
+-- ---- a record by an entry's bytes
 
-      shown-long : length (shown (entryOf s)) ≡ 21 + length (written (nameOf (part s f)))
-      shown-long = rw (shown-is, length-append, head-long)
+pub head-is : (directory : ℕ) (s : List ℕ) (n : ℕ) {r : List ℕ} → r ≡ 0x44 ∷ 0x45 ∷ directory ∷ (icbIn s ++ le16 n) → r ≡ headIn directory s n
+unfolding headIn
+head-is directory s n e = e
 
-      module _ (d : List ℕ) {d′ : List ℕ} (room : length (shown (entryOf s)) ≤ length d) (c : d′ ≡ over hd d) where
-        same-long : length d′ ≡ length d
-        same-long = rw c (over-long hd d)
+head-long : (directory : ℕ) (s : List ℕ) (n : ℕ) → length (headIn directory s n) ≡ 21
+unfolding headIn
+head-long directory s n = refl
 
-        pub name-room : 21 ≤ length d′
-        name-room = omega (arith, same-long, shown-long)
+module _ (s name d : List ℕ) (room : 21 + length name ≤ length d) {ys : List ℕ} {w : ℕ} (p : Wrote name (midOf 21 (length d - 21) d) ys w) where
+  pub record-wrote : {m : ℕ} {hd d′ : List ℕ} → m ≡ byte s 18 → hd ≡ headIn (m / 2 % 2) s w → d′ ≡ over hd (putMid 21 (length d - 21) d ys) → Wrote (recordIn s name) d d′ (21 + w)
+  unfolding recordIn
+  record-wrote {m} {hd} k j c =
+      let l = head-long (byte s 18 / 2 % 2) s (length name) in
+      let h : hd ≡ headIn (byte s 18 / 2 % 2) s (length name) = j ∙ rw (k, p .count) in
+      record {
+        count = rw (length-append, l) (ap (λ n. 21 + n) (p .count));
+        bytes =
+            c ∙ rw (h, tail-over 21 d name ys room (p .bytes), ← l)
+            (front-over (headIn (byte s 18 / 2 % 2) s (length name)) name d (omega (arith, room, l)));
+      }
 
-        headed : d′ ≡ sets d 0 hd
-        headed = c ∙ over-fits hd d (omega (arith, head-long, shown-long)) ∙ sym (sets-front hd d (omega (arith, head-long, shown-long)))
+-- ---- an entry that is known to be good
 
-        joined : sets d′ 21 (written (nameOf (part s f))) ≡ sets d 0 (shown (entryOf s))
-        joined = rw (shown-is, sets-append, zero-add, head-long, headed)
+abbrev known : List ℕ → FileIdentifierDescriptor
+known s = readIdentifier s .descriptor
 
-        module _ {ys : List ℕ} {n : ℕ} (w : Wrote (written (nameOf (part s f))) (midOf 21 (length d′ - 21) d′) ys n) where
-          pub wrote-fits : length d < 2 ^ 64 → Fits w64 (21 + n)
-          wrote-fits l = omega (arith, shown-long, w .count)
+module _ (s : List ℕ) (b : Bytes s) (e : isGood s ≡ true) where
+  known-good : Good s (known s)
+  unfolding isGood
+  known-good = parsed-good (parsed-is b refl) (eqb-true _ _ e)
 
-          pub entry-wrote : Wrote (shown (entryOf s)) d (putMid 21 (length d′ - 21) d′ ys) (21 + n)
-          entry-wrote = record {
-            count = omega (arith, shown-long, w .count);
-            bytes =
-                tail-over 21 d′ (written (nameOf (part s f))) ys (omega (arith, same-long, shown-long)) (w .bytes)
-                ∙ joined ∙ sets-front (shown (entryOf s)) d room ∙ sym (over-fits (shown (entryOf s)) d room);
-          }
+  whole : Whole s (known s)
+  whole = known-good .whole
+
+  head-bytes : (name : List ℕ) → length name ≡ known s .«name_size» → recordHead (isDirectory (known s)) (known s .icb) (known s .«name_size») ≡ headIn (byte s 18 / 2 % 2) s (length name)
+  unfolding recordHead headIn
+  head-bytes name z =
+      ap (λ (x : ℕ). 0x44 ∷ 0x45 ∷ pick (bit 2 x) 1 0 ∷ (encodeLong (known s .icb) ++ le16 (known s .«name_size»))) (whole .characteristics)
+      ∙ ap (λ (x : ℕ). 0x44 ∷ 0x45 ∷ x ∷ (encodeLong (known s .icb) ++ le16 (known s .«name_size»))) (sym (bit-byte (byte s 18)))
+      ∙ ap (λ (x : List ℕ). 0x44 ∷ 0x45 ∷ byte s 18 / 2 % 2 ∷ (x ++ le16 (known s .«name_size»))) (ap encodeLong (whole .icb) ∙ icb-recorded s b)
+      ∙ ap (λ (x : ℕ). headIn (byte s 18 / 2 % 2) s x) (sym z)
+
+  pub icb-within : 36 ≤ length s
+  icb-within = omega (arith, whole .head, whole .within)
+
+  -- where its name and the next entry stand
+  module _ {from n : ℕ} (a : from ≡ nameAt s) (l : n ≡ byte s 19) where
+    pub name-within : from + n ≤ length s
+    name-within = omega (arith, whole .within, whole .from, whole .recorded)
+
+    next-is : (from + n + 3) / 4 * 4 ≡ nextAt s
+    unfolding nextAt nameEnd
+    next-is = rw (a, l)
+
+    pub onward : Onward s ((from + n + 3) / 4 * 4)
+    onward = record { is = next-is; least = omega (arith, whole .head, whole .from); near = omega (arith, name-within) }
+
+  -- its marks
+  module _ {m : ℕ} (k : m ≡ byte s 18) {t : Bool} (u : t ≡ (bit 4 m || bit 8 m)) where
+    marked : t ≡ isSkipped (known s)
+    marked = skipped-is (known s) (rw (whole .characteristics, ← k) u)
+
+    pub left-out : t ≡ true → (d : List ℕ) → Wrote (shown (entryOf s)) d d 0
+    left-out h d = skipped-wrote known-good marked h d
+
+    module _ (h : t ≡ false) {from n : ℕ} (a : from ≡ nameAt s) (l : n ≡ byte s 19) where
+      name-there : nameIn (entryOf s) ≡ written (nameOf (take (from + n - from) (drop from s)))
+      unfolding nameIn entryOf recordedName
+      name-there = rw (add-sub-cancel-left, a, l)
+
+      pub shown-record : shown (entryOf s) ≡ recordIn s (written (nameOf (take (from + n - from) (drop from s))))
+      unfolding recordIn
+      shown-record = shown-is known-good marked h ∙ (λ i. head-bytes (nameIn (entryOf s)) (size-is known-good) i ++ nameIn (entryOf s))
+          ∙ ap (λ (x : List ℕ). headIn (byte s 18 / 2 % 2) s (length x) ++ x) name-there
+
+      pub name-room : (d : List ℕ) → length (shown (entryOf s)) ≤ length d → 21 + length (written (nameOf (take (from + n - from) (drop from s)))) ≤ length d
+      unfolding recordIn
+      name-room d room =
+          let name = written (nameOf (take (from + n - from) (drop from s))) in
+          let long : length (shown (entryOf s)) ≡ 21 + length name = rw (shown-record, length-append, head-long) in
+          omega (arith, long)
+
+      pub entry-wrote : {d d′ : List ℕ} {r : ℕ} → Wrote (recordIn s (written (nameOf (take (from + n - from) (drop from s))))) d d′ r → Wrote (shown (entryOf s)) d d′ r
+      entry-wrote w = rw shown-record w
 
 -- ---- what was found already, or this entry
 

@@ -30,7 +30,7 @@ use Rattle.identifiers.specs.Wholes.{Whole}
 use Rattle.listings.specs.Entries.{Entry, Entries, entryOf, isGood, isSkipped, entriesFrom, entries, sound}
 use Rattle.listings.specs.Entries.Entries.{end, bad, entry}
 use Rattle.listings.specs.Listings.{shown, records, isLong, anyLong, listing, told, answersTo, firstNamed, findIn, unnamed, namedTo, namedOf}
-use Rattle.listings.specs.Passes.{Good, Parsed, measuredOf, earlierOf}
+use Rattle.listings.specs.Passes.{Good, Parsed, Onward, measuredOf, earlierOf}
 use Rattle.listings.specs.declared.finds.Named.{Named}
 use Rattle.listings.specs.declared.lists.Measured.{Measured}
 use Rattle.listings.proofs.EntryLaws.{tail-over, good-read, bad-read, shown-length, long-is}
@@ -79,21 +79,47 @@ module _ (raw : List ℕ) (at : ℕ) where
   at-end : length raw < at + 38 → entries (drop at raw) ≡ end
   at-end h = front-end (drop at raw) (rw length-drop (omega arith))
 
+  module _ (h : at + 38 ≤ length raw) where
+    at-bad : isGood (tail raw at) ≡ false → entries (drop at raw) ≡ bad
+    at-bad n = rw (← tail-is) (front-bad (tail raw at) (rw tail-length (omega arith)) n)
+
+    at-good : sound (entries (drop at raw)) ≡ true → isGood (tail raw at) ≡ true
+    unfolding sound
+    at-good e = by (isGood (tail raw at)) refl
+      where
+        by : (b : Bool) → isGood (tail raw at) ≡ b → isGood (tail raw at) ≡ true
+        by true g = g
+        by false g = absurd (let z : _≡_ {A = ℕ} 0 1 = ap (λ (b : Bool). pick b 1 0) (sym (ap sound (at-bad g)) ∙ e) in omega arith)
+
+    at-next : isGood (tail raw at) ≡ true → {n : ℕ} → n ≡ nextAt (tail raw at) → entries (drop at raw) ≡ entry (entryOf (tail raw at)) (entries (drop (at + n) raw))
+    at-next g {n} e =
+        let q : drop (nextAt (tail raw at)) (tail raw at) ≡ drop (at + n) raw =
+        ap (drop (nextAt (tail raw at))) tail-is ∙ drop-drop _ at raw ∙ ap (λ k. drop (at + k) raw) (sym e) in
+        ap entries (sym tail-is) ∙ front-next (tail raw at) (rw tail-length (omega arith)) g ∙ ap (λ l. entry (entryOf (tail raw at)) (entries l)) q
+
+    -- the sums of the loop that writes
+    module _ {n : ℕ} (o : Onward (tail raw at) n) where
+      onward-far : at + n ≤ length raw + 3
+      onward-far = omega (arith, o .near, tail-length)
+
+      pub onward-less : length raw + 3 - (at + n) < length raw + 3 - at
+      onward-less = omega (arith, o .least)
+
+      pub onward-fits : length raw * 1 < 2 ^ 63 → Fits w64 (at + n)
+      onward-fits k = omega (arith, onward-far)
+
   module _ (h : at + 38 ≤ length raw) {r : IdentifierRead} (p : Parsed (tail raw at) r) where
-    at-bad : (r .answer ≡ 0 → ⊥) → entries (drop at raw) ≡ bad
-    at-bad n = rw (← tail-is) (front-bad (tail raw at) (rw tail-length (omega arith)) (bad-read p n))
+    read-bad : (r .answer ≡ 0 → ⊥) → entries (drop at raw) ≡ bad
+    read-bad n = at-bad h (bad-read p n)
 
     module _ (z : r .answer ≡ 0) where
       whole : Whole (tail raw at) (r .descriptor)
       whole = p .good z .whole
 
-      at-next : entries (drop at raw) ≡ entry (entryOf (tail raw at)) (entries (drop (at + r .descriptor .«total_size») raw))
-      at-next =
-          let q : drop (nextAt (tail raw at)) (tail raw at) ≡ drop (at + r .descriptor .«total_size») raw =
-          ap (drop (nextAt (tail raw at))) tail-is ∙ drop-drop _ at raw ∙ ap (λ n. drop (at + n) raw) (sym (whole .next)) in
-          ap entries (sym tail-is) ∙ front-next (tail raw at) (rw tail-length (omega arith)) (good-read p z) ∙ ap (λ l. entry (entryOf (tail raw at)) (entries l)) q
+      read-next : entries (drop at raw) ≡ entry (entryOf (tail raw at)) (entries (drop (at + r .descriptor .«total_size») raw))
+      read-next = at-next h (good-read p z) (whole .next)
 
-      -- the sums of the loops
+      -- the sums of the loops that read
       at-short : at + (r .descriptor .«name_at» + r .descriptor .«name_length») ≤ length raw
       at-short = omega (arith, whole .within, tail-length)
 
@@ -135,7 +161,7 @@ module _ {raw : List ℕ} {long : Bool} {n at : ℕ} (m : Measuring raw long n a
   module _ (h : at + 38 ≤ length raw) {r : IdentifierRead} (p : Parsed (tail raw at) r) where
     pub measure-bad : (r .answer ≡ 0 → ⊥) → record { good = false; long = false; size = 0 } ≡ measuredOf (entries raw)
     unfolding sound
-    measure-bad g = rw (← m .same, at-bad raw at h p g)
+    measure-bad g = rw (← m .same, read-bad raw at h p g)
 
     module _ (z : r .answer ≡ 0) where
       pub name-fits : length raw * 1 < 2 ^ 63 → 21 + r .descriptor .«name_size» < 18446744073709551616
@@ -152,7 +178,7 @@ module _ {raw : List ℕ} {long : Bool} {n at : ℕ} (m : Measuring raw long n a
             → Measuring raw (long || b) (n + v) (at + r .descriptor .«total_size»)
         unfolding sound records anyLong
         measure-next {b} f =
-            let q = at-next raw at h p z in
+            let q = read-next raw at h p z in
             let l : length (records (entries (drop at raw))) ≡ v + length (records (entries (drop (at + r .descriptor .«total_size») raw))) =
             rw (q, length-append, shown-length (p .good z), e) in
             let k : b ≡ isLong (entryOf (tail raw at)) = f ∙ sym (long-is (p .good z)) in
@@ -176,62 +202,61 @@ module _ {raw : List ℕ} {long : Bool} {n at : ℕ} (m : Measuring raw long n a
 
 pub record Filling (raw d₀ d : List ℕ) (n at : ℕ) : Type 0 where
   pub within : at ≤ length raw + 3
+  pub sounds : sound (entries (drop at raw)) ≡ true
   pub size : n + length (records (entries (drop at raw))) ≡ length (records (entries raw))
   pub rest : sets d n (records (entries (drop at raw))) ≡ sets d₀ 0 (records (entries raw))
   pub long : length d ≡ length d₀
   pub room : length (records (entries raw)) ≤ length d₀
 
-pub fill-starts : (raw d : List ℕ) → length (records (entries raw)) ≤ length d → Filling raw d d 0 0
-fill-starts raw d h = record { within = zero-le; size = omega arith; rest = refl; long = refl; room = h }
+pub fill-starts : (raw d : List ℕ) → (sound (entries raw) ≡ true) × (length (records (entries raw)) ≤ length d) → Filling raw d d 0 0
+fill-starts raw d h = record { within = zero-le; sounds = h .0; size = omega arith; rest = refl; long = refl; room = h .1 }
 
 module _ {raw d₀ d : List ℕ} {n at : ℕ} (m : Filling raw d₀ d n at) where
-  fill-done : records (entries (drop at raw)) ≡ [] → Wrote (records (entries raw)) d₀ d n
-  fill-done e =
+  pub fill-ends : length raw < at + 38 → Wrote (records (entries raw)) d₀ d n
+  unfolding records
+  fill-ends h =
+      let e : records (entries (drop at raw)) ≡ [] = rw (at-end raw at h) in
       record {
         count = omega (arith, m .size, ap length e);
         bytes = (rw e at (m .rest)) ∙ sets-front (records (entries raw)) d₀ (m .room) ∙ sym (over-fits (records (entries raw)) d₀ (m .room));
       }
 
-  pub fill-ends : length raw < at + 38 → Wrote (records (entries raw)) d₀ d n
-  unfolding records
-  fill-ends h = fill-done (rw (at-end raw at h))
+  module _ (h : at + 38 ≤ length raw) where
+    pub fill-good : isGood (tail raw at) ≡ true
+    fill-good = at-good raw at h (m .sounds)
 
-  module _ (h : at + 38 ≤ length raw) {r : IdentifierRead} (p : Parsed (tail raw at) r) where
-    pub fill-bad : (r .answer ≡ 0 → ⊥) → Wrote (records (entries raw)) d₀ d n
+    turn : {k : ℕ} → k ≡ nextAt (tail raw at) → records (entries (drop at raw)) ≡ shown (entryOf (tail raw at)) ++ records (entries (drop (at + k) raw))
     unfolding records
-    fill-bad g = fill-done (rw (at-bad raw at h p g))
+    turn e = rw (at-next raw at h fill-good e)
 
-    module _ (z : r .answer ≡ 0) where
-      turn : records (entries (drop at raw)) ≡ shown (entryOf (tail raw at)) ++ records (entries (drop (at + r .descriptor .«total_size») raw))
-      unfolding records
-      turn = rw (at-next raw at h p z)
+    lengths : {k : ℕ} → k ≡ nextAt (tail raw at) → length (records (entries (drop at raw))) ≡ length (shown (entryOf (tail raw at))) + length (records (entries (drop (at + k) raw)))
+    lengths e = rw (turn e, length-append)
 
-      lengths : length (records (entries (drop at raw))) ≡ length (shown (entryOf (tail raw at))) + length (records (entries (drop (at + r .descriptor .«total_size») raw)))
-      lengths = rw (turn, length-append)
+    room-at : n + length (shown (entryOf (tail raw at))) ≤ length d
+    room-at = omega (arith, lengths refl, m .size, m .room, m .long)
 
-      room-at : n + length (shown (entryOf (tail raw at))) ≤ length d
-      room-at = omega (arith, lengths, m .size, m .room, m .long)
+    pub fill-start : n ≤ length d
+    fill-start = omega (arith, room-at)
 
-      pub fill-start : n ≤ length d
-      fill-start = omega (arith, room-at)
+    pub fill-room : length (shown (entryOf (tail raw at))) ≤ length (midOf n (length d - n) d)
+    fill-room = simp (length-take, length-drop) (omega (arith, room-at))
 
-      pub fill-room : length (shown (entryOf (tail raw at))) ≤ length (midOf n (length d - n) d)
-      fill-room = simp (length-take, length-drop) (omega (arith, room-at))
+    module _ {k : ℕ} {ys : List ℕ} (w : Wrote (shown (entryOf (tail raw at))) (midOf n (length d - n) d) ys k) where
+      pub fill-fits : length d < 2 ^ 64 → Fits w64 (n + k)
+      fill-fits l = omega (arith, room-at, w .count)
 
-      module _ {k : ℕ} {ys : List ℕ} (w : Wrote (shown (entryOf (tail raw at))) (midOf n (length d - n) d) ys k) where
-        pub fill-fits : length d < 2 ^ 64 → Fits w64 (n + k)
-        fill-fits l = omega (arith, room-at, w .count)
-
-        pub fill-next : Filling raw d₀ (putMid n (length d - n) d ys) (n + k) (at + r .descriptor .«total_size»)
-        fill-next =
-            let s : putMid n (length d - n) d ys ≡ sets d n (shown (entryOf (tail raw at))) = tail-over n d (shown (entryOf (tail raw at))) ys room-at (w .bytes) in
-            record {
-              within = at-far raw at h p z;
-              size = omega (arith, lengths, m .size, w .count);
-              rest = rw (s, w .count, ← sets-append, ← turn) (m .rest);
-              long = rw (s, length-sets) (m .long);
-              room = m .room;
-            }
+      pub fill-next : {v : ℕ} → Onward (tail raw at) v → Filling raw d₀ (putMid n (length d - n) d ys) (n + k) (at + v)
+      unfolding sound
+      fill-next o =
+          let s : putMid n (length d - n) d ys ≡ sets d n (shown (entryOf (tail raw at))) = tail-over n d (shown (entryOf (tail raw at))) ys room-at (w .bytes) in
+          record {
+            within = onward-far raw at h o;
+            sounds = rw (at-next raw at h fill-good (o .is)) at (m .sounds);
+            size = omega (arith, lengths (o .is), m .size, w .count);
+            rest = rw (s, w .count, ← sets-append, ← turn (o .is)) (m .rest);
+            long = rw (s, length-sets) (m .long);
+            room = m .room;
+          }
 
 -- ---- the loop that looks for a name has come to `at`
 
@@ -276,12 +301,12 @@ module _ {component raw : List ℕ} {found : Named} {at : ℕ} (m : Finding comp
   module _ (h : at + 38 ≤ length raw) {r : IdentifierRead} (p : Parsed (tail raw at) r) where
     pub find-bad : (r .answer ≡ 0 → ⊥) → {a : Named} → a ≡ unnamed 2 → a ≡ namedOf (findIn component raw)
     unfolding findIn sound
-    find-bad n e = rw (← m .same, at-bad raw at h p n) e
+    find-bad n e = rw (← m .same, read-bad raw at h p n) e
 
     pub find-next : r .answer ≡ 0 → {a : Named} → a ≡ earlierOf found component (entryOf (tail raw at)) → Finding component raw a (at + r .descriptor .«total_size»)
     unfolding firstNamed sound
     find-next z e =
-        let q = at-next raw at h p z in
+        let q = read-next raw at h p z in
         record {
           within = at-far raw at h p z;
           rest = rw e (first-turn found component (entryOf (tail raw at)) _ ∙ (rw q at (m .rest)));
@@ -302,7 +327,7 @@ module _ (raw : List ℕ) {m : Measured} (p : m ≡ measuredOf (entries raw)) wh
       rw u (reply-refused Malformed 0 0 refl (q ∙ rw e))
 
   module _ (g : m .good ≡ true) where
-    sounds : sound (entries raw) ≡ true
+    pub sounds : sound (entries raw) ≡ true
     sounds = sym (goodness (sound (entries raw)) refl) ∙ g
 
     longs-are : m .long ≡ anyLong (entries raw)

@@ -1,22 +1,22 @@
 // One entry of a directory, at the front of bytes.
 ghost use mathlib.Core.Path.{_≡_};
-ghost use mathlib.Core.Bool.{false};
-ghost use mathlib.Core.List.{_∷_, _++_};
+ghost use mathlib.Core.Bool.{true, false, _||_};
 ghost use Prim.Native.Nat.{_+_, _≤_, _<_};
 ghost use lib.Dec.{ltb};
 ghost use lib.ListN.{length};
 ghost use Rattle.disc.specs.Choice.{pick};
-ghost use Rattle.names.specs.Names.{Wrote};
-ghost use Rattle.records.specs.Bytes.{sixteen, le16};
-ghost use Rattle.listings.specs.Entries.{entryOf, isSkipped};
-ghost use Rattle.listings.specs.Listings.{recordHead, shown, answersTo};
-ghost use Rattle.listings.specs.Passes.{Good, Parsed};
+ghost use Rattle.names.specs.Names.{Wrote, nameOf, written};
+ghost use Rattle.identifiers.specs.Identifiers.{bit};
+ghost use Rattle.listings.specs.Entries.{entryOf, isGood, isSkipped};
+ghost use Rattle.listings.specs.Listings.{shown, answersTo};
+ghost use Rattle.listings.specs.Passes.{Good, Parsed, Onward, headIn, recordIn};
 use disc::moves::copy;
 use identifiers::FileIdentifierDescriptor;
 use identifiers::IdentifierRead;
+use identifiers::name_at;
 use names::dstrings::put_name;
 use names::matching::is_named;
-use records::allocations::LongAd;
+use records::bytes::byte_at;
 
 // Reads the entry at the front of s.
 pub(crate) fn entry_at(s: &[u8]) -> IdentifierRead
@@ -25,13 +25,20 @@ pub(crate) fn entry_at(s: &[u8]) -> IdentifierRead
     FileIdentifierDescriptor::parse(s)
 }
 
-// Whether an entry is left out of listings and lookups: it is deleted, or the parent's.
+// Whether an entry of these characteristics is left out of listings and lookups: it is deleted, or the parent's.
+fn is_left_out(marks: u8) -> bool
+    ensures { λ r. ⌜ r ≡ (bit 4 marks || bit 8 marks) ⌝ }
+{
+    let deleted = marks / 4 % 2 == 1;
+    let parent = marks / 8 % 2 == 1;
+    deleted | parent
+}
+
+// The same of an entry that was read.
 pub(crate) fn is_skipped(f: FileIdentifierDescriptor) -> bool
     ensures { λ r. ⌜ r ≡ isSkipped f ⌝ }
 {
-    let deleted = f.is_deleted();
-    let parent = f.is_parent();
-    deleted | parent
+    is_left_out(f.file_characteristics)
 }
 
 // How many bytes the entry's record takes in a listing.
@@ -55,64 +62,67 @@ pub(crate) fn is_long(f: FileIdentifierDescriptor) -> bool
     65535 < f.name_size
 }
 
-fn directory_byte(directory: bool) -> u8
-    ensures { λ r. ⌜ r ≡ pick directory 1 0 ⌝ }
-{
-    if directory {
-        return 1;
-    }
-    0
-}
-
-fn head_of(directory: u8, icb: [u8; 16], n: usize) -> [u8; 21]
-    ensures { λ r. ⌜ r ≡ 0x44 ∷ 0x45 ∷ directory ∷ (sixteen icb ++ le16 n) ⌝ }
+// The record of the entry at the front of s without its name, of n bytes. The ICB goes over as it is recorded.
+fn head(directory: u8, s: &[u8], n: usize) -> [u8; 21]
+    requires { ⌜ 36 ≤ length (now s) ⌝ }
+    ensures { λ r. ⌜ r ≡ headIn directory (now (s .entry)) n ⌝ }
 {
     [
         0x44,
         0x45,
         directory,
-        icb[0],
-        icb[1],
-        icb[2],
-        icb[3],
-        icb[4],
-        icb[5],
-        icb[6],
-        icb[7],
-        icb[8],
-        icb[9],
-        icb[10],
-        icb[11],
-        icb[12],
-        icb[13],
-        icb[14],
-        icb[15],
+        s[20],
+        s[21],
+        s[22],
+        s[23],
+        s[24],
+        s[25],
+        s[26],
+        s[27],
+        s[28],
+        s[29],
+        s[30],
+        s[31],
+        s[32],
+        s[33],
+        s[34],
+        s[35],
         (n % 256) as u8,
         (n / 256 % 256) as u8,
     ]
 }
 
-// A record without its name, of n bytes.
-fn head(directory: bool, icb: LongAd, n: usize) -> [u8; 21]
-    ensures { λ r. ⌜ r ≡ recordHead directory icb n ⌝ }
+// Writes the record of the entry at the front of s over the front of out, and returns its length: the name first, whose length is
+// then known, and over the 21 bytes before it the head.
+fn put_record(s: &[u8], recorded: &[u8], out: &mut [u8]) -> usize
+    requires { ⌜ (36 ≤ length (now s)) × (21 + length (written (nameOf (now recorded))) ≤ length (now out)) ⌝ }
+    ensures { λ r. ⌜ Wrote (recordIn (now (s .entry)) (written (nameOf (now (recorded .entry))))) (now (out .entry)) (now (out .exit)) r ⌝ }
 {
-    head_of(directory_byte(directory), icb.encode(), n)
+    let n = put_name(recorded, &mut out[21..]);
+    let h = head(byte_at(s, 18) / 2 % 2, s, n);
+    copy(&h, out);
+    21 + n
 }
 
-// Writes the record of the entry f at the front of s over the front of out, and returns its length.
-pub(crate) fn put_entry(s: &[u8], f: FileIdentifierDescriptor, out: &mut [u8]) -> usize
-    requires { ⌜ Good (now s) f × (length (shown (entryOf (now s))) ≤ length (now out)) ⌝ }
+// Writes the record of the entry at the front of s, which is good, and returns its length. Nothing is checked again.
+pub(crate) fn put_entry(s: &[u8], out: &mut [u8]) -> usize
+    requires { ⌜ (isGood (now s) ≡ true) × (length (shown (entryOf (now s))) ≤ length (now out)) ⌝ }
     ensures { λ r. ⌜ Wrote (shown (entryOf (now (s .entry)))) (now (out .entry)) (now (out .exit)) r ⌝ }
 {
-    if is_skipped(f) {
+    if is_left_out(byte_at(s, 18)) {
         return 0;
     }
-    let from = f.name_at;
-    let end = from + f.name_length;
-    let icb = f.icb;
-    let h = head(f.is_directory(), icb, f.name_size);
-    copy(&h, out);
-    21 + put_name(&s[from..end], &mut out[21..])
+    let from = name_at(s);
+    let end = from + byte_at(s, 19) as usize;
+    put_record(s, &s[from..end], out)
+}
+
+// How far behind the entry at the front of s, which is good, the next one starts.
+pub(crate) fn next_at(s: &[u8]) -> usize
+    requires { ⌜ isGood (now s) ≡ true ⌝ }
+    ensures { λ r. ⌜ Onward (now (s .entry)) r ⌝ }
+{
+    (name_at(s) + byte_at(s, 19) as usize + 3) / 4 * 4
 }
 
 // Whether the entry f at the front of s is not skipped, and has the name that is looked for.

@@ -1,15 +1,17 @@
 // A directory's listing: a record for each entry that is not skipped.
 ghost use mathlib.Core.Path.{_≡_};
+ghost use mathlib.Core.Bool.{true};
 ghost use Prim.Native.Nat.{_≤_};
 ghost use lib.ListN.{length};
 ghost use Rattle.disc.specs.Replies.{Replied};
 ghost use Rattle.disc.specs.declared.refusals.Refusal.the-variants.{NoRoom};
 ghost use Rattle.names.specs.Names.{Wrote};
-ghost use Rattle.listings.specs.Entries.{entries};
+ghost use Rattle.listings.specs.Entries.{entries, sound};
 ghost use Rattle.listings.specs.Listings.{records, listing, told};
 ghost use Rattle.listings.specs.Passes.{measuredOf};
 use crate::directory_entries::entry_at;
 use crate::directory_entries::is_long;
+use crate::directory_entries::next_at;
 use crate::directory_entries::put_entry;
 use crate::directory_entries::record_size;
 use disc::refusals::Refusal;
@@ -50,22 +52,17 @@ fn measure(raw: &[u8]) -> Measured
     }
 }
 
-// Writes the records of the entries, up to the first bad one, over the front of out, each behind the one before.
+// Writes the records of the entries, which are all good, over the front of out, each behind the one before.
 fn put_entries(raw: &[u8], out: &mut [u8]) -> usize
-    requires { ⌜ length (records (entries (now raw))) ≤ length (now out) ⌝ }
+    requires { ⌜ (sound (entries (now raw)) ≡ true) × (length (records (entries (now raw))) ≤ length (now out)) ⌝ }
     ensures { λ r. ⌜ Wrote (records (entries (now (raw .entry)))) (now (out .entry)) (now (out .exit)) r ⌝ }
 {
     let mut n: usize = 0;
     let mut at: usize = 0;
     while at + 38 <= raw.len() {
         let s = &raw[at..];
-        let r = entry_at(s);
-        if r.answer != 0 {
-            return n;
-        }
-        let f = r.descriptor;
-        n += put_entry(s, f, &mut out[n..]);
-        at += f.total_size;
+        n += put_entry(s, &mut out[n..]);
+        at += next_at(s);
     }
     n
 }
