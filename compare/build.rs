@@ -44,6 +44,7 @@ fn main() {
     let out = PathBuf::from(env::var("OUT_DIR").unwrap());
     println!("cargo::rustc-check-cfg=cfg(original)");
     println!("cargo::rustc-check-cfg=cfg(linked)");
+    println!("cargo::rustc-check-cfg=cfg(udfread)");
     println!("cargo::rerun-if-env-changed=UDF_ORIGINAL");
     let folder = env::var("UDF_ORIGINAL").map(PathBuf::from).unwrap_or(root.join("../shared/docs/src"));
     println!("cargo::rerun-if-changed={}", folder.join("src").display());
@@ -61,6 +62,11 @@ fn main() {
         println!("cargo::rustc-cfg=linked");
         println!("cargo::rustc-link-search=native={}", archive.parent().unwrap().display());
         println!("cargo::rustc-link-lib=static=vault_c");
+    }
+    // libudfread takes part in the benchmark where it is installed.
+    if Command::new("pkg-config").args(["--exists", "libudfread"]).status().is_ok_and(|s| s.success()) {
+        println!("cargo::rustc-cfg=udfread");
+        println!("cargo::rustc-link-lib=udfread");
     }
     port(root, &archive, &out);
 }

@@ -1,4 +1,5 @@
-//! How long calls take: ours, the original from a Cursor, and where bytes are moved a copy of as many, in one run and by turns.
+//! How long calls take: ours, the original from a Cursor, libudfread where it is installed, and where bytes are moved a copy of as many, in
+//! one run and by turns.
 
 use super::calls::{Call, Icb, PLENTY, Query};
 use super::disc::{Disc, Layout};
@@ -6,6 +7,8 @@ use super::expect::expected;
 use super::original::long;
 use super::ours::{Ask, Noise, Ours, Timed};
 use super::records::*;
+#[cfg(udfread)]
+use super::udfread;
 use crate::udf::{UdfDisc, within};
 use std::hint::black_box;
 use std::io::Cursor;
@@ -18,6 +21,7 @@ struct Row {
     name: String,
     disc: Disc,
     query: Query,
+    directories: Vec<Icb>,
     /// Bytes that a copy would move.
     copy: Option<usize>,
 }
@@ -31,44 +35,54 @@ fn entries(name: &str, n: usize, call: Call, work: usize) -> Row {
     d.finish(root, &name8(b"BENCH"));
     let last = format!("{:08}", n - 1);
     let query = Query { icb: root, ..Query::along(call, d.volume, last.as_bytes()).with(PLENTY, work) };
-    Row { name: name.to_string(), disc: d, query, copy: None }
+    Row { name: name.to_string(), disc: d, query, directories: vec![root], copy: None }
 }
 
 /// Directories inside each other, ten entries each, and the path to the innermost file.
 fn nested(depth: usize) -> Row {
     let mut d = Disc::new(300, 0);
     let (file, _) = d.store(b"deep", &Layout::of(3));
-    let (mut inner, mut path) = (file, String::from("file"));
+    let (mut inner, mut path, mut directories) = (file, String::from("file"), Vec::new());
     for level in 0..depth {
         let name = if level == 0 { "file" } else { "directory" };
         let mut items: Vec<Item> = (0..9).map(|i| Item::new(name8(format!("other {i}").as_bytes()), file, 0)).collect();
         items.push(Item::new(name8(name.as_bytes()), inner, if level == 0 { 0 } else { DIRECTORY }));
         inner = d.store_directory(&items, &[], &Layout::of(0));
+        directories.push(inner);
         path = if level == 0 { path } else { format!("directory/{path}") };
     }
     d.finish(inner, &name8(b"BENCH"));
     let query = Query::along(Call::Lookup, d.volume, path.as_bytes()).with(PLENTY, 4096);
-    Row { name: format!("lookup, depth {depth}"), disc: d, query, copy: None }
+    Row { name: format!("lookup, depth {depth}"), disc: d, query, directories, copy: None }
 }
 
-/// A file of so many bytes in n extents of one size, all of its descriptors behind one continuation.
+/// An area that goes on elsewhere at once.
+fn continued(d: &mut Disc, area: &[u8]) -> Vec<u8> {
+    let chain = allocation_extent(area);
+    let at = d.take(chain.len().div_ceil(2048) as u32);
+    d.put_block(at, &chain);
+    descriptor(0, chain.len() as u32, 3, at, 0)
+}
+
+/// A file of so many bytes in n extents of one size; descriptors that don't fit its entry stand behind one continuation.
 fn extents(name: &str, bytes: usize, n: usize) -> Row {
     let mut d = Disc::new(300, 0);
     let each = bytes / n;
+    // libudfread takes an extent at block 0 for one that isn't recorded.
+    d.take(1);
     let first = d.take((each.div_ceil(2048) * n) as u32);
     let step = each.div_ceil(2048) as u32;
+    let data: Vec<u8> = (0..step as usize * n * 2048).map(|i| (i * 131 + (i >> 11)) as u8).collect();
+    d.put(d.volume.start as u64 + first as u64, &data);
     let area: Vec<u8> = (0..n as u32).flat_map(|i| descriptor(0, each as u32, 0, first + i * step, 0)).collect();
-    let chain = allocation_extent(&area);
-    let at = d.take(chain.len().div_ceil(2048) as u32);
-    d.put_block(at, &chain);
+    let area = if area.len() <= 2048 - 176 { area } else { continued(&mut d, &area) };
     let block = d.take(1);
-    let on = descriptor(0, chain.len() as u32, 3, at, 0);
-    d.put_block(block, &Entry { extended: false, flags: 0, information: bytes as u64, attributes: 0, area: &on }.bytes());
+    d.put_block(block, &Entry { extended: false, flags: 0, information: bytes as u64, attributes: 0, area: &area }.bytes());
     let file = Icb::at(block, 0);
     let root = d.store_directory(&[Item::new(name8(b"file"), file, 0)], &[], &Layout::of(0));
     d.finish(root, &name8(b"BENCH"));
-    let query = Query::on(Call::Read, d.volume, file).with(bytes, 0);
-    Row { name: name.to_string(), disc: d, query, copy: Some(bytes) }
+    let query = Query { icb: file, ..Query::along(Call::Read, d.volume, b"file").with(bytes, 0) };
+    Row { name: name.to_string(), disc: d, query, directories: vec![root], copy: Some(bytes) }
 }
 
 fn open() -> Row {
@@ -130,7 +144,29 @@ impl std::fmt::Display for Spread {
     }
 }
 
+/// libudfread's time, where it is installed.
+#[cfg(udfread)]
+fn other(r: &Row, bytes: &[u8], times: u32) -> Option<u64> {
+    udfread::time(&r.disc.image, &r.query, bytes, times)
+}
+
+#[cfg(not(udfread))]
+fn other(_: &Row, _: &[u8], _: u32) -> Option<u64> {
+    None
+}
+
+/// Two cells of the table: another's time, and ours in relation to it.
+fn beside(mine: &Spread, times: Vec<f64>) -> String {
+    if times.is_empty() {
+        return " | |".to_string();
+    }
+    let theirs = spread(times);
+    format!(" {theirs} | {:.2} |", mine.0 / theirs.0)
+}
+
 fn row(ours: &mut dyn Ours, mut r: Row) -> std::io::Result<String> {
+    #[cfg(udfread)]
+    udfread::dress(&mut r.disc, &r.directories);
     let e = expected(&r.disc.image, &r.query);
     r.query.room = if r.query.call.has_room() { e.full } else { 0 };
     r.query.work = if r.query.call.has_work() { r.query.work } else { 0 };
@@ -142,20 +178,18 @@ fn row(ours: &mut dyn Ours, mut r: Row) -> std::io::Result<String> {
     let once = ours.time(Timed::Query(&r.query), 1)?.max(original(&r.disc.image, &r.query, 1)).max(1);
     // About a tenth of a second for each side in each round.
     let times = (100_000_000 / once).clamp(1, 20_000) as u32;
-    let (mut mine, mut theirs, mut copies) = (Vec::new(), Vec::new(), Vec::new());
+    let (mut mine, mut theirs, mut others, mut copies) = (Vec::new(), Vec::new(), Vec::new(), Vec::new());
     let each = |nanoseconds: u64| nanoseconds as f64 / times as f64 / 1000.0;
     for _ in 0..ROUNDS {
         mine.push(each(ours.time(Timed::Query(&r.query), times)?));
         theirs.push(each(original(&r.disc.image, &r.query, times)));
+        others.extend(other(&r, &e.values.written, times).map(each));
         if let Some(n) = r.copy {
             copies.push(each(ours.time(Timed::Copy(n), times)?));
         }
     }
-    let (mine, theirs) = (spread(mine), spread(theirs));
-    let ratio = mine.0 / theirs.0;
-    let copy = if copies.is_empty() { Spread(0.0, 0.0, 0.0) } else { spread(copies) };
-    let copied = if copy.0 > 0.0 { format!("{copy} | {:.2}", mine.0 / copy.0) } else { "|".to_string() };
-    Ok(format!("| {} | {mine} | {theirs} | {ratio:.2} | {copied} |", r.name))
+    let mine = spread(mine);
+    Ok(format!("| {} | {mine} |{}{}{}", r.name, beside(&mine, theirs), beside(&mine, others), beside(&mine, copies)))
 }
 
 /// A table of microseconds: the middle of nine rounds, with the least and the most.
@@ -166,8 +200,8 @@ pub fn run(ours: &mut dyn Ours, emulated: bool) -> std::io::Result<()> {
             std::env::consts::ARCH
         );
     }
-    println!("| call | ours, µs | original, µs | ours / original | copy, µs | ours / copy |");
-    println!("|---|---|---|---|---|---|");
+    println!("| call | ours, µs | original, µs | ours / original | libudfread, µs | ours / libudfread | copy, µs | ours / copy |");
+    println!("|---|---|---|---|---|---|---|---|");
     for r in rows() {
         println!("{}", row(ours, r())?);
     }

@@ -21,6 +21,8 @@ mod shapes_files;
 mod shapes_opening;
 mod sparse;
 mod tally;
+#[cfg(udfread)]
+mod udfread;
 mod volumes;
 mod wire;
 
