@@ -1,15 +1,18 @@
-//! Finds the original and the archive.
+//! Finds the original and the archives.
 //!
 //! The original stands in the folder `UDF_ORIGINAL`, by default ../shared/docs/src beside the repository, and is never copied into the
 //! tree. Its udf.rs is compiled word for word, with a module behind it: the entry of a file and the making of an opened disc are private
 //! there, and a module inside can reach them.
 //!
-//! The archive is target/staticlib/libvault_c.a. It is x86-64 code: linked where this program is that too, and on every machine linked
-//! with port.c into a program that answers through a pipe.
+//! The archives are target/staticlib/libvault_c.a and librecords_c.a. They are x86-64 code: linked where this program is that too, and on
+//! every machine linked with port.c into a program that answers through a pipe.
 
 use std::path::{Path, PathBuf};
 use std::process::Command;
 use std::{env, fs};
+
+/// The crates whose archives are linked.
+const CRATES: [&str; 2] = ["vault_c", "records_c"];
 
 const INSIDE: &str = "
 pub mod within {
@@ -52,23 +55,28 @@ fn main() {
     if !original(&folder.join("src"), &out) {
         return;
     }
-    let archive = root.join("target/staticlib/libvault_c.a");
-    println!("cargo::rerun-if-changed={}", archive.display());
-    if !archive.exists() {
-        println!("cargo::error=target/staticlib/libvault_c.a is missing: make it with `rt staticlib vault_c`");
-        return;
+    let folder = root.join("target/staticlib");
+    let archives = CRATES.map(|name| folder.join(format!("lib{name}.a")));
+    for (name, archive) in CRATES.iter().zip(&archives) {
+        println!("cargo::rerun-if-changed={}", archive.display());
+        if !archive.exists() {
+            println!("cargo::error=target/staticlib/lib{name}.a is missing: make it with `rt staticlib {name}`");
+            return;
+        }
     }
     if env::var("CARGO_CFG_TARGET_ARCH").unwrap() == "x86_64" {
         println!("cargo::rustc-cfg=linked");
-        println!("cargo::rustc-link-search=native={}", archive.parent().unwrap().display());
-        println!("cargo::rustc-link-lib=static=vault_c");
+        println!("cargo::rustc-link-search=native={}", folder.display());
+        for name in CRATES {
+            println!("cargo::rustc-link-lib=static={name}");
+        }
     }
     // libudfread takes part in the benchmark where it is installed.
     if Command::new("pkg-config").args(["--exists", "libudfread"]).status().is_ok_and(|s| s.success()) {
         println!("cargo::rustc-cfg=udfread");
         println!("cargo::rustc-link-lib=udfread");
     }
-    port(root, &archive, &out);
+    port(root, &archives, &out);
 }
 
 /// Writes original.rs, which names the original's modules, where its two files are there.
@@ -98,12 +106,12 @@ fn run(command: &mut Command) {
     assert!(out.status.success(), "{command:?}: {}", String::from_utf8_lossy(&out.stderr));
 }
 
-/// Compiles port.c with the kit's compiler and links it with the archive, as rt links a program.
-fn port(root: &Path, archive: &Path, out: &Path) {
+/// Compiles port.c with the kit's compiler and links it with the archives, as rt links a program.
+fn port(root: &Path, archives: &[PathBuf], out: &Path) {
     let source = env::var("COMPARE_PORT").map(PathBuf::from).unwrap_or(root.join("compare/port.c"));
     println!("cargo::rerun-if-env-changed=COMPARE_PORT");
     println!("cargo::rerun-if-changed={}", source.display());
-    println!("cargo::rerun-if-changed={}", root.join("include/vault.h").display());
+    println!("cargo::rerun-if-changed={}", root.join("include").display());
     let kit = Path::new(&said("rt", &["doc"])).parent().unwrap().join("..");
     let own = kit.join("on").join(said("uname", &["-m"]));
     let tools = own.join("toolchain");
@@ -128,7 +136,7 @@ fn port(root: &Path, archive: &Path, out: &Path) {
         .arg("-o")
         .arg(&program)
         .arg(&object)
-        .arg(archive));
+        .args(archives));
     println!("cargo::rustc-env=PORT={}", program.display());
     println!("cargo::rustc-env=PORT_TOOLS={}", tools.display());
 }

@@ -1,6 +1,6 @@
-/* port.c: the calls of vault.h, made for a program at the other end of a pipe.
+/* port.c: the calls of vault.h and records.h, made for a program at the other end of a pipe.
  *
- * The archive is x86-64 code. On another processor `compare` can't link it, so it runs this program under an emulator and asks it.
+ * The archives are x86-64 code. On another processor `compare` can't link them, so it runs this program under an emulator and asks it.
  * Requests come on standard input, answers go to standard output; numbers are little-endian and nothing is padded.
  *
  *   'I' noise kind (1 byte), noise seed (4), packed length (4), packed image    the image that is asked about from now on, as
@@ -10,9 +10,11 @@
  *       path length (4), path, kept sectors (4), each sector's number (4)
  *   'T' times (4), and a query as behind 'Q'                                    the query so many times over: the answer is the
  *                                                                               nanoseconds (8); call 10 copies `room` bytes
+ *   'R' call (1), salt (1), room (4), length (4), bytes                         a call on a raw record
  *   'F'                                                                         the answers to all queries so far are written
  *
  *   an answer: answer (8), count (8), length (8), place (8), volume (55), ICB (17), state (1), written length (4), written bytes
+ *   an answer to 'R': state (1), length (4), bytes
  *
  * An ICB is length (4), type (1), block (4), partition (2), implementation use (6); a volume is start (4), partition (2), root (17),
  * label (32). Room counts bytes, and slots for the extent list. Answers are held back until 'F', so neither side waits for the other
@@ -21,7 +23,12 @@
  * A lent buffer comes full of a pattern that tells where each byte stands, with GUARD bytes of it in front and behind. The state has a
  * bit for each thing that held: 1 the guards of the output, 2 its bytes behind the answer (all of them, if refused), 4 the guards of the
  * work space, 8 the work space all zero. The written bytes are the front of the output, as many as the reply's length says.
+ *
+ * A raw record is every field of it in order. What is parsed comes as bytes, and the answer is the number (8) and the record; what is
+ * encoded comes as the record, and the answer is bytes; a name comes as bytes, and the answer is the number (8), the length (8) and the
+ * written bytes. Of the state the first two bits tell.
  */
+#include "records.h"
 #include "vault.h"
 
 /* What is used of the C library, declared here: the toolchain has its code for x86-64, and no headers. */
@@ -338,6 +345,136 @@ static void answer(void) {
     give(out, n);
 }
 
+/* ---- the raw records */
+
+typedef struct {
+    size_t at, size;
+} field;
+
+#define F(type, member) {offsetof(type, member), sizeof(((type *)0)->member)}
+#define EXTENT(type, m) F(type, m.length), F(type, m.location)
+#define ADDRESS(type, m) F(type, m.block), F(type, m.partition_ref)
+#define LONG(type, m) F(type, m.length), F(type, m.extent_type), ADDRESS(type, m.location), F(type, m.implementation_use)
+#define TAG(type, m) \
+    F(type, m.id), F(type, m.descriptor_version), F(type, m.serial_number), F(type, m.crc), F(type, m.crc_length), F(type, m.location)
+#define ICB_TAG(type, m) \
+    F(type, m.prior_recorded_entries), F(type, m.strategy_type), F(type, m.strategy_parameter), F(type, m.max_entries), \
+        F(type, m.file_type), ADDRESS(type, m.parent_icb), F(type, m.flags)
+#define SEQUENCE_NUMBER(type) F(type, value.volume_descriptor_sequence_number)
+
+/* The fields of a record, those of `answer` first. */
+#define FIELDS(name, ...) static const field name##_fields[] = {F(records_##name##_answer, answer), __VA_ARGS__};
+#define V(name, member) F(records_##name##_answer, value.member)
+
+FIELDS(extent_ad, EXTENT(records_extent_ad_answer, value))
+FIELDS(short_ad, V(short_ad, length), V(short_ad, extent_type), V(short_ad, block_location))
+FIELDS(lb_addr, ADDRESS(records_lb_addr_answer, value))
+FIELDS(long_ad, LONG(records_long_ad_answer, value))
+FIELDS(ext_ad, V(ext_ad, length), V(ext_ad, extent_type), V(ext_ad, recorded_length), V(ext_ad, information_length),
+       ADDRESS(records_ext_ad_answer, value.location), V(ext_ad, implementation_use))
+FIELDS(tag, TAG(records_tag_answer, value))
+FIELDS(aed, TAG(records_aed_answer, value.tag), V(aed, previous_allocation_extent_location), V(aed, length_of_allocation_descriptors))
+FIELDS(anchor, TAG(records_anchor_answer, value.tag), EXTENT(records_anchor_answer, value.main_volume_descriptor_sequence),
+       EXTENT(records_anchor_answer, value.reserve_volume_descriptor_sequence))
+FIELDS(primary_volume, TAG(records_primary_volume_answer, value.tag), SEQUENCE_NUMBER(records_primary_volume_answer),
+       V(primary_volume, primary_volume_descriptor_number), V(primary_volume, volume_identifier))
+FIELDS(partition, TAG(records_partition_answer, value.tag), SEQUENCE_NUMBER(records_partition_answer), V(partition, partition_flags),
+       V(partition, partition_number), V(partition, partition_starting_location), V(partition, partition_length))
+FIELDS(logical_volume, TAG(records_logical_volume_answer, value.tag), SEQUENCE_NUMBER(records_logical_volume_answer),
+       V(logical_volume, logical_volume_identifier), V(logical_volume, logical_block_size),
+       LONG(records_logical_volume_answer, value.file_set_descriptor_location))
+FIELDS(file_set, TAG(records_file_set_answer, value.tag), LONG(records_file_set_answer, value.root_directory_icb))
+FIELDS(icb_tag, ICB_TAG(records_icb_tag_answer, value))
+FIELDS(file_entry, TAG(records_file_entry_answer, value.tag), ICB_TAG(records_file_entry_answer, value.icb_tag), V(file_entry, uid),
+       V(file_entry, gid), V(file_entry, permissions), V(file_entry, file_link_count), V(file_entry, record_format),
+       V(file_entry, record_display_attributes), V(file_entry, record_length), V(file_entry, information_length),
+       V(file_entry, logical_blocks_recorded), V(file_entry, has_object_size), V(file_entry, object_size),
+       V(file_entry, length_of_extended_attributes), V(file_entry, length_of_allocation_descriptors), V(file_entry, kind),
+       V(file_entry, area_at), V(file_entry, area_length))
+FIELDS(file_identifier, TAG(records_file_identifier_answer, value.tag), V(file_identifier, file_version_number),
+       V(file_identifier, file_characteristics), LONG(records_file_identifier_answer, value.icb), V(file_identifier, name_at),
+       V(file_identifier, name_length), V(file_identifier, name_size), V(file_identifier, total_size))
+
+/* In the order of compare's raw calls. */
+#define PARSED(X) \
+    X(extent_ad) X(short_ad) X(lb_addr) X(long_ad) X(ext_ad) X(tag) X(aed) X(anchor) X(primary_volume) X(partition) X(logical_volume) \
+        X(file_set) X(icb_tag) X(file_entry) X(file_identifier)
+#define ENCODED(X) X(extent_ad) X(short_ad) X(lb_addr) X(long_ad) X(ext_ad) X(tag) X(aed)
+#define PARSE_NUMBER(name) PARSE_##name,
+#define ENCODE_NUMBER(name) ENCODE_##name,
+enum { PARSED(PARSE_NUMBER) DECODE_DSTRING, DECODE_FIELD, ENCODED(ENCODE_NUMBER) };
+
+static buffer lent_in, said;
+
+static void say(const void *from, size_t n) {
+    grow(&said, said.length + n);
+    memcpy(said.at + said.length, from, n);
+    said.length += n;
+}
+
+static void say_fields(const void *record, const field *fields, size_t n) {
+    for (size_t i = 0; i < n; i++) say((const uint8_t *)record + fields[i].at, fields[i].size);
+}
+
+/* The fields of a record but for its answer, from bytes. */
+static void fill_fields(void *record, const field *fields, size_t n, const uint8_t *from, size_t length) {
+    for (size_t i = 1; i < n; i++) {
+        if (length < fields[i].size) exit(5);
+        memcpy((uint8_t *)record + fields[i].at, from, fields[i].size);
+        from += fields[i].size;
+        length -= fields[i].size;
+    }
+}
+
+/* How many bytes of the lent output were written. */
+static size_t say_written(records_written r, const uint8_t *out) {
+    size_t n = r.answer ? 0 : r.length < lent_out.length ? r.length : lent_out.length;
+    say(&r.answer, 8);
+    say(&r.length, 8);
+    say(out, n);
+    return n;
+}
+
+#define COUNT(name) (sizeof name##_fields / sizeof *name##_fields)
+#define PARSE(name) \
+    case PARSE_##name: { \
+        records_##name##_answer r = records_parse_##name(in, n); \
+        say_fields(&r, name##_fields, COUNT(name)); \
+        return 0; \
+    }
+#define ENCODE(name) \
+    case ENCODE_##name: { \
+        records_##name##_answer r; \
+        fill_fields(&r, name##_fields, COUNT(name), in, n); \
+        records_##name##_bytes b = records_encode_##name(r.value); \
+        say(b.bytes, sizeof b.bytes); \
+        return 0; \
+    }
+
+static size_t raw_call(uint8_t which, const uint8_t *in, size_t n, uint8_t *out, size_t room) {
+    switch (which) {
+        PARSED(PARSE)
+        ENCODED(ENCODE)
+    case DECODE_DSTRING: return say_written(records_decode_dstring(in, n, out, room), out);
+    case DECODE_FIELD: return say_written(records_decode_dstring_field(in, n, out, room), out);
+    default: exit(6);
+    }
+}
+
+static void answer_raw(void) {
+    uint8_t which = (uint8_t)take_number(1), salt = (uint8_t)take_number(1);
+    size_t room = take_number(4), n = take_number(4);
+    uint8_t *in = lend(&lent_in, n, salt), *out = lend(&lent_out, room, salt);
+    if (n && !take(in, n)) exit(5);
+    said.length = 0;
+    size_t written = raw_call(which, in, n, out, room), end = GUARD + room;
+    uint8_t held = as_it_came(&lent_out, 0, GUARD, salt) && as_it_came(&lent_out, end, end + GUARD, salt);
+    if (as_it_came(&lent_out, GUARD + written, end, salt)) held |= 2;
+    give_number(held, 1);
+    give_number(said.length, 4);
+    give(said.at, said.length);
+}
+
 static uint64_t now(void) {
     struct timespec t;
     clock_gettime(1, &t);
@@ -362,6 +499,7 @@ int main(void) {
         switch (what) {
         case 'I': load_image(); break;
         case 'Q': answer(); break;
+        case 'R': answer_raw(); break;
         case 'T': time_query(); break;
         case 'F': flush(); break;
         default: return 6;

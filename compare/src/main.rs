@@ -1,4 +1,4 @@
-//! Holds the archive of vault_c to the original that it was made from.
+//! Holds the archives of vault_c and records_c to the original that they were made from.
 //!
 //!     compare [--seconds N] [--seed S] [--first] [--port | --port=PROGRAM]
 //!     compare --bench [--port]        how long the calls take

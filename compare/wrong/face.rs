@@ -1,5 +1,6 @@
 //! The calls of include/vault.h over the sources with their contracts taken off, compiled as Rust: for wrong readers, which no prover lets
-//! through. `./plant` builds it.
+//! through. `./plant` builds it. The calls of include/records.h are records_c itself, built in the same way: rustc passes a slice, which
+//! stands among the first arguments of each, as a pointer and a length too.
 
 #![allow(clippy::missing_safety_doc)]
 
@@ -11,6 +12,7 @@ use files::reads::read_file;
 use layouts::lists::file_words;
 use layouts::parts::part_at;
 use records::allocations::LongAd;
+use records_c as _;
 use std::slice::{from_raw_parts, from_raw_parts_mut};
 use volumes::openings::open_volume;
 

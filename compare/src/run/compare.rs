@@ -8,10 +8,12 @@ use super::expect::Expected;
 use super::ours::{Ask, Noise, Ours};
 use super::queries::{Case, Depth, cases};
 use super::random::Random;
+use super::raw::{RAW_HELD, RawAsk, RawCall, RawGiven, shown};
+use super::raw_cases::{RawCase, batch};
 use super::tally::Tally;
 use super::{shapes_directories, shapes_files, shapes_opening, sparse, volumes};
 use std::panic::{AssertUnwindSafe, catch_unwind};
-use std::path::PathBuf;
+use std::path::{Path, PathBuf};
 
 /// So many absurd information lengths are tried on the original: a process each.
 const CHILDREN: u64 = 60;
@@ -29,13 +31,21 @@ pub struct Comparison {
     /// So many mismatches are enough to look at.
     pub enough: u64,
     pub tally: Tally,
+    /// For the raw records alone: the images are the same with them and without.
+    random: Random,
 }
 
 impl Comparison {
+    pub fn new(ours: Box<dyn Ours>, seed: u64, enough: u64) -> Comparison {
+        let random = Random::new(seed ^ 0x7261_7773);
+        Comparison { ours, seed, enough, tally: Tally::new(), random }
+    }
+
     /// Every shape first, and then volumes at random, whole and damaged, until the time is over.
     pub fn run(&mut self, seconds: u64) {
         for (i, (name, disc)) in shapes().iter().enumerate() {
             self.image(name, disc, Depth::All, Random::new(self.seed ^ i as u64));
+            self.raws();
             if self.is_over() {
                 return;
             }
@@ -55,6 +65,7 @@ impl Comparison {
                 }
                 let more = Random::new(random.next());
                 self.image(&format!("random {number}.{part}"), &disc, Depth::Some, more);
+                self.raws();
             }
         }
     }
@@ -67,7 +78,7 @@ impl Comparison {
         // A panic here is the original's, or a walk that isn't the original's own: either is worth a look.
         let made = catch_unwind(AssertUnwindSafe(|| cases(&mut random, disc, depth)));
         let Ok(cases) = made else {
-            self.keep(name, disc, "the original stopped by a panic");
+            self.keep(name, Some(disc), "the original stopped by a panic");
             return;
         };
         let noise = match random.once_in(2) {
@@ -84,7 +95,7 @@ impl Comparison {
         let given = match self.ours.answers(&asks) {
             Ok(given) => given,
             Err(e) => {
-                self.keep(name, disc, &format!("our side stopped: {e}"));
+                self.keep(name, Some(disc), &format!("our side stopped: {e}"));
                 self.tally.stopped = true;
                 return;
             }
@@ -108,10 +119,40 @@ impl Comparison {
         }
         if let Some(what) = difference(e, given) {
             let text = told(&case.query, case.in_noise, e, given);
-            self.keep(name, disc, &format!("{what}\n{text}"));
+            self.keep(name, Some(disc), &format!("{what}\n{text}"));
         }
         if e.absurd {
             self.absurd(name, disc, case);
+        }
+    }
+
+    /// A batch of raw records.
+    fn raws(&mut self) {
+        if self.is_over() {
+            return;
+        }
+        let random = &mut self.random;
+        let Ok(cases) = catch_unwind(AssertUnwindSafe(|| batch(random))) else {
+            self.keep("raw records", None, "the original stopped by a panic");
+            return;
+        };
+        let asks: Vec<&RawAsk> = cases.iter().map(|c| &c.ask).collect();
+        let given = match self.ours.raws(&asks) {
+            Ok(given) => given,
+            Err(e) => {
+                self.keep("raw records", None, &format!("our side stopped: {e}"));
+                self.tally.stopped = true;
+                return;
+            }
+        };
+        for (case, given) in cases.iter().zip(&given) {
+            *self.tally.raw.entry((case.ask.call, case.number())).or_insert(0) += 1;
+            if let Some(what) = raw_difference(case, given) {
+                self.keep(&format!("a raw record, {}", case.ask.call.name()), None, &format!("{what}\n{}", raw_told(case, given)));
+            }
+            if self.is_over() {
+                return;
+            }
         }
     }
 
@@ -123,23 +164,32 @@ impl Comparison {
         }
         match aborts::ask(&disc.image, &case.query, &case.expected) {
             Ok(end) => *self.tally.ends.entry(end).or_insert(0) += 1,
-            Err(said) => self.keep(name, disc, &format!("the original, asked as it is, says {said}\n{:?}", case.query)),
+            Err(said) => self.keep(name, Some(disc), &format!("the original, asked as it is, says {said}\n{:?}", case.query)),
         }
     }
 
-    /// Writes a mismatch out: the image, sparse, and beside it what was asked and answered.
-    fn keep(&mut self, name: &str, disc: &Disc, what: &str) {
+    /// Writes a mismatch out: the image, sparse, if there is one, and beside it what was asked and answered.
+    fn keep(&mut self, name: &str, disc: Option<&Disc>, what: &str) {
         self.tally.mismatches += 1;
         let folder = PathBuf::from(concat!(env!("CARGO_MANIFEST_DIR"), "/../target/mismatches"));
         let file = folder.join(format!("{}", self.tally.mismatches));
         let written = std::fs::create_dir_all(&folder)
-            .and_then(|()| std::fs::write(file.with_extension("image"), sparse::pack(&disc.image)))
+            .and_then(|()| keep_image(&file.with_extension("image"), disc))
             .and_then(|()| std::fs::write(file.with_extension("txt"), format!("{name}\nseed {}\n{what}\n", self.seed)));
         let first = what.lines().next().unwrap_or_default();
         match written {
             Ok(()) => eprintln!("compare: MISMATCH on {name}: {first} ({}.txt)", file.display()),
             Err(e) => eprintln!("compare: MISMATCH on {name}: {what} (not kept: {e})"),
         }
+    }
+}
+
+/// The image of a mismatch. Where it is of none, the one of an earlier run goes.
+fn keep_image(file: &Path, disc: Option<&Disc>) -> std::io::Result<()> {
+    match disc {
+        Some(disc) => std::fs::write(file, sparse::pack(&disc.image)),
+        None if file.exists() => std::fs::remove_file(file),
+        None => Ok(()),
     }
 }
 
@@ -175,6 +225,28 @@ fn told(q: &Query, in_noise: bool, e: &Expected, given: &Given) -> String {
     )
 }
 
+/// What differs, if anything.
+fn raw_difference(case: &RawCase, given: &RawGiven) -> Option<&'static str> {
+    if case.expected != given.said {
+        return Some("another answer");
+    }
+    (given.held != RAW_HELD).then_some("a byte beside the answer")
+}
+
+fn raw_told(case: &RawCase, given: &RawGiven) -> String {
+    let ask = &case.ask;
+    format!(
+        "call {} room {}\ninput {:02x?} ({} bytes)\nexpected {}\ngiven    {} held {}\n",
+        ask.call.name(),
+        ask.room,
+        ask.input,
+        ask.input.len(),
+        shown(ask.call, &case.expected),
+        shown(ask.call, &given.said),
+        given.held
+    )
+}
+
 /// Whether every call was answered with everything that it can be answered with.
 pub fn unreached(tally: &Tally) -> Vec<String> {
     let mut all = Vec::new();
@@ -191,6 +263,10 @@ pub fn unreached(tally: &Tally) -> Vec<String> {
             Call::ReadPath => &[0, 1, 2, 3, 4, 5, 6],
         };
         let never = numbers.iter().filter(|n| !tally.asked.contains_key(&(call, **n)));
+        all.extend(never.map(|n| format!("{} {n}", call.name())));
+    }
+    for call in RawCall::ALL {
+        let never = call.numbers().iter().filter(|n| !tally.raw.contains_key(&(*call, **n)));
         all.extend(never.map(|n| format!("{} {n}", call.name())));
     }
     all

@@ -3,6 +3,8 @@
 use super::calls::{Call, Given, Icb, Query, Values, Volume};
 use super::ours::{Ask, Noise, Ours, Timed};
 use super::random::Random;
+use super::raw::{RawAsk, RawGiven};
+use super::raw_direct;
 use std::hint::black_box;
 use std::time::Instant;
 
@@ -92,43 +94,43 @@ impl From<LongAd> for Icb {
     }
 }
 
-const GUARD: usize = 64;
+pub const GUARD: usize = 64;
 
 fn pattern(i: usize, salt: u8) -> u8 {
     ((i * 131 + (i >> 8)) as u8).wrapping_add(salt) | 1
 }
 
 /// A buffer to be lent, full of the pattern, with guards in front and behind. Numbers of 32 bits may be stored in it.
-struct Lending {
+pub struct Lending {
     store: Vec<u32>,
-    length: usize,
+    pub length: usize,
     salt: u8,
 }
 
 impl Lending {
-    fn new(length: usize, salt: u8) -> Lending {
+    pub fn new(length: usize, salt: u8) -> Lending {
         let mut l = Lending { store: vec![0; (length + 2 * GUARD).div_ceil(4)], length, salt };
         let n = length + 2 * GUARD;
         l.bytes()[..n].iter_mut().enumerate().for_each(|(i, b)| *b = pattern(i, salt));
         l
     }
 
-    fn bytes(&mut self) -> &mut [u8] {
+    pub fn bytes(&mut self) -> &mut [u8] {
         let n = self.store.len() * 4;
         // A number is four bytes, and bytes need no alignment.
         unsafe { std::slice::from_raw_parts_mut(self.store.as_mut_ptr().cast(), n) }
     }
 
-    fn lent(&mut self) -> Lent {
+    pub fn lent(&mut self) -> Lent {
         self.bytes()[GUARD..].as_mut_ptr()
     }
 
-    fn as_it_came(&mut self, from: usize, end: usize) -> bool {
+    pub fn as_it_came(&mut self, from: usize, end: usize) -> bool {
         let salt = self.salt;
         (from..end).all(|i| self.bytes()[i] == pattern(i, salt))
     }
 
-    fn guarded(&mut self) -> bool {
+    pub fn guarded(&mut self) -> bool {
         let end = GUARD + self.length;
         self.as_it_came(0, GUARD) && self.as_it_came(end, end + GUARD)
     }
@@ -195,6 +197,10 @@ impl Ours for Direct {
 
     fn answers(&mut self, asks: &[Ask]) -> std::io::Result<Vec<Given>> {
         Ok(asks.iter().map(|a| self.answer(a)).collect())
+    }
+
+    fn raws(&mut self, asks: &[&RawAsk]) -> std::io::Result<Vec<RawGiven>> {
+        Ok(asks.iter().map(|a| raw_direct::answer(a)).collect())
     }
 
     fn time(&mut self, timed: Timed, times: u32) -> std::io::Result<u64> {

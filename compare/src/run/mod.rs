@@ -15,6 +15,12 @@ mod ours;
 mod port;
 mod queries;
 mod random;
+mod raw;
+mod raw_cases;
+#[cfg(linked)]
+mod raw_direct;
+mod raw_expect;
+mod raw_records;
 mod records;
 mod shapes_directories;
 mod shapes_files;
@@ -92,7 +98,7 @@ pub fn main() {
     }
     let (seconds, seed) = (o.seconds.unwrap_or(60), o.seed.unwrap_or(1));
     let enough = if o.first { 1 } else { 8 };
-    let mut comparison = compare::Comparison { ours: ours::ours(way), seed, enough, tally: tally::Tally::new() };
+    let mut comparison = compare::Comparison::new(ours::ours(way), seed, enough);
     comparison.run(seconds);
     let tally = &comparison.tally;
     println!("{tally}, seed {seed}");

@@ -1,6 +1,7 @@
 //! Our side: the archive, behind whichever way there is to call it.
 
 use super::calls::{Given, Query};
+use super::raw::{RawAsk, RawGiven};
 
 /// What stands in the sectors that a call must not look at.
 #[derive(Clone, Copy)]
@@ -31,6 +32,9 @@ pub trait Ours {
 
     /// The answers, in order; an error where our side stopped without them.
     fn answers(&mut self, asks: &[Ask]) -> std::io::Result<Vec<Given>>;
+
+    /// The same for calls on raw records.
+    fn raws(&mut self, asks: &[&RawAsk]) -> std::io::Result<Vec<RawGiven>>;
 
     /// The nanoseconds that a query takes, so many times over, with memory that is warm; with no query, a copy of so many bytes.
     fn time(&mut self, timed: Timed, times: u32) -> std::io::Result<u64>;

@@ -2,6 +2,7 @@
 
 use super::calls::{Call, Given, Query, Values, Volume};
 use super::ours::{Ask, Noise, Ours, Timed};
+use super::raw::{RawAsk, RawGiven};
 use super::{sparse, wire};
 use std::io::{BufReader, Result, Write};
 use std::path::Path;
@@ -55,6 +56,12 @@ impl Port {
         Ok(Given { values, held })
     }
 
+    fn raw_given(&mut self) -> Result<RawGiven> {
+        let held = wire::number(&mut self.from, 1)? as u8;
+        let n = wire::number(&mut self.from, 4)? as usize;
+        Ok(RawGiven { said: wire::bytes(&mut self.from, n)?, held })
+    }
+
     fn put_query(&mut self, call: u8, ask: &Ask) {
         let to = &mut self.requests;
         wire::put(to, call as u64, 1);
@@ -99,6 +106,20 @@ impl Ours for Port {
         }
         self.send()?;
         asks.iter().map(|_| self.given()).collect()
+    }
+
+    fn raws(&mut self, asks: &[&RawAsk]) -> Result<Vec<RawGiven>> {
+        for ask in asks {
+            let to = &mut self.requests;
+            wire::put(to, b'R' as u64, 1);
+            wire::put(to, ask.call as u64, 1);
+            wire::put(to, ask.salt as u64, 1);
+            wire::put(to, ask.room as u64, 4);
+            wire::put(to, ask.input.len() as u64, 4);
+            to.extend(&ask.input);
+        }
+        self.send()?;
+        asks.iter().map(|_| self.raw_given()).collect()
     }
 
     fn time(&mut self, timed: Timed, times: u32) -> Result<u64> {

@@ -1,6 +1,7 @@
 //! What was compared, by call and answer number.
 
 use super::calls::Call;
+use super::raw::RawCall;
 use std::collections::BTreeMap;
 use std::fmt;
 use std::time::Instant;
@@ -10,6 +11,7 @@ pub struct Tally {
     said: u64,
     pub images: u64,
     pub asked: BTreeMap<(Call, u64), u64>,
+    pub raw: BTreeMap<(RawCall, u64), u64>,
     pub in_noise: u64,
     pub mismatches: u64,
     /// Our side came to an end by itself.
@@ -26,6 +28,7 @@ impl Tally {
             said: 0,
             images: 0,
             asked: BTreeMap::new(),
+            raw: BTreeMap::new(),
             in_noise: 0,
             mismatches: 0,
             stopped: false,
@@ -42,16 +45,21 @@ impl Tally {
         self.asked.values().sum()
     }
 
+    pub fn raws(&self) -> u64 {
+        self.raw.values().sum()
+    }
+
     /// A line now and then, so that whoever waits sees it go on.
     pub fn progress(&mut self) {
         let now = self.seconds();
         if now >= self.said + 5 {
             self.said = now;
             eprintln!(
-                "compare: {now} s, {} images, {} queries, {} again in noise, {} mismatches",
+                "compare: {now} s, {} images, {} queries, {} again in noise, {} raw records, {} mismatches",
                 self.images,
                 self.queries(),
                 self.in_noise,
+                self.raws(),
                 self.mismatches
             );
         }
@@ -60,12 +68,17 @@ impl Tally {
 
 impl fmt::Display for Tally {
     fn fmt(&self, f: &mut fmt::Formatter) -> fmt::Result {
-        writeln!(f, "{:10}{}", "call", (0..8).map(|n| format!("{n:>10}")).collect::<String>())?;
+        writeln!(f, "{:22}{}", "call", (0..8).map(|n| format!("{n:>10}")).collect::<String>())?;
         for call in Call::ALL {
             let row: String = (0..8).map(|n| format!("{:>10}", self.asked.get(&(call, n)).unwrap_or(&0))).collect();
-            writeln!(f, "{:10}{row}", call.name())?;
+            writeln!(f, "{:22}{row}", call.name())?;
         }
-        writeln!(f, "images {}, queries {}, again in noise {}, seconds {}", self.images, self.queries(), self.in_noise, self.seconds())?;
+        for call in RawCall::ALL {
+            let row: String = (0..8).map(|n| format!("{:>10}", self.raw.get(&(*call, n)).unwrap_or(&0))).collect();
+            writeln!(f, "{:22}{row}", call.name())?;
+        }
+        let (images, queries, in_noise, raws) = (self.images, self.queries(), self.in_noise, self.raws());
+        writeln!(f, "images {images}, queries {queries}, again in noise {in_noise}, raw records {raws}, seconds {}", self.seconds())?;
         let ends: Vec<String> = self.ends.iter().map(|(k, n)| format!("{n} {k}")).collect();
         writeln!(f, "absurd information lengths {}; of these the original, in a process of its own: {}", self.absurd, ends.join(", "))?;
         write!(f, "mismatches {}", self.mismatches)

@@ -8,6 +8,7 @@ use records::allocations::extent_at;
 use tags::DescriptorTag;
 use tags::TagRead;
 
+#[repr(C)]
 pub struct AnchorVolumeDescriptorPointer {
     pub tag: DescriptorTag,
     pub main_volume_descriptor_sequence: ExtentAd,

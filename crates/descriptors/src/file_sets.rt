@@ -10,12 +10,14 @@ use tags::DescriptorTag;
 use tags::TagRead;
 use tags::no_tag;
 
+#[repr(C)]
 pub struct FileSetDescriptor {
     pub tag: DescriptorTag,
     pub root_directory_icb: LongAd,
 }
 
 // An enum can hold no array, so the answer is a number, with zeros where it is a refusal.
+#[repr(C)]
 pub struct FileSetRead {
     pub answer: u64,
     pub descriptor: FileSetDescriptor,

@@ -16,6 +16,7 @@ use tags::TagRead;
 use tags::no_tag;
 
 // The identifier is the label's field as recorded. The block size is in bytes.
+#[repr(C)]
 pub struct LogicalVolumeDescriptor {
     pub tag: DescriptorTag,
     pub volume_descriptor_sequence_number: u32,
@@ -25,6 +26,7 @@ pub struct LogicalVolumeDescriptor {
 }
 
 // An enum can hold no array, so the answer is a number, with zeros where it is a refusal.
+#[repr(C)]
 pub struct LogicalRead {
     pub answer: u64,
     pub descriptor: LogicalVolumeDescriptor,

@@ -9,6 +9,7 @@ use tags::DescriptorTag;
 use tags::TagRead;
 
 // The start and the length are in logical sectors.
+#[repr(C)]
 pub struct PartitionDescriptor {
     pub tag: DescriptorTag,
     pub volume_descriptor_sequence_number: u32,

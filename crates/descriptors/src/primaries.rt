@@ -13,6 +13,7 @@ use tags::TagRead;
 use tags::no_tag;
 
 // The volume identifier is the label's field as recorded.
+#[repr(C)]
 pub struct PrimaryVolumeDescriptor {
     pub tag: DescriptorTag,
     pub volume_descriptor_sequence_number: u32,
@@ -21,6 +22,7 @@ pub struct PrimaryVolumeDescriptor {
 }
 
 // An enum can hold no array, so the answer is a number, with zeros where it is a refusal.
+#[repr(C)]
 pub struct PrimaryRead {
     pub answer: u64,
     pub descriptor: PrimaryVolumeDescriptor,

@@ -9,6 +9,7 @@ use records::bytes::byte_at;
 use records::bytes::le16;
 use records::bytes::le32;
 
+#[repr(C)]
 pub struct IcbTag {
     pub prior_recorded_entries: u32,
     pub strategy_type: u16,

@@ -16,6 +16,7 @@ use tags::no_tag;
 
 // The recorded name, a d-string of `name_length` bytes, stands at `name_at`; as UTF-8 it has `name_size` bytes. The next identifier
 // starts `total_size` bytes on.
+#[repr(C)]
 pub struct FileIdentifierDescriptor {
     pub tag: DescriptorTag,
     pub file_version_number: u16,
@@ -28,6 +29,7 @@ pub struct FileIdentifierDescriptor {
 }
 
 // An enum can hold no array, so the answer is a number, with zeros where it is a refusal.
+#[repr(C)]
 pub struct IdentifierRead {
     pub answer: u64,
     pub descriptor: FileIdentifierDescriptor,

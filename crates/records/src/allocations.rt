@@ -10,6 +10,7 @@ use crate::bytes::le16;
 use crate::bytes::le32;
 use disc::refusals::Refusal;
 
+#[repr(C)]
 pub struct ExtentAd {
     pub length: u32,
     pub location: u32,
@@ -63,6 +64,7 @@ impl ExtentAd {
     }
 }
 
+#[repr(C)]
 pub struct ShortAd {
     pub length: u32,
     pub extent_type: u8,
@@ -169,6 +171,7 @@ pub struct LongAd {
 }
 
 // An enum can hold no array, so the answer is a number, with zeros where it is a refusal.
+#[repr(C)]
 pub struct LongRead {
     pub answer: u64,
     pub ad: LongAd,
@@ -264,6 +267,7 @@ impl LongAd {
     }
 }
 
+#[repr(C)]
 pub struct ExtAd {
     pub length: u32,
     pub extent_type: u8,
@@ -273,6 +277,7 @@ pub struct ExtAd {
     pub implementation_use: [u8; 2],
 }
 
+#[repr(C)]
 pub struct ExtRead {
     pub answer: u64,
     pub ad: ExtAd,

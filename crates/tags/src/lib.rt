@@ -12,6 +12,7 @@ use records::bytes::le16;
 use records::bytes::le32;
 
 // The id is a number, which reading keeps within the listed ones.
+#[repr(C)]
 pub struct DescriptorTag {
     pub id: u16,
     pub descriptor_version: u16,
@@ -150,6 +151,7 @@ impl DescriptorTag {
 }
 
 // The header of an allocation extent.
+#[repr(C)]
 pub struct AllocationExtentDescriptor {
     pub tag: DescriptorTag,
     pub previous_allocation_extent_location: u32,

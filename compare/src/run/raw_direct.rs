@@ -1,0 +1,106 @@
+//! The archive of records_c linked in: the calls of include/records.h, with lent memory as port.c lends it.
+
+use super::direct::{GUARD, Lending};
+use super::raw::{RawAsk, RawCall, RawGiven};
+use super::raw_records::*;
+
+#[repr(C)]
+struct Encoded<const N: usize> {
+    bytes: [u8; N],
+}
+
+type Bytes = *const u8;
+
+unsafe extern "C" {
+    fn records_parse_extent_ad(bytes: Bytes, n: usize) -> Answer<ExtentAd>;
+    fn records_parse_short_ad(bytes: Bytes, n: usize) -> Answer<ShortAd>;
+    fn records_parse_lb_addr(bytes: Bytes, n: usize) -> Answer<LbAddr>;
+    fn records_parse_long_ad(bytes: Bytes, n: usize) -> Answer<LongAd>;
+    fn records_parse_ext_ad(bytes: Bytes, n: usize) -> Answer<ExtAd>;
+    fn records_parse_tag(bytes: Bytes, n: usize) -> Answer<Tag>;
+    fn records_parse_aed(bytes: Bytes, n: usize) -> Answer<Aed>;
+    fn records_parse_anchor(bytes: Bytes, n: usize) -> Answer<Anchor>;
+    fn records_parse_primary_volume(bytes: Bytes, n: usize) -> Answer<PrimaryVolume>;
+    fn records_parse_partition(bytes: Bytes, n: usize) -> Answer<Partition>;
+    fn records_parse_logical_volume(bytes: Bytes, n: usize) -> Answer<LogicalVolume>;
+    fn records_parse_file_set(bytes: Bytes, n: usize) -> Answer<FileSet>;
+    fn records_parse_icb_tag(bytes: Bytes, n: usize) -> Answer<IcbTag>;
+    fn records_parse_file_entry(bytes: Bytes, n: usize) -> Answer<FileEntry>;
+    fn records_parse_file_identifier(bytes: Bytes, n: usize) -> Answer<FileIdentifier>;
+    fn records_decode_dstring(bytes: Bytes, n: usize, out: *mut u8, room: usize) -> Written;
+    fn records_decode_dstring_field(bytes: Bytes, n: usize, out: *mut u8, room: usize) -> Written;
+    fn records_encode_extent_ad(value: ExtentAd) -> Encoded<8>;
+    fn records_encode_short_ad(value: ShortAd) -> Encoded<8>;
+    fn records_encode_lb_addr(value: LbAddr) -> Encoded<6>;
+    fn records_encode_long_ad(value: LongAd) -> Encoded<16>;
+    fn records_encode_ext_ad(value: ExtAd) -> Encoded<20>;
+    fn records_encode_tag(value: Tag) -> Encoded<16>;
+    fn records_encode_aed(value: Aed) -> Encoded<24>;
+}
+
+fn parse<T: Flat>(call: unsafe extern "C" fn(Bytes, usize) -> Answer<T>, from: Bytes, n: usize) -> Vec<u8> {
+    // The header's word: the piece is as long as said.
+    flat(&unsafe { call(from, n) })
+}
+
+fn encode<T: Flat, const N: usize>(call: unsafe extern "C" fn(T) -> Encoded<N>, mut record: &[u8]) -> Vec<u8> {
+    // Any value of the record may be encoded.
+    unsafe { call(T::take(&mut record)) }.bytes.to_vec()
+}
+
+fn decode(
+    call: unsafe extern "C" fn(Bytes, usize, *mut u8, usize) -> Written,
+    from: Bytes,
+    n: usize,
+    out: &mut Lending,
+) -> (Vec<u8>, usize) {
+    let room = out.length;
+    // The header's word: the pieces are as long as said, and don't overlap.
+    let r = unsafe { call(from, n, out.lent(), room) };
+    let n = if r.answer == 0 { (r.length as usize).min(room) } else { 0 };
+    let mut said = flat(&r);
+    said.extend(&out.bytes()[GUARD..GUARD + n]);
+    (said, n)
+}
+
+fn make(ask: &RawAsk, from: Bytes, out: &mut Lending) -> (Vec<u8>, usize) {
+    use RawCall::*;
+    let n = ask.input.len();
+    let said = match ask.call {
+        ParseExtentAd => parse(records_parse_extent_ad, from, n),
+        ParseShortAd => parse(records_parse_short_ad, from, n),
+        ParseLbAddr => parse(records_parse_lb_addr, from, n),
+        ParseLongAd => parse(records_parse_long_ad, from, n),
+        ParseExtAd => parse(records_parse_ext_ad, from, n),
+        ParseTag => parse(records_parse_tag, from, n),
+        ParseAed => parse(records_parse_aed, from, n),
+        ParseAnchor => parse(records_parse_anchor, from, n),
+        ParsePrimaryVolume => parse(records_parse_primary_volume, from, n),
+        ParsePartition => parse(records_parse_partition, from, n),
+        ParseLogicalVolume => parse(records_parse_logical_volume, from, n),
+        ParseFileSet => parse(records_parse_file_set, from, n),
+        ParseIcbTag => parse(records_parse_icb_tag, from, n),
+        ParseFileEntry => parse(records_parse_file_entry, from, n),
+        ParseFileIdentifier => parse(records_parse_file_identifier, from, n),
+        DecodeDstring => return decode(records_decode_dstring, from, n, out),
+        DecodeDstringField => return decode(records_decode_dstring_field, from, n, out),
+        EncodeExtentAd => encode(records_encode_extent_ad, &ask.input),
+        EncodeShortAd => encode(records_encode_short_ad, &ask.input),
+        EncodeLbAddr => encode(records_encode_lb_addr, &ask.input),
+        EncodeLongAd => encode(records_encode_long_ad, &ask.input),
+        EncodeExtAd => encode(records_encode_ext_ad, &ask.input),
+        EncodeTag => encode(records_encode_tag, &ask.input),
+        EncodeAed => encode(records_encode_aed, &ask.input),
+    };
+    (said, 0)
+}
+
+pub fn answer(ask: &RawAsk) -> RawGiven {
+    let mut input = Lending::new(ask.input.len(), ask.salt);
+    let end = GUARD + ask.input.len();
+    input.bytes()[GUARD..end].copy_from_slice(&ask.input);
+    let mut out = Lending::new(ask.room, ask.salt);
+    let (said, written) = make(ask, input.lent(), &mut out);
+    let held = out.guarded() as u8 | (out.as_it_came(GUARD + written, GUARD + ask.room) as u8) << 1;
+    RawGiven { said, held }
+}

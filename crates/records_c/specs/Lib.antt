@@ -1,0 +1,3 @@
+-- What the contracts cite beside the definitions of the crates below.
+pub mod Decoded
+pub mod Entries

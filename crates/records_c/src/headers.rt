@@ -1,0 +1,79 @@
+// The descriptor tag, and the header of an allocation extent.
+ghost use mathlib.Core.Path.{_≡_};
+ghost use Rattle.tags.specs.Answers.{tagAnswer, aedAnswer};
+ghost use Rattle.tags.specs.Tags.{readTag, encodeTag, readAed, encodeAed};
+use tags::AedRead;
+use tags::AllocationExtentDescriptor;
+use tags::DescriptorTag;
+use tags::TagRead;
+use tags::no_tag;
+
+#[repr(C)]
+pub struct TagBytes {
+    pub bytes: [u8; 16],
+}
+
+#[repr(C)]
+pub struct AedBytes {
+    pub bytes: [u8; 24],
+}
+
+#[repr(C)]
+pub struct TagAnswer {
+    pub answer: u64,
+    pub value: DescriptorTag,
+}
+
+#[repr(C)]
+pub struct AedAnswer {
+    pub answer: u64,
+    pub value: AllocationExtentDescriptor,
+}
+
+#[no_mangle]
+pub extern "C" fn records_parse_tag(bytes: &[u8]) -> TagAnswer
+    ensures { λ r. ⌜ record { number = r .answer; value = r .value } ≡ tagAnswer (readTag (now (bytes .entry))) ⌝ }
+{
+    match DescriptorTag::parse(bytes) {
+        TagRead::Read(value) => TagAnswer { answer: 0, value },
+        TagRead::Refused(why) => TagAnswer {
+            answer: why.number(),
+            value: no_tag(),
+        },
+    }
+}
+
+#[no_mangle]
+pub extern "C" fn records_encode_tag(value: DescriptorTag) -> TagBytes
+    ensures { λ r. ⌜ r .bytes ≡ encodeTag value ⌝ }
+{
+    TagBytes {
+        bytes: value.encode(),
+    }
+}
+
+#[no_mangle]
+pub extern "C" fn records_parse_aed(bytes: &[u8]) -> AedAnswer
+    ensures { λ r. ⌜ record { number = r .answer; value = r .value } ≡ aedAnswer (readAed (now (bytes .entry))) ⌝ }
+{
+    match AllocationExtentDescriptor::parse(bytes) {
+        AedRead::Header(value) => AedAnswer { answer: 0, value },
+        AedRead::NoHeader(why) => AedAnswer {
+            answer: why.number(),
+            value: AllocationExtentDescriptor {
+                tag: no_tag(),
+                previous_allocation_extent_location: 0,
+                length_of_allocation_descriptors: 0,
+            },
+        },
+    }
+}
+
+#[no_mangle]
+pub extern "C" fn records_encode_aed(value: AllocationExtentDescriptor) -> AedBytes
+    ensures { λ r. ⌜ r .bytes ≡ encodeAed value ⌝ }
+{
+    AedBytes {
+        bytes: value.encode(),
+    }
+}
