@@ -1,0 +1,163 @@
+//! What the command line asks for.
+
+use crate::failure::Failure;
+use crate::names::shown;
+use std::ffi::{OsStr, OsString};
+use std::os::unix::ffi::{OsStrExt, OsStringExt};
+
+pub const HELP: &str = "\
+vault: look into a UDF disc. An image is a file or a drive; it is only read.
+
+  vault                        a short tour of a sample show
+  vault label IMAGE            the volume's name
+  vault ls IMAGE [PATH]        what a directory holds, in the disc's order
+  vault cat IMAGE PATH         a file's bytes, to standard output
+  vault get IMAGE PATH FILE    a file's bytes, to FILE, which is replaced
+  vault stat IMAGE PATH        ICB, kind, extents, sectors asked for
+  vault probe IMAGE            whether it has a recognition sequence: yes or no
+  vault sample FILE            writes the sample show's image, to try these on
+
+  --sectors    print on standard error how many sectors each call asked for
+  --help       print this
+  --           what follows is no option
+
+Names on a path stand between slashes. ASCII case is ignored, and the first
+entry that is equal so is taken. Control characters in names are printed as
+\\u{..}. Do not write to an image while it is looked at.
+
+Status: 0 done, 1 to 8 refused by that number, 64 wrong usage, 66 no image,
+74 output that can't be written.
+";
+
+/// A path on the disc, in bytes: names there need not be this system's.
+pub type DiscPath = Vec<u8>;
+
+#[derive(Debug, PartialEq, Eq)]
+pub enum Command {
+    Help,
+    Tour,
+    Sample { file: OsString },
+    Ask { image: OsString, question: Question },
+}
+
+/// What is asked of an image.
+#[derive(Debug, PartialEq, Eq)]
+pub enum Question {
+    Label,
+    Ls { path: DiscPath },
+    Cat { path: DiscPath },
+    Get { path: DiscPath, file: OsString },
+    Stat { path: DiscPath },
+    Probe,
+}
+
+#[derive(Debug, PartialEq, Eq)]
+pub struct Args {
+    pub command: Command,
+    pub sectors: bool,
+}
+
+pub fn parse(given: impl IntoIterator<Item = OsString>) -> Result<Args, Failure> {
+    let (mut sectors, mut help, mut words) = (false, false, Vec::new());
+    let mut given = given.into_iter();
+    while let Some(word) = given.next() {
+        match word.as_bytes() {
+            b"--" => words.extend(given.by_ref()),
+            b"--sectors" => sectors = true,
+            b"--help" | b"-h" => help = true,
+            [b'-', _, ..] => return Err(Failure::usage(format!("there is no option {}", shown(word.as_bytes())))),
+            _ => words.push(word),
+        }
+    }
+    let command = if help { Command::Help } else { command(words)? };
+    Ok(Args { command, sectors })
+}
+
+fn command(words: Vec<OsString>) -> Result<Command, Failure> {
+    let mut words = words.into_iter();
+    let Some(name) = words.next() else {
+        return Ok(Command::Tour);
+    };
+    let command = match name.as_bytes() {
+        b"sample" => Command::Sample { file: take(&mut words, &name, "FILE")? },
+        b"label" | b"ls" | b"cat" | b"get" | b"stat" | b"probe" => {
+            let image = take(&mut words, &name, "IMAGE")?;
+            Command::Ask { image, question: question(&name, &mut words)? }
+        }
+        other => return Err(Failure::usage(format!("there is no command {}", shown(other)))),
+    };
+    match words.next() {
+        None => Ok(command),
+        Some(word) => Err(Failure::usage(format!("{} takes no more words, and {} follows", name.display(), shown(word.as_bytes())))),
+    }
+}
+
+fn question(name: &OsStr, words: &mut impl Iterator<Item = OsString>) -> Result<Question, Failure> {
+    if name == "label" {
+        return Ok(Question::Label);
+    }
+    if name == "probe" {
+        return Ok(Question::Probe);
+    }
+    if name == "ls" {
+        return Ok(Question::Ls { path: words.next().unwrap_or_default().into_vec() });
+    }
+    let path = take(words, name, "PATH")?.into_vec();
+    Ok(match name.as_bytes() {
+        b"get" => Question::Get { path, file: take(words, name, "FILE")? },
+        b"cat" => Question::Cat { path },
+        _ => Question::Stat { path },
+    })
+}
+
+fn take(words: &mut impl Iterator<Item = OsString>, name: &OsStr, what: &str) -> Result<OsString, Failure> {
+    words.next().ok_or_else(|| Failure::usage(format!("{} needs {what}", name.display())))
+}
+
+#[cfg(test)]
+mod tests {
+    use super::*;
+
+    fn parsed(line: &str) -> Result<Args, Failure> {
+        parse(line.split_whitespace().map(OsString::from))
+    }
+
+    #[test]
+    fn the_help_fits_a_screen() {
+        assert!(HELP.lines().count() < 24);
+        assert!(HELP.lines().all(|line| line.chars().count() < 80));
+    }
+
+    #[test]
+    fn options_stand_anywhere() {
+        let label = |image: &str| Command::Ask { image: image.into(), question: Question::Label };
+        let asked = |sectors| Args { command: label("a"), sectors };
+        assert_eq!(parsed("label a").unwrap(), asked(false));
+        assert_eq!(parsed("--sectors label a").unwrap(), asked(true));
+        assert_eq!(parsed("label a --sectors").unwrap(), asked(true));
+        assert_eq!(parsed("label a --help").unwrap().command, Command::Help);
+        assert_eq!(parsed("label -- --help").unwrap().command, label("--help"));
+        assert_eq!(parsed("").unwrap().command, Command::Tour);
+    }
+
+    #[test]
+    fn wrong_words_are_usage() {
+        for line in [
+            "lable a",
+            "label",
+            "label a b",
+            "ls",
+            "ls a b c",
+            "cat a",
+            "get a b",
+            "stat a",
+            "probe",
+            "sample",
+            "-x",
+            "--sector",
+            "label a -v",
+        ] {
+            assert_eq!(parsed(line).unwrap_err().status, crate::failure::USAGE, "{line}");
+        }
+    }
+}

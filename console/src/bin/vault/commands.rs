@@ -1,0 +1,122 @@
+//! The commands.
+
+use crate::args::{Command, HELP, Question};
+use crate::bar::Word;
+use crate::disc::{Disc, Found};
+use crate::failure::{Failure, USAGE};
+use crate::file;
+use crate::log::Log;
+use crate::map::Image;
+use crate::names::shown;
+use crate::tour;
+use console::{AllocExtent, DirEntry, probe_vrs, read_volume_label};
+use std::ffi::OsStr;
+use std::io::{self, Write};
+use std::os::unix::ffi::OsStrExt;
+
+pub fn run(command: &Command, out: &mut impl Write, log: &mut Log) -> Result<(), Failure> {
+    match command {
+        Command::Help => out.write_all(HELP.as_bytes()).map_err(Failure::output),
+        Command::Tour => tour::give(out),
+        Command::Sample { file } => file::Target::at(file)?.write(&tour::sample()?),
+        Command::Ask { image, question } => {
+            if let Question::Get { file, .. } = question {
+                apart(image, file)?;
+            }
+            ask(question, &Image::open(image)?, image, out, log)
+        }
+    }
+}
+
+/// The image must not be what is written.
+fn apart(image: &OsStr, file: &OsStr) -> Result<(), Failure> {
+    if file::is_same(image, file) {
+        return Err(Failure::file(USAGE, file, "this is the image itself"));
+    }
+    Ok(())
+}
+
+/// Answers a question on an image, which goes by `name`.
+pub fn ask(question: &Question, image: &[u8], name: &OsStr, out: &mut impl Write, log: &mut Log) -> Result<(), Failure> {
+    let name = &shown(name.as_bytes());
+    match question {
+        Question::Probe => line(out, if probe_vrs(image) { "yes" } else { "no" }),
+        Question::Label => {
+            let label = log.count("label", read_volume_label(image)).map_err(|refused| Failure::refused(name, refused))?;
+            line(out, &shown(label.as_bytes()))
+        }
+        Question::Ls { path } => ls(&mut Disc::open(image, name, log)?, path, out),
+        Question::Stat { path } => stat(&mut Disc::open(image, name, log)?, path, out),
+        Question::Cat { path } => {
+            let bytes = cat(&mut Disc::open(image, name, log)?, path)?;
+            out.write_all(&bytes).map_err(Failure::output)
+        }
+        Question::Get { path, file } => {
+            let target = file::Target::at(file)?;
+            let word = Word::new("reading");
+            let bytes = cat(&mut Disc::open(image, name, log)?, path)?;
+            drop(word);
+            target.write(&bytes)
+        }
+    }
+}
+
+fn line(out: &mut impl Write, text: &str) -> Result<(), Failure> {
+    writeln!(out, "{text}").map_err(Failure::output)
+}
+
+/// A file's bytes.
+fn cat(disc: &mut Disc, path: &[u8]) -> Result<Vec<u8>, Failure> {
+    let found = disc.find_file(path)?;
+    disc.read(path, found.icb)
+}
+
+/// A directory's entries, or a file's own.
+fn ls(disc: &mut Disc, path: &[u8], out: &mut impl Write) -> Result<(), Failure> {
+    let found = disc.find(path)?;
+    let entries = match found.entry {
+        Some(entry) if !entry.is_directory => vec![entry],
+        _ => disc.list(path, found.icb)?,
+    };
+    entries.iter().try_for_each(|entry| line(out, &listed(entry)))
+}
+
+fn listed(entry: &DirEntry) -> String {
+    let mark = if entry.is_directory { "/" } else { "" };
+    shown(entry.name.as_bytes()) + mark
+}
+
+fn stat(disc: &mut Disc, path: &[u8], out: &mut impl Write) -> Result<(), Failure> {
+    let found = disc.find(path)?;
+    let part = disc.count(path, "part", disc.vault.part(found.icb))?;
+    let extents = disc.count(path, "extents", disc.vault.extents(found.icb))?;
+    say_found(&found, path, out)
+        .and_then(|()| say_extents(part.len(), &extents, out))
+        .and_then(|()| writeln!(out, "sectors  {}", disc.log.sectors()))
+        .map_err(Failure::output)
+}
+
+fn say_found(found: &Found, path: &[u8], out: &mut impl Write) -> io::Result<()> {
+    let icb = found.icb;
+    writeln!(out, "path     {}", shown(path))?;
+    writeln!(out, "entry    {}", found.entry.as_ref().map_or("none, this is the root".to_string(), listed))?;
+    writeln!(out, "kind     {}", if found.is_directory() { "directory" } else { "file" })?;
+    let place = icb.location;
+    writeln!(out, "icb      block {}, partition {}, {} bytes, type {}", place.block, place.partition_ref, icb.length, icb.extent_type)
+}
+
+/// How the bytes are stored: in the entry itself, which has then no extents, or in extents.
+fn say_extents(embedded: usize, extents: &[AllocExtent], out: &mut impl Write) -> io::Result<()> {
+    if extents.is_empty() {
+        let storage = if embedded > 0 { format!("embedded, {embedded} bytes") } else { "no bytes, no extents".to_string() };
+        return writeln!(out, "storage  {storage}");
+    }
+    let bytes: u64 = extents.iter().map(|extent| u64::from(extent.length)).sum();
+    writeln!(out, "storage  extents: {}, with {bytes} bytes in all", extents.len())?;
+    extents.iter().try_for_each(|extent| {
+        let kind = ["recorded", "not recorded", "not allocated"].get(usize::from(extent.extent_type)).unwrap_or(&"a continuation");
+        let partition = extent.partition_ref.map_or("none".to_string(), |number| number.to_string());
+        let (length, number, block) = (extent.length, extent.extent_type, extent.block);
+        writeln!(out, "extent   {length} bytes, type {number} ({kind}), block {block}, partition {partition}")
+    })
+}

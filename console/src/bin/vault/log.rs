@@ -1,0 +1,32 @@
+//! What goes to standard error beside the answer: the sectors that each call asked for, and remarks.
+
+use console::{Refused, Result};
+use std::io::{self, Write};
+
+#[derive(Default)]
+pub struct Log {
+    calls: Vec<(&'static str, u64)>,
+    pub remarks: Vec<String>,
+}
+
+impl Log {
+    /// Notes a call's count, refused or not, and gives its value.
+    pub fn count<T>(&mut self, call: &'static str, answer: Result<T>) -> std::result::Result<T, Refused> {
+        self.calls.push((call, answer.as_ref().map_or_else(|refused| refused.sectors, |answer| answer.sectors)));
+        answer.map(|answer| answer.value)
+    }
+
+    /// Each call in turn, with its count. The probe has none.
+    pub fn sectors(&self) -> String {
+        if self.calls.is_empty() {
+            return "none are counted".to_string();
+        }
+        let calls: Vec<String> = self.calls.iter().map(|(call, count)| format!("{call} {count}")).collect();
+        calls.join(", ")
+    }
+}
+
+/// A line on standard error. Where that is closed there is nobody to tell.
+pub fn say(text: &str) {
+    let _ = writeln!(io::stderr(), "vault: {text}");
+}

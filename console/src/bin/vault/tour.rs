@@ -1,0 +1,88 @@
+//! The tour of the sample show.
+
+use crate::args::Question;
+use crate::commands;
+use crate::disc::Disc;
+use crate::failure::{Failure, NO_IMAGE};
+use crate::log::Log;
+use crate::names::shown;
+use crate::sparse;
+use std::ffi::OsStr;
+use std::io::Write;
+
+/// The input of the program `first_cue`: a show with four cues, kept sparse. tools/show_image.py writes it.
+const PACKED: &[u8] = include_bytes!("../../../../crates/first_cue/stdin");
+
+/// The name that the image has in the tour.
+const NAME: &str = "show.img";
+
+/// The two cues, and the directory that they stand in.
+const DIRECTORY: &[u8] = b"SHOW";
+const UPPER: &[u8] = b"SHOW/10.1A";
+const LOWER: &[u8] = b"SHOW/10.1a";
+
+/// The sample show's image.
+pub fn sample() -> Result<Vec<u8>, Failure> {
+    sparse::expand(PACKED).ok_or_else(|| Failure::new(NO_IMAGE, "the sample show isn't packed as it should be"))
+}
+
+pub fn give(out: &mut impl Write) -> Result<(), Failure> {
+    let image = sample()?;
+    text(out, BEGIN)?;
+    step(&image, Question::Label, "label show.img", out)?;
+    step(&image, Question::Ls { path: DIRECTORY.into() }, "ls show.img SHOW", out)?;
+    text(out, "Two cues have names that differ in case alone. They are two entries:\n\n")?;
+    looks(&image, out)?;
+    text(out, MATCHING)?;
+    step(&image, Question::Cat { path: UPPER.into() }, "cat show.img SHOW/10.1A", out)?;
+    step(&image, Question::Cat { path: LOWER.into() }, "cat show.img SHOW/10.1a", out)?;
+    step(&image, Question::Stat { path: LOWER.into() }, "stat show.img SHOW/10.1a", out)?;
+    text(out, MEANING)
+}
+
+const BEGIN: &str = "\
+A tour of a small show. `vault sample show.img` writes it to a file; then each
+line behind a $ can be typed. `vault --help` has all commands.
+
+";
+
+const MATCHING: &str = "\
+A path ignores ASCII case, and takes the first entry that is equal so. Either
+name gives 10.1A:
+
+";
+
+const MEANING: &str = "\
+For a show this means: a path can't tell such cues apart, and what it gave may
+have another name than was asked for. `stat` says which entry it is. A console
+that must have 10.1a lists the directory (read_directory), takes the entry with
+exactly that name, and reads by its ICB (read_file).
+";
+
+fn text(out: &mut impl Write, text: &str) -> Result<(), Failure> {
+    out.write_all(text.as_bytes()).map_err(Failure::output)
+}
+
+/// A command as it is typed, its answer, and what it would say on standard error.
+fn step(image: &[u8], question: Question, typed: &str, out: &mut impl Write) -> Result<(), Failure> {
+    let mut log = Log::default();
+    text(out, &format!("$ vault {typed}\n"))?;
+    commands::ask(&question, image, OsStr::new(NAME), out, &mut log)?;
+    for remark in &log.remarks {
+        text(out, &format!("vault: {remark}\n"))?;
+    }
+    text(out, "\n")
+}
+
+/// The last line of each of the two cues, read by the ICB of its entry.
+fn looks(image: &[u8], out: &mut impl Write) -> Result<(), Failure> {
+    let mut log = Log::default();
+    let mut disc = Disc::open(image, NAME, &mut log)?;
+    let directory = disc.find(DIRECTORY)?.icb;
+    for entry in disc.list(DIRECTORY, directory)?.iter().filter(|entry| entry.name.eq_ignore_ascii_case("10.1a")) {
+        let cue = disc.read(DIRECTORY, entry.icb)?;
+        let look = cue.trim_ascii_end().rsplit(|byte| *byte == b'\n').next().unwrap_or_default();
+        text(out, &format!("  {:6} in block {}: {}\n", entry.name, entry.icb.location.block, shown(look)))?;
+    }
+    text(out, "\n")
+}

@@ -1,0 +1,166 @@
+//! The calls of include/vault.h, declared and wrapped. This and the command's file map are the only modules with `unsafe` in them.
+//!
+//! Why the calls are sound. The header asks two things of a caller: that the lent pieces don't overlap, and that their pointers aren't
+//! null. A shared slice and the spare room of a vector that is borrowed mutably can't overlap, nor can the rooms of two vectors; the image and
+//! the path are only read, so that it harms nothing if one is a part of the other. No slice's or vector's pointer is null, also at length
+//! 0. In return it promises, and that is proved, that a call reads and writes within the lengths it is given, keeps no
+//! pointer, and asks nothing of the values: a volume or an ICB may be any.
+//!
+//! What is lent for writing isn't initialised: it is handed over as a pointer, and only what the call says it wrote is looked at.
+#![allow(unsafe_code)]
+
+use crate::answer::{Answer, Refusal, Refused, Result};
+use crate::records::LongAd;
+
+/// An opened volume.
+#[derive(Debug, Clone, Copy, PartialEq, Eq)]
+#[repr(C)]
+pub struct Volume {
+    pub start: u32,
+    pub partition: u16,
+    pub root: LongAd,
+    pub label: [u8; 32],
+}
+
+/// A slot of the extent list.
+#[derive(Debug, Clone, Copy, PartialEq, Eq)]
+#[repr(C)]
+pub struct Slot {
+    pub length: u32,
+    pub extent_type: u32,
+    pub block: u32,
+    pub partition: u32,
+}
+
+#[repr(C)]
+struct Opened {
+    answer: u64,
+    count: u64,
+    volume: Volume,
+}
+
+#[repr(C)]
+struct Found {
+    answer: u64,
+    count: u64,
+    icb: LongAd,
+}
+
+#[repr(C)]
+struct Reply {
+    answer: u64,
+    count: u64,
+    length: u64,
+}
+
+type Bytes = *const u8;
+type Lent = *mut u8;
+
+unsafe extern "C" {
+    fn vault_probe(image: Bytes, n: usize) -> bool;
+    fn vault_open(image: Bytes, n: usize) -> Opened;
+    fn vault_label(image: Bytes, n: usize, out: Lent, room: usize) -> Reply;
+    fn vault_lookup(v: Volume, image: Bytes, n: usize, path: Bytes, m: usize, work: Lent, w: usize) -> Found;
+    fn vault_failed(v: Volume, image: Bytes, n: usize, path: Bytes, m: usize, work: Lent, w: usize, at: *mut usize) -> Reply;
+    fn vault_list(v: Volume, image: Bytes, n: usize, icb: LongAd, out: Lent, room: usize, work: Lent, w: usize) -> Reply;
+    fn vault_read(v: Volume, image: Bytes, n: usize, icb: LongAd, out: Lent, room: usize) -> Reply;
+    fn vault_part(v: Volume, image: Bytes, n: usize, icb: LongAd, at: *mut usize) -> Reply;
+    fn vault_extents(v: Volume, image: Bytes, n: usize, icb: LongAd, row: *mut Slot, slots: usize) -> Reply;
+    fn vault_read_path(v: Volume, image: Bytes, n: usize, path: Bytes, m: usize, out: Lent, room: usize, work: Lent, w: usize) -> Reply;
+}
+
+/// The value, where the number says that there is one.
+fn answered<T>(answer: u64, sectors: u64, value: T) -> Result<T> {
+    match Refusal::of(answer) {
+        None => Ok(Answer { value, sectors }),
+        Some(why) => Err(Refused { why, sectors }),
+    }
+}
+
+/// Lends the room of `out`, and makes what was written its content.
+fn filled<T>(out: &mut Vec<T>, call: impl FnOnce(*mut T, usize) -> Reply) -> Result<()> {
+    out.clear();
+    let room = out.spare_capacity_mut();
+    let reply = call(room.as_mut_ptr().cast(), room.len());
+    if reply.answer == 0 {
+        // SAFETY: a call that is done has written the first `length` items of what was lent, and was lent as many: else it is refused.
+        unsafe { out.set_len(reply.length as usize) };
+    }
+    answered(reply.answer, reply.count, ())
+}
+
+/// The room of `work`, to be lent. What is written there is never looked at.
+fn space(work: &mut Vec<u8>) -> (Lent, usize) {
+    work.clear();
+    let room = work.spare_capacity_mut();
+    (room.as_mut_ptr().cast(), room.len())
+}
+
+/// The part of `whole` that a reply names; `at` and the reply's length are 0 where there is none.
+fn named(whole: &[u8], at: usize, length: u64) -> &[u8] {
+    whole.get(at..).and_then(|rest| rest.get(..length as usize)).unwrap_or_default()
+}
+
+pub fn probe(image: &[u8]) -> bool {
+    // SAFETY: the head of this module; nothing is lent for writing.
+    unsafe { vault_probe(image.as_ptr(), image.len()) }
+}
+
+pub fn open(image: &[u8]) -> Result<Volume> {
+    // SAFETY: the head of this module; nothing is lent for writing.
+    let opened = unsafe { vault_open(image.as_ptr(), image.len()) };
+    answered(opened.answer, opened.count, opened.volume)
+}
+
+pub fn label(image: &[u8], out: &mut Vec<u8>) -> Result<()> {
+    // SAFETY: the head of this module; `room` bytes from `to` on are `out`'s own.
+    filled(out, |to, room| unsafe { vault_label(image.as_ptr(), image.len(), to, room) })
+}
+
+pub fn lookup(volume: Volume, image: &[u8], path: &[u8], work: &mut Vec<u8>) -> Result<LongAd> {
+    let (work, w) = space(work);
+    // SAFETY: the head of this module; `w` bytes from `work` on are the vector's own.
+    let found = unsafe { vault_lookup(volume, image.as_ptr(), image.len(), path.as_ptr(), path.len(), work, w) };
+    answered(found.answer, found.count, found.icb)
+}
+
+/// The component at which the lookup is refused by 3, or none where the path is there.
+pub fn failed<'p>(volume: Volume, image: &[u8], path: &'p [u8], work: &mut Vec<u8>) -> Result<Option<&'p [u8]>> {
+    let (work, w) = space(work);
+    let mut at = 0;
+    // SAFETY: the head of this module; `w` bytes from `work` on are the vector's own, and `at` is a number of this function's.
+    let reply = unsafe { vault_failed(volume, image.as_ptr(), image.len(), path.as_ptr(), path.len(), work, w, &mut at) };
+    match Refusal::of(reply.answer) {
+        Some(Refusal::NotBluray) => Ok(Answer { value: Some(named(path, at, reply.length)), sectors: reply.count }),
+        _ => answered(reply.answer, reply.count, None),
+    }
+}
+
+pub fn list(volume: Volume, image: &[u8], icb: LongAd, out: &mut Vec<u8>, work: &mut Vec<u8>) -> Result<()> {
+    let (work, w) = space(work);
+    // SAFETY: the head of this module; `room` bytes from `to` on are `out`'s own, and `w` from `work` on are the other vector's.
+    filled(out, |to, room| unsafe { vault_list(volume, image.as_ptr(), image.len(), icb, to, room, work, w) })
+}
+
+pub fn read(volume: Volume, image: &[u8], icb: LongAd, out: &mut Vec<u8>) -> Result<()> {
+    // SAFETY: the head of this module; `room` bytes from `to` on are `out`'s own.
+    filled(out, |to, room| unsafe { vault_read(volume, image.as_ptr(), image.len(), icb, to, room) })
+}
+
+pub fn part(volume: Volume, image: &[u8], icb: LongAd) -> Result<&[u8]> {
+    let mut at = 0;
+    // SAFETY: the head of this module; `at` is a number of this function's.
+    let reply = unsafe { vault_part(volume, image.as_ptr(), image.len(), icb, &mut at) };
+    answered(reply.answer, reply.count, named(image, at, reply.length))
+}
+
+pub fn extents(volume: Volume, image: &[u8], icb: LongAd, row: &mut Vec<Slot>) -> Result<()> {
+    // SAFETY: the head of this module; `slots` slots from `to` on are `row`'s own.
+    filled(row, |to, slots| unsafe { vault_extents(volume, image.as_ptr(), image.len(), icb, to, slots) })
+}
+
+pub fn read_path(volume: Volume, image: &[u8], path: &[u8], out: &mut Vec<u8>, work: &mut Vec<u8>) -> Result<()> {
+    let (work, w) = space(work);
+    // SAFETY: the head of this module; `room` bytes from `to` on are `out`'s own, and `w` from `work` on are the other vector's.
+    filled(out, |to, room| unsafe { vault_read_path(volume, image.as_ptr(), image.len(), path.as_ptr(), path.len(), to, room, work, w) })
+}

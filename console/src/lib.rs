@@ -1,0 +1,41 @@
+//! Reads UDF discs from memory, through the proved archive of `vault_c` (include/vault.h).
+//!
+//! [`Vault`] stands over a borrowed image and has the calls of the original's `UdfDisc` under their names; README.md has the two side by
+//! side. Every answer comes with the number of sectors that were asked for, and every refusal too.
+//!
+//! ```
+//! # fn show() -> Vec<u8> { Vec::new() }
+//! let image = show(); // the bytes of a disc
+//! match console::Vault::open(&image) {
+//!     Ok(vault) => println!("{} sectors asked for", vault.sectors),
+//!     Err(refused) => println!("refusal {}: {refused}", refused.number()),
+//! }
+//! ```
+//!
+//! # Memory
+//!
+//! The proved calls allocate nothing: they write to memory that is lent to them and refuse by 5, 6 or 7 where it is too little. This crate
+//! lends a little, and more when that was the only trouble, so that a caller sees these numbers only where the memory can't be had, or
+//! where an answer is longer than any sound disc can give: a file of more bytes than its image (and more than 16 MiB), a directory of more
+//! than 256 MiB. Such a disc is refused, and nothing is allocated by what it says of itself.
+
+mod answer;
+mod calls;
+mod records;
+mod room;
+mod vault;
+
+#[cfg(test)]
+mod replays;
+#[cfg(test)]
+#[path = "bin/vault/sparse.rs"]
+mod sparse;
+
+pub use answer::{Answer, Refusal, Refused, Result};
+pub use records::{AllocExtent, DirEntry, LbAddr, LongAd};
+pub use vault::{SECTOR_SIZE, Vault, probe_vrs, read_volume_label};
+
+/// The code in README.md is compiled with the tests.
+#[cfg(doctest)]
+#[doc = include_str!("../README.md")]
+struct Readme;

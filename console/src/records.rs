@@ -1,0 +1,100 @@
+//! The records that cross the interface, with the original's names for their fields.
+
+use crate::answer::Answer;
+
+/// A block of a partition.
+#[derive(Debug, Clone, Copy, PartialEq, Eq)]
+#[repr(C)]
+pub struct LbAddr {
+    /// The block, counted from the partition's start.
+    pub block: u32,
+    /// The partition.
+    pub partition_ref: u16,
+}
+
+/// Where something stands: the ICB of a file or a directory.
+#[derive(Debug, Clone, Copy, PartialEq, Eq)]
+#[repr(C)]
+pub struct LongAd {
+    /// In bytes, below 2^30 where it was read from a disc.
+    pub length: u32,
+    /// 0 to 3 where it was read from a disc; 0 is recorded.
+    pub extent_type: u8,
+    /// The first block.
+    pub location: LbAddr,
+    /// As recorded.
+    pub implementation_use: [u8; 6],
+}
+
+impl LongAd {
+    /// From its recorded form, whose first number has 30 bits of length below two of type.
+    pub(crate) fn recorded(b: &[u8; 16]) -> LongAd {
+        let raw = u32::from_le_bytes([b[0], b[1], b[2], b[3]]);
+        LongAd {
+            length: raw & 0x3fff_ffff,
+            extent_type: (raw >> 30) as u8,
+            location: LbAddr { block: u32::from_le_bytes([b[4], b[5], b[6], b[7]]), partition_ref: u16::from_le_bytes([b[8], b[9]]) },
+            implementation_use: [b[10], b[11], b[12], b[13], b[14], b[15]],
+        }
+    }
+}
+
+/// What `lookup` gives goes into `read_file` as it is.
+impl From<Answer<LongAd>> for LongAd {
+    fn from(answer: Answer<LongAd>) -> LongAd {
+        answer.value
+    }
+}
+
+/// An extent of a file, in the order of the file.
+#[derive(Debug, Clone, Copy, PartialEq, Eq)]
+pub struct AllocExtent {
+    /// The bytes that it gives to its file.
+    pub length: u32,
+    /// 0: recorded. 1: allocated and not recorded. 2: neither.
+    pub extent_type: u8,
+    /// The first block, counted from the partition's start.
+    pub block: u32,
+    /// The partition, where the descriptor names one.
+    pub partition_ref: Option<u16>,
+}
+
+/// An entry of a directory.
+#[derive(Debug, Clone, PartialEq, Eq)]
+pub struct DirEntry {
+    /// The name as recorded.
+    pub name: String,
+    /// What it stands for.
+    pub icb: LongAd,
+    /// Whether that is a directory.
+    pub is_directory: bool,
+}
+
+/// The entries of a listing, whose records include/vault.h says (`vault_list`); none if there isn't memory for them.
+pub(crate) fn entries(listing: &[u8]) -> Option<Vec<DirEntry>> {
+    let (mut entries, mut rest) = (Vec::new(), listing);
+    while let Some((record, behind)) = record(rest) {
+        entries.try_reserve(1).ok()?;
+        entries.push(record?);
+        rest = behind;
+    }
+    Some(entries)
+}
+
+/// The record at the front, none in it if there isn't memory for its name, and what stands behind it.
+fn record(listing: &[u8]) -> Option<(Option<DirEntry>, &[u8])> {
+    let (&[_, _, directory], rest) = listing.split_first_chunk()?;
+    let (icb, rest) = rest.split_first_chunk()?;
+    let (length, rest) = rest.split_first_chunk()?;
+    let (name, rest) = rest.split_at_checked(u16::from_le_bytes(*length).into())?;
+    let entry = text(name).map(|name| DirEntry { name, icb: LongAd::recorded(icb), is_directory: directory == 1 });
+    Some((entry, rest))
+}
+
+/// A name as text; none if there isn't memory for it. Names are written as UTF-8, by the contract of the calls.
+pub(crate) fn text(name: &[u8]) -> Option<String> {
+    let mut text = String::new();
+    text.try_reserve_exact(name.len()).ok()?;
+    text.push_str(&String::from_utf8_lossy(name));
+    Some(text)
+}

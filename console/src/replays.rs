@@ -1,0 +1,187 @@
+//! The raw calls on stored images, with memory of exactly the size that each query lends: refusals 5, 6 and 7 are among the answers. What
+//! is expected are the original's answers, stored with the programs `replay` and `file_cases`, whose sources say the form of the files.
+//!
+//! What a call leaves in memory that it doesn't answer with is seen by those programs and by `compare`, and not here.
+
+use crate::answer::{Answer, Result};
+use crate::calls::{self, Slot, Volume};
+use crate::records::LongAd;
+use crate::sparse::expand;
+
+/// Bytes that are taken from the front.
+struct Input<'a>(&'a [u8]);
+
+impl<'a> Input<'a> {
+    fn take(&mut self, n: usize) -> &'a [u8] {
+        let (front, rest) = self.0.split_at(n);
+        self.0 = rest;
+        front
+    }
+
+    fn byte(&mut self) -> u8 {
+        self.take(1)[0]
+    }
+
+    fn short(&mut self) -> u16 {
+        u16::from_le_bytes(self.take(2).try_into().unwrap())
+    }
+
+    fn number(&mut self) -> u32 {
+        u32::from_le_bytes(self.take(4).try_into().unwrap())
+    }
+
+    fn long_ad(&mut self) -> LongAd {
+        LongAd::recorded(self.take(16).try_into().unwrap())
+    }
+
+    fn image(&mut self) -> Vec<u8> {
+        let n = self.number();
+        expand(self.take(n as usize)).unwrap()
+    }
+
+    fn volume(&mut self) -> Volume {
+        Volume { start: self.number(), partition: self.short(), root: self.long_ad(), label: [0; 32] }
+    }
+}
+
+fn sum(numbers: impl IntoIterator<Item = impl Into<u64>>) -> u64 {
+    numbers.into_iter().fold(0, |sum, number| (sum * 31 + number.into()) % (1 << 32))
+}
+
+/// The sum of a lent output of `room` bytes that came full of A5.
+fn sum_lent(out: &[u8], room: usize) -> u64 {
+    sum(out.iter().copied().chain(std::iter::repeat_n(0xa5, room - out.len())))
+}
+
+fn sum_icb(icb: LongAd) -> u64 {
+    let (place, raw) = (icb.location, icb.length | u32::from(icb.extent_type) << 30);
+    sum([&raw.to_le_bytes()[..], &place.block.to_le_bytes(), &place.partition_ref.to_le_bytes(), &icb.implementation_use].concat())
+}
+
+/// An empty vector with room for exactly n.
+fn room<T>(n: usize) -> Vec<T> {
+    let room = Vec::with_capacity(n);
+    assert_eq!(room.capacity(), n);
+    room
+}
+
+/// A line of `replay` without its last number: the call, answer, count, length and sum. Where it is refused the output is as it came.
+fn line<T>(call: &str, answer: &Result<T>, refused: u64, values: impl FnOnce(&T) -> (u64, u64)) -> String {
+    match answer {
+        Ok(Answer { value, sectors }) => {
+            let (length, sum) = values(value);
+            format!("{call} 0 {sectors} {length} {sum}")
+        }
+        Err(why) => format!("{call} {} {} 0 {refused}", why.number(), why.sectors),
+    }
+}
+
+/// What a query of `replay` lends.
+struct Lends<'a> {
+    icb: LongAd,
+    room: usize,
+    work: usize,
+    path: &'a [u8],
+}
+
+fn ask(call: u8, v: Volume, image: &[u8], q: &Lends) -> String {
+    let (mut out, mut work) = (room(if call == 8 { 0 } else { q.room }), room(q.work));
+    let as_it_came = sum_lent(&[], q.room);
+    let written = |out: &[u8]| (out.len() as u64, sum_lent(out, q.room));
+    match call {
+        0 => format!("probe {} 0 0 0", u8::from(calls::probe(image))),
+        1 => line("open", &calls::open(image), 0, |v| (u64::from(v.start) << 16 | u64::from(v.partition), sum_icb(v.root))),
+        2 => line("label", &calls::label(image, &mut out), as_it_came, |()| written(&out)),
+        3 => line("lookup", &calls::lookup(v, image, q.path, &mut work), 0, |icb| (0, sum_icb(*icb))),
+        4 => failed(&calls::failed(v, image, q.path, &mut work)),
+        5 => line("list", &calls::list(v, image, q.icb, &mut out, &mut work), as_it_came, |()| written(&out)),
+        6 => line("read", &calls::read(v, image, q.icb, &mut out), as_it_came, |()| written(&out)),
+        7 => line("part", &calls::part(v, image, q.icb), 0, |part| (part.len() as u64, sum(part.iter().copied()))),
+        8 => extents(v, image, q),
+        _ => line("read_path", &calls::read_path(v, image, q.path, &mut out, &mut work), as_it_came, |()| written(&out)),
+    }
+}
+
+/// The component stands in an answer here, where the list has the lookup's 3.
+fn failed(answer: &Result<Option<&[u8]>>) -> String {
+    match answer {
+        Ok(Answer { value: Some(c), sectors }) => format!("failed 3 {sectors} {} {}", c.len(), sum(c.iter().copied())),
+        other => line("failed", other, 0, |_| (0, 0)),
+    }
+}
+
+fn extents(v: Volume, image: &[u8], q: &Lends) -> String {
+    let slots = q.room.min(256);
+    let mut row: Vec<Slot> = room(slots);
+    let answer = calls::extents(v, image, q.icb, &mut row);
+    let words: Vec<u32> = row.iter().flat_map(|s| [s.length, s.extent_type, s.block, s.partition]).collect();
+    let sum = sum(words.into_iter().chain(std::iter::repeat_n(0xa5a5_a5a5, 4 * (slots - row.len()))));
+    line("extents", &answer, sum, |()| (row.len() as u64, sum))
+}
+
+#[test]
+fn the_list_of_the_gate() {
+    let mut all = Input(include_bytes!("../../crates/replay/data/images"));
+    let mut expected = include_str!("../../crates/replay/stdout").lines();
+    let mut seen = [0; 9];
+    while !all.0.is_empty() {
+        let n = all.short();
+        assert_eq!(expected.next().unwrap().as_bytes(), all.take(n.into()));
+        let (image, volume, n) = (all.image(), all.volume(), all.number());
+        let mut queries = Input(all.take(n as usize));
+        while !queries.0.is_empty() {
+            let call = queries.byte();
+            let (icb, room, work, n) = (queries.long_ad(), queries.number() as usize, queries.number() as usize, queries.short());
+            let given = ask(call, volume, &image, &Lends { icb, room, work, path: queries.take(n.into()) });
+            let (line, _) = expected.next().unwrap().rsplit_once(' ').unwrap();
+            assert_eq!(given, line);
+            seen[given.split(' ').nth(1).unwrap().parse::<usize>().unwrap()] += 1;
+        }
+    }
+    assert_eq!(expected.next(), None);
+    assert_eq!(seen.iter().sum::<u32>(), 6528);
+    // Every refusal but 8, which no disc can reach.
+    assert!(seen[..8].iter().all(|n| *n > 0), "{seen:?}");
+}
+
+/// The three lines of a query of `file_cases`, without whether slots and output behind the answer are as they came.
+fn file_case(v: Volume, image: &[u8], icb: LongAd, lent: usize, slots: usize) -> [String; 3] {
+    let say = |call: &str, answer: u8, count: u64, length: usize| format!("{call} {answer} count {count} length {length}");
+    let (mut out, mut row) = (room(lent), room(slots));
+    let read = match calls::read(v, image, icb, &mut out) {
+        Ok(a) => say("read", 0, a.sectors, out.len()),
+        Err(r) => say("read", r.number(), r.sectors, 0),
+    } + &format!(" sum {}", sum_lent(&out, lent));
+    let part = match calls::part(v, image, icb) {
+        Ok(a) => say("part", 0, a.sectors, a.len()) + &format!(" sum {}", sum(a.iter().copied())),
+        Err(r) => say("part", r.number(), r.sectors, 0) + " sum 0",
+    };
+    let extents = match calls::extents(v, image, icb, &mut row) {
+        Ok(a) => say("extents", 0, a.sectors, row.len()),
+        Err(r) => say("extents", r.number(), r.sectors, 0),
+    };
+    let slots: String = row.iter().map(|s| format!(" ({} {} {} {})", s.length, s.extent_type, s.block, s.partition)).collect();
+    [read, part, extents + &slots + " kept"]
+}
+
+#[test]
+fn the_files_of_the_gate() {
+    let mut all = Input(include_bytes!("../../crates/file_cases/data/images"));
+    let mut expected = include_str!("../../crates/file_cases/stdout").lines();
+    let mut asked = 0;
+    while !all.0.is_empty() {
+        let n = all.short();
+        assert_eq!(expected.next().unwrap().as_bytes(), all.take(n.into()));
+        let image = all.image();
+        for _ in 0..all.short() {
+            let (start, partition, icb, lent, slots) = (all.number(), all.short(), all.long_ad(), all.number(), all.short());
+            let what = expected.next().unwrap();
+            let v = Volume { start, partition, root: icb, label: [0; 32] };
+            for given in file_case(v, &image, icb, lent as usize, slots.into()) {
+                assert_eq!(given, expected.next().unwrap(), "{what}");
+            }
+            asked += 1;
+        }
+    }
+    assert_eq!((expected.next(), asked), (None, 387));
+}

@@ -1,0 +1,172 @@
+//! The calls, over a borrowed image.
+
+use crate::answer::{Answer, Refusal, Refused, Result};
+use crate::calls::{self, Slot, Volume};
+use crate::records::{AllocExtent, DirEntry, LongAd, entries, text};
+use crate::room::{FIRST, MOST_DIRECTORY, Room, most_file, retry};
+use std::fmt;
+
+/// The bytes of a sector, and of a block.
+pub const SECTOR_SIZE: u64 = 2048;
+
+/// The slots that are lent at first for an extent list.
+const FIRST_SLOTS: usize = 256;
+
+/// No extent list is longer: 32 continuations of at most 2^20 bytes, and an entry of 2,048, with 8 bytes for each descriptor.
+const MOST_SLOTS: usize = 32 * ((1 << 20) / 8) + 2048 / 8;
+
+/// A label has at most 30 recorded bytes of one or two bytes of UTF-8 each, or 15 pairs of at most three.
+const LABEL: usize = 64;
+
+/// Whether the image has a volume recognition sequence. Opening doesn't depend on it.
+pub fn probe_vrs(image: &[u8]) -> bool {
+    calls::probe(image)
+}
+
+/// Opens an image and gives its label.
+pub fn read_volume_label(image: &[u8]) -> Result<String> {
+    let mut out = Room::new(LABEL, LABEL);
+    let answer = calls::label(image, &mut out.lent)?;
+    kept(answer, Refusal::NoRoom, |()| text(&out.lent))
+}
+
+/// The answer's value made into another, for which there may be no memory.
+fn kept<T, U>(answer: Answer<T>, full: Refusal, make: impl FnOnce(T) -> Option<U>) -> Result<U> {
+    let sectors = answer.sectors;
+    let value = make(answer.value).ok_or(Refused { why: full, sectors })?;
+    Ok(Answer { value, sectors })
+}
+
+/// An opened volume over the image that it was opened from. It is small and holds nothing but borrows: copy it, share it between threads.
+#[derive(Clone, Copy)]
+pub struct Vault<'a> {
+    image: &'a [u8],
+    volume: Volume,
+}
+
+impl fmt::Debug for Vault<'_> {
+    /// Without the image, which may have many gigabytes.
+    fn fmt(&self, f: &mut fmt::Formatter<'_>) -> fmt::Result {
+        f.debug_struct("Vault")
+            .field("partition_start_sector", &self.partition_start_sector())
+            .field("partition_number", &self.partition_number())
+            .field("root_directory_icb", &self.root_directory_icb())
+            .finish_non_exhaustive()
+    }
+}
+
+impl<'a> Vault<'a> {
+    /// Opens the volume of an image.
+    pub fn open(image: &'a [u8]) -> Result<Vault<'a>> {
+        Ok(calls::open(image)?.map(|volume| Vault { image, volume }))
+    }
+
+    /// The sector in which the partition starts.
+    pub fn partition_start_sector(&self) -> u64 {
+        self.volume.start.into()
+    }
+
+    /// The partition's number.
+    pub fn partition_number(&self) -> u16 {
+        self.volume.partition
+    }
+
+    /// The root directory.
+    pub fn root_directory_icb(&self) -> LongAd {
+        self.volume.root
+    }
+
+    /// The volume's name. The count is that of opening: the call opens the image again.
+    pub fn label(&self) -> Result<String> {
+        read_volume_label(self.image)
+    }
+
+    /// The ICB that a path names. Components stand between slashes and empty ones are dropped; of a directory's entries the first is
+    /// taken that is equal with ASCII case ignored. The empty path names the root.
+    pub fn lookup(&self, path: impl AsRef<[u8]>) -> Result<LongAd> {
+        let path = path.as_ref();
+        retry::<u8, _>(&mut Room::none(), &mut work_space(), |_, work| calls::lookup(self.volume, self.image, path, work))
+    }
+
+    /// The component at which [`Vault::lookup`] finds nothing, as a part of the path; none where the path is there.
+    pub fn failed<'p>(&self, path: &'p (impl AsRef<[u8]> + ?Sized)) -> Result<Option<&'p [u8]>> {
+        let path = path.as_ref();
+        retry::<u8, _>(&mut Room::none(), &mut work_space(), |_, work| calls::failed(self.volume, self.image, path, work))
+    }
+
+    /// The entries of a directory in the disc's order, without those that are deleted and the parent.
+    pub fn read_directory(&self, icb: impl Into<LongAd>) -> Result<Vec<DirEntry>> {
+        let icb = icb.into();
+        // A name of 8 bits a letter may have twice as many bytes as recorded, so a listing is at most twice as long as its directory.
+        let mut out = Room::new(FIRST, 2 * MOST_DIRECTORY);
+        let answer = retry(&mut out, &mut work_space(), |out, work| calls::list(self.volume, self.image, icb, out, work))?;
+        kept(answer, Refusal::NoRoom, |()| entries(&out.lent))
+    }
+
+    /// A file's bytes, or a directory's own.
+    pub fn read_file(&self, icb: impl Into<LongAd>) -> Result<Vec<u8>> {
+        let icb = icb.into();
+        self.fitted(|| self.held(icb), |out| calls::read(self.volume, self.image, icb, out))
+    }
+
+    /// Looks a path up and reads what it names; the count is that of both.
+    pub fn read_path(&self, path: impl AsRef<[u8]>) -> Result<Vec<u8>> {
+        let path = path.as_ref();
+        let held = || self.lookup(path).map_or(0, |icb| self.held(icb.value));
+        self.fitted(held, |out| {
+            let call = |_: &mut Vec<u8>, work: &mut Vec<u8>| calls::read_path(self.volume, self.image, path, out, work);
+            retry(&mut Room::none(), &mut work_space(), call)
+        })
+    }
+
+    /// A read, and again with room for all that the file's extents hold where there was too little: that is exact, and doubling isn't.
+    fn fitted(&self, held: impl FnOnce() -> usize, mut read: impl FnMut(&mut Vec<u8>) -> Result<()>) -> Result<Vec<u8>> {
+        let mut out = Room::new(FIRST, most_file(self.image));
+        let mut answer = read(&mut out.lent);
+        if matches!(answer, Err(Refused { why: Refusal::NoRoom, .. })) && out.reach(held()) {
+            answer = read(&mut out.lent);
+        }
+        let answer = answer?;
+        out.lent.shrink_to_fit();
+        Ok(answer.map(|()| out.lent))
+    }
+
+    /// The bytes in all of a file's extents: a read gives no more.
+    fn held(&self, icb: LongAd) -> usize {
+        let lengths = self.extents(icb).map_or(0, |list| list.iter().map(|extent| u64::from(extent.length)).sum());
+        usize::try_from(lengths).unwrap_or(usize::MAX)
+    }
+
+    /// Where a file stands on the disc, its whole chain followed; an embedded file has no extents.
+    pub fn extents(&self, icb: impl Into<LongAd>) -> Result<Vec<AllocExtent>> {
+        let icb = icb.into();
+        let mut row = Room::new(FIRST_SLOTS, MOST_SLOTS);
+        let answer = retry(&mut row, &mut Room::none(), |row, _| calls::extents(self.volume, self.image, icb, row))?;
+        kept(answer, Refusal::NoSlot, |()| {
+            let mut extents = Vec::new();
+            extents.try_reserve_exact(row.lent.len()).ok()?;
+            extents.extend(row.lent.iter().map(extent));
+            Some(extents)
+        })
+    }
+
+    /// An embedded file's bytes where they stand in the image; none for any other file that can be read.
+    pub fn part(&self, icb: impl Into<LongAd>) -> Result<&'a [u8]> {
+        calls::part(self.volume, self.image, icb.into())
+    }
+}
+
+/// Work space for the directories on a path.
+fn work_space() -> Room<u8> {
+    Room::new(FIRST, MOST_DIRECTORY)
+}
+
+/// A partition of 65,536 is none, and a type is at most 3.
+fn extent(slot: &Slot) -> AllocExtent {
+    AllocExtent {
+        length: slot.length,
+        extent_type: slot.extent_type as u8,
+        block: slot.block,
+        partition_ref: u16::try_from(slot.partition).ok(),
+    }
+}

@@ -1,0 +1,292 @@
+//! The built command: what it prints, how it ends, and that bad input leaves nothing behind.
+
+mod common;
+
+use common::command::{Folder, Said, left_out, tool};
+use common::{Disc, identifier, named, noise, show};
+use std::ffi::OsStr;
+use std::os::unix::ffi::OsStrExt;
+use std::process::{Command, Stdio};
+
+const UPPER: &str = "cue 10.1A\nfront wash 80, blue backs 40, follow 6 seconds\n";
+
+fn with_show() -> Folder {
+    let folder = Folder::new();
+    folder.write("show.img", &show());
+    folder
+}
+
+/// An answer on standard output, and nothing on standard error.
+fn answers(said: &Said, out: &str) {
+    assert_eq!((said.status, said.out.as_str(), said.error.as_str()), (0, out, ""));
+}
+
+#[test]
+fn no_words_give_the_tour() {
+    let folder = Folder::new();
+    let said = folder.vault::<&str>(&[]);
+    assert_eq!((said.status, said.error.as_str()), (0, ""));
+    for line in ["10.1A\n10.1a\n", "front wash 80", "front wash 20", "$ vault cat show.img SHOW/10.1a\ncue 10.1A\n", "entry    10.1A\n"] {
+        assert!(said.out.contains(line), "{line}");
+    }
+    assert!(folder.names().is_empty());
+}
+
+/// What the tour prints behind each $ is what the command prints.
+#[test]
+fn the_tour_can_be_typed() {
+    let folder = Folder::new();
+    answers(&folder.vault(&["sample", "show.img"]), "");
+    assert!(std::fs::read(folder.at("show.img")).unwrap() == show());
+    let tour = folder.vault::<&str>(&[]).out;
+    let mut typed = 0;
+    for step in tour.split("\n\n").filter_map(|step| step.strip_prefix("$ vault ")) {
+        let (line, answer) = step.split_once('\n').unwrap();
+        let said = folder.vault(&line.split(' ').collect::<Vec<_>>());
+        assert_eq!((said.out + &said.error).trim_end(), answer, "{line}");
+        typed += 1;
+    }
+    assert_eq!(typed, 5);
+}
+
+#[test]
+fn every_command_answers() {
+    let folder = with_show();
+    answers(&folder.vault(&["label", "show.img"]), "SHOW 1\n");
+    answers(&folder.vault(&["ls", "show.img"]), "SHOW/\n");
+    answers(&folder.vault(&["ls", "show.img", "/show/"]), "9\n10.1A\n10.1a\n11\n");
+    answers(&folder.vault(&["ls", "show.img", "SHOW/9"]), "9\n");
+    answers(&folder.vault(&["cat", "show.img", "SHOW/10.1A"]), UPPER);
+    answers(&folder.vault(&["probe", "show.img"]), "no\n");
+    answers(&folder.vault(&["get", "show.img", "SHOW/10.1A", "cue"]), "");
+    assert_eq!(std::fs::read_to_string(folder.at("cue")).unwrap(), UPPER);
+    let stat = "path     SHOW/11\nentry    11\nkind     file\nicb      block 11, partition 5, 2048 bytes, type 0\n\
+                storage  extents: 1, with 16 bytes in all\nextent   16 bytes, type 0 (recorded), block 12, partition none\n\
+                sectors  open 6, lookup 2, lookup 1, read_directory 1, part 1, extents 1\n";
+    answers(&folder.vault(&["stat", "show.img", "SHOW/11"]), stat);
+    let stat = "path     \nentry    none, this is the root\nkind     directory\nicb      block 3, partition 5, 2048 bytes, type 0\n\
+                storage  embedded, 84 bytes\nsectors  open 6, lookup 0, part 1, extents 1\n";
+    answers(&folder.vault(&["stat", "show.img", ""]), stat);
+    assert!(folder.vault(&["--help"]).out.contains("vault get IMAGE PATH FILE"));
+}
+
+#[test]
+fn a_remark_where_a_path_gives_another_of_the_same_letters() {
+    let folder = with_show();
+    let said = folder.vault(&["cat", "show.img", "SHOW/10.1a"]);
+    assert_eq!((said.status, said.out.as_str()), (0, UPPER));
+    assert_eq!(said.error, "vault: the path gives 10.1A, which stands first, and not 10.1a\n");
+}
+
+#[test]
+fn sectors_are_counted_on_standard_error() {
+    let folder = with_show();
+    let said = folder.vault(&["--sectors", "cat", "show.img", "SHOW/10.1A"]);
+    assert_eq!((said.status, said.out.as_str()), (0, UPPER));
+    assert_eq!(said.error, "vault: sectors asked for: open 6, lookup 2, lookup 1, read_directory 1, read_file 2\n");
+    let said = folder.vault(&["ls", "show.img", "no", "--sectors"]);
+    assert_eq!((said.status, said.error.lines().next()), (3, Some("vault: sectors asked for: open 6, lookup 1, failed 1")));
+    assert_eq!(folder.vault(&["--sectors", "probe", "show.img"]).error, "vault: sectors asked for: none are counted\n");
+}
+
+/// One sentence that has `phrase` in it, nothing on standard output, and nothing written.
+fn refuses(folder: &Folder, words: &[&str], status: i32, phrase: &str) {
+    let before = folder.names();
+    let said = folder.vault(words);
+    assert_eq!((said.status, said.out.as_str(), said.error.lines().count()), (status, "", 1), "{words:?} {said:?}");
+    assert!(said.error.starts_with("vault: ") && said.error.contains(phrase), "{words:?} {said:?}");
+    assert_eq!(folder.names(), before, "{words:?}");
+}
+
+#[test]
+fn bad_images_are_refused_by_every_command() {
+    let (folder, image) = (with_show(), show());
+    std::fs::create_dir(folder.at("folder")).unwrap();
+    folder.write("empty", b"");
+    folder.write("short", &image[..256 * 2048]);
+    folder.write("cut", &image[..290 * 2048]);
+    folder.write("random", &noise(1 << 20));
+    let bad = [
+        ("none", 66, "there is no such file"),
+        ("folder", 66, "this is a directory"),
+        ("empty", 1, "isn't wholly inside the image"),
+        ("short", 1, "isn't wholly inside the image"),
+        ("cut", 1, "isn't wholly inside the image"),
+        ("random", 2, "is not what it must be"),
+    ];
+    for (image, status, phrase) in bad {
+        refuses(&folder, &["label", image], status, phrase);
+        refuses(&folder, &["ls", image], status, phrase);
+        refuses(&folder, &["ls", image, "SHOW"], status, phrase);
+        refuses(&folder, &["cat", image, "SHOW/9"], status, phrase);
+        refuses(&folder, &["stat", image, "SHOW/9"], status, phrase);
+        refuses(&folder, &["get", image, "SHOW/9", "new"], status, phrase);
+    }
+    refuses(&folder, &["probe", "none"], 66, "there is no such file");
+    refuses(&folder, &["probe", "folder"], 66, "this is a directory");
+    for image in ["empty", "short", "random"] {
+        answers(&folder.vault(&["probe", image]), "no\n");
+    }
+}
+
+#[test]
+fn a_pipe_is_no_image() {
+    let folder = with_show();
+    let mut child = folder.command(&["label", "/dev/stdin"]).stdin(Stdio::piped()).stderr(Stdio::piped()).spawn().unwrap();
+    drop(child.stdin.take());
+    let said = Said::of(child.wait_with_output().unwrap());
+    assert_eq!(said.status, 66);
+    assert!(said.error.contains("can be mapped"), "{said:?}");
+}
+
+#[test]
+fn bad_paths_are_refused() {
+    let folder = with_show();
+    for command in ["ls", "cat", "stat"] {
+        refuses(&folder, &[command, "show.img", "SHOW/12"], 3, "there is nothing named \"12\" under \"SHOW\"");
+        refuses(&folder, &[command, "show.img", "no/12"], 3, "there is nothing named \"no\" under the root");
+        refuses(&folder, &[command, "show.img", "SHOW/9/x"], 3, "there is nothing named \"x\" under \"SHOW/9\"");
+        refuses(&folder, &[command, "show.img", "\u{1b}[2J"], 3, "there is nothing named \"\\u{1b}[2J\" under the root");
+    }
+    refuses(&folder, &["get", "show.img", "SHOW/12", "new"], 3, "\"12\"");
+    refuses(&folder, &["cat", "show.img", "SHOW"], 64, "\"SHOW\" is a directory");
+    refuses(&folder, &["get", "show.img", "", "new"], 64, "the root is a directory");
+    let said = folder.vault(&[OsStr::new("cat"), OsStr::new("show.img"), OsStr::from_bytes(b"\xff/9")]);
+    assert_eq!((said.status, said.error.contains("\"\\xff\"")), (3, true), "{said:?}");
+    // A NUL can't be handed to a command: the system refuses to start it.
+    assert!(folder.command(&["cat", "show.img", "SHOW/9\0"]).output().is_err());
+}
+
+#[test]
+fn wrong_usage_is_said() {
+    let folder = with_show();
+    refuses(&folder, &["lable", "show.img"], 64, "there is no command lable");
+    refuses(&folder, &["label"], 64, "label needs IMAGE");
+    refuses(&folder, &["cat", "show.img"], 64, "cat needs PATH");
+    refuses(&folder, &["get", "show.img", "SHOW/9"], 64, "get needs FILE");
+    refuses(&folder, &["stat", "show.img"], 64, "stat needs PATH");
+    refuses(&folder, &["sample"], 64, "sample needs FILE");
+    refuses(&folder, &["ls", "show.img", "SHOW", "more"], 64, "more follows");
+    refuses(&folder, &["-l", "show.img"], 64, "there is no option -l");
+    refuses(&folder, &["\u{1b}[2J"], 64, "\\u{1b}[2J");
+}
+
+#[test]
+fn get_writes_the_file_whole_or_not_at_all() {
+    let folder = with_show();
+    std::fs::create_dir(folder.at("folder")).unwrap();
+    folder.write("old", b"an older cue that is longer than the new one, and is replaced");
+    answers(&folder.vault(&["get", "show.img", "SHOW/11", "old"]), "");
+    assert_eq!(std::fs::read(folder.at("old")).unwrap(), b"cue 11\nblackout\n");
+    std::os::unix::fs::symlink("old", folder.at("link")).unwrap();
+    answers(&folder.vault(&["get", "show.img", "SHOW/10.1A", "link"]), "");
+    assert_eq!(std::fs::read_to_string(folder.at("old")).unwrap(), UPPER);
+    assert!(folder.at("link").is_symlink());
+    refuses(&folder, &["get", "show.img", "SHOW/9", "folder"], 74, "this is a directory");
+    refuses(&folder, &["get", "show.img", "SHOW/9", "none/new"], 74, "the file can't be written");
+    refuses(&folder, &["get", "show.img", "SHOW/9", "/dev/null"], 74, "this is no ordinary file");
+    refuses(&folder, &["get", "show.img", "SHOW/9", ""], 74, "this names no file");
+    refuses(&folder, &["get", "show.img", "SHOW/9", "./show.img"], 64, "this is the image itself");
+    assert_eq!(folder.names(), ["folder", "link", "old", "show.img"]);
+    assert!(std::fs::read(folder.at("show.img")).unwrap() == show());
+}
+
+/// A disc with a file of 40 MB, `big`, in a folder of its own.
+fn with_big() -> (Folder, Vec<u8>) {
+    let (folder, bytes, mut disc) = (Folder::new(), noise(40_000_000), Disc::new());
+    let block = disc.file(&bytes);
+    let listing = disc.directory(&[named("big", block, false)]);
+    disc.root(listing);
+    folder.write("big.img", &disc.0);
+    (folder, bytes)
+}
+
+#[test]
+fn large_files_are_read_whole() {
+    let (folder, bytes) = with_big();
+    let said = folder.vault(&["cat", "big.img", "big"]);
+    assert!(said.status == 0 && said.error.is_empty() && said.bytes == bytes);
+    // No bar where standard error is no terminal.
+    answers(&folder.vault(&["get", "big.img", "big", "copy"]), "");
+    assert!(std::fs::read(folder.at("copy")).unwrap() == bytes);
+}
+
+/// `get` of the big file in a shell that has a limit set.
+fn limited(folder: &Folder, limit: &str, file: &str) -> Said {
+    let line = format!("{limit}; exec \"$@\"");
+    let words = ["-c", &line, "sh", env!("CARGO_BIN_EXE_vault"), "get", "big.img", "big", file];
+    Said::of(Command::new("sh").args(words).current_dir(&folder.0).output().unwrap())
+}
+
+#[test]
+fn memory_that_cannot_be_had_is_refusal_5() {
+    let (folder, _) = with_big();
+    // 40 MB for the map and a few more, and not another 40 MB for the file.
+    let said = limited(&folder, "ulimit -v 65000", "new");
+    let sentence = "vault: big.img: \"big\": the answer has more bytes than there is memory for (refusal 5)\n";
+    assert_eq!((said.status, said.error.as_str()), (5, sentence));
+    assert_eq!(folder.names(), ["big.img"]);
+}
+
+#[test]
+fn a_write_that_fails_leaves_nothing() {
+    let (folder, _) = with_big();
+    folder.write("old", b"as it was");
+    let said = limited(&folder, "trap '' XFSZ; ulimit -f 1000", "old");
+    assert_eq!((said.status, said.error.contains("old: the file can't be written")), (74, true), "{said:?}");
+    assert_eq!(folder.names(), ["big.img", "old"]);
+    assert_eq!(std::fs::read(folder.at("old")).unwrap(), b"as it was");
+}
+
+#[test]
+fn a_closed_pipe_ends_quietly() {
+    let (folder, _) = with_big();
+    let mut child = folder.command(&["cat", "big.img", "big"]).stdout(Stdio::piped()).stderr(Stdio::piped()).spawn().unwrap();
+    drop(child.stdout.take());
+    let said = Said::of(child.wait_with_output().unwrap());
+    assert_eq!((said.status, said.error.as_str()), (0, ""));
+}
+
+#[test]
+fn a_full_disk_is_said() {
+    let folder = with_show();
+    for words in [&["cat", "show.img", "SHOW/9"][..], &["label", "show.img"], &["--help"], &[]] {
+        let full = std::fs::OpenOptions::new().write(true).open("/dev/full").unwrap();
+        let said = Said::of(folder.command(words).stdout(full).output().unwrap());
+        assert_eq!((said.status, said.error.contains("standard output can't be written")), (74, true), "{words:?} {said:?}");
+    }
+}
+
+#[test]
+fn a_terminal_sees_a_bar() {
+    let Some(script) = tool("script") else {
+        return left_out("the bar on a terminal", "script");
+    };
+    let (folder, bytes) = with_big();
+    let line = format!("{} get big.img big copy", env!("CARGO_BIN_EXE_vault"));
+    let said =
+        Said::of(Command::new(script).args(["-qec", &line, "/dev/null"]).current_dir(&folder.0).stdin(Stdio::null()).output().unwrap());
+    assert_eq!(said.status, 0, "{said:?}");
+    assert!(said.out.starts_with("\rreading\r\u{1b}[K\r["), "{said:?}");
+    assert!(said.out.contains("]  52% of 38 MiB") && said.out.contains("] 100% of 38 MiB"), "{said:?}");
+    assert!(said.out.ends_with("\r\u{1b}[K"));
+    assert!(std::fs::read(folder.at("copy")).unwrap() == bytes);
+}
+
+#[test]
+fn a_terminal_is_not_tricked_by_names() {
+    let mut disc = Disc::new();
+    // 16 bits to a letter: an escape, a mark that turns text round, one of no width, a line feed, a backslash.
+    let tricks: Vec<u8> = "a\u{1b}[2J\u{202e}\u{200b}\n\\".encode_utf16().flat_map(u16::to_be_bytes).collect();
+    let listing = disc.directory(&[identifier(&[b"\x10", &tricks[..]].concat(), 7, false), identifier(b"\x08b\x9bc", 3, true)]);
+    disc.root(listing);
+    // The label, in the primary volume descriptor of sector 32.
+    disc.0[32 * 2048 + 25] = 0x1b;
+    let folder = Folder::new();
+    folder.write("tricks.img", &disc.0);
+    answers(&folder.vault(&["ls", "tricks.img"]), "a\\u{1b}[2J\\u{202e}\\u{200b}\\u{a}\\\\\nb\\u{9b}c/\n");
+    answers(&folder.vault(&["label", "tricks.img"]), "\\u{1b}HOW 1\n");
+    let said = folder.vault(&["stat", "tricks.img", "A\u{1b}[2J\u{202e}\u{200b}\n\\"]);
+    assert_eq!(said.status, 0);
+    assert!(said.out.contains("path     A\\u{1b}[2J") && said.out.contains("entry    a\\u{1b}[2J"), "{said:?}");
+}

@@ -1,0 +1,100 @@
+//! Damaged copies of the sample show: what must hold on any disc.
+
+mod common;
+
+use common::{SECTOR, show};
+use console::{LongAd, Refused, Result, Vault};
+
+/// Numbers below a bound, the same in each run.
+struct Random(u64);
+
+impl Random {
+    fn below(&mut self, bound: usize) -> usize {
+        self.0 = self.0.wrapping_mul(6_364_136_223_846_793_005).wrapping_add(1_442_695_040_888_963_407);
+        (self.0 >> 33) as usize % bound
+    }
+
+    fn pick<T: Copy>(&mut self, of: &[T]) -> T {
+        of[self.below(of.len())]
+    }
+}
+
+/// The sectors of the show that hold something.
+const USED: [usize; 16] = [32, 33, 34, 35, 256, 290, 291, 292, 293, 294, 295, 296, 297, 298, 299, 300];
+
+/// The show with a few bytes changed, and now and then cut. Half of the time the tag's checksum is mended, so that the change is reached.
+fn damaged(show: &[u8], random: &mut Random) -> Vec<u8> {
+    let mut image = show.to_vec();
+    for _ in 0..1 + random.below(3) {
+        let at = random.pick(&USED) * SECTOR;
+        let other = random.below(256) as u8;
+        image[at + random.below(320)] = random.pick(&[0, 1, 2, 8, 16, 0xff, other]);
+        if random.below(2) == 0 {
+            let tag = &mut image[at..at + 16];
+            tag[4] = 0;
+            tag[4] = tag.iter().fold(0, |sum: u8, byte| sum.wrapping_add(*byte));
+        }
+    }
+    if random.below(8) == 0 {
+        image.truncate(random.below(show.len()));
+    }
+    image
+}
+
+/// A damaged disc is refused by one of the original's kinds: these are too small for any want of memory.
+fn early(refused: &Refused) {
+    assert!(refused.number() <= 4, "{refused}");
+}
+
+/// The value or the number, and the count.
+fn parts<T>(answer: Result<T>) -> (std::result::Result<T, u8>, u64) {
+    match answer {
+        Ok(answer) => (Ok(answer.value), answer.sectors),
+        Err(refused) => (Err(refused.number()), refused.sectors),
+    }
+}
+
+/// Reading by path is a lookup and a read, counts added; of a file's bytes an embedded one's are its part.
+fn hold_file(vault: &Vault, path: &[u8], icb: LongAd) {
+    let (read, count) = parts(vault.read_file(icb).inspect_err(early));
+    let (by_path, both) = parts(vault.read_path(path));
+    assert_eq!((&by_path, both), (&read, vault.lookup(path).unwrap().sectors + count));
+    let (part, _) = parts(vault.part(icb).inspect_err(early));
+    let (extents, _) = parts(vault.extents(icb).inspect_err(early));
+    if let (Ok(bytes), Ok(part), Ok(extents)) = (read, part, extents) {
+        let held: usize = extents.iter().map(|extent| extent.length as usize).sum();
+        assert!(if extents.is_empty() { bytes == part } else { part.is_empty() && bytes.len() <= held });
+    }
+}
+
+/// In a directory a path gives the first entry of its name, and so on below. Gives how many paths were held.
+fn hold(vault: &Vault, path: &[u8], icb: LongAd, levels: u32) -> u32 {
+    hold_file(vault, path, icb);
+    let (Ok(entries), true) = (vault.read_directory(icb).inspect_err(early), levels > 0) else {
+        return 1;
+    };
+    let mut held = 1;
+    for name in entries.iter().map(|entry| &entry.name).filter(|name| !name.is_empty() && !name.contains('/')) {
+        let below = [path, b"/", name.as_bytes()].concat();
+        let first = entries.iter().find(|entry| entry.name.eq_ignore_ascii_case(name)).unwrap();
+        assert_eq!(vault.lookup(&below).unwrap().value, first.icb);
+        assert_eq!(vault.failed(&below).unwrap().value, None);
+        held += if first.is_directory { hold(vault, &below, first.icb, levels - 1) } else { 1 };
+        hold_file(vault, &below, first.icb);
+    }
+    held
+}
+
+#[test]
+fn what_holds_on_any_disc() {
+    let (show, mut random) = (show(), Random(1));
+    let (mut opened, mut held) = (0, 0);
+    for _ in 0..2_000 {
+        let image = damaged(&show, &mut random);
+        if let Ok(vault) = Vault::open(&image).inspect_err(early) {
+            opened += 1;
+            held += hold(&vault, b"", vault.root_directory_icb(), 3);
+        }
+    }
+    assert!(opened > 1_000 && held > 5_000, "{opened} {held}");
+}

@@ -1,0 +1,178 @@
+//! `Vault` on the volumes stored with the programs `volume_cases` and `vault_cases`, whose sources say the form of their files. What is
+//! expected is their stored output. `Vault` lends what is needed, so that where a query there lends too little, and is refused by 5 or 6,
+//! it must not be refused so here.
+
+mod common;
+
+use common::sparse::expand;
+use console::{LbAddr, LongAd, Vault, probe_vrs, read_volume_label};
+use std::str::Lines;
+
+/// Bytes that are taken from the front.
+struct Input<'a>(&'a [u8]);
+
+impl<'a> Input<'a> {
+    fn take(&mut self, n: usize) -> &'a [u8] {
+        let (front, rest) = self.0.split_at(n);
+        self.0 = rest;
+        front
+    }
+
+    fn number(&mut self, bytes: usize) -> usize {
+        self.take(bytes).iter().rev().fold(0, |n, byte| n << 8 | usize::from(*byte))
+    }
+
+    fn sized(&mut self, bytes: usize) -> &'a [u8] {
+        let n = self.number(bytes);
+        self.take(n)
+    }
+}
+
+/// The lines of a stored output.
+struct Expected<'a>(Lines<'a>);
+
+impl<'a> Expected<'a> {
+    fn next(&mut self) -> &'a str {
+        self.0.next().unwrap()
+    }
+}
+
+fn answer<T>(answer: &console::Result<T>) -> (u8, u64) {
+    answer.as_ref().map_or_else(|refused| (refused.number(), refused.sectors), |answer| (0, answer.sectors))
+}
+
+fn hex(bytes: &[u8]) -> String {
+    bytes.iter().map(|byte| format!(" {byte:02x}")).collect()
+}
+
+#[test]
+fn volumes_open_and_have_their_labels() {
+    let mut all = Input(include_bytes!("../../crates/volume_cases/data/images"));
+    let mut expected = Expected(include_str!("../../crates/volume_cases/stdout").lines());
+    let mut volumes = 0;
+    while !all.0.is_empty() {
+        let name = String::from_utf8_lossy(all.sized(2));
+        let image = expand(all.sized(4)).unwrap();
+        assert_eq!(expected.next(), format!("image {name}"));
+        let opened = Vault::open(&image);
+        let (number, count) = answer(&opened);
+        assert_eq!(expected.next(), format!("opened {number} count {count}"), "{name}");
+        let (volume, root) = (expected.next(), expected.next());
+        if let Ok(vault) = opened {
+            let icb = vault.root_directory_icb();
+            assert_eq!(volume, format!("start {} partition {}", vault.partition_start_sector(), vault.partition_number()));
+            let LongAd { length, extent_type, location: LbAddr { block, partition_ref }, implementation_use } = icb;
+            let used = hex(&implementation_use);
+            assert_eq!(root, format!("root {length} type {extent_type} block {block} partition {partition_ref} use{used}"));
+        }
+        expected.next();
+        let label = read_volume_label(&image);
+        let (number, count) = answer(&label);
+        let bytes = label.as_ref().map_or(&[][..], |label| label.as_bytes());
+        let left = 64 - bytes.len();
+        assert_eq!(expected.next(), format!("label {number} count {count} length {} left {left} bytes{}", bytes.len(), hex(bytes)));
+        expected.next();
+        assert_eq!(expected.next(), format!("probe {}", if probe_vrs(&image) { "yes" } else { "no" }), "{name}");
+        volumes += 1;
+    }
+    assert_eq!((volumes, expected.0.next()), (65, None));
+}
+
+/// The numbers behind the words of a line.
+fn numbers(line: &str) -> Vec<u64> {
+    line.split(' ').filter_map(|word| word.parse().ok()).collect()
+}
+
+/// The sum of a lent output of `room` bytes that came full of A5.
+fn sum_lent(out: &[u8], room: usize) -> u64 {
+    let behind = std::iter::repeat_n(0xa5, room.saturating_sub(out.len()));
+    out.iter().copied().chain(behind).fold(0, |sum, byte: u8| (sum * 31 + u64::from(byte)) % (1 << 32))
+}
+
+/// Holds an answer of bytes to a stored line: number, count, length and sum. True if the query lent too little.
+fn held(line: &str, room: usize, given: &console::Result<impl AsRef<[u8]>>) -> bool {
+    let expected = numbers(line);
+    let (number, count) = answer(given);
+    assert!(!(5..=7).contains(&number), "{line}");
+    if expected[0] == 5 || expected[0] == 6 {
+        return true;
+    }
+    let bytes = given.as_ref().map_or(&[][..], |answer| answer.value.as_ref());
+    assert_eq!(expected, [number.into(), count, bytes.len() as u64, sum_lent(bytes, room)], "{line}");
+    false
+}
+
+fn long_ad(recorded: &[u8]) -> LongAd {
+    let mut all = Input(recorded);
+    let raw = all.number(4) as u32;
+    let location = LbAddr { block: all.number(4) as u32, partition_ref: all.number(2) as u16 };
+    LongAd { length: raw & 0x3fff_ffff, extent_type: (raw >> 30) as u8, location, implementation_use: all.take(6).try_into().unwrap() }
+}
+
+/// A listing's records, of what was read from one.
+fn listing(entries: &[console::DirEntry]) -> Vec<u8> {
+    let mut listing = Vec::new();
+    for entry in entries {
+        let (icb, n) = (entry.icb, entry.name.len() as u16);
+        listing.extend([0x44, 0x45, u8::from(entry.is_directory)]);
+        listing.extend((icb.length | u32::from(icb.extent_type) << 30).to_le_bytes());
+        listing.extend(icb.location.block.to_le_bytes());
+        listing.extend(icb.location.partition_ref.to_le_bytes());
+        listing.extend(icb.implementation_use);
+        listing.extend(n.to_le_bytes());
+        listing.extend(entry.name.as_bytes());
+    }
+    listing
+}
+
+/// A path: looked up, the component that failed, read. True if the query lent too little.
+fn by_path(vault: &Vault, path: &[u8], room: usize, expected: &mut Expected) -> bool {
+    let (lookup, failed, read) = (expected.next(), expected.next(), expected.next());
+    let icb = vault.lookup(path);
+    let (number, count) = answer(&icb);
+    assert!(number < 5, "{lookup}");
+    if numbers(lookup)[0] != 6 {
+        assert_eq!(numbers(lookup)[..2], [number.into(), count], "{lookup}");
+        let lost = vault.failed(path).map_or(0, |answer| answer.value.map_or(0, |component| component.len()));
+        assert_eq!(numbers(failed)[..3], [number.into(), count, lost as u64], "{failed}");
+    }
+    held(read, room, &vault.read_path(path))
+}
+
+/// An ICB: listed, read, its part. True if the query lent too little.
+fn by_icb(vault: &Vault, icb: LongAd, room: usize, expected: &mut Expected) -> bool {
+    let listed = vault.read_directory(icb).map(|answer| answer.map(|entries| listing(&entries)));
+    let short = held(expected.next(), room, &listed);
+    let short = held(expected.next(), room, &vault.read_file(icb)) || short;
+    let part = vault.part(icb);
+    held(expected.next(), part.as_ref().map_or(0, |part| part.len()), &part);
+    short
+}
+
+#[test]
+fn volumes_answer_every_query() {
+    let mut all = Input(include_bytes!("../../crates/vault_cases/data/images"));
+    let mut expected = Expected(include_str!("../../crates/vault_cases/stdout").lines());
+    let (mut asked, mut short) = (0, 0);
+    while !all.0.is_empty() {
+        let name = String::from_utf8_lossy(all.sized(2));
+        let image = expand(all.sized(4)).unwrap();
+        assert_eq!(expected.next(), format!("image {name}"));
+        let opened = Vault::open(&image);
+        assert_eq!(numbers(expected.next())[..2], [answer(&opened).0.into(), answer(&opened).1], "{name}");
+        let mut queries = Input(all.sized(4));
+        while !queries.0.is_empty() {
+            let (what, room, _work) = (queries.number(2), queries.number(4), queries.number(4));
+            let text = queries.sized(2);
+            expected.next();
+            let lent_too_little = match what {
+                0 => held(expected.next(), room, &read_volume_label(&image)),
+                1 => by_path(opened.as_ref().unwrap(), text, room, &mut expected),
+                _ => by_icb(opened.as_ref().unwrap(), long_ad(text), room, &mut expected),
+            };
+            asked += 1;
+            short += u32::from(lent_too_little);
+        }
+    }
+    assert_eq!((asked, short, expected.0.next()), (936, 274, None));
+}

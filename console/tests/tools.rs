@@ -1,0 +1,147 @@
+//! Images made by tools that nobody here wrote, through the built command. Each test is left out, with a line that says so, where its tool
+//! isn't installed.
+
+mod common;
+
+use common::command::{Folder, left_out, tool};
+use common::noise;
+use std::path::Path;
+use std::process::Command;
+
+/// Names that genisoimage records as they are. (It writes an underscore for control characters and for some signs, and a directory
+/// that nothing can parse for a name of 255 bytes: docs/DIFFERENCES.md.)
+fn names() -> Vec<String> {
+    let plain = ["plain.txt", "UPPER.TXT", "with space", "  two  ", ".hidden", "..two", "trailing.", "per%cent", "quote'\"", "<|>", "~$"];
+    let wide = ["naïve café", "ÿ", "Ω", "日本語", "mixé日", "e\u{301} combining", "nb\u{a0}sp"];
+    let long = ["x".repeat(200), "x".repeat(254), "é".repeat(127), "日".repeat(85)];
+    plain.iter().chain(&wide).map(|name| name.to_string()).chain(long).collect()
+}
+
+/// Files of many sizes and names, folders six deep, and a folder whose identifiers have more than 64 KiB.
+fn fill(folder: &Path) {
+    let deep = folder.join("a folder/b/c/d/e/f");
+    for made in [&deep, &folder.join("empty"), &folder.join("wide")] {
+        std::fs::create_dir_all(made).unwrap();
+    }
+    let write = |path: &Path, bytes: &[u8]| std::fs::write(path, bytes).unwrap();
+    for size in [0, 1, 2047, 2048, 2049, 4096, 65_536, 65_537, 100_000, 3_000_000] {
+        write(&folder.join(format!("of {size}")), &noise(size));
+    }
+    for name in names() {
+        write(&folder.join(&name), name.as_bytes());
+        write(&deep.join(&name), format!("{name}, deep").as_bytes());
+    }
+    for i in 0..600 {
+        write(&folder.join(format!("wide/{i:0100}")), i.to_string().as_bytes());
+    }
+}
+
+/// Holds a folder on the image to the one that it was made from, and all below it. Gives how many files were read.
+fn hold(folder: &Folder, image: &str, path: &str, original: &Path) -> usize {
+    let mut expected = Vec::new();
+    for entry in std::fs::read_dir(original).unwrap().map(Result::unwrap) {
+        let name = entry.file_name().into_string().unwrap();
+        expected.push((name, entry.path()));
+    }
+    let listed = folder.vault(&["ls", image, path]);
+    assert_eq!((listed.status, listed.error.as_str()), (0, ""), "{path}");
+    let mut listed: Vec<&str> = listed.out.lines().collect();
+    let mut names: Vec<String> = expected.iter().map(|(name, at)| name.clone() + if at.is_dir() { "/" } else { "" }).collect();
+    listed.sort();
+    names.sort();
+    assert_eq!(listed, names, "{path}");
+    let mut read = 0;
+    for (name, at) in expected {
+        let path = format!("{path}/{name}");
+        if at.is_dir() {
+            read += hold(folder, image, &path, &at);
+            continue;
+        }
+        let said = folder.vault(&["cat", image, &path]);
+        assert!(said.status == 0 && said.error.is_empty() && said.bytes == std::fs::read(&at).unwrap(), "{path} {}", said.error);
+        read += 1;
+    }
+    read
+}
+
+#[test]
+fn genisoimage() {
+    let Some(tool) = tool("genisoimage") else {
+        return left_out("images of genisoimage", "genisoimage");
+    };
+    let folder = Folder::new();
+    fill(&folder.at("from"));
+    let words = ["-quiet", "-udf", "-input-charset", "utf-8", "-V", "A SHOW", "-o", "disc.iso", "from"];
+    assert!(Command::new(tool).args(words).current_dir(&folder.0).status().unwrap().success());
+    assert_eq!(folder.vault(&["label", "disc.iso"]).out, "A SHOW\n");
+    assert_eq!(hold(&folder, "disc.iso", "", &folder.at("from")), 10 + 2 * names().len() + 600);
+    let large = folder.vault(&["get", "disc.iso", "of 3000000", "copy"]);
+    assert_eq!((large.status, large.error.as_str()), (0, ""));
+    assert!(std::fs::read(folder.at("copy")).unwrap() == noise(3_000_000));
+}
+
+/// Two names that differ in case alone: both are listed, and either path gives the first.
+#[test]
+fn genisoimage_with_two_cases() {
+    let Some(tool) = tool("genisoimage") else {
+        return left_out("two cases on an image of genisoimage", "genisoimage");
+    };
+    let folder = Folder::new();
+    std::fs::create_dir(folder.at("from")).unwrap();
+    folder.write("from/10.1A", b"upper");
+    folder.write("from/10.1a", b"lower");
+    assert!(Command::new(tool).args(["-quiet", "-udf", "-o", "disc.iso", "from"]).current_dir(&folder.0).status().unwrap().success());
+    let listed = folder.vault(&["ls", "disc.iso"]).out;
+    let first = if listed == "10.1A\n10.1a\n" { "upper" } else { "lower" };
+    assert!(listed == "10.1A\n10.1a\n" || listed == "10.1a\n10.1A\n", "{listed}");
+    assert_eq!(folder.vault(&["cat", "disc.iso", "10.1A"]).out, first);
+    assert_eq!(folder.vault(&["cat", "disc.iso", "10.1a"]).out, first);
+}
+
+/// An image of 32 MiB by mkudffs, and what the label and the root then come to.
+fn mkudffs(tool: &Path, words: &[&str]) -> (Folder, i32, i32) {
+    let folder = Folder::new();
+    std::fs::File::create(folder.at("disc.img")).unwrap().set_len(32 << 20).unwrap();
+    let made = Command::new(tool).args(["--utf8", "--label=Ünï 日"]).args(words).arg("disc.img").current_dir(&folder.0).output().unwrap();
+    assert!(made.status.success(), "{words:?} {}", String::from_utf8_lossy(&made.stderr));
+    let (label, root) = (folder.vault(&["label", "disc.img"]), folder.vault(&["ls", "disc.img"]));
+    if label.status == 0 {
+        assert_eq!((label.out.as_str(), root.out.as_str()), ("Ünï 日\n", ""), "{words:?}");
+        assert_eq!(folder.vault(&["probe", "disc.img"]).out, "yes\n");
+        assert!(folder.vault(&["stat", "disc.img", ""]).out.contains("kind     directory"));
+    }
+    (folder, label.status, root.status)
+}
+
+#[test]
+fn mkudffs_makes_empty_volumes() {
+    let Some(tool) = tool("mkudffs") else {
+        return left_out("images of mkudffs", "mkudffs");
+    };
+    for media in ["hd", "dvd", "dvdram"] {
+        for revision in ["1.02", "1.50", "2.00", "2.01"] {
+            let (_folder, label, root) = mkudffs(&tool, &["-b", "2048", "-m", media, "-r", revision]);
+            assert_eq!((label, root), (0, 0), "{media} {revision}");
+        }
+    }
+    for kind in ["--ad=inicb", "--ad=short", "--ad=long", "--noefe"] {
+        let (_folder, label, root) = mkudffs(&tool, &["-b", "2048", kind]);
+        assert_eq!((label, root), (0, 0), "{kind}");
+    }
+}
+
+/// What the original doesn't read is refused as it refuses it (docs/DIFFERENCES.md).
+#[test]
+fn mkudffs_in_forms_that_are_not_read() {
+    let Some(tool) = tool("mkudffs") else {
+        return left_out("images of mkudffs that are refused", "mkudffs");
+    };
+    for (media, revision) in [("cdr", "1.50"), ("dvdr", "2.01"), ("bdr", "2.50"), ("bdr", "2.60")] {
+        let (_folder, label, root) = mkudffs(&tool, &["-b", "2048", "-m", media, "-r", revision]);
+        assert_eq!((label, root), (4, 4), "{media} {revision}");
+    }
+    for block in ["512", "1024", "4096"] {
+        let (_folder, label, root) = mkudffs(&tool, &["-b", block]);
+        assert_eq!((label, root), (2, 2), "{block}");
+    }
+}

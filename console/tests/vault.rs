@@ -1,0 +1,254 @@
+//! Every call of `Vault` on the sample show, each refusal that a disc can give, and answers beyond what is lent at first.
+
+mod common;
+
+use common::{Disc, SECTOR, continuation, continued, identifier, named, noise, short_ad, show};
+use console::{AllocExtent, Answer, Refusal, Refused, Vault, probe_vrs, read_volume_label};
+
+const UPPER: &[u8] = b"cue 10.1A\nfront wash 80, blue backs 40, follow 6 seconds\n";
+const LOWER: &[u8] = b"cue 10.1a\nfront wash 20, the look before the interval\n";
+
+fn refused<T>(answer: console::Result<T>) -> (Refusal, u64) {
+    // The value may be of many bytes, and isn't printed.
+    let Refused { why, sectors } = answer.map(|_| ()).expect_err("an answer");
+    (why, sectors)
+}
+
+#[test]
+fn every_call_on_the_show() {
+    let image = show();
+    let vault = Vault::open(&image).unwrap();
+    assert_eq!(vault.sectors, 6);
+    assert_eq!((vault.partition_start_sector(), vault.partition_number()), (288, 5));
+    assert_eq!(vault.label().unwrap(), Answer { value: "SHOW 1".to_string(), sectors: 6 });
+    assert_eq!(read_volume_label(&image).unwrap().value, "SHOW 1");
+    assert!(!probe_vrs(&image));
+
+    let root = vault.read_directory(vault.root_directory_icb()).unwrap();
+    assert_eq!((root.len(), root[0].name.as_str(), root[0].is_directory, root.sectors), (1, "SHOW", true, 1));
+    let cues = vault.read_directory(root[0].icb).unwrap();
+    let names: Vec<&str> = cues.iter().map(|cue| cue.name.as_str()).collect();
+    assert_eq!(names, ["9", "10.1A", "10.1a", "11"]);
+    assert!(cues.iter().all(|cue| !cue.is_directory));
+
+    let icb = vault.lookup("SHOW/10.1A").unwrap();
+    assert_eq!((icb.value, icb.sectors), (cues[1].icb, 2));
+    assert_eq!((icb.location.block, icb.location.partition_ref, icb.length, icb.extent_type), (7, 5, 2048, 0));
+    assert_eq!(icb.implementation_use, [1, 2, 3, 4, 5, 6]);
+    assert_eq!(vault.read_file(icb).unwrap(), Answer { value: UPPER.to_vec(), sectors: 2 });
+    assert_eq!(vault.read_path("SHOW/10.1A").unwrap(), Answer { value: UPPER.to_vec(), sectors: 4 });
+    let extent = AllocExtent { length: 57, extent_type: 0, block: 8, partition_ref: None };
+    assert_eq!(vault.extents(icb).unwrap(), Answer { value: vec![extent], sectors: 1 });
+    assert_eq!(vault.part(icb).unwrap(), Answer { value: &[][..], sectors: 1 });
+    assert_eq!(vault.failed("SHOW/10.1A").unwrap(), Answer { value: None, sectors: 2 });
+}
+
+#[test]
+fn either_case_gives_the_first_and_an_icb_gives_its_own() {
+    let image = show();
+    let vault = Vault::open(&image).unwrap();
+    for path in ["SHOW/10.1A", "SHOW/10.1a", "show//10.1A/", "/Show/10.1a"] {
+        assert_eq!(vault.read_path(path).unwrap().value, UPPER, "{path}");
+    }
+    let cues = vault.read_directory(vault.lookup("SHOW").unwrap()).unwrap();
+    assert_eq!(vault.read_file(cues[2].icb).unwrap().value, LOWER);
+}
+
+#[test]
+fn paths_are_bytes() {
+    let image = show();
+    let vault = Vault::open(&image).unwrap();
+    assert_eq!(vault.lookup("").unwrap(), Answer { value: vault.root_directory_icb(), sectors: 0 });
+    assert_eq!(vault.lookup(b"SHOW/9").unwrap().value, vault.lookup("SHOW/9").unwrap().value);
+    for (path, component) in
+        [(&b"SHOW/12"[..], &b"12"[..]), (b"no/12", b"no"), (b"SHOW/9/x", b"x"), (b"SHOW/9\0", b"9\0"), (b"\xff", b"\xff")]
+    {
+        let (why, sectors) = refused(vault.lookup(path));
+        assert_eq!(why, Refusal::NotBluray);
+        assert_eq!(vault.failed(path).unwrap(), Answer { value: Some(component), sectors });
+        assert_eq!(refused(vault.read_path(path)), (why, sectors));
+    }
+}
+
+#[test]
+fn refusals_of_opening() {
+    let image = show();
+    let cut = |sector: usize| &image[..sector * SECTOR];
+    assert_eq!(refused(Vault::open(&[])), (Refusal::Io, 1));
+    assert_eq!(refused(Vault::open(&image[..257 * SECTOR - 1])), (Refusal::Io, 1));
+    assert_eq!(refused(Vault::open(cut(257))), (Refusal::Io, 6));
+    assert_eq!(refused(read_volume_label(cut(257))), (Refusal::Io, 6));
+    assert_eq!(refused(Vault::open(&noise(300 * SECTOR))), (Refusal::Malformed, 1));
+    let changed = |sector: usize, at: usize, byte: u8| {
+        let mut image = image.clone();
+        image[sector * SECTOR + at] = byte;
+        image
+    };
+    // The partition descriptor under an id that is passed over; a block size of 4,096.
+    assert_eq!(refused(Vault::open(&changed(33, 0, 0x77))).0, Refusal::NotBluray);
+    assert_eq!(refused(Vault::open(&changed(34, 213, 16))).0, Refusal::Unsupported);
+}
+
+#[test]
+fn refusals_of_files() {
+    let mut disc = Disc::new();
+    let unrecorded = disc.entry(0, &short_ad(10 | 1 << 30, 1), 10);
+    let missing = disc.entry(0, &short_ad(10, 1 << 20), 10);
+    let bad = disc.lay(&[1; 100]);
+    let listing = disc.directory(&[named("unrecorded", unrecorded, false), named("missing", missing, false), named("bad", bad, true)]);
+    disc.root(listing);
+    let vault = Vault::open(&disc.0).unwrap();
+    assert_eq!(refused(vault.read_path("unrecorded")), (Refusal::Unsupported, 3));
+    assert_eq!(refused(vault.read_path("missing")), (Refusal::Io, 4));
+    let bad = vault.lookup("bad").unwrap();
+    assert_eq!(refused(vault.read_file(bad)), (Refusal::Malformed, 1));
+    assert_eq!(refused(vault.read_directory(bad)), (Refusal::Malformed, 1));
+    assert_eq!(refused(vault.extents(bad)), (Refusal::Malformed, 1));
+    assert_eq!(refused(vault.part(bad)), (Refusal::Malformed, 1));
+    assert_eq!(refused(vault.failed("bad/below")), (Refusal::Malformed, 3));
+}
+
+#[test]
+fn an_embedded_file_is_a_part_of_the_image() {
+    let mut disc = Disc::new();
+    let block = disc.entry(3, b"in the entry, and behind it", 12);
+    let listing = disc.directory(&[named("embedded", block, false)]);
+    disc.root(listing);
+    let vault = Vault::open(&disc.0).unwrap();
+    let icb = vault.lookup("embedded").unwrap();
+    let part = vault.part(icb).unwrap();
+    assert_eq!((part.value, part.sectors), (&b"in the entry"[..], 1));
+    assert!(disc.0.as_ptr_range().contains(&part.as_ptr()));
+    assert_eq!(vault.extents(icb).unwrap().value, []);
+    assert_eq!(vault.read_file(icb).unwrap().value, b"in the entry");
+}
+
+/// A disc with a directory of 20,000 entries (1.1 MB of identifiers), the last of them a file of 5 MB, and above it a directory of one.
+fn wide_disc(bytes: &[u8]) -> Disc {
+    let mut disc = Disc::new();
+    let file = disc.file(bytes);
+    let mut entries: Vec<Vec<u8>> = (0..20_000).map(|i| named(&format!("a longer name {i}"), 1, false)).collect();
+    entries.push(named("last", file, false));
+    let wide = disc.directory(&entries);
+    let root = disc.directory(&[named("wide", wide, true)]);
+    disc.root(root);
+    disc
+}
+
+#[test]
+fn room_grows_until_the_answer_fits() {
+    let bytes = noise(5_000_000);
+    let disc = wide_disc(&bytes);
+    let vault = Vault::open(&disc.0).unwrap();
+    let wide = vault.lookup("wide").unwrap();
+    let entries = vault.read_directory(wide).unwrap();
+    assert_eq!((entries.len(), entries[19_999].name.as_str()), (20_001, "a longer name 19999"));
+    // The directory's entry and its sectors, once: the calls that had too little room aren't counted.
+    let sectors = 1 + vault.extents(wide).unwrap()[0].length.div_ceil(SECTOR as u32) as u64;
+    assert_eq!(entries.sectors, sectors);
+    let last = vault.lookup("wide/LAST").unwrap();
+    assert_eq!((last.value, last.sectors), (entries[20_000].icb, 2 + sectors));
+    let of_file = 1 + bytes.len().div_ceil(SECTOR) as u64;
+    let read = vault.read_file(last).unwrap();
+    assert_eq!((read.sectors, read.capacity()), (of_file, bytes.len()));
+    assert!(read.value == bytes);
+    let read = vault.read_path("wide/last").unwrap();
+    assert_eq!(read.sectors, 2 + sectors + of_file);
+    assert!(read.value == bytes);
+    assert_eq!(vault.failed("wide/none").unwrap().value, Some(&b"none"[..]));
+}
+
+#[test]
+fn slots_grow_until_the_list_fits() {
+    let mut disc = Disc::new();
+    let block = disc.lay(&noise(100));
+    let area = short_ad(100, block).repeat(120_000);
+    let further = disc.lay(&continuation(&area));
+    let many = disc.entry(0, &[&short_ad(1, block)[..], &continued(24 + area.len(), further)].concat(), u64::MAX);
+    let listing = disc.directory(&[named("many", many, false)]);
+    disc.root(listing);
+    let vault = Vault::open(&disc.0).unwrap();
+    let icb = vault.lookup("many").unwrap();
+    let extents = vault.extents(icb).unwrap();
+    assert_eq!((extents.len(), extents[0].length, extents[120_000].length), (120_001, 1, 100));
+    // 12 MB in an image of less: what the extents hold is what is answered, whatever the information length says.
+    let read = vault.read_file(icb).unwrap();
+    assert!(disc.0.len() < 4 << 20);
+    assert_eq!(read.len(), 12_000_001);
+    assert!(read[1..].chunks(100).all(|cue| cue == noise(100)));
+}
+
+#[test]
+fn names_grow_when_they_are_listed() {
+    let mut disc = Disc::new();
+    // 254 letters of two bytes each, in 255 recorded bytes.
+    let recorded = [&[8][..], &[0xe9; 254]].concat();
+    let entries: Vec<Vec<u8>> = (0..200).map(|_| identifier(&recorded, 1, false)).collect();
+    assert!(entries.concat().len() < 64 << 10);
+    let listing = disc.directory(&entries);
+    disc.root(listing);
+    let vault = Vault::open(&disc.0).unwrap();
+    let entries = vault.read_directory(vault.root_directory_icb()).unwrap();
+    assert!(entries.len() == 200 && entries.iter().all(|entry| entry.name == "é".repeat(254)));
+}
+
+#[test]
+fn an_absurd_disc_is_refused_by_its_number() {
+    let mut disc = Disc::new();
+    let block = disc.lay(&vec![0; 1 << 20]);
+    // 200 extents over the same MiB, 400 of them in the directory: no memory is taken by what a disc says of itself.
+    let file = disc.entry(0, &short_ad(1 << 20, block).repeat(200), 1 << 60);
+    let empty = disc.entry(0, &short_ad(0, block), 1 << 60);
+    let area = short_ad(1 << 20, block).repeat(400);
+    let further = disc.lay(&continuation(&area));
+    let absurd = disc.entry(0, &continued(24 + area.len(), further), 1 << 60);
+    let listing = disc.directory(&[named("file", file, false), named("empty", empty, false), named("absurd", absurd, true)]);
+    disc.root(listing);
+    let vault = Vault::open(&disc.0).unwrap();
+    assert_eq!(refused(vault.read_path("file")).0, Refusal::NoRoom);
+    assert_eq!(refused(vault.read_file(vault.lookup("file").unwrap())).0, Refusal::NoRoom);
+    assert_eq!(vault.read_path("empty").unwrap().value, []);
+    assert_eq!(refused(vault.lookup("absurd/below")).0, Refusal::NoWork);
+    assert_eq!(refused(vault.read_directory(vault.lookup("absurd").unwrap())).0, Refusal::NoWork);
+}
+
+#[test]
+fn refusals_have_their_numbers_and_a_sentence_each() {
+    use Refusal::*;
+    let all = [Io, Malformed, NotBluray, Unsupported, NoRoom, NoWork, NoSlot, LongName];
+    assert_eq!(all.map(Refusal::number), [1, 2, 3, 4, 5, 6, 7, 8]);
+    let sentences: std::collections::HashSet<String> = all.iter().map(|why| why.to_string()).collect();
+    assert_eq!(sentences.len(), 8);
+    let refused = Refused { why: Io, sectors: 1 };
+    assert_eq!((refused.to_string(), refused.number()), (Io.to_string(), 1));
+    assert_eq!(Refusal::from(refused), Io);
+}
+
+#[test]
+fn a_vault_may_be_shared_between_threads() {
+    let image = show();
+    let vault = Vault::open(&image).unwrap().value;
+    let cues = ["SHOW/9", "SHOW/10.1A", "SHOW/11"];
+    std::thread::scope(|scope| {
+        let reads = cues.map(|path| scope.spawn(move || vault.read_path(path).unwrap().value));
+        for (read, path) in reads.into_iter().zip(cues) {
+            assert_eq!(read.join().unwrap(), vault.read_path(path).unwrap().value);
+        }
+    });
+}
+
+/// Where a console hands an answer on it may stand for its value.
+#[test]
+fn an_answer_stands_for_its_value() {
+    let image = show();
+    let vault = Vault::open(&image).unwrap();
+    let bytes = |taken: &dyn AsRef<[u8]>| taken.as_ref().to_vec();
+    assert_eq!(bytes(&vault.read_path("SHOW/10.1A").unwrap()), UPPER);
+    assert_eq!(format!("{}", vault.label().unwrap()), "SHOW 1");
+    let show = vault.lookup("SHOW").unwrap();
+    let names: Vec<String> = vault.read_directory(show).unwrap().into_iter().map(|cue| cue.name).collect();
+    assert_eq!(names.join(" "), "9 10.1A 10.1a 11");
+    let mut cues = vault.read_directory(show).unwrap();
+    cues.reverse();
+    assert_eq!((cues[0].name.as_str(), show.map(|icb| icb.location.block).value), ("11", 4));
+}
