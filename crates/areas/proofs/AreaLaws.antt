@@ -2,7 +2,7 @@
 use mathlib.Core.Path.{_≡_, refl, ap, sym, _∙_}
 use mathlib.Core.Bool.{Bool, true, false}
 use mathlib.Core.List.{List}
-use Prim.Native.Nat.{ℕ, suc, _+_, _-_, _/_, _≤_, _<_}
+use Prim.Native.Nat.{ℕ, zero, suc, _+_, _-_, _/_, _≤_, _<_}
 use native.Mathlib.Nat.{div-eq-of-lt, div-eq-sub-div}
 use native.Mathlib.Numerals.{add-one}
 use native.Mathlib.Omega.{arith}
@@ -187,3 +187,21 @@ module _ (kind : ℕ) (s : List ℕ) (first : AdCursor) where
 
 pub ahead-less : (kind : ℕ) (s : List ℕ) (rest : AdCursor) {r : AdStep} → r ≡ nextOf kind s rest → {x : AllocExtent} {next : AdCursor} → r ≡ Extent x next → next .left < rest .left
 ahead-less kind s rest q e = walks-less kind s rest (sym q ∙ e)
+
+-- ---- an area that is refused
+
+-- an extent that is compressed is all that refuses one
+descriptors-refused : (n kind : ℕ) (s : List ℕ) (i : ℕ) {r : Refusal} → descriptors n kind s i .ending ≡ Refused r → r ≡ Unsupported
+unfolding descriptors
+descriptors-refused zero kind s i e = absurd (let z : _≡_ {A = ℕ} 0 1 = cc in omega arith)
+descriptors-refused (suc n) kind s i {r} e = by (descriptorAt kind s i) (descriptors n kind s (i + sizeOf kind)) (λ q. descriptors-refused n kind s (i + sizeOf kind) q) e
+  where
+    by : (x : Descriptor) (rest : Area) → (rest .ending ≡ Refused r → r ≡ Unsupported) → behind x rest .ending ≡ Refused r → r ≡ Unsupported
+    by Stop rest h e = absurd (let z : _≡_ {A = ℕ} 0 1 = cc in omega arith)
+    by (Data x) rest h e = h e
+    by (Continued a) rest h e = absurd (let z : _≡_ {A = ℕ} 0 1 = cc in omega arith)
+    by Compressed rest h e = cc
+
+pub area-refused : (kind : ℕ) (s : List ℕ) (i size : ℕ) {r : Refusal} → areaAt kind s i size .ending ≡ Refused r → r ≡ Unsupported
+unfolding areaAt
+area-refused kind s i size e = descriptors-refused (size / sizeOf kind) kind s i e

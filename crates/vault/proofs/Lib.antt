@@ -3,4 +3,6 @@ pub mod CallLaws
 pub mod Soundness
 pub mod Sectors
 pub mod Orders
+pub mod Refusing
+pub mod Exactly
 pub mod Matching

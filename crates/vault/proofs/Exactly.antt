@@ -1,0 +1,150 @@
+-- The table says "given exactly when". Memory aside, a call is refused by 1 to 4 alone; so 5 is given exactly when the answer has more bytes than the
+-- output holds, 6 by a listing exactly when the directory's bytes exceed the work space, and 7 exactly when there are more extents than slots.
+-- Assumes nothing.
+use mathlib.Core.Path.{_≡_, refl, ap, _∙_}
+use mathlib.Core.Bool.{Bool, true, false, not}
+use mathlib.Core.List.{List}
+use Prim.Native.Nat.{ℕ, _≤_}
+use native.Mathlib.Omega.{arith}
+use lib.ListN.{length}
+use lib.Dec.{eqb, leb}
+use borrow.Author.Tests.{ne-eqb}
+use Rattle.disc.specs.Choice.{pick}
+use Rattle.disc.specs.Refusals.{number}
+use Rattle.disc.specs.Ask.{Disc, Outcome, outcome}
+use Rattle.disc.specs.Ask.Outcome.{answered, refused}
+use Rattle.disc.specs.Images.{disc}
+use Rattle.disc.specs.Ran.{ran}
+use Rattle.disc.specs.Replies.{replyBy}
+use Rattle.disc.specs.declared.refusals.Refusal.{Refusal}
+use Rattle.disc.specs.declared.refusals.Refusal.the-variants.{Io, Malformed, NotBluray, Unsupported, NoRoom}
+use Rattle.disc.specs.declared.replies.Reply.{Reply}
+use Rattle.records.specs.declared.allocations.LongAd.{LongAd}
+use Rattle.areas.specs.declared.AllocExtent.{AllocExtent}
+use Rattle.volumes.specs.Openings.{opening}
+use Rattle.volumes.specs.Labels.{labelling}
+use Rattle.listings.specs.Entries.{entries, sound}
+use Rattle.listings.specs.Listings.{records, anyLong}
+use Rattle.vault.specs.Calls.{reading, parting, extentListing, listing, finding, pathReading, labels, reads, lists, readsPath, extents}
+use Rattle.vault.specs.declared.volume.Volume.{Volume}
+use Rattle.vault.proofs.Orders.{listingAnswer, slotted, extents-order, list-order}
+use Rattle.vault.proofs.Refusing.{Within, refuses-within, bytes-only, part-only, list-only, opening-only, label-only, lookup-only, path-only, listing-only}
+
+-- ---- memory aside, 1 to 4
+
+-- the refusals of the original
+abbrev pub Original : Refusal → Type 0
+Original why = number why ≤ 4
+
+module _ (d : Disc) where
+  pub open-original : Within Original (outcome d opening)
+  open-original = refuses-within Original (omega arith) d (opening-only Original (omega arith) (omega arith) (omega arith))
+
+  pub label-original : Within Original (outcome d labelling)
+  label-original = refuses-within Original (omega arith) d (label-only Original (omega arith) (omega arith) (omega arith))
+
+  pub read-original : (v : Volume) (icb : LongAd) → Within Original (outcome d (reading v icb))
+  read-original v icb = refuses-within Original (omega arith) d (bytes-only Original (omega arith) (omega arith) (v .start) (v .partition) icb)
+
+  pub part-original : (v : Volume) (icb : LongAd) → Within Original (outcome d (parting v icb))
+  part-original v icb = refuses-within Original (omega arith) d (part-only Original (omega arith) (omega arith) (v .start) (v .partition) icb)
+
+  pub extents-original : (v : Volume) (icb : LongAd) → Within Original (outcome d (extentListing v icb))
+  extents-original v icb = refuses-within Original (omega arith) d (list-only Original (omega arith) (omega arith) (v .start) (v .partition) icb)
+
+-- a lookup is refused by 6 besides
+abbrev pub OfALookup : Refusal → Type 0
+OfALookup why = number why ≤ 6 × (number why ≡ 5 → ⊥)
+
+pub lookup-original : (d : Disc) (v : Volume) (work : ℕ) (path : List ℕ) → Within OfALookup (outcome d (finding v work path))
+lookup-original d v work path =
+    refuses-within OfALookup (low Io (omega arith)) d
+    (lookup-only OfALookup (low Malformed (omega arith)) (low NotBluray (omega arith)) (low Unsupported (omega arith)) (omega arith, λ e. omega arith)
+    (v .start) (v .partition) work (v .root) path)
+  where
+    low : (why : Refusal) → Original why → OfALookup why
+    low why h = (omega arith, λ e. omega arith)
+
+-- ---- 5 exactly when the answer has more bytes than the output holds
+
+-- an answer of more bytes than there is room for
+abbrev pub overfull : ℕ → Outcome (List ℕ) → Bool
+overfull room (answered b) = not (leb (length b) room)
+overfull room (refused why) = false
+
+-- every refusal but 5
+abbrev ButRoom : Refusal → Type 0
+ButRoom why = number why ≡ 5 → ⊥
+
+five : (room n : ℕ) (o : Outcome (List ℕ)) → Within ButRoom o → eqb (replyBy NoRoom room n o .answer) 5 ≡ overfull room o
+unfolding Within
+five room n (refused why) p = ne-eqb (number why) 5 p
+five room n (answered b) p = by (leb (length b) room)
+  where
+    by : (t : Bool) → eqb (pick {A = Reply} t (record { answer = 0; count = n; length = length b }) (record { answer = number NoRoom; count = n; length = 0 }) .answer) 5 ≡ not t
+    by true = refl
+    by false = refl
+
+pub label-5 : (image out : List ℕ) → eqb (labels image out .reply .answer) 5 ≡ overfull (length out) (ran (disc image) labelling .outcome)
+unfolding ran
+label-5 image out = five (length out) _ (outcome (disc image) labelling) (refuses-within ButRoom (λ e. omega arith) (disc image) (label-only ButRoom (λ e. omega arith) (λ e. omega arith) (λ e. omega arith)))
+
+module _ (image : List ℕ) (v : Volume) where
+  pub read-5 : (icb : LongAd) (out : List ℕ) → eqb (reads image v icb out .reply .answer) 5 ≡ overfull (length out) (ran (disc image) (reading v icb) .outcome)
+  unfolding ran
+  read-5 icb out = five (length out) _ (outcome (disc image) (reading v icb)) (refuses-within ButRoom (λ e. omega arith) (disc image) (bytes-only ButRoom (λ e. omega arith) (λ e. omega arith) (v .start) (v .partition) icb))
+
+  pub list-5 : (icb : LongAd) (out work : List ℕ) → eqb (lists image v icb out work .reply .answer) 5 ≡ overfull (length out) (ran (disc image) (listing v (length work) icb) .outcome)
+  unfolding ran
+  list-5 icb out work =
+      five (length out) _ (outcome (disc image) (listing v (length work) icb))
+      (refuses-within ButRoom (λ e. omega arith) (disc image) (listing-only ButRoom (λ e. omega arith) (λ e. omega arith) (λ e. omega arith) (λ e. omega arith) (v .start) (v .partition) (length work) (λ e. omega arith) icb))
+
+  pub read-path-5 : (path out work : List ℕ) → eqb (readsPath image v path out work .reply .answer) 5 ≡ overfull (length out) (ran (disc image) (pathReading v (length work) path) .outcome)
+  unfolding ran
+  read-path-5 path out work =
+      five (length out) _ (outcome (disc image) (pathReading v (length work) path))
+      (refuses-within ButRoom (λ e. omega arith) (disc image) (path-only ButRoom (λ e. omega arith) (λ e. omega arith) (λ e. omega arith) (λ e. omega arith) (v .start) (v .partition) (length work) (v .root) path))
+
+-- ---- 6, of a listing, exactly when the directory's bytes exceed the work space
+
+six : (work room : ℕ) (o : Outcome (List ℕ)) → Within Original o → eqb (listingAnswer work room o) 6 ≡ overfull work o
+unfolding Within
+six work room (refused why) p = ne-eqb (number why) 6 (λ e. omega arith)
+six work room (answered b) p = by (leb (length b) work) (sound (entries b)) (anyLong (entries b)) (leb (length (records (entries b))) room)
+  where
+    by : (s t u w : Bool) → eqb (pick s (pick t (pick u 8 (pick w 0 5)) 2) 6) 6 ≡ not s
+    by true true true w = refl
+    by true true false true = refl
+    by true true false false = refl
+    by true false u w = refl
+    by false t u w = refl
+
+pub list-6 : (image : List ℕ) (v : Volume) (icb : LongAd) (out work : List ℕ)
+    → eqb (lists image v icb out work .reply .answer) 6 ≡ overfull (length work) (ran (disc image) (reading v icb) .outcome)
+unfolding ran
+list-6 image v icb out work =
+    ap (λ n. eqb n 6) (list-order image v icb out work)
+    ∙ six (length work) (length out) (outcome (disc image) (reading v icb)) (read-original (disc image) v icb)
+
+-- ---- 7 exactly when there are more extents than slots
+
+abbrev pub overslotted : ℕ → Outcome (List AllocExtent) → Bool
+overslotted slots (answered es) = not (leb (length es) slots)
+overslotted slots (refused why) = false
+
+seven : (slots : ℕ) (o : Outcome (List AllocExtent)) → Within Original o → eqb (slotted slots o) 7 ≡ overslotted slots o
+unfolding Within
+seven slots (refused why) p = ne-eqb (number why) 7 (λ e. omega arith)
+seven slots (answered es) p = by (leb (length es) slots)
+  where
+    by : (t : Bool) → eqb (pick t 0 7) 7 ≡ not t
+    by true = refl
+    by false = refl
+
+pub extents-7 : {A : Type 0} (f : AllocExtent → A) (image : List ℕ) (v : Volume) (icb : LongAd) (row : List A)
+    → eqb (extents f image v icb row .reply .answer) 7 ≡ overslotted (length row) (ran (disc image) (extentListing v icb) .outcome)
+unfolding ran
+extents-7 f image v icb row =
+    ap (λ n. eqb n 7) (extents-order f image v icb row)
+    ∙ seven (length row) (outcome (disc image) (extentListing v icb)) (extents-original (disc image) v icb)

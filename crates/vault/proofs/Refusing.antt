@@ -1,0 +1,324 @@
+-- Which refusals a tree of questions can come to: those of the original, 1 to 4, and 6 where a directory is read into the work space. So 5 and 7
+-- are given exactly when memory is short. Assumes nothing.
+use mathlib.Core.Path.{_≡_, refl, sym, subst}
+use mathlib.Core.Bool.{Bool, true, false, _&&_}
+use mathlib.Core.List.{List, [], _∷_}
+use mathlib.Core.Option.{Option, none, some}
+use Prim.Native.Nat.{ℕ, zero, suc, _+_, _-_}
+use lib.ListN.{length, take}
+use lib.Dec.{eqb, ltb, leb}
+use Rattle.disc.specs.Choice.{pick}
+use Rattle.disc.specs.Ask.{Disc, Held, Ask, Outcome, outcome, then, given, ended}
+use Rattle.disc.specs.Ask.Held.{holds, lacks}
+use Rattle.disc.specs.Ask.Ask.{done, refuse, ask}
+use Rattle.disc.specs.Ask.Outcome.{answered, refused}
+use Rattle.disc.specs.Images.{sectors}
+use Rattle.disc.specs.declared.refusals.Refusal.{Refusal}
+use Rattle.disc.specs.declared.refusals.Refusal.the-variants.{Io, Malformed, NotBluray, Unsupported, NoWork, LongName}
+use Rattle.records.specs.Bytes.{u16at, u32at}
+use Rattle.records.specs.declared.allocations.LongAd.{LongAd}
+use Rattle.tags.specs.Tags.{accepted, tagOf, aedAfter, readAed}
+use Rattle.tags.specs.declared.TagRead.the-variants.{Read as ATag, Refused as NoTag}
+use Rattle.tags.specs.declared.AedRead.the-variants.{Header, NoHeader}
+use Rattle.areas.specs.declared.AllocExtent.{AllocExtent}
+use Rattle.areas.specs.declared.AdContinuation.{AdContinuation}
+use Rattle.areas.specs.declared.AdEnding.{AdEnding}
+use Rattle.areas.specs.declared.AdEnding.the-variants.{End, Continuation, Refused}
+use Rattle.areas.specs.Areas.{Area, areaAt}
+use Rattle.areas.proofs.AreaLaws.{area-refused}
+use Rattle.descriptors.specs.Volumes.{readAnchor, readPartition, readPrimary, readLogical}
+use Rattle.descriptors.specs.FileSets.{readFileSet}
+use Rattle.descriptors.specs.declared.anchors.AnchorRead.{AnchorRead}
+use Rattle.descriptors.specs.declared.anchors.AnchorRead.the-variants.{Read as AnAnchor, Refused as NoAnchor}
+use Rattle.descriptors.specs.declared.partitions.PartitionRead.{PartitionRead}
+use Rattle.descriptors.specs.declared.partitions.PartitionRead.the-variants.{Read as APartition, Refused as NoPartition}
+use Rattle.descriptors.proofs.AnswerLaws.{anchor-refused, partition-refused}
+use Rattle.entries.specs.FileEntries.{readEntry}
+use Rattle.entries.specs.declared.«file_entries».EntryRead.{EntryRead}
+use Rattle.entries.specs.declared.«file_entries».EntryRead.the-variants.{Read, Refused as NoEntry}
+use Rattle.entries.proofs.EntryLaws.{read-entry-refused}
+use Rattle.volumes.specs.declared.sequences.Kept.{Kept}
+use Rattle.volumes.specs.declared.openings.VolumeRecord.{VolumeRecord}
+use Rattle.volumes.specs.Sequences.{nothing, primaryIn, partitionIn, logicalIn, saysIn, goOn, scan}
+use Rattle.volumes.specs.Sequences.Says.{on, over, fails}
+use Rattle.volumes.specs.Openings.{fileSetHere, mounting, anchored, opening}
+use Rattle.volumes.specs.Labels.{labelling}
+use Rattle.chains.specs.Chains.{sectorsFor, foreign, areaIn, nextArea, continued}
+use Rattle.files.specs.Reads.{joining, extentBytes, extentsBytes}
+use Rattle.files.specs.Files.{Located, located, entryAt, isEmbedded, chainOf, fileBytes, filePart, fileExtents}
+use Rattle.listings.specs.Entries.{Entry, entries, sound}
+use Rattle.listings.specs.Listings.{anyLong, listing, findIn}
+use Rattle.listings.specs.Paths.{components}
+use Rattle.identifiers.specs.Identifiers.{isDirectory}
+use Rattle.directories.specs.Directories.{within, directoryBytes, listingAt}
+use Rattle.directories.specs.Lookups.{Sought, entering, orLost, seeking, seekPath, icbOf, lookupOf, readPathOf}
+use Rattle.directories.specs.Lookups.Sought.{reached, lost}
+
+-- ---- a tree that refuses by P alone, and answers with what is Q
+
+unfoldable pub Only : {A : Type 0} → (Refusal → Type 0) → (A → Type 0) → Ask A → Type 0
+Only P Q (done a) = Q a
+Only P Q (refuse r) = P r
+Only P Q (ask s k) = (b : List ℕ) → Only P Q (k b)
+
+pub record Refuses {A : Type 0} (P : Refusal → Type 0) (Q : A → Type 0) (m : Ask A) : Type 0 where
+  pub only : Only P Q m
+
+-- an outcome that is no refusal but by P
+unfoldable pub Within : {A : Type 0} → (Refusal → Type 0) → Outcome A → Type 0
+Within P (answered a) = Unit {0}
+Within P (refused r) = P r
+
+only-within : {A : Type 0} (P : Refusal → Type 0) (Q : A → Type 0) → P Io → (d : Disc) (m : Ask A) → Only P Q m → Within P (outcome d m)
+unfolding Only Within outcome
+only-within P Q io d (done a) p = tt
+only-within P Q io d (refuse r) p = p
+only-within P Q io d (ask s k) p = by (d s) (λ b. only-within P Q io d (k b) (p b))
+  where
+    by : (h : Held) → ((b : List ℕ) → Within P (outcome d (k b))) → Within P (given h (λ b. outcome d (k b)) (refused Io))
+    by (holds b) f = f b
+    by lacks f = io
+
+pub refuses-within : {A : Type 0} (P : Refusal → Type 0) {Q : A → Type 0} → P Io → (d : Disc) {m : Ask A} → Refuses P Q m → Within P (outcome d m)
+refuses-within P {Q} io d {m} p = only-within P Q io d m (p .only)
+
+-- ---- the forms that trees are made of
+
+only-then : {A B : Type 0} (P : Refusal → Type 0) (Q : A → Type 0) (R : B → Type 0) (m : Ask A) (f : A → Ask B) → Only P Q m → ((a : A) → Q a → Only P R (f a)) → Only P R (then m f)
+unfolding Only then
+only-then P Q R (done a) f p q = q a p
+only-then P Q R (refuse r) f p q = p
+only-then P Q R (ask s k) f p q = λ b. only-then P Q R (k b) f (p b) q
+
+module _ {A : Type 0} {P : Refusal → Type 0} {Q : A → Type 0} where
+  done-only : {a : A} → Q a → Refuses P Q (done a)
+  unfolding Only
+  done-only q = record { only = q }
+
+  refuse-only : {r : Refusal} → P r → Refuses P Q (refuse r)
+  unfolding Only
+  refuse-only p = record { only = p }
+
+  ask-only : {s : ℕ} {k : List ℕ → Ask A} → ((b : List ℕ) → Refuses P Q (k b)) → Refuses P Q (ask s k)
+  unfolding Only
+  ask-only f = record { only = λ b. f b .only }
+
+  pick-only : (t : Bool) {m n : Ask A} → Refuses P Q m → Refuses P Q n → Refuses P Q (pick t m n)
+  pick-only true p q = p
+  pick-only false p q = q
+
+  then-only : {B : Type 0} {R : B → Type 0} {m : Ask A} {f : A → Ask B} → Refuses P Q m → ((a : A) → Q a → Refuses P R (f a)) → Refuses P R (then m f)
+  then-only {R = R} {m} {f} p q = record { only = only-then P Q R m f (p .only) (λ a h. q a h .only) }
+
+-- anything
+abbrev Any : {A : Type 0} → A → Type 0
+Any a = Unit {0}
+
+-- how an area ends
+unfoldable pub EndsBy : (Refusal → Type 0) → AdEnding → Type 0
+EndsBy P End = Unit {0}
+EndsBy P (Continuation a) = Unit {0}
+EndsBy P (Refused r) = P r
+
+pub record Ends (P : Refusal → Type 0) (e : AdEnding) : Type 0 where
+  pub by : EndsBy P e
+
+-- ---- reading a file, for any P that has 2 and 4
+
+module _ (P : Refusal → Type 0) (malformed : P Malformed) (unsupported : P Unsupported) where
+  sectors-only : (n first : ℕ) → Refuses P Any (sectors n first)
+  unfolding sectors
+  sectors-only zero first = done-only tt
+  sectors-only (suc n) first = ask-only (λ b. then-only (sectors-only n (first + 1)) (λ rest q. done-only tt))
+
+  area-ends : (kind : ℕ) (s : List ℕ) (i size : ℕ) → Ends P (areaAt kind s i size .ending)
+  unfolding EndsBy
+  area-ends kind s i size = by (areaAt kind s i size .ending) refl
+    where
+      by : (e : AdEnding) → areaAt kind s i size .ending ≡ e → Ends P e
+      by End h = record { by = tt }
+      by (Continuation a) h = record { by = tt }
+      by (Refused r) h = record { by = subst P (sym (area-refused kind s i size h)) unsupported }
+
+  area-only : (kind size : ℕ) (s : List ℕ) → Refuses P (λ (x : Area). Ends P (x .ending)) (areaIn kind size s (readAed s))
+  area-only kind size s = by (leb 24 (length s)) (leb 16 (length s) && accepted s)
+    where
+      headed : (t : Bool) → Refuses P (λ (x : Area). Ends P (x .ending)) (areaIn kind size s (pick t (Header (record { tag = tagOf s; «previous_allocation_extent_location» = u32at s 16; «length_of_allocation_descriptors» = u32at s 20 })) (NoHeader Malformed)))
+      headed true = pick-only (ltb size (24 + u32at s 20)) (refuse-only malformed) (done-only (area-ends kind s 24 (u32at s 20)))
+      headed false = refuse-only malformed
+
+      by : (t u : Bool) → Refuses P (λ (x : Area). Ends P (x .ending)) (areaIn kind size s (pick t (aedAfter s (pick u (ATag (tagOf s)) (NoTag Malformed))) (NoHeader Malformed)))
+      by false u = refuse-only malformed
+      by true false = refuse-only malformed
+      by true true = headed (eqb (tagOf s .id) 258)
+
+  next-only : (start partition kind : ℕ) (a : AdContinuation) → Refuses P (λ (x : Area). Ends P (x .ending)) (nextArea start partition kind a)
+  unfolding nextArea
+  next-only start partition kind a =
+      pick-only (foreign partition (a .«partition_ref»)) (refuse-only unsupported)
+      (pick-only (ltb (a .length) 24) (refuse-only malformed)
+      (pick-only (ltb 1048576 (a .length)) (refuse-only unsupported)
+      (then-only (sectors-only (sectorsFor (a .length)) (start + a .block)) (λ s q. area-only kind (a .length) s))))
+
+  continued-only : (start partition kind n : ℕ) (e : AdEnding) → Ends P e → Refuses P Any (continued start partition kind n e)
+  unfolding continued EndsBy
+  continued-only start partition kind zero End p = done-only tt
+  continued-only start partition kind zero (Refused r) p = refuse-only (p .by)
+  continued-only start partition kind zero (Continuation a) p = refuse-only malformed
+  continued-only start partition kind (suc n) End p = done-only tt
+  continued-only start partition kind (suc n) (Refused r) p = refuse-only (p .by)
+  continued-only start partition kind (suc n) (Continuation a) p =
+      then-only (next-only start partition kind a) (λ x q. then-only (continued-only start partition kind n (x .ending) q) (λ more u. done-only tt))
+
+  joining-only : (want : ℕ) (b : List ℕ) {more : Ask (List ℕ)} → Refuses P Any more → Refuses P Any (joining want b more)
+  joining-only want b p = pick-only (leb want (length b)) (done-only tt) (then-only p (λ rest q. done-only tt))
+
+  extent-only : (n at size want : ℕ) → Refuses P Any (extentBytes n at size want)
+  unfolding extentBytes
+  extent-only zero at size want = done-only tt
+  extent-only (suc n) at size want = ask-only (λ b. joining-only want (take size b) (extent-only n (at + 1) (size - 2048) (want - length (take size b))))
+
+  extents-only : (start partition : ℕ) (es : List AllocExtent) (want : ℕ) → Refuses P Any (extentsBytes start partition es want)
+  unfolding extentsBytes
+  extents-only start partition [] want = done-only tt
+  extents-only start partition (e ∷ es) want =
+      pick-only (eqb (e .«extent_type») 0)
+      (pick-only (foreign partition (e .«partition_ref»)) (refuse-only unsupported)
+      (then-only (extent-only (sectorsFor (e .length)) (start + e .block) (e .length) want) (λ b q.
+      joining-only want b (extents-only start partition es (want - length b)))))
+      (refuse-only unsupported)
+
+  entry-only : (start : ℕ) (icb : LongAd) → Refuses P Any (entryAt start icb)
+  unfolding entryAt
+  entry-only start icb = pick-only (eqb (icb .length) 0) (refuse-only malformed) (ask-only (λ s. by s (readEntry s) refl))
+    where
+      by : (s : List ℕ) (x : EntryRead) → x ≡ readEntry s → Refuses P Any (located s x)
+      by s (Read e) h = done-only tt
+      by s (NoEntry r) h = refuse-only (subst P (sym (read-entry-refused s h refl)) malformed)
+
+  chain-only : (start partition : ℕ) (x : Located) → Refuses P Any (chainOf start partition x)
+  chain-only start partition x =
+      then-only (continued-only start partition (x .entry .kind) 32 _ (area-ends (x .entry .kind) (x .sector) (x .entry .«area_at») (x .entry .«area_length»))) (λ more q. done-only tt)
+
+  pub bytes-only : (start partition : ℕ) (icb : LongAd) → Refuses P Any (fileBytes start partition icb)
+  unfolding fileBytes
+  bytes-only start partition icb =
+      then-only (entry-only start icb) (λ x q.
+      pick-only (isEmbedded x) (done-only tt) (then-only (chain-only start partition x) (λ es u. extents-only start partition es (x .entry .«information_length»))))
+
+  pub part-only : (start partition : ℕ) (icb : LongAd) → Refuses P Any (filePart start partition icb)
+  unfolding filePart
+  part-only start partition icb =
+      then-only (entry-only start icb) (λ x q. pick-only (isEmbedded x) (done-only tt) (then-only (chain-only start partition x) (λ es u. done-only tt)))
+
+  pub list-only : (start partition : ℕ) (icb : LongAd) → Refuses P Any (fileExtents start partition icb)
+  unfolding fileExtents
+  list-only start partition icb = then-only (entry-only start icb) (λ x q. pick-only (isEmbedded x) (done-only tt) (chain-only start partition x))
+
+-- ---- opening, for any P that has 2, 3 and 4
+
+module _ (P : Refusal → Type 0) (malformed : P Malformed) (missing : P NotBluray) (unsupported : P Unsupported) where
+  goes-on : (k : Kept) (b : List ℕ) (f : Kept → Ask Kept) → ((k′ : Kept) → Refuses P Any (f k′)) → Refuses P Any (goOn (saysIn k b) f)
+  unfolding saysIn
+  goes-on k b f h = by (eqb (u16at b 0) 1) (eqb (u16at b 0) 5) (eqb (u16at b 0) 6) (eqb (u16at b 0) 8)
+    where
+      read : (t : Bool) (k′ : Kept) → Refuses P Any (goOn (pick t (on k′) (fails Malformed)) f)
+      read true k′ = h k′
+      read false k′ = refuse-only malformed
+
+      parted : (x : PartitionRead) → x ≡ readPartition b → Refuses P Any (goOn (partitionIn k x) f)
+      parted (APartition d) e = h _
+      parted (NoPartition r) e = refuse-only (subst P (sym (partition-refused b e refl)) malformed)
+
+      by : (t u v w : Bool) → Refuses P Any (goOn (pick t (primaryIn k (readPrimary b)) (pick u (partitionIn k (readPartition b)) (pick v (logicalIn k (readLogical b)) (pick w (over k) (on k))))) f)
+      by true u v w = read (eqb (readPrimary b .answer) 0) _
+      by false true v w = parted (readPartition b) refl
+      by false false true w = read (eqb (readLogical b .answer) 0) _
+      by false false false true = done-only tt
+      by false false false false = h k
+
+  scan-only : (n at : ℕ) (k : Kept) → Refuses P Any (scan n at k)
+  unfolding scan
+  scan-only zero at k = done-only tt
+  scan-only (suc n) at k = ask-only (λ b. goes-on k b _ (λ k′. scan-only n (at + 1) k′))
+
+  mounting-only : (k : Kept) → Refuses P Any (mounting k)
+  unfolding mounting
+  mounting-only k =
+      pick-only (k .«has_primary»)
+      (pick-only (k .«has_partition»)
+      (pick-only (k .«has_logical»)
+      (pick-only (eqb (k .«block_size») 2048)
+      (pick-only (fileSetHere k)
+      (ask-only (λ b. by (eqb (readFileSet b .answer) 0) _))
+      (refuse-only unsupported))
+      (refuse-only unsupported))
+      (refuse-only missing))
+      (refuse-only missing))
+      (refuse-only missing)
+    where
+      by : (t : Bool) (v : VolumeRecord) → Refuses P Any (ended (pick t (answered v) (refused Malformed)))
+      by true v = done-only tt
+      by false v = refuse-only malformed
+
+  pub opening-only : Refuses P Any opening
+  unfolding opening
+  opening-only = ask-only (λ b. by b (readAnchor b) refl)
+    where
+      by : (b : List ℕ) (x : AnchorRead) → x ≡ readAnchor b → Refuses P Any (anchored x)
+      by b (NoAnchor r) e = refuse-only (subst P (sym (anchor-refused b e refl)) malformed)
+      by b (AnAnchor a) e = then-only (scan-only _ _ nothing) (λ k q. mounting-only k)
+
+  pub label-only : Refuses P Any labelling
+  unfolding labelling
+  label-only = then-only opening-only (λ v q. done-only tt)
+
+-- ---- directories, for any P that has 6 too
+
+module _ (P : Refusal → Type 0) (malformed : P Malformed) (missing : P NotBluray) (unsupported : P Unsupported) (full : P NoWork) (start partition work : ℕ) where
+  directory-only : (icb : LongAd) → Refuses P Any (directoryBytes start partition work icb)
+  unfolding directoryBytes within
+  directory-only icb = then-only (bytes-only P malformed unsupported start partition icb) (λ b q. by b (leb (length b) work))
+    where
+      by : (b : List ℕ) (t : Bool) → Refuses P Any (ended (pick t (answered b) (refused NoWork)))
+      by b true = done-only tt
+      by b false = refuse-only full
+
+  entering-only : (icb : LongAd) (component : List ℕ) → Refuses P Any (entering start partition work icb component)
+  unfolding entering findIn
+  entering-only icb component = then-only (directory-only icb) (λ b q. by (sound (entries b)) _)
+    where
+      by : (t : Bool) (o : Option Entry) → Refuses P Any (ended (pick t (answered o) (refused Malformed)))
+      by true o = done-only tt
+      by false o = refuse-only malformed
+
+  seeking-only : (cs : List (List ℕ)) (icb : LongAd) (directory : Bool) → Refuses P Any (seeking start partition work cs icb directory)
+  unfolding seeking
+  seeking-only [] icb directory = done-only tt
+  seeking-only (c ∷ cs) icb false = done-only tt
+  seeking-only (c ∷ cs) icb true = then-only (entering-only icb c) (λ o q. by o _ (λ e. seeking-only cs (e .identifier .icb) (isDirectory (e .identifier))))
+    where
+      by : (o : Option Entry) (f : Entry → Ask Sought) → ((e : Entry) → Refuses P Any (f e)) → Refuses P Any (orLost c o f)
+      by none f h = done-only tt
+      by (some e) f h = h e
+
+  pub lookup-only : (root : LongAd) (path : List ℕ) → Refuses P Any (lookupOf start partition work root path)
+  unfolding lookupOf seekPath
+  lookup-only root path = then-only (seeking-only (components path) root true) (λ s q. by s)
+    where
+      by : (s : Sought) → Refuses P Any (ended (icbOf s))
+      by (reached icb) = done-only tt
+      by (lost component) = refuse-only missing
+
+  pub path-only : (root : LongAd) (path : List ℕ) → Refuses P Any (readPathOf start partition work root path)
+  unfolding readPathOf
+  path-only root path = then-only (lookup-only root path) (λ icb q. bytes-only P malformed unsupported start partition icb)
+
+  pub listing-only : P LongName → (icb : LongAd) → Refuses P Any (listingAt start partition work icb)
+  unfolding listingAt listing
+  listing-only long icb = then-only (directory-only icb) (λ b q. by (sound (entries b)) (anyLong (entries b)) _)
+    where
+      by : (t u : Bool) (b : List ℕ) → Refuses P Any (ended (pick t (pick u (refused LongName) (answered b)) (refused Malformed)))
+      by true true b = refuse-only long
+      by true false b = done-only tt
+      by false u b = refuse-only malformed
