@@ -8,10 +8,12 @@ pub const FIRST: usize = 64 << 10;
 /// The most work space for a directory: some five million entries. It is all cleared by each call, so a bad disc must not ask for more.
 pub const MOST_DIRECTORY: usize = 256 << 20;
 
-/// The most for a file of this image. Only one whose extents overlap has more bytes than its disc; a small image of such may have a
-/// little more.
+/// What may be lent for a file of any image.
+const SOME_FILE: usize = 256 << 20;
+
+/// The most for a file of this image. Only one whose extents overlap has more bytes than its disc.
 pub fn most_file(image: &[u8]) -> usize {
-    image.len().max(16 << 20)
+    image.len().max(SOME_FILE)
 }
 
 /// An empty vector whose spare room is lent.

@@ -196,13 +196,12 @@ fn names_grow_when_they_are_listed() {
 fn an_absurd_disc_is_refused_by_its_number() {
     let mut disc = Disc::new();
     let block = disc.lay(&vec![0; 1 << 20]);
-    // 200 extents over the same MiB, 400 of them in the directory: no memory is taken by what a disc says of itself.
-    let file = disc.entry(0, &short_ad(1 << 20, block).repeat(200), 1 << 60);
-    let empty = disc.entry(0, &short_ad(0, block), 1 << 60);
+    // 400 extents over the same MiB: no memory is taken by what a disc says of itself.
     let area = short_ad(1 << 20, block).repeat(400);
     let further = disc.lay(&continuation(&area));
     let absurd = disc.entry(0, &continued(24 + area.len(), further), 1 << 60);
-    let listing = disc.directory(&[named("file", file, false), named("empty", empty, false), named("absurd", absurd, true)]);
+    let empty = disc.entry(0, &short_ad(0, block), 1 << 60);
+    let listing = disc.directory(&[named("file", absurd, false), named("empty", empty, false), named("absurd", absurd, true)]);
     disc.root(listing);
     let vault = Vault::open(&disc.0).unwrap();
     assert_eq!(refused(vault.read_path("file")).0, Refusal::NoRoom);

@@ -106,7 +106,8 @@ fn rows() -> Vec<Box<dyn FnOnce() -> Row>> {
         all.push(Box::new(move || entries(&format!("list, {n} entries"), n, Call::List, n * 64)));
     }
     for n in [1, 10, 100, 1000, 10_000, 100_000] {
-        all.push(Box::new(move || extents(&format!("read, 100,000 bytes in {n} extents"), 100_000, n)));
+        let s = if n == 1 { "" } else { "s" };
+        all.push(Box::new(move || extents(&format!("read, 100,000 bytes in {n} extent{s}"), 100_000, n)));
     }
     for kib in [4, 64, 1024, 65536] {
         all.push(Box::new(move || entries(&format!("lookup in work space of {kib} KiB"), 50, Call::Lookup, kib << 10)));
