@@ -85,7 +85,7 @@ fn reply(r: Reply) -> CReply {
 
 #[unsafe(no_mangle)]
 pub unsafe extern "C" fn vault_probe(image: *const u8, n: usize) -> bool {
-    volumes::probes::probe(unsafe { from_raw_parts(image, n) })
+    probes::probe(unsafe { from_raw_parts(image, n) })
 }
 
 #[unsafe(no_mangle)]

@@ -1,7 +1,7 @@
 // A volume by value, and the calls on it.
 ghost use mathlib.Core.Path.{_≡_};
 ghost use Rattle.layouts.specs.Calls.{wordsOf, extentOf};
-ghost use Rattle.volumes.specs.Probes.{probed};
+ghost use Rattle.probes.specs.Probes.{probed};
 ghost use Rattle.vault.specs.Calls.{opens, labels, reads, lists, readsPath, finds, fails, failsAt, parts, partsAt, extents};
 use directories::lists::list_directory;
 use directories::lookups::Found;
@@ -161,5 +161,5 @@ pub fn label(image: &[u8], out: &mut [u8]) -> Reply
 pub fn probe(image: &[u8]) -> bool
     ensures { λ r. ⌜ r ≡ probed (now (image .entry)) ⌝ }
 {
-    volumes::probes::probe(image)
+    probes::probe(image)
 }

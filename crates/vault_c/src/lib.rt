@@ -1,7 +1,7 @@
 // The vault reader for C: each function is the call of crate vault with the same contract. A slice is a pointer and a length.
 ghost use mathlib.Core.Path.{_≡_};
 ghost use Rattle.layouts.specs.Calls.{wordsOf};
-ghost use Rattle.volumes.specs.Probes.{probed};
+ghost use Rattle.probes.specs.Probes.{probed};
 ghost use Rattle.vault.specs.Calls.{opens, labels, reads, lists, readsPath, finds, failsAt, partsAt, extents};
 use directories::lookups::Found;
 use disc::replies::Reply;

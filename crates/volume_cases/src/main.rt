@@ -6,6 +6,7 @@ ghost use Prim.Native.Nat.{_≤_};
 ghost use lib.ListN.{length};
 use disc::replies::Reply;
 use libc::STDOUT_FILENO;
+use probes::probe;
 use records::allocations::LongAd;
 use records::bytes::le16;
 use records::bytes::le32;
@@ -14,7 +15,6 @@ use volumes::labels::label;
 use volumes::openings::Opened;
 use volumes::openings::VolumeRecord;
 use volumes::openings::open_volume;
-use volumes::probes::probe;
 
 fn say(text: &[u8]) {
     io::write_all(STDOUT_FILENO, text);

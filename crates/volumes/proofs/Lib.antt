@@ -1,7 +1,6 @@
 -- Laws of the calls on an image, and what is promised of them.
 pub mod TurnLaws
 pub mod SequenceLaws
-pub mod ProbeLaws
 pub mod OpeningLaws
 pub mod LabelLaws
 pub mod Promises

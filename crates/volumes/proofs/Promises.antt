@@ -1,7 +1,6 @@
 -- What is promised of the calls on an image, beside their contracts: a contract leaves one result, how many sectors are asked for, and
 -- that nothing but those decides. Assumes nothing.
 use mathlib.Core.Path.{_≡_, refl, ap, sym, _∙_}
-use mathlib.Core.Bool.{Bool}
 use mathlib.Core.List.{List, [], _∷_, append-nil}
 use Prim.Native.Nat.{ℕ, _+_, _/_, _≤_}
 use native.Mathlib.Omega.{arith}
@@ -22,7 +21,6 @@ use Rattle.disc.proofs.ReplyLaws.{replied-one, same-replied}
 use Rattle.descriptors.specs.Volumes.{readAnchor}
 use Rattle.volumes.specs.Openings.{noVolume, anchored, opening, openedBy, openedOf}
 use Rattle.volumes.specs.Labels.{labelOf, labelling}
-use Rattle.volumes.specs.Probes.{probed}
 use Rattle.volumes.specs.declared.openings.VolumeRecord.{VolumeRecord}
 use Rattle.volumes.specs.declared.openings.Opened.{Opened}
 use Rattle.volumes.proofs.OpeningLaws.{ask-count, mainLengthIn, anchored-count}
@@ -37,9 +35,6 @@ pub label-one : (image : List ℕ) {before after after′ : List ℕ} {p p′ : 
     → Replied NoRoom (ran (disc image) labelling) before after′ p′
     → (p ≡ p′) × (after ≡ after′)
 label-one image e f = replied-one e f
-
-pub probe-one : (image : List ℕ) {b b′ : Bool} → b ≡ probed image → b′ ≡ probed image → b ≡ b′
-probe-one image e f = e ∙ sym f
 
 -- ---- demand 3: images that agree on the sectors of a call's list give the same answer, count, volume and output
 

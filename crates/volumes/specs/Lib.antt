@@ -2,5 +2,4 @@
 pub mod Sequences
 pub mod Openings
 pub mod Labels
-pub mod Probes
 pub mod Steps

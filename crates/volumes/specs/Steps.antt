@@ -1,6 +1,5 @@
 -- What the contracts of private functions cite: nothing to believe. Assumes nothing: these are definitions.
 use Prim.Native.Nat.{ℕ}
-use mathlib.Core.Bool.{Bool, true, false, _&&_}
 use mathlib.Core.List.{List}
 use mathlib.Core.Path.{_≡_}
 use lib.Dec.{eqb}
@@ -10,13 +9,10 @@ use Rattle.disc.specs.Ask.Outcome.{answered}
 use Rattle.disc.specs.Replies.{replyBy, leftBy}
 use Rattle.disc.specs.declared.refusals.Refusal.the-variants.{NoRoom}
 use Rattle.disc.specs.declared.replies.Reply.{Reply}
-use Rattle.descriptors.specs.declared.recognition.Structure.{Structure}
-use Rattle.descriptors.specs.declared.recognition.Structure.the-variants.{Beginning, Nsr, Terminating, Other, Unknown}
 use Rattle.names.specs.declared.dstrings.NameSize.{NameSize}
 use Rattle.names.specs.declared.dstrings.NameSize.the-variants.{Size, Refused}
 use Rattle.volumes.specs.declared.sequences.Kept.{Kept}
 use Rattle.volumes.specs.declared.openings.Opened.{Opened}
-use Rattle.volumes.specs.declared.probes.Seen.{Seen}
 use Rattle.volumes.specs.Openings.{fileSetHere}
 use Rattle.volumes.specs.Labels.{labelOf}
 
@@ -29,20 +25,6 @@ sizeIn Refused = 0
 pub record Labels (o : Opened) (before after : List ℕ) (reply : Reply) : Type 0 where
   pub says : reply ≡ replyBy NoRoom (length before) (o .count) (answered (labelOf (o .volume)))
   pub leaves : after ≡ leftBy before (answered (labelOf (o .volume)))
-
--- what one sector tells the probe
-abbrev pub overBy : Bool → Seen
-overBy b = record { going = false; answer = b; began = false; named = false }
-
-abbrev pub onBy : Bool → Bool → Seen
-onBy b n = record { going = true; answer = false; began = b; named = n }
-
-abbrev pub stepOf : Structure → Bool → Bool → Seen
-stepOf Beginning began named = onBy true named
-stepOf Nsr began named = onBy began true
-stepOf Terminating began named = overBy (began && named)
-stepOf Other began named = onBy began named
-stepOf Unknown began named = overBy false
 
 -- whether what was kept leads to a file set descriptor: 0, or the answer number of the refusal
 unfoldable pub mountable : Kept → ℕ

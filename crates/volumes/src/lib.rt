@@ -1,5 +1,4 @@
-// The first calls on an image: the probe, opening a volume, and its label.
+// The first calls on an image: opening a volume, and its label.
 pub mod labels;
 pub mod openings;
-pub mod probes;
 pub mod sequences;

@@ -1,8 +1,8 @@
 // The probe of the volume recognition sequence.
 ghost use mathlib.Core.Path.{_≡_};
 ghost use mathlib.Core.Bool.{true, false};
-ghost use Rattle.volumes.specs.Probes.{probed};
-ghost use Rattle.volumes.specs.Steps.{stepOf};
+ghost use Rattle.probes.specs.Probes.{probed};
+ghost use Rattle.probes.specs.Steps.{stepOf};
 use descriptors::recognition::Structure;
 use descriptors::recognition::structure_of;
 use disc::images::held_from;

@@ -12,9 +12,9 @@ use Rattle.disc.proofs.ImageLaws.{held, missing}
 use Rattle.descriptors.specs.Recognition.{structureOf}
 use Rattle.descriptors.specs.declared.recognition.Structure.{Structure}
 use Rattle.descriptors.specs.declared.recognition.Structure.the-variants.{Beginning, Nsr, Terminating, Other, Unknown}
-use Rattle.volumes.specs.Probes.{probedBy, probing, yes, probed}
-use Rattle.volumes.specs.Steps.{stepOf}
-use Rattle.volumes.specs.declared.probes.Seen.{Seen}
+use Rattle.probes.specs.Probes.{probedBy, probing, yes, probed}
+use Rattle.probes.specs.Steps.{stepOf}
+use Rattle.probes.specs.declared.Seen.{Seen}
 
 -- ---- one sector
 
@@ -87,3 +87,8 @@ unfolding probing outcome
 probe-ends {image} {began} {named} {i} p h =
     let z : 8 - i ≡ 0 = omega arith in
     sym (p .rest ∙ rw z)
+
+-- ---- the contract leaves one result
+
+pub probe-one : (image : List ℕ) {b b′ : Bool} → b ≡ probed image → b′ ≡ probed image → b ≡ b′
+probe-one image e f = e ∙ sym f

@@ -1,10 +1,10 @@
--- `volumes::probes::probe` meets its contract: the five laws of the probe. Assumes nothing.
+-- `probes::probe` meets its contract: the five laws of the probe. Assumes nothing.
 use borrow.Author.Needs.{needs}
 use borrow.Author.Tests.{not-true, not-false}
 use Prim.Native.Nat.{_-_}
-use Rattle.volumes.proofs.ProbeLaws.{Probing, probe-starts, probe-next, probe-stops, probe-gone, probe-ends}
-use Rattle.volumes.proofs.probes.probe.Statement.{statement}
-use Rattle.volumes.proofs.probes.probe.Tie as tie
+use Rattle.probes.proofs.ProbeLaws.{Probing, probe-starts, probe-next, probe-stops, probe-gone, probe-ends}
+use Rattle.probes.proofs.probe.Statement.{statement}
+use Rattle.probes.proofs.probe.Tie as tie
 
 ruleset probes = (probe-starts, probe-next, probe-stops, probe-gone, probe-ends, not-true, not-false, needs)
 

@@ -1,8 +1,8 @@
--- `volumes::probes::step` meets its contract: each arm is a case of `stepOf`. Assumes nothing.
+-- `probes::step` meets its contract: each arm is a case of `stepOf`. Assumes nothing.
 use borrow.Author.Needs.{needs}
-use Rattle.volumes.proofs.ProbeLaws.{step-told}
-use Rattle.volumes.proofs.probes.step.Statement.{statement}
-use Rattle.volumes.proofs.probes.step.Tie as tie
+use Rattle.probes.proofs.ProbeLaws.{step-told}
+use Rattle.probes.proofs.step.Statement.{statement}
+use Rattle.probes.proofs.step.Tie as tie
 
 pub step-spec : {M : Type 1} → statement M
 step-spec =

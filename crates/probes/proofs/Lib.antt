@@ -1,0 +1,2 @@
+-- Laws of the probe, and what is promised of it.
+pub mod ProbeLaws
