@@ -145,3 +145,56 @@ fn mkudffs_in_forms_that_are_not_read() {
         assert_eq!((label, root), (2, 2), "{block}");
     }
 }
+
+/// The files that are put on a volume, by their paths; udfclient takes names of ASCII letters as they are.
+fn put() -> Vec<(String, Vec<u8>)> {
+    let sizes = [0, 1, 2047, 2048, 2049, 4096, 65_536, 65_537, 100_000, 3_000_000];
+    let sized = sizes.iter().map(|size| (format!("of {size}"), noise(*size)));
+    let long = "x".repeat(200);
+    let names = ["plain.txt", "UPPER.TXT", ".hidden", "trailing.", "per%cent", "SHOW/11", "SHOW/DEEP/one", "SHOW/DEEP/two", &long];
+    sized.chain(names.iter().map(|name| (name.to_string(), name.as_bytes().to_vec()))).collect()
+}
+
+/// What udfclient is told: each folder when the first file of it comes.
+fn told(files: &[(String, Vec<u8>)]) -> String {
+    let (mut words, mut at) = ("cd 0123456789abcdefLinuxUDF:DISC:DISC:LinuxUDF\n".to_string(), "");
+    for (i, (path, _)) in files.iter().enumerate() {
+        let (folder, name) = path.rsplit_once('/').unwrap_or(("", path));
+        if folder != at {
+            let last = folder.rsplit('/').next().unwrap();
+            words += &format!("mkdir {last}\ncd {last}\n");
+            at = folder;
+        }
+        words += &format!("put from/{i} \"{name}\"\n");
+    }
+    words + "quit\n"
+}
+
+/// Files that udfclient put on volumes of mkudffs.
+#[test]
+fn mkudffs_with_files_of_udfclient() {
+    let (Some(make), Some(client)) = (tool("mkudffs"), tool("udfclient")) else {
+        return left_out("files on volumes of mkudffs", "mkudffs or udfclient");
+    };
+    // Deepest last: the client is told to go into folders, and never back.
+    let mut files = put();
+    files.sort_by_key(|(path, _)| path.matches('/').count());
+    for revision in ["1.02", "2.01"] {
+        let folder = Folder::new();
+        std::fs::create_dir(folder.at("from")).unwrap();
+        files.iter().enumerate().for_each(|(i, (_, bytes))| folder.write(&format!("from/{i}"), bytes));
+        folder.write("words", told(&files).as_bytes());
+        // 400 MB, of which 4 are written: on a smaller disc udfclient soon says that it is full.
+        let words =
+            ["--new-file", "-b", "2048", "-m", "hd", "-r", revision, "--uuid=0123456789abcdef", "--label=DISC", "disc.img", "200000"];
+        assert!(Command::new(&make).args(words).current_dir(&folder.0).output().unwrap().status.success());
+        let told = std::fs::File::open(folder.at("words")).unwrap();
+        let said = Command::new(&client).args(["-b", "2048", "-W", "disc.img"]).stdin(told).current_dir(&folder.0).output().unwrap();
+        assert!(said.status.success(), "{}", String::from_utf8_lossy(&said.stdout));
+        assert_eq!(folder.vault(&["ls", "disc.img", "SHOW"]).out, "11\nDEEP/\n");
+        for (path, bytes) in &files {
+            let said = folder.vault(&["cat", "disc.img", path]);
+            assert!(said.status == 0 && said.error.is_empty() && said.bytes == *bytes, "{revision} {path} {}", said.error);
+        }
+    }
+}
