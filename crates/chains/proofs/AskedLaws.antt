@@ -11,7 +11,7 @@ use Rattle.disc.specs.Ask.{Disc, Ask, Outcome, Held, then}
 use Rattle.disc.specs.Ask.Held.{holds, lacks}
 use Rattle.disc.specs.Ask.Ask.{done, refuse, ask}
 use Rattle.disc.specs.Ask.Outcome.{answered, refused}
-use Rattle.disc.specs.Ran.{Ran, ran, onward}
+use Rattle.disc.specs.Ran.{ran, onward}
 use Rattle.disc.specs.Images.{sectors}
 use Rattle.disc.specs.declared.refusals.Refusal.{Refusal}
 use Rattle.disc.specs.declared.refusals.Refusal.the-variants.{Malformed, Unsupported}

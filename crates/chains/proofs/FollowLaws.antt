@@ -1,20 +1,20 @@
 -- A chain of areas, followed one area at a time. Assumes nothing.
 use mathlib.Core.Path.{_≡_, refl, ap, sym, _∙_}
 use mathlib.Core.Bool.{Bool, true, false}
-use mathlib.Core.List.{List, [], _∷_, _++_}
-use Prim.Native.Nat.{ℕ, zero, suc, _+_, _-_, _*_, _/_, _≤_, _<_, _^_}
+use mathlib.Core.List.{List, [], _++_}
+use Prim.Native.Nat.{ℕ, zero, suc, _+_, _-_, _*_, _≤_, _<_, _^_}
 use native.Mathlib.Omega.{arith}
 use native.Mathlib.Nat.{add-sub-cancel-left, add-zero, zero-add, add-assoc}
 use lib.ListN.{length, take, drop}
-use lib.Dec.{eqb, leb, ltb}
+use lib.Dec.{eqb, leb}
 use mir.Syntax.{w64}
 use mir.Val.{Fits}
 use borrow.Author.Tests.{le-leb, lt-leb, lt-ltb, le-ltb}
 use Rattle.disc.specs.Choice.{pick}
-use Rattle.disc.specs.Ask.{Ask, Outcome, outcome, then}
+use Rattle.disc.specs.Ask.{outcome, then}
 use Rattle.disc.specs.Ask.Ask.{done, refuse}
 use Rattle.disc.specs.Ask.Outcome.{answered, refused}
-use Rattle.disc.specs.Ran.{Ran, ran, after, followed}
+use Rattle.disc.specs.Ran.{ran, after, followed}
 use Rattle.disc.specs.Images.{disc, sectors, heldFrom, bytesOf}
 use Rattle.disc.specs.declared.refusals.Refusal.{Refusal}
 use Rattle.disc.specs.declared.refusals.Refusal.the-variants.{Io, Malformed, Unsupported}
@@ -27,7 +27,6 @@ use Rattle.tags.specs.declared.AedRead.{AedRead}
 use Rattle.tags.specs.declared.AedRead.the-variants.{Header, NoHeader}
 use Rattle.tags.specs.declared.TagRead.{TagRead}
 use Rattle.tags.specs.declared.TagRead.the-variants.{Read, Refused as NoTag}
-use Rattle.areas.specs.declared.AllocExtent.{AllocExtent}
 use Rattle.areas.specs.declared.AdContinuation.{AdContinuation}
 use Rattle.areas.specs.declared.AdEnding.{AdEnding}
 use Rattle.areas.specs.declared.AdEnding.the-variants.{End, Continuation, Refused as Refuses}
@@ -36,11 +35,10 @@ use Rattle.areas.proofs.PartLaws.{same-part, same-u32, area-in-part}
 use Rattle.chains.specs.declared.cursors.ChainCursor.{ChainCursor}
 use Rattle.chains.specs.declared.continuations.NextArea.{NextArea}
 use Rattle.chains.specs.declared.continuations.NextArea.the-variants.{Found, Refused}
-use Rattle.chains.specs.declared.follows.Chain.{Chain}
 use Rattle.chains.specs.declared.follows.Chain.the-variants.{Whole, Refused as BrokenOff}
-use Rattle.chains.specs.Chains.{sectorsFor, foreign, areaIn, nextArea, continued, chain}
-use Rattle.chains.specs.Walks.{placeOf, areaSize, beyond, through, left, weight}
-use Rattle.chains.specs.Follows.{FoundArea, NoArea, Entered, chainAt, WholeChain, BrokenChain, Followed}
+use Rattle.chains.specs.Chains.{sectorsFor, foreign, areaIn, nextArea, continued}
+use Rattle.chains.specs.Walks.{placeOf, beyond, left}
+use Rattle.chains.specs.Follows.{FoundArea, NoArea, Entered, chainAt, Followed}
 use Rattle.chains.proofs.WalkLaws.{beyond-end}
 
 -- ---- the area that continues another

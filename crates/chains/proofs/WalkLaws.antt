@@ -1,15 +1,14 @@
 -- What a cursor stands for, one step at a time. Assumes nothing.
-use mathlib.Core.Path.{_≡_, refl, ap, sym, _∙_}
-use mathlib.Core.Bool.{Bool, true, false, not}
-use mathlib.Core.List.{List, [], _∷_, _++_}
-use Prim.Native.Nat.{ℕ, zero, suc, _+_, _-_, _*_, _≤_, _<_, _^_}
+use mathlib.Core.Path.{_≡_, refl, _∙_}
+use mathlib.Core.Bool.{false, not}
+use mathlib.Core.List.{List, [], _∷_}
+use Prim.Native.Nat.{ℕ, zero, suc, _+_, _-_, _*_, _<_, _^_}
 use native.Mathlib.Omega.{arith}
 use lib.ListN.{getD}
 use lib.Dec.{eqb}
 use mir.Syntax.{w8}
 use mir.Val.{Fits}
 use borrow.Author.Tests.{eq-eqb, ne-eqb}
-use Rattle.disc.specs.Choice.{pick}
 use Rattle.disc.specs.declared.refusals.Refusal.{Refusal}
 use Rattle.areas.specs.declared.PartitionRef.{PartitionRef}
 use Rattle.areas.specs.declared.PartitionRef.the-variants.{Unnamed, Named}
@@ -18,14 +17,14 @@ use Rattle.areas.specs.declared.AdContinuation.{AdContinuation}
 use Rattle.areas.specs.declared.AdCursor.{AdCursor}
 use Rattle.areas.specs.declared.AdStep.{AdStep}
 use Rattle.areas.specs.declared.AdStep.the-variants.{Extent, Continuation as Continues, End as Stops, Refused as Refuses}
-use Rattle.areas.specs.declared.AdEnding.the-variants.{End, Continuation, Refused}
-use Rattle.areas.specs.Areas.{areaAt, nextOf}
+use Rattle.areas.specs.declared.AdEnding.the-variants.{End, Refused}
+use Rattle.areas.specs.Areas.{nextOf}
 use Rattle.areas.proofs.AreaLaws.{walks-end, walks-continuation, walks-refused, walks-extent, walks-less}
 use Rattle.chains.specs.declared.cursors.ChainCursor.{ChainCursor}
 use Rattle.chains.specs.declared.cursors.ChainStep.{ChainStep}
 use Rattle.chains.specs.declared.cursors.ChainStep.the-variants.{Takes, Hops, Ends}
 use Rattle.chains.specs.Chains.{foreign}
-use Rattle.chains.specs.Walks.{placeOf, areaSize, beyond, through, left, weight, hopping, stepped, stepOf}
+use Rattle.chains.specs.Walks.{placeOf, areaSize, beyond, left, weight, hopping, stepped, stepOf}
 
 -- ---- the returns of `is_foreign`
 

@@ -1,6 +1,6 @@
 -- A chain of areas (ECMA-167 4/12, 4/14.5): document 01, "Reading an entry", the last paragraph. Assumes nothing: these are definitions.
 use Prim.Native.Nat.{ℕ, zero, suc, _+_, _/_}
-use mathlib.Core.Bool.{Bool, true, false, not}
+use mathlib.Core.Bool.{Bool, false, not}
 use mathlib.Core.List.{List, [], _++_}
 use lib.Dec.{eqb, ltb}
 use Rattle.disc.specs.Choice.{pick}

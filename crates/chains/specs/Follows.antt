@@ -9,7 +9,7 @@ use Rattle.disc.specs.Images.{disc}
 use Rattle.disc.specs.declared.refusals.Refusal.{Refusal}
 use Rattle.areas.specs.declared.AllocExtent.{AllocExtent}
 use Rattle.areas.specs.declared.AdContinuation.{AdContinuation}
-use Rattle.areas.specs.Areas.{Area, areaAt}
+use Rattle.areas.specs.Areas.{areaAt}
 use Rattle.chains.specs.declared.cursors.ChainCursor.{ChainCursor}
 use Rattle.chains.specs.declared.continuations.NextArea.{NextArea}
 use Rattle.chains.specs.declared.continuations.NextArea.the-variants.{Found, Refused}

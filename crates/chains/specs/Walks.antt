@@ -7,7 +7,6 @@ use Rattle.disc.specs.Choice.{pick}
 use Rattle.records.specs.Bytes.{u32at}
 use Rattle.areas.specs.declared.AllocExtent.{AllocExtent}
 use Rattle.areas.specs.declared.AdContinuation.{AdContinuation}
-use Rattle.areas.specs.declared.AdCursor.{AdCursor}
 use Rattle.areas.specs.declared.AdStep.{AdStep}
 use Rattle.areas.specs.declared.AdStep.the-variants.{Extent, Continuation as Continues, End as Stops, Refused as Refuses}
 use Rattle.areas.specs.declared.AdEnding.{AdEnding}

@@ -1,5 +1,4 @@
 // The area that continues another, looked for where it stands in the image.
-ghost use mathlib.Core.Path.{_≡_};
 ghost use Rattle.chains.specs.Follows.{Entered};
 use crate::references::is_foreign;
 use crate::references::sectors_for;

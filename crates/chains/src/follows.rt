@@ -1,5 +1,4 @@
 // A chain followed to its end.
-ghost use mathlib.Core.Path.{_≡_};
 ghost use Rattle.chains.specs.Follows.{Followed};
 use crate::continuations::NextArea;
 use crate::continuations::next_area;

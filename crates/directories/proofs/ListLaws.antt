@@ -1,8 +1,8 @@
 -- A directory listed, against its tree. Assumes nothing.
-use mathlib.Core.Path.{_≡_, refl, sym, ap, _∙_}
+use mathlib.Core.Path.{_≡_, refl}
 use mathlib.Core.Bool.{Bool, true, false}
 use mathlib.Core.List.{List}
-use Prim.Native.Nat.{ℕ, _+_, _-_}
+use Prim.Native.Nat.{ℕ, _-_}
 use lib.ListN.{length, take, drop}
 use lib.Dec.{leb}
 use Rattle.disc.specs.Choice.{pick}
@@ -19,7 +19,7 @@ use Rattle.records.specs.declared.allocations.LongAd.{LongAd}
 use Rattle.listings.specs.Listings.{listing, told}
 use Rattle.directories.specs.Directories.{directoryBytes, listingAt}
 use Rattle.directories.specs.Places.{andThen, replyTo, Reads}
-use Rattle.directories.proofs.SpaceLaws.{ran-known, reads-count, reads-room, reads-bytes}
+use Rattle.directories.proofs.SpaceLaws.{ran-known, reads-count, reads-bytes}
 
 -- the same reply with another count
 pub recount : (full : Refusal) (room a n : ℕ) (o : Outcome (List ℕ)) {l : Reply} → l ≡ replyBy full room a o

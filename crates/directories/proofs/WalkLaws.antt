@@ -1,7 +1,7 @@
 -- The walk along a path's components against its tree. Assumes nothing.
 use mathlib.Core.Path.{_≡_, refl, sym, ap, _∙_}
 use mathlib.Core.Bool.{Bool, true, false}
-use mathlib.Core.List.{List, [], _∷_, _++_}
+use mathlib.Core.List.{List, [], _∷_}
 use mathlib.Core.Option.{Option, none, some}
 use Prim.Native.Nat.{ℕ, suc, _+_, _-_, _<_, _≤_, zero-le}
 use native.Mathlib.Nat.{zero-add, add-sub-cancel-left}
@@ -13,7 +13,7 @@ use borrow.Author.Tests.{ne-eqb, eq-eqb}
 use Rattle.disc.specs.Choice.{pick}
 use Rattle.disc.specs.Refusals.{number}
 use Rattle.disc.specs.Counts.{reported}
-use Rattle.disc.specs.Ask.{Disc, Ask, Outcome, outcome, asked, then}
+use Rattle.disc.specs.Ask.{Disc, Ask, Outcome, outcome, asked}
 use Rattle.disc.specs.Ask.Outcome.{answered, refused}
 use Rattle.disc.specs.Ran.{Ran, ran, after, onward, followed}
 use Rattle.disc.specs.declared.refusals.Refusal.the-variants.{Malformed}
@@ -23,19 +23,19 @@ use Rattle.records.specs.Allocations.{noLong}
 use Rattle.records.specs.declared.allocations.LongAd.{LongAd}
 use Rattle.identifiers.specs.Identifiers.{isDirectory}
 use Rattle.listings.specs.Entries.{Entry, entries, sound}
-use Rattle.listings.specs.Listings.{firstNamed, findIn, namedTo, namedOf}
+use Rattle.listings.specs.Listings.{firstNamed, findIn, namedOf}
 use Rattle.listings.specs.Paths.{front, behind, components, slashes}
 use Rattle.listings.specs.declared.finds.Named.{Named}
 use Rattle.listings.proofs.PathLaws.{behind-slashes, front-is, slashes-long, no-more-slashes, first-component, front-some, component-within}
 use Rattle.directories.specs.Directories.{directoryBytes}
 use Rattle.directories.specs.Lookups.{Sought, entering, orLost, seeking, seekPath, icbOf, lostOf, foundTo, enteredBy, entered, startOf, lostBy, lostAt}
-use Rattle.directories.specs.Lookups.Sought.{reached, lost}
+use Rattle.directories.specs.Lookups.Sought.{lost}
 use Rattle.directories.specs.Places.{andThen, replyTo, Reads, enteredTo, enteredOf, beyondOf, End, endOf, losesAt, leadsTo, On, left, Steps, Walks}
 use Rattle.directories.specs.declared.lookups.Found.{Found}
 use Rattle.directories.specs.declared.walks.Entered.{Entered}
 use Rattle.directories.specs.declared.walks.Place.{Place}
 use Rattle.directories.proofs.PlaceLaws.{start-first, start-behind}
-use Rattle.directories.proofs.SpaceLaws.{number-some, ran-known, reads-count, reads-room, reads-bytes}
+use Rattle.directories.proofs.SpaceLaws.{number-some, ran-known, reads-count, reads-bytes}
 
 -- ---- one component
 

@@ -1,11 +1,10 @@
 -- Laws of every tree of questions: what two discs that agree on its list make of it, what a grown disc makes of it, and that walking it
 -- by hand asks and ends the same. Assumes nothing.
-use mathlib.Core.Path.{_≡_, refl, ap, sym, _∙_}
-use mathlib.Core.List.{List, [], _∷_, _++_, append-nil}
+use mathlib.Core.Path.{_≡_, refl, ap}
+use mathlib.Core.List.{List, [], _∷_, _++_}
 use mathlib.Core.Logic.{_⊎_, inl, inr}
-use Prim.Native.Nat.{ℕ, zero, suc}
+use Prim.Native.Nat.{ℕ}
 use lib.ListN.{length}
-use Rattle.disc.specs.declared.refusals.Refusal.{Refusal}
 use Rattle.disc.specs.declared.refusals.Refusal.the-variants.{Io}
 use Rattle.disc.specs.Ask.{Held, Disc, Ask, Outcome, given, outcome, asked, then, Agree, Grown, wants, fed, fedTimes, ended}
 use Rattle.disc.specs.Ask.Held.{holds, lacks}

@@ -2,12 +2,12 @@
 use mathlib.Core.Path.{_≡_, refl, sym, ap, _∙_}
 use mathlib.Core.List.{List, [], _∷_, _++_, append-nil}
 use mathlib.Core.Logic.{⊎-elim}
-use Prim.Native.Nat.{ℕ, zero, suc, _+_, _-_, _<_, _≤_, min}
+use Prim.Native.Nat.{ℕ, suc, _+_, _-_, _<_, _≤_, min}
 use native.Mathlib.Nat.{add-zero, zero-add, add-suc, suc-add, sub-zero}
 use native.Mathlib.Numerals.{add-one}
 use native.Mathlib.Omega.{arith}
 use lib.ListN.{length, getD, take, drop, set, replicate, length-set, length-take, length-drop, length-append, length-replicate, drop-of-length-le}
-use lib.Seq.{take-length, drop-length, drop-cons, getD-take, getD-drop, take-all, take-add, drop-drop, take-take, length-take-le, sets, length-sets, sets-eq}
+use lib.Seq.{take-length, drop-length, drop-cons, getD-take, getD-drop, take-all, take-add, drop-drop, length-take-le, sets, length-sets, sets-eq}
 use Rattle.disc.specs.Moves.{over}
 use Rattle.disc.proofs.ImageLaws.{split}
 

@@ -1,6 +1,6 @@
 -- What a choice by a test comes to, from the fact that the test tells: `search picks` closes a return of a function that branches as
 -- its definition does. Assumes nothing.
-use mathlib.Core.Path.{_≡_, refl, sym, _∙_}
+use mathlib.Core.Path.{_≡_, refl}
 use mathlib.Core.Bool.{Bool, true, false}
 use mathlib.Core.List.{List}
 use Prim.Native.Nat.{ℕ, _<_, _≤_}

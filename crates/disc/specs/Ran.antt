@@ -1,5 +1,4 @@
 -- What a call comes to on a disc, together with how many sectors it asked for. Assumes nothing: these are definitions.
-use mathlib.Core.List.{List}
 use Prim.Native.Nat.{ℕ, _+_}
 use lib.ListN.{length}
 use Rattle.disc.specs.Ask.{Disc, Ask, Outcome, asked}

@@ -1,7 +1,6 @@
 // A lent image as a disc: sector s is the 2,048 bytes from 2,048 s on, and is there where all of them are.
 ghost use mathlib.Core.Path.{_≡_};
-ghost use Prim.Native.Nat.{_+_, _-_, _*_, _/_, _≤_, _<_};
-ghost use lib.ListN.{length, take, drop};
+ghost use Prim.Native.Nat.{_+_, _-_, _*_, _/_, _<_};
 ghost use Rattle.disc.specs.Ask.{bytesIn, outcome};
 ghost use Rattle.disc.specs.Ran.{ran};
 ghost use Rattle.disc.specs.Images.{there, disc, sectors, heldFrom, runOf, bytesOf};

@@ -4,7 +4,7 @@ use mathlib.Core.Path.{_≡_, refl, ap, sym, _∙_}
 use mathlib.Core.Bool.{Bool, true, false}
 use mathlib.Core.List.{List, [], _∷_, _++_}
 use mathlib.Core.Logic.{_⊎_, inl, inr, ⊎-elim}
-use Prim.Native.Nat.{ℕ, _+_, _-_, _*_, _/_, _≤_, _<_, min}
+use Prim.Native.Nat.{ℕ, _+_, _-_, _/_, _≤_, _<_, min}
 use native.Mathlib.Omega.{arith}
 use lib.ListN.{length, take, drop, length-append, length-take, length-drop}
 use lib.Seq.{take-nil, take-take, take-append-le, take-append-add}
@@ -12,7 +12,7 @@ use lib.Dec.{eqb}
 use borrow.Author.Tests.{le-leb, lt-leb, eqb-true, eqb-false}
 use Rattle.disc.specs.Ask.{Outcome}
 use Rattle.disc.specs.Ask.Outcome.{answered, refused}
-use Rattle.disc.specs.Ran.{Ran, ran}
+use Rattle.disc.specs.Ran.{Ran}
 use Rattle.disc.specs.Images.{disc, heldFrom}
 use Rattle.disc.specs.declared.refusals.Refusal.{Refusal}
 use Rattle.disc.specs.declared.refusals.Refusal.the-variants.{Io, Unsupported}
@@ -21,7 +21,7 @@ use Rattle.disc.proofs.ImageLaws.{split}
 use Rattle.areas.specs.declared.AllocExtent.{AllocExtent}
 use Rattle.chains.specs.Chains.{foreign}
 use Rattle.files.specs.Reads.{extentsBytes, visited, extentsHold}
-use Rattle.files.specs.Pieces.{sectorsRead, beforeOutcome, inFront, joined, restOf, Lies, placed, HeldPiece, Weighed}
+use Rattle.files.specs.Pieces.{sectorsRead, beforeOutcome, inFront, restOf, placed, HeldPiece}
 use Rattle.files.proofs.PieceLaws.{part-long, weigh-type, weigh-foreign, weigh-missing, weigh-held}
 
 pub never : {A : Type 0} {B : Type 0} {b : B} {r : Refusal} → refused r ≡ answered b → A

@@ -24,7 +24,7 @@ use Rattle.chains.specs.Walks.{weight}
 use Rattle.chains.specs.declared.cursors.ChainCursor.{ChainCursor}
 use Rattle.files.specs.declared.pieces.Turn.{Turn}
 use Rattle.files.specs.declared.pieces.Turn.the-variants.{Piece, Hop, Refused as Stopped, End}
-use Rattle.files.specs.Pieces.{beforeOutcome, inFront, restAt, Lies, PieceTurn, HopTurn, Turned}
+use Rattle.files.specs.Pieces.{beforeOutcome, inFront, restAt, PieceTurn, Turned}
 use Rattle.files.specs.Passes.{Copies, Wrote}
 use Rattle.files.proofs.PieceLaws.{part-long}
 

@@ -1,21 +1,21 @@
 -- The entry of a file, found from its ICB. Assumes nothing.
-use mathlib.Core.Path.{_≡_, refl, ap, sym, _∙_}
+use mathlib.Core.Path.{_≡_, refl, ap, _∙_}
 use mathlib.Core.Bool.{Bool, true, false}
 use mathlib.Core.List.{List, [], _∷_}
-use Prim.Native.Nat.{ℕ, zero, suc, _+_, _-_, _*_, _/_, _≤_, _<_, _^_, min}
+use Prim.Native.Nat.{ℕ, zero, suc, _+_, _*_, _≤_, _<_, _^_, min}
 use native.Mathlib.Omega.{arith}
 use lib.ListN.{length, take, drop, length-take, length-drop}
-use lib.Seq.{length-take-le, take-take, take-nil, drop-nil, drop-drop}
+use lib.Seq.{length-take-le, take-take, take-nil, drop-drop}
 use lib.Dec.{eqb}
 use mir.Syntax.{w64}
 use mir.Val.{Fits}
 use borrow.Author.Tests.{eq-eqb, ne-eqb, eqb-true, eqb-false}
 use Rattle.disc.specs.Choice.{pick}
-use Rattle.disc.specs.Ask.{Ask, bytesIn, then}
+use Rattle.disc.specs.Ask.{bytesIn, then}
 use Rattle.disc.specs.Ask.Held.{holds, lacks}
-use Rattle.disc.specs.Ask.Ask.{done, refuse, ask}
-use Rattle.disc.specs.Ask.Outcome.{answered, refused}
-use Rattle.disc.specs.Ran.{Ran, ran, after, followed}
+use Rattle.disc.specs.Ask.Ask.{done}
+use Rattle.disc.specs.Ask.Outcome.{answered}
+use Rattle.disc.specs.Ran.{ran, after}
 use Rattle.disc.specs.Images.{there, disc, heldFrom}
 use Rattle.disc.specs.declared.refusals.Refusal.{Refusal}
 use Rattle.disc.specs.declared.refusals.Refusal.the-variants.{Io, Malformed}
@@ -25,7 +25,6 @@ use Rattle.records.specs.declared.allocations.LongAd.{LongAd}
 use Rattle.areas.specs.Areas.{areaAt}
 use Rattle.areas.proofs.PartLaws.{area-in-part}
 use Rattle.entries.specs.FileEntries.{readEntry}
-use Rattle.entries.specs.Wholes.{WholeEntry}
 use Rattle.entries.specs.declared.«file_entries».FileEntry.{FileEntry}
 use Rattle.entries.specs.declared.«file_entries».EntryRead.{EntryRead}
 use Rattle.entries.specs.declared.«file_entries».EntryRead.the-variants.{Read, Refused as NoEntry}
@@ -35,9 +34,9 @@ use Rattle.files.specs.declared.icbs.Place.{Place}
 use Rattle.files.specs.declared.icbs.PlaceRead.{PlaceRead}
 use Rattle.files.specs.declared.icbs.PlaceRead.the-variants.{Found, Refused}
 use Rattle.files.specs.Reads.{extentsBytes}
-use Rattle.files.specs.Files.{Located, located, entryAt, isEmbedded, embeddedBytes, chainOf, bytesAt, fileBytes, partAt, filePart, extentsAt, fileExtents}
-use Rattle.files.specs.Places.{placeAt, placeBy, placeOf}
-use Rattle.files.specs.Wholes.{readBy, placeIn, embeddedIn, embeddedRun, frontOf, bytesFrom, partFrom, FoundPlace, Locates}
+use Rattle.files.specs.Files.{Located, located, entryAt, embeddedBytes, chainOf, fileBytes, filePart, fileExtents}
+use Rattle.files.specs.Places.{placeBy, placeOf}
+use Rattle.files.specs.Wholes.{readBy, placeIn, embeddedIn, embeddedRun, frontOf, bytesFrom, partFrom, Locates}
 
 -- a part of a part
 part-of : (n i m : ℕ) (s : List ℕ) → i + n ≤ m → take n (drop i (take m s)) ≡ take n (drop i s)

@@ -1,6 +1,6 @@
 -- The pass that measures, one turn at a time. Assumes nothing.
-use mathlib.Core.Path.{_≡_, refl, ap, sym, _∙_}
-use mathlib.Core.List.{List, [], _++_}
+use mathlib.Core.Path.{_≡_, ap}
+use mathlib.Core.List.{List}
 use Prim.Native.Nat.{ℕ, _+_, _-_, _≤_, _<_, _^_}
 use native.Mathlib.Nat.{add-zero}
 use native.Mathlib.Omega.{arith}
@@ -19,8 +19,8 @@ use Rattle.files.specs.declared.pieces.Turn.{Turn}
 use Rattle.files.specs.declared.pieces.Turn.the-variants.{Piece, Hop, Refused as Stopped, End}
 use Rattle.files.specs.declared.extents.Measured.{Measured}
 use Rattle.files.specs.declared.extents.Measured.the-variants.{Sized, Refused}
-use Rattle.files.specs.Pieces.{inFront, joined, restAt, Lies, PieceTurn, HopTurn, Turned}
-use Rattle.files.specs.Passes.{sizedBy, sized}
+use Rattle.files.specs.Pieces.{inFront, joined, restAt, Lies, PieceTurn, Turned}
+use Rattle.files.specs.Passes.{sized}
 use Rattle.files.proofs.PieceLaws.{part-long}
 
 -- ---- what is measured, piece by piece

@@ -1,5 +1,5 @@
 -- What the next piece of a file is: the laws that `sectors_read`, `weigh` and `next_piece` cite. Assumes nothing.
-use mathlib.Core.Path.{_≡_, refl, ap, sym, _∙_}
+use mathlib.Core.Path.{_≡_, refl, sym, _∙_}
 use mathlib.Core.Bool.{Bool, true, false}
 use mathlib.Core.List.{List, [], _∷_, _++_}
 use mathlib.Core.Logic.{⊎-elim}
@@ -11,7 +11,7 @@ use borrow.Author.Tests.{eq-eqb, ne-eqb, le-leb, lt-leb}
 use Rattle.disc.specs.Ask.{Disc, Ask, Outcome}
 use Rattle.disc.specs.Ask.Ask.{done}
 use Rattle.disc.specs.Ask.Outcome.{answered, refused}
-use Rattle.disc.specs.Ran.{Ran, ran, after, followed}
+use Rattle.disc.specs.Ran.{ran, after, followed}
 use Rattle.disc.specs.Images.{disc, heldFrom}
 use Rattle.disc.specs.declared.refusals.Refusal.{Refusal}
 use Rattle.disc.specs.declared.refusals.Refusal.the-variants.{Io, Unsupported}
@@ -19,17 +19,16 @@ use Rattle.disc.proofs.RanLaws.{ran-done, ran-refuse, ran-then}
 use Rattle.disc.proofs.ImageLaws.{split, same-answer}
 use Rattle.areas.specs.declared.AllocExtent.{AllocExtent}
 use Rattle.chains.specs.Chains.{foreign}
-use Rattle.chains.specs.Walks.{left, weight, stepOf}
+use Rattle.chains.specs.Walks.{stepOf}
 use Rattle.chains.specs.declared.cursors.ChainCursor.{ChainCursor}
 use Rattle.chains.specs.declared.cursors.ChainStep.{ChainStep}
 use Rattle.chains.specs.declared.cursors.ChainStep.the-variants.{Takes, Hops, Ends}
-use Rattle.chains.proofs.WalkLaws.{Bytes, Taken, Hopped, Stepped, steps}
+use Rattle.chains.proofs.WalkLaws.{Bytes, Stepped, steps}
 use Rattle.files.specs.declared.pieces.Piece.{Piece}
 use Rattle.files.specs.declared.pieces.Piece.the-variants.{Held, Refused}
-use Rattle.files.specs.declared.pieces.Turn.{Turn}
 use Rattle.files.specs.declared.pieces.Turn.the-variants.{Piece as APiece, Hop, Refused as Stopped, End}
 use Rattle.files.specs.Reads.{joining, extentsBytes}
-use Rattle.files.specs.Pieces.{sectorsRead, beforeOutcome, inFront, joined, restOf, restAt, Lies, placed, HeldPiece, Weighed, PieceTurn, HopTurn, Turned}
+use Rattle.files.specs.Pieces.{sectorsRead, inFront, joined, restOf, Lies, placed, Weighed, Turned}
 use Rattle.files.proofs.ExtentLaws.{extentRuns, extent-runs}
 
 -- ---- what an extent gives

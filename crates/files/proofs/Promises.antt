@@ -2,7 +2,7 @@
 use mathlib.Core.Path.{_≡_, refl, ap, sym, _∙_}
 use mathlib.Core.Bool.{Bool, true, false}
 use mathlib.Core.List.{List, [], _∷_, _++_}
-use Prim.Native.Nat.{ℕ, suc, _+_, _-_, _*_, _/_, _≤_, _<_, _^_, min}
+use Prim.Native.Nat.{ℕ, _+_, _*_, _/_, _≤_, _<_, _^_, min}
 use native.Mathlib.Omega.{arith}
 use lib.ListN.{length, take, drop, length-append, length-take}
 use lib.Seq.{take-all}
@@ -10,11 +10,11 @@ use lib.Dec.{eqb}
 use borrow.Author.Tests.{le-leb}
 use Rattle.disc.specs.Choice.{pick}
 use Rattle.disc.specs.Counts.{reported}
-use Rattle.disc.specs.Ask.{Held, Disc, Ask, Outcome, asked, then, Agree}
+use Rattle.disc.specs.Ask.{Held, Disc, Outcome, asked, then, Agree}
 use Rattle.disc.specs.Ask.Held.{holds, lacks}
 use Rattle.disc.specs.Ask.Ask.{done, refuse, ask}
 use Rattle.disc.specs.Ask.Outcome.{answered, refused}
-use Rattle.disc.specs.Ran.{Ran, ran, after, onward, followed}
+use Rattle.disc.specs.Ran.{Ran, ran, after, onward}
 use Rattle.disc.specs.Images.{disc, heldFrom}
 use Rattle.disc.specs.Replies.{Replied}
 use Rattle.disc.specs.declared.refusals.Refusal.{Refusal}
@@ -31,7 +31,7 @@ use Rattle.areas.proofs.TotalLaws.{total, area-total}
 use Rattle.entries.specs.FileEntries.{readEntry}
 use Rattle.entries.specs.declared.«file_entries».EntryRead.{EntryRead}
 use Rattle.entries.specs.declared.«file_entries».EntryRead.the-variants.{Read, Refused}
-use Rattle.chains.specs.Chains.{continued, chain}
+use Rattle.chains.specs.Chains.{continued}
 use Rattle.chains.proofs.AskedLaws.{AtMost, done-asks, refuse-asks, pick-asks, ask-asks, chain-asks}
 use Rattle.chains.proofs.TotalLaws.{chain-within}
 use Rattle.files.specs.Reads.{extentsBytes, visited, extentsHold}

@@ -1,21 +1,19 @@
 -- A read, put together from its passes. Assumes nothing.
-use mathlib.Core.Path.{_≡_, refl, ap, sym, _∙_}
-use mathlib.Core.Bool.{Bool, true, false}
-use mathlib.Core.List.{List, [], _++_}
-use Prim.Native.Nat.{ℕ, _+_, _-_, _*_, _≤_, _<_, _^_, min}
+use mathlib.Core.Path.{_≡_, refl, sym, _∙_}
+use mathlib.Core.Bool.{true}
+use mathlib.Core.List.{List, _++_}
+use Prim.Native.Nat.{ℕ, _+_, _-_, _≤_, _<_, _^_, min}
 use native.Mathlib.Omega.{arith}
 use lib.ListN.{length, take, drop, length-drop}
 use lib.Seq.{length-take-le}
-use lib.Dec.{eqb}
 use mir.Syntax.{w64}
 use mir.Val.{Fits}
 use borrow.Author.Tests.{eq-eqb, ne-eqb, le-leb, lt-leb}
-use Rattle.disc.specs.Choice.{pick}
 use Rattle.disc.specs.Counts.{reported}
 use Rattle.disc.specs.Refusals.{number}
-use Rattle.disc.specs.Ask.{Ask, Outcome, then}
+use Rattle.disc.specs.Ask.{Outcome}
 use Rattle.disc.specs.Ask.Outcome.{answered, refused}
-use Rattle.disc.specs.Ran.{Ran, ran, after, followed}
+use Rattle.disc.specs.Ran.{Ran, ran, after}
 use Rattle.disc.specs.Images.{disc, bytesOf, isAnswered}
 use Rattle.disc.specs.Replies.{Replied}
 use Rattle.disc.specs.declared.refusals.Refusal.{Refusal}
@@ -23,16 +21,15 @@ use Rattle.disc.specs.declared.replies.Reply.{Reply}
 use Rattle.disc.proofs.RanLaws.{ran-then}
 use Rattle.disc.proofs.ReplyLaws.{reply-refused}
 use Rattle.records.specs.declared.allocations.LongAd.{LongAd}
-use Rattle.chains.specs.declared.cursors.ChainCursor.{ChainCursor}
 use Rattle.chains.specs.declared.follows.Chain.{Chain}
 use Rattle.chains.specs.declared.follows.Chain.the-variants.{Whole, Refused as BrokenOff}
-use Rattle.chains.specs.Follows.{chainAt, WholeChain, BrokenChain, Followed}
+use Rattle.chains.specs.Follows.{WholeChain, BrokenChain, Followed}
 use Rattle.files.specs.declared.icbs.Place.{Place}
 use Rattle.files.specs.declared.icbs.PlaceRead.{PlaceRead}
 use Rattle.files.specs.declared.icbs.PlaceRead.the-variants.{Found, Refused as NoPlace}
 use Rattle.files.specs.declared.extents.Measured.{Measured}
 use Rattle.files.specs.declared.extents.Measured.the-variants.{Sized, Refused}
-use Rattle.files.specs.Files.{fileBytes, bytesAt}
+use Rattle.files.specs.Files.{fileBytes}
 use Rattle.files.specs.Pieces.{restAt}
 use Rattle.files.specs.Passes.{sizedBy, sized, Copies, Wrote}
 use Rattle.files.specs.Places.{placeOf}

@@ -1,7 +1,7 @@
 -- A file from its ICB: document 01, "Reading an entry" and "Reading a file". This is what the public calls promise.
 -- Assumes nothing: these are definitions.
 use Prim.Native.Nat.{ℕ, _+_, min}
-use mathlib.Core.Bool.{Bool, true, false}
+use mathlib.Core.Bool.{Bool}
 use mathlib.Core.List.{List, []}
 use lib.ListN.{take, drop}
 use lib.Dec.{eqb}

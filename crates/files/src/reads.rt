@@ -1,5 +1,4 @@
 // A file read: its entry, its chain, its extents measured, and then copied.
-ghost use mathlib.Core.Path.{_≡_};
 ghost use Prim.Native.Nat.{_+_, _≤_};
 ghost use lib.ListN.{length};
 ghost use Rattle.disc.specs.Ran.{ran, after};

@@ -2,7 +2,6 @@
 -- definitions.
 use Prim.Native.Nat.{ℕ}
 use mathlib.Core.Path.{_≡_}
-use mathlib.Core.Bool.{Bool, true, false}
 use mathlib.Core.List.{List, [], _∷_, _++_, map}
 use lib.ListN.{length, drop}
 use lib.Dec.{leb}
@@ -13,7 +12,6 @@ use Rattle.disc.specs.Ask.{Outcome}
 use Rattle.disc.specs.Ask.Outcome.{answered, refused}
 use Rattle.disc.specs.Ran.{Ran}
 use Rattle.disc.specs.Images.{bytesOf}
-use Rattle.disc.specs.declared.refusals.Refusal.{Refusal}
 use Rattle.disc.specs.declared.refusals.Refusal.the-variants.{NoSlot}
 use Rattle.disc.specs.declared.replies.Reply.{Reply}
 use Rattle.areas.specs.declared.PartitionRef.{PartitionRef}

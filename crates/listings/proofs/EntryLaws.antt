@@ -2,15 +2,12 @@
 use mathlib.Core.Path.{_≡_, refl, sym, ap, _∙_}
 use mathlib.Core.Bool.{Bool, true, false, _||_}
 use mathlib.Core.List.{List, [], _∷_, _++_, append-nil, append-assoc}
-use mathlib.Core.Option.{some}
-use Prim.Native.Nat.{ℕ, _+_, _-_, _*_, _/_, _%_, _<_, _≤_, _^_}
-use native.Mathlib.Nat.{add-sub-cancel-left, zero-add}
+use Prim.Native.Nat.{ℕ, _+_, _-_, _*_, _/_, _%_, _<_, _≤_}
+use native.Mathlib.Nat.{add-sub-cancel-left}
 use native.Mathlib.Omega.{arith}
-use lib.ListN.{length, take, drop, length-append, length-take, length-drop, drop-of-length-le}
+use lib.ListN.{length, take, drop, length-append, length-drop, drop-of-length-le}
 use lib.Seq.{take-all, drop-drop, drop-at, length-take-le, sets, length-sets, sets-eq}
-use lib.Dec.{eqb, ltb}
-use mir.Syntax.{w64}
-use mir.Val.{Fits}
+use lib.Dec.{ltb}
 use borrow.Author.Tests.{eq-eqb, ne-eqb, eqb-true, eqb-false}
 use borrow.Rule.Slice.PartMut.{midOf, putMid}
 use Rattle.disc.specs.Choice.{pick}
@@ -27,8 +24,8 @@ use Rattle.identifiers.specs.declared.IdentifierRead.{IdentifierRead}
 use Rattle.identifiers.specs.Identifiers.{readIdentifier, recordedName, nameAt, nameEnd, nextAt, bit, isDirectory}
 use Rattle.identifiers.specs.Wholes.{Whole}
 use Rattle.identifiers.proofs.IdentifierLaws.{read-identifier}
-use Rattle.listings.specs.Entries.{Entry, entryOf, isGood, isSkipped, nameIn}
-use Rattle.listings.specs.Listings.{recordHead, shown, isLong, answersTo, namedTo}
+use Rattle.listings.specs.Entries.{entryOf, isGood, isSkipped, nameIn}
+use Rattle.listings.specs.Listings.{recordHead, shown, isLong, answersTo}
 use Rattle.listings.specs.Passes.{Good, Parsed, Onward, icbIn, headIn, recordIn, earlierOf}
 use Rattle.listings.specs.declared.finds.Named.{Named}
 

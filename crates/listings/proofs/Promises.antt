@@ -1,6 +1,6 @@
 -- What is proved of a directory's bytes: the first entry of a name wins, what it is to have the name, that each contract leaves one result,
 -- and worked cases. Assumes nothing.
-use mathlib.Core.Path.{_≡_, refl, sym, ap, _∙_}
+use mathlib.Core.Path.{_≡_, refl, sym, _∙_}
 use mathlib.Core.Bool.{Bool, true, false}
 use mathlib.Core.List.{List, [], _∷_, map}
 use mathlib.Core.Option.{Option, none, some}
@@ -14,11 +14,11 @@ use Rattle.disc.specs.Replies.{Replied}
 use Rattle.disc.specs.declared.refusals.Refusal.the-variants.{Malformed, NoRoom}
 use Rattle.disc.specs.declared.replies.Reply.{Reply}
 use Rattle.disc.proofs.ReplyLaws.{replied-one}
-use Rattle.names.specs.Names.{pairs, untilZero, surrogate, dropSurrogates, encode, utf8, nameOf, written, lower, sameName, matched, isNamed}
+use Rattle.names.specs.Names.{pairs, untilZero, surrogate, dropSurrogates, encode, utf8, nameOf, written, lower, matched, isNamed}
 use Rattle.names.proofs.Promises.{same-folded}
 use Rattle.identifiers.specs.Identifiers.{nameAt, nameEnd, recordedName, nextAt, identifierOf, identifierSized, identifierNamed, identifierAfter, readIdentifier}
 use Rattle.listings.specs.Entries.{Entry, Entries, entryOf, isGood, isSkipped, nameIn, entriesFrom, entries, sound}
-use Rattle.listings.specs.Entries.Entries.{end, bad, entry}
+use Rattle.listings.specs.Entries.Entries.{end, entry}
 use Rattle.listings.specs.Listings.{recordHead, shown, records, isLong, anyLong, listing, told, answersTo, firstNamed, findIn, namedOf}
 use Rattle.listings.specs.Paths.{front, behind, components}
 use Rattle.listings.specs.declared.finds.Named.{Named}

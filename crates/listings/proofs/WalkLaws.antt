@@ -3,8 +3,7 @@ use mathlib.Core.Path.{_≡_, refl, sym, ap, _∙_}
 use mathlib.Core.Bool.{Bool, true, false, _||_}
 use mathlib.Core.List.{List, [], _∷_, _++_}
 use mathlib.Core.Option.{Option, none, some}
-use Prim.Native.Nat.{ℕ, zero, suc, _+_, _-_, _*_, _/_, _<_, _≤_, _^_, zero-le}
-use native.Mathlib.Nat.{add-zero, zero-add}
+use Prim.Native.Nat.{ℕ, zero, suc, _+_, _-_, _*_, _<_, _≤_, _^_, zero-le}
 use native.Mathlib.Omega.{arith}
 use lib.ListN.{length, take, drop, length-drop, length-append, length-take}
 use lib.Seq.{drop-drop, take-all, sets, length-sets}
@@ -15,22 +14,20 @@ use mir.Syntax.{w64}
 use mir.Val.{Fits}
 use Rattle.disc.specs.Choice.{pick}
 use Rattle.disc.specs.Refusals.{number}
-use Rattle.disc.specs.Moves.{over}
-use Rattle.disc.specs.Ask.Outcome.{answered, refused}
+use Rattle.disc.specs.Ask.Outcome.{answered}
 use Rattle.disc.specs.Replies.{Replied}
 use Rattle.disc.specs.declared.refusals.Refusal.the-variants.{Malformed, LongName, NoRoom}
 use Rattle.disc.specs.declared.replies.Reply.{Reply}
 use Rattle.disc.proofs.MoveLaws.{over-fits, sets-append, sets-front}
 use Rattle.disc.proofs.ReplyLaws.{reply-refused, reply-full, reply-done}
 use Rattle.names.specs.Names.{Wrote}
-use Rattle.identifiers.specs.declared.FileIdentifierDescriptor.{FileIdentifierDescriptor}
 use Rattle.identifiers.specs.declared.IdentifierRead.{IdentifierRead}
 use Rattle.identifiers.specs.Identifiers.{nameAt, nameEnd, nextAt}
 use Rattle.identifiers.specs.Wholes.{Whole}
-use Rattle.listings.specs.Entries.{Entry, Entries, entryOf, isGood, isSkipped, entriesFrom, entries, sound}
+use Rattle.listings.specs.Entries.{Entry, entryOf, isGood, isSkipped, entriesFrom, entries, sound}
 use Rattle.listings.specs.Entries.Entries.{end, bad, entry}
 use Rattle.listings.specs.Listings.{shown, records, isLong, anyLong, listing, told, answersTo, firstNamed, findIn, unnamed, namedTo, namedOf}
-use Rattle.listings.specs.Passes.{Good, Parsed, Onward, measuredOf, earlierOf}
+use Rattle.listings.specs.Passes.{Parsed, Onward, measuredOf, earlierOf}
 use Rattle.listings.specs.declared.finds.Named.{Named}
 use Rattle.listings.specs.declared.lists.Measured.{Measured}
 use Rattle.listings.proofs.EntryLaws.{tail-over, good-read, bad-read, shown-length, long-is}

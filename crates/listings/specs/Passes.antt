@@ -2,14 +2,14 @@
 -- Assumes nothing: these are definitions.
 use Prim.Native.Nat.{ℕ, _+_, _/_, _%_, _≤_}
 use mathlib.Core.Path.{_≡_}
-use mathlib.Core.Bool.{Bool, true, false}
+use mathlib.Core.Bool.{true, false}
 use mathlib.Core.List.{List, [], _∷_, _++_}
-use mathlib.Core.Option.{Option, none, some}
+use mathlib.Core.Option.{some}
 use lib.ListN.{length}
 use lib.Dec.{eqb}
 use Rattle.disc.specs.Choice.{pick}
 use Rattle.records.specs.Bytes.{byte, six, le16}
-use Rattle.identifiers.specs.Identifiers.{readIdentifier, nextAt, isDirectory}
+use Rattle.identifiers.specs.Identifiers.{readIdentifier, nextAt}
 use Rattle.identifiers.specs.Wholes.{Whole}
 use Rattle.identifiers.specs.declared.FileIdentifierDescriptor.{FileIdentifierDescriptor}
 use Rattle.identifiers.specs.declared.IdentifierRead.{IdentifierRead}

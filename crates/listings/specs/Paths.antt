@@ -1,6 +1,5 @@
 -- A path's components: document 01, "Directories and paths". Assumes nothing: these are definitions.
-use Prim.Native.Nat.{ℕ, suc, zero}
-use mathlib.Core.Bool.{Bool, true, false}
+use Prim.Native.Nat.{ℕ, suc}
 use mathlib.Core.List.{List, [], _∷_}
 use lib.Dec.{eqb}
 use Rattle.disc.specs.Choice.{pick}

@@ -6,7 +6,7 @@ use mathlib.Core.List.{List, [], _∷_}
 use native.Mathlib.Nat.{le-of-suc-le-suc, not-suc-le-zero, zero-add, add-mul-div-right, div-eq-of-lt, div-div-eq-div-mul, mod-add-div', add-mul-mod-self-right, mod-eq-of-lt}
 use lib.Dec.{lit<}
 use native.Mathlib.Omega.{arith}
-use lib.ListN.{length, getD, take, List·getD-eq-default}
+use lib.ListN.{length, take, List·getD-eq-default}
 use Rattle.records.specs.Bytes.{byte, u16at, u32at, le16, le32}
 use Rattle.records.specs.Allocations.{rawOf}
 

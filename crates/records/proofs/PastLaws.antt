@@ -3,10 +3,8 @@ use Prim.Native.Nat.{ℕ, _+_, _≤_}
 use mathlib.Core.Path.{_≡_}
 use mathlib.Core.List.{List}
 use native.Mathlib.Omega.{arith}
-use lib.ListN.{length, replicate}
+use lib.ListN.{length}
 use Rattle.records.specs.Allocations.{extentOf, shortOf, longOf, noLong, extOf, noExt}
-use Rattle.records.specs.declared.allocations.ExtentAd.{ExtentAd}
-use Rattle.records.specs.declared.allocations.ShortAd.{ShortAd}
 use Rattle.records.specs.declared.allocations.LongAd.{LongAd}
 use Rattle.records.specs.declared.allocations.ExtAd.{ExtAd}
 use Rattle.records.proofs.Numbers.{byte-past, u16-past, u32-past}

@@ -1,12 +1,12 @@
 -- Encoding what was read gives the same bytes, and reading what was encoded gives what encoding keeps: for each record, with its exceptions.
 -- Assumes nothing.
-use Prim.Native.Nat.{ℕ, _+_, _*_, _/_, _%_, _<_, _≤_, _^_}
+use Prim.Native.Nat.{ℕ, _+_, _*_, _<_, _≤_, _^_}
 use mathlib.Core.Path.{_≡_, ap, sym, _∙_}
-use mathlib.Core.List.{List, [], _∷_, _++_}
+use mathlib.Core.List.{List, _++_}
 use native.Mathlib.Nat.{mod-eq-of-lt}
 use native.Mathlib.Omega.{arith}
 use lib.Dec.{lit<}
-use lib.ListN.{length, take, getD}
+use lib.ListN.{length, take}
 use lib.Seq.{take-all, getD-take}
 use Rattle.disc.proofs.PickLaws.{picked-size}
 use Rattle.disc.specs.declared.refusals.Refusal.the-variants.{Malformed}

@@ -1,7 +1,6 @@
 -- extent_ad (ECMA-167 3/7.1), lb_addr (4/7.1), short_ad, long_ad and ext_ad (4/14.14.1 to 14.14.3), each at an offset: document 01, "Tags and small
 -- records". Assumes nothing: these are definitions.
 use Prim.Native.Nat.{ℕ, _+_, _*_, _/_, _%_}
-use mathlib.Core.Bool.{Bool, true, false}
 use mathlib.Core.List.{List, _++_}
 use lib.ListN.{length, replicate}
 use lib.Dec.{leb}

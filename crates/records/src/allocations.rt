@@ -1,10 +1,9 @@
 // extent_ad, short_ad, lb_addr, long_ad and ext_ad.
 ghost use mathlib.Core.Path.{_≡_};
-ghost use mathlib.Core.List.{_++_};
-ghost use Prim.Native.Nat.{_+_, _≤_, _<_};
+ghost use Prim.Native.Nat.{_+_, _<_};
 ghost use lib.ListN.{length};
 ghost use Rattle.records.specs.Bytes.{le16, le32, two, six};
-ghost use Rattle.records.specs.Allocations.{extentOf, readExtent, encodeExtent, shortOf, readShort, encodeShort, addressOf, readAddress, encodeAddress, longOf, noLong, readLong, encodeLong, extOf, noExt, readExt, encodeExt};
+ghost use Rattle.records.specs.Allocations.{extentOf, readExtent, encodeExtent, shortOf, readShort, encodeShort, readAddress, encodeAddress, longOf, noLong, readLong, encodeLong, extOf, noExt, readExt, encodeExt};
 use crate::bytes::byte_at;
 use crate::bytes::le16;
 use crate::bytes::le32;

@@ -1,7 +1,7 @@
 // Little-endian numbers in bytes. A byte past the end reads as 0, so that nothing is asked of a caller.
 ghost use mathlib.Core.Path.{_≡_};
 ghost use Prim.Native.Nat.{_+_, _*_};
-ghost use Rattle.records.specs.Bytes.{byte, u16at, u32at, two, six};
+ghost use Rattle.records.specs.Bytes.{byte, u16at, u32at};
 
 fn pair(a: u8, b: u8) -> u16
     ensures { λ r. ⌜ r ≡ a + b * 256 ⌝ }

@@ -1,9 +1,9 @@
 -- The arms of a match on what was read: each gives the number and the values that the definition of the answer has. Assumes nothing.
-use mathlib.Core.Path.{_≡_, refl}
+use mathlib.Core.Path.{_≡_}
 use Prim.Native.Nat.{ℕ}
 use Rattle.disc.specs.Refusals.{number}
 use Rattle.disc.specs.declared.refusals.Refusal.{Refusal}
-use Rattle.records.specs.Answers.{Answer, extentAnswer, shortAnswer, addressAnswer}
+use Rattle.records.specs.Answers.{extentAnswer, shortAnswer, addressAnswer}
 use Rattle.records.specs.declared.allocations.ExtentAd.{ExtentAd}
 use Rattle.records.specs.declared.allocations.ExtentRead.{ExtentRead}
 use Rattle.records.specs.declared.allocations.ExtentRead.the-variants.{Read as AnExtent, Refused as NoExtent}

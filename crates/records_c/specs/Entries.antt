@@ -2,7 +2,6 @@
 use Prim.Native.Nat.{ℕ}
 use mathlib.Core.Bool.{Bool, true, false}
 use Rattle.records.specs.Answers.{Answer}
-use Rattle.tags.specs.Answers.{noTag}
 use Rattle.entries.specs.Answers.{noEntry}
 use Rattle.entries.specs.declared.«file_entries».FileEntry.{FileEntry}
 use Rattle.entries.specs.declared.«file_entries».ObjectSize.{ObjectSize}

@@ -4,7 +4,7 @@
 use Prim.Native.Nat.{ℕ, _≤_}
 use mathlib.Core.Path.{_≡_, refl, ap, ap₂, sym, _∙_}
 use mathlib.Core.Bool.{Bool, true, false, _&&_, and-eq-true-iff}
-use mathlib.Core.List.{List, [], _∷_, _++_}
+use mathlib.Core.List.{List, _∷_, _++_}
 use native.Mathlib.Omega.{arith}
 use borrow.Author.Tests.{le-leb, leb-true, eqb-true, eq-eqb, ne-eqb}
 use lib.Dec.{leb, eqb}
@@ -20,7 +20,6 @@ use Rattle.tags.specs.declared.DescriptorTag.{DescriptorTag}
 use Rattle.tags.specs.declared.TagRead.{TagRead}
 use Rattle.tags.specs.declared.TagRead.the-variants.{Read, Refused}
 use Rattle.tags.specs.declared.AllocationExtentDescriptor.{AllocationExtentDescriptor}
-use Rattle.tags.specs.declared.AedRead.{AedRead}
 use Rattle.tags.specs.declared.AedRead.the-variants.{Header, NoHeader}
 use Rattle.records.proofs.Numbers.{Bytes, u16-le16, u32-le32, le16-u16, le32-u32, from, from-take}
 

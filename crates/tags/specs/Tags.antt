@@ -1,8 +1,8 @@
 -- The descriptor tag, 16 bytes (ECMA-167 3/7.2), and the header of an allocation extent, 24 (4/14.5): document 01, "Tags and small records".
 -- Assumes nothing: these are definitions.
 use Prim.Native.Nat.{ℕ, _+_, _%_}
-use mathlib.Core.Bool.{Bool, true, false, _&&_, _||_}
-use mathlib.Core.List.{List, [], _∷_, _++_}
+use mathlib.Core.Bool.{Bool, _&&_, _||_}
+use mathlib.Core.List.{List, _∷_, _++_}
 use lib.ListN.{length}
 use lib.Dec.{leb, eqb}
 use Rattle.disc.specs.Choice.{pick}

@@ -1,4 +1,7 @@
-// The answer numbers: 0, and each refusal.
+// The answer numbers by name: 0, and each refusal.
+ghost use mathlib.Core.Path.{_≡_};
+ghost use Rattle.disc.specs.Refusals.{number};
+use disc::refusals::Refusal;
 
 pub const DONE: u64 = 0;
 
@@ -25,3 +28,19 @@ pub const NO_SLOT: u64 = 7;
 
 // A listed name exceeds 65,535 bytes.
 pub const LONG_NAME: u64 = 8;
+
+// The name of a refusal's number. That it is the right one is this contract.
+pub fn answer_of(why: Refusal) -> u64
+    ensures { λ r. ⌜ r ≡ number why ⌝ }
+{
+    match why {
+        Refusal::Io => IO,
+        Refusal::Malformed => MALFORMED,
+        Refusal::NotBluray => NOT_BLURAY,
+        Refusal::Unsupported => UNSUPPORTED,
+        Refusal::NoRoom => NO_ROOM,
+        Refusal::NoWork => NO_WORK,
+        Refusal::NoSlot => NO_SLOT,
+        Refusal::LongName => LONG_NAME,
+    }
+}

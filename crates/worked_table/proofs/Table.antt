@@ -1,14 +1,13 @@
 -- The worked table of the rules, its thirteen cases as one statement, by computation. Assumes nothing.
-use Prim.Native.Nat.{ℕ}
-use mathlib.Core.Path.{_≡_, refl}
-use mathlib.Core.List.{List, [], _∷_, _++_}
-use mathlib.Core.Option.{Option, none, some}
+use mathlib.Core.Path.{_≡_}
+use mathlib.Core.List.{[], _∷_}
+use mathlib.Core.Option.{none, some}
 use lib.ListN.{replicate, take}
 use Rattle.records.specs.Allocations.{readShort}
 use Rattle.records.specs.Answers.{shortAnswer}
 use Rattle.tags.specs.Tags.{readTag}
 use Rattle.tags.specs.Answers.{noTag, tagAnswer}
-use Rattle.areas.specs.Areas.{Area, ended, continuation, areaAt}
+use Rattle.areas.specs.Areas.{ended, continuation, areaAt}
 use Rattle.areas.specs.declared.PartitionRef.the-variants.{Named}
 use Rattle.areas.specs.declared.AdEnding.the-variants.{End, Continuation}
 use Rattle.names.specs.Names.{nameOf}

@@ -1,7 +1,7 @@
 -- `file_cases::images_space` meets its contract: the array has as many bytes as its type says. Assumes nothing.
-use mathlib.Core.Path.{_≡_, sym}
+use mathlib.Core.Path.{sym}
 use Prim.Native.Nat.{ℕ}
-use lib.ListN.{length, length-replicate}
+use lib.ListN.{length-replicate}
 use Rattle.file_cases.proofs.images_space.Statement.{statement}
 use Rattle.file_cases.proofs.images_space.Tie as tie
 

@@ -1,7 +1,7 @@
 -- `vault_cases::space` meets its contract: the array has as many bytes as its type says. Assumes nothing.
-use mathlib.Core.Path.{_≡_, sym}
+use mathlib.Core.Path.{sym}
 use Prim.Native.Nat.{ℕ}
-use lib.ListN.{length, length-replicate}
+use lib.ListN.{length-replicate}
 use Rattle.vault_cases.proofs.space.Statement.{statement}
 use Rattle.vault_cases.proofs.space.Tie as tie
 

@@ -1,5 +1,4 @@
 -- `listings::directory_entries::is_long` meets its contract: no entry that is skipped is listed with a long name. Assumes nothing.
-use borrow.Author.Needs.{needs}
 use Rattle.disc.proofs.PickLaws.{picks}
 use Rattle.listings.proofs.directory_entries.is_long.Statement.{statement}
 use Rattle.listings.proofs.directory_entries.is_long.Tie as tie

@@ -1,5 +1,4 @@
 -- `listings::directory_entries::record_size` meets its contract: nothing for an entry that is skipped. Assumes nothing.
-use borrow.Author.Needs.{needs}
 use Rattle.disc.proofs.PickLaws.{picks}
 use Rattle.listings.proofs.directory_entries.record_size.Statement.{statement}
 use Rattle.listings.proofs.directory_entries.record_size.Tie as tie
