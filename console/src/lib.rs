@@ -26,6 +26,9 @@ mod room;
 mod vault;
 
 #[cfg(test)]
+#[path = "../tests/common/input.rs"]
+mod input;
+#[cfg(test)]
 mod replays;
 #[cfg(test)]
 #[path = "bin/vault/sparse.rs"]

@@ -5,42 +5,26 @@
 
 use crate::answer::{Answer, Result};
 use crate::calls::{self, Slot, Volume};
+use crate::input::Input;
 use crate::records::LongAd;
 use crate::sparse::expand;
 
-/// Bytes that are taken from the front.
-struct Input<'a>(&'a [u8]);
-
-impl<'a> Input<'a> {
-    fn take(&mut self, n: usize) -> &'a [u8] {
-        let (front, rest) = self.0.split_at(n);
-        self.0 = rest;
-        front
-    }
-
-    fn byte(&mut self) -> u8 {
-        self.take(1)[0]
-    }
-
-    fn short(&mut self) -> u16 {
-        u16::from_le_bytes(self.take(2).try_into().unwrap())
-    }
-
-    fn number(&mut self) -> u32 {
-        u32::from_le_bytes(self.take(4).try_into().unwrap())
-    }
-
+impl Input<'_> {
     fn long_ad(&mut self) -> LongAd {
         LongAd::recorded(self.take(16).try_into().unwrap())
     }
 
+    fn place(&mut self) -> (u32, u16) {
+        (self.number(4) as u32, self.number(2) as u16)
+    }
+
     fn image(&mut self) -> Vec<u8> {
-        let n = self.number();
-        expand(self.take(n as usize)).unwrap()
+        expand(self.sized(4)).unwrap()
     }
 
     fn volume(&mut self) -> Volume {
-        Volume { start: self.number(), partition: self.short(), root: self.long_ad(), label: [0; 32] }
+        let (start, partition) = self.place();
+        Volume { start, partition, root: self.long_ad(), label: [0; 32] }
     }
 }
 
@@ -125,14 +109,13 @@ fn the_list_of_the_gate() {
     let mut expected = include_str!("../../crates/replay/stdout").lines();
     let mut seen = [0; 9];
     while !all.0.is_empty() {
-        let n = all.short();
-        assert_eq!(expected.next().unwrap().as_bytes(), all.take(n.into()));
-        let (image, volume, n) = (all.image(), all.volume(), all.number());
-        let mut queries = Input(all.take(n as usize));
+        assert_eq!(expected.next().unwrap().as_bytes(), all.sized(2));
+        let (image, volume) = (all.image(), all.volume());
+        let mut queries = Input(all.sized(4));
         while !queries.0.is_empty() {
-            let call = queries.byte();
-            let (icb, room, work, n) = (queries.long_ad(), queries.number() as usize, queries.number() as usize, queries.short());
-            let given = ask(call, volume, &image, &Lends { icb, room, work, path: queries.take(n.into()) });
+            let call = queries.number(1) as u8;
+            let (icb, room, work) = (queries.long_ad(), queries.number(4), queries.number(4));
+            let given = ask(call, volume, &image, &Lends { icb, room, work, path: queries.sized(2) });
             let (line, _) = expected.next().unwrap().rsplit_once(' ').unwrap();
             assert_eq!(given, line);
             seen[given.split(' ').nth(1).unwrap().parse::<usize>().unwrap()] += 1;
@@ -170,14 +153,14 @@ fn the_files_of_the_gate() {
     let mut expected = include_str!("../../crates/file_cases/stdout").lines();
     let mut asked = 0;
     while !all.0.is_empty() {
-        let n = all.short();
-        assert_eq!(expected.next().unwrap().as_bytes(), all.take(n.into()));
+        assert_eq!(expected.next().unwrap().as_bytes(), all.sized(2));
         let image = all.image();
-        for _ in 0..all.short() {
-            let (start, partition, icb, lent, slots) = (all.number(), all.short(), all.long_ad(), all.number(), all.short());
+        for _ in 0..all.number(2) {
+            let (start, partition) = all.place();
+            let (icb, lent, slots) = (all.long_ad(), all.number(4), all.number(2));
             let what = expected.next().unwrap();
             let v = Volume { start, partition, root: icb, label: [0; 32] };
-            for given in file_case(v, &image, icb, lent as usize, slots.into()) {
+            for given in file_case(v, &image, icb, lent, slots) {
                 assert_eq!(given, expected.next().unwrap(), "{what}");
             }
             asked += 1;

@@ -4,29 +4,10 @@
 
 mod common;
 
+use common::input::Input;
 use common::sparse::expand;
 use console::{LbAddr, LongAd, Vault, probe_vrs, read_volume_label};
 use std::str::Lines;
-
-/// Bytes that are taken from the front.
-struct Input<'a>(&'a [u8]);
-
-impl<'a> Input<'a> {
-    fn take(&mut self, n: usize) -> &'a [u8] {
-        let (front, rest) = self.0.split_at(n);
-        self.0 = rest;
-        front
-    }
-
-    fn number(&mut self, bytes: usize) -> usize {
-        self.take(bytes).iter().rev().fold(0, |n, byte| n << 8 | usize::from(*byte))
-    }
-
-    fn sized(&mut self, bytes: usize) -> &'a [u8] {
-        let n = self.number(bytes);
-        self.take(n)
-    }
-}
 
 /// The lines of a stored output.
 struct Expected<'a>(Lines<'a>);

@@ -2,6 +2,7 @@
 #![allow(dead_code)]
 
 pub mod command;
+pub mod input;
 #[path = "../../src/bin/vault/sparse.rs"]
 pub mod sparse;
 

@@ -79,10 +79,7 @@ module _ {s d₀ d : List ℕ} {from at n i : ℕ} (p : Storing s d₀ d from at
       let k : length (take n (drop from s)) ≤ i = omega (arith, p .size) in
       rw (drop-of-length-le (take n (drop from s))) at (p .putting .rest)
 
-  pub store-less : i < n → i + 1 ≤ n
-  store-less h = omega arith
-
--- ---- a block by way of an array of 2,048 bytes
+-- ---- a block by way of an array of 8,192 bytes
 
 pub block-ends : (s d a b : List ℕ) (i : ℕ) → (i + 8192 ≤ length s) × (i + 8192 ≤ length d)
     → a ≡ sets (replicate 8192 0) 0 (take 8192 (drop i s))

@@ -106,10 +106,6 @@ module _ {s : List ℕ} {f : FileIdentifierDescriptor} (g : Good s f) where
   unfolding entryOf recordedName
   recorded-is = rw (add-sub-cancel-left, g .whole .from, g .whole .recorded)
 
-  name-is : nameIn (entryOf s) ≡ written (nameOf (part s f))
-  unfolding nameIn
-  name-is = rw recorded-is
-
   size-is : length (nameIn (entryOf s)) ≡ f .«name_size»
   unfolding nameIn entryOf
   size-is = sym (g .whole .size)
