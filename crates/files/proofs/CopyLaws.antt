@@ -1,13 +1,13 @@
 -- The pass that copies, one turn at a time. Assumes nothing.
 use mathlib.Core.Path.{_≡_, refl, ap, sym, _∙_}
 use mathlib.Core.Bool.{Bool, true, false}
-use mathlib.Core.List.{List, [], _++_, append-nil, append-assoc}
+use mathlib.Core.List.{List, [], _∷_, _++_, append-nil, append-assoc}
 use mathlib.Core.Logic.{⊎-elim}
-use Prim.Native.Nat.{ℕ, _+_, _-_, _≤_, _<_, _^_}
+use Prim.Native.Nat.{ℕ, suc, _+_, _-_, _≤_, _<_, _^_}
 use native.Mathlib.Nat.{add-sub-cancel-left, zero-add}
 use native.Mathlib.Omega.{arith}
-use lib.ListN.{length, take, drop, length-append, length-take, length-drop, drop-of-length-le}
-use lib.Seq.{take-all, drop-drop, length-take-le, sets, length-sets, sets-eq}
+use lib.ListN.{length, take, drop, set, length-append, length-take, length-drop, drop-of-length-le}
+use lib.Seq.{take-all, drop-drop, drop-set-lt, length-take-le, sets, length-sets, sets-eq}
 use mir.Syntax.{w64}
 use mir.Val.{Fits}
 use borrow.Author.Tests.{le-leb, lt-leb}
@@ -25,8 +25,10 @@ use Rattle.chains.specs.declared.cursors.ChainCursor.{ChainCursor}
 use Rattle.files.specs.declared.pieces.Turn.{Turn}
 use Rattle.files.specs.declared.pieces.Turn.the-variants.{Piece, Hop, Refused as Stopped, End}
 use Rattle.files.specs.Pieces.{beforeOutcome, inFront, restAt, PieceTurn, Turned}
-use Rattle.files.specs.Passes.{Copies, Wrote}
+use Rattle.files.specs.Passes.{Copied}
+use Rattle.chains.specs.Walks.{left}
 use Rattle.files.proofs.PieceLaws.{part-long}
+use Rattle.files.proofs.BoundLaws.{few-bytes}
 
 -- ---- stores
 
@@ -47,6 +49,11 @@ tail-sets a xs v ys n l h e =
 never : {A : Type 0} → _≡_ {A = Bool} false true → A
 never {A} e = absurd (let z : _≡_ {A = ℕ} 0 1 = cc in omega arith)
 
+-- what is stored before `n` leaves what is behind it
+drop-sets : (v l : List ℕ) (i n : ℕ) → i + length v ≤ n → drop n (sets l i v) ≡ drop n l
+drop-sets [] l i n h = refl
+drop-sets (a ∷ v) l i n h = drop-sets v (set l i a) (suc i) n (omega arith) ∙ drop-set-lt n l i a (omega arith)
+
 front-answers : (b : List ℕ) (o : Outcome (List ℕ)) → isAnswered (beforeOutcome b o) ≡ isAnswered o
 front-answers b (answered a) = refl
 front-answers b (refused a) = refl
@@ -64,38 +71,60 @@ module _ (image : List ℕ) (start partition kind want : ℕ) (out₀ : List ℕ
   abbrev whole : List ℕ
   whole = bytesOf (rest c₀ want .outcome)
 
-  pub record Copying (out : List ℕ) (c : ChainCursor) (filled : ℕ) : Type 0 where
-    pub stores : sets out filled (bytesOf (rest c (want - filled) .outcome)) ≡ sets out₀ 0 whole
+  abbrev Answers : Type 0
+  Answers = isAnswered (rest c₀ want .outcome) ≡ true
+
+  -- the whole read has few bytes, if it is answered
+  whole-few : Answers → length whole ≤ want
+  whole-few a = by (rest c₀ want .outcome) refl a
+    where
+      by : (o : Outcome (List ℕ)) → rest c₀ want .outcome ≡ o → isAnswered o ≡ true → length (bytesOf o) ≤ want
+      by (answered b) e h = few-bytes image start partition (left image start kind c₀) want b e
+      by (refused r) e h = never h
+
+  -- what the rest will store makes, with what was stored, the whole
+  pub record Stores (out : List ℕ) (c : ChainCursor) (filled : ℕ) : Type 0 where
+    pub same : sets out filled (bytesOf (rest c (want - filled) .outcome)) ≡ sets out₀ 0 whole
     pub answers : isAnswered (rest c (want - filled) .outcome) ≡ true
-    pub room : filled + length (bytesOf (rest c (want - filled) .outcome)) ≤ length out
+
+  pub record Copying (out : List ℕ) (c : ChainCursor) (filled : ℕ) : Type 0 where
+    pub stores : Answers → Stores out c filled
+    pub kept : drop want out ≡ drop want out₀
     pub long : length out ≡ length out₀
     pub low : filled ≤ want
     pub wide : want < 2 ^ 64
-    pub fits : length whole ≤ length out₀
+    pub room : want ≤ length out₀
 
-  pub copy-starts : want < 2 ^ 64 → Copies (rest c₀ want) (length out₀) → Copying out₀ c₀ 0
+  pub copy-starts : want < 2 ^ 64 → want ≤ length out₀ → Copying out₀ c₀ 0
   copy-starts g k =
       let z : want - 0 ≡ want = omega arith in
-      record { stores = rw z; answers = rw z (k .answers); room = rw (z, zero-add) (k .fits); long = refl; low = omega arith; wide = g; fits = k .fits }
+      record { stores = λ a. record { same = rw z; answers = rw z a }; kept = refl; long = refl; low = omega arith; wide = g; room = k }
 
   module _ (out : List ℕ) (c : ChainCursor) (filled : ℕ) (i : Copying out c filled) (t : Turn) (p : Turned image start partition kind c (want - filled) t) where
-    ended : sets out filled [] ≡ sets out₀ 0 whole → Wrote (rest c₀ want) out₀ out
-    ended e = record { bytes = e ∙ sets-front whole out₀ (i .fits) }
+    ended : (Answers → sets out filled [] ≡ sets out₀ 0 whole) → Copied (rest c₀ want) want out₀ out
+    ended e = record { bytes = λ a. e a ∙ sets-front whole out₀ (omega (arith, whole-few a, i .room)); kept = i .kept }
 
-    pub copy-end : t ≡ End → Wrote (rest c₀ want) out₀ out
+    pub copy-end : t ≡ End → Copied (rest c₀ want) want out₀ out
     copy-end e =
         let q : Turned image start partition kind c (want - filled) End = rw e at p in
-        ended (rw q at (i .stores))
+        ended (λ a. rw q at (i .stores a .same))
 
-    pub copy-refused : {a : Refusal} {n : ℕ} → t ≡ Stopped a n → Wrote (rest c₀ want) out₀ out
+    pub copy-refused : {a : Refusal} {n : ℕ} → t ≡ Stopped a n → Copied (rest c₀ want) want out₀ out
     copy-refused {a} {n} e =
         let q : Turned image start partition kind c (want - filled) (Stopped a n) = rw e at p in
-        never (rw q at (i .answers))
+        ended (λ b. never (rw q at (i .stores b .answers)))
 
     pub copy-hop : {c′ : ChainCursor} → t ≡ Hop c′ → Copying out c′ filled
     copy-hop {c′} e =
         let q : Turned image start partition kind c (want - filled) (Hop c′) = rw e at p in
-        record { stores = (rw (q .runs) at (i .stores)); answers = (rw (q .runs) at (i .answers)); room = (rw (q .runs) at (i .room)); long = i .long; low = i .low; wide = i .wide; fits = i .fits }
+        record {
+          stores = λ a. record { same = (rw (q .runs) at (i .stores a .same)); answers = (rw (q .runs) at (i .stores a .answers)) };
+          kept = i .kept;
+          long = i .long;
+          low = i .low;
+          wide = i .wide;
+          room = i .room;
+        }
 
     pub copy-hop-less : {c′ : ChainCursor} → t ≡ Hop c′ → weight c′ < weight c
     copy-hop-less {c′} e =
@@ -108,29 +137,31 @@ module _ (image : List ℕ) (start partition kind want : ℕ) (out₀ : List ℕ
       pub copy-less : weight c′ < weight c
       copy-less = turn .less
 
-      part-size : length (take k (drop from image)) ≡ k
+      abbrev part : List ℕ
+      part = take k (drop from image)
+
+      part-size : length part ≡ k
       part-size = part-long image from k (want - filled) (turn .lies)
 
       -- what the piece and the rest are, where more is wanted and where not
-      all-wanted : want ≤ filled + k → rest c (want - filled) ≡ record { outcome = answered (take k (drop from image)); count = n }
+      all-wanted : want ≤ filled + k → rest c (want - filled) ≡ record { outcome = answered part; count = n }
       all-wanted h = turn .runs ∙ rw (le-leb (want - filled) k (omega arith))
 
-      more-wanted : filled + k < want → rest c (want - filled) ≡ inFront (take k (drop from image)) n (rest c′ (want - (filled + k)))
+      more-wanted : filled + k < want → rest c (want - filled) ≡ inFront part n (rest c′ (want - (filled + k)))
       more-wanted h =
           let g : want - (filled + k) ≡ want - filled - k = omega arith in
           rw g (turn .runs ∙ rw (lt-leb (want - filled) k (omega arith)))
 
-      more-answers : filled + k < want → isAnswered (rest c′ (want - (filled + k)) .outcome) ≡ true
-      more-answers h = sym (front-answers (take k (drop from image)) (rest c′ (want - (filled + k)) .outcome)) ∙ (rw (more-wanted h) at (i .answers))
+      more-answers : filled + k < want → isAnswered (rest c (want - filled) .outcome) ≡ true → isAnswered (rest c′ (want - (filled + k)) .outcome) ≡ true
+      more-answers h a = sym (front-answers part (rest c′ (want - (filled + k)) .outcome)) ∙ (rw (more-wanted h) at a)
 
-      more-bytes : (h : filled + k < want) → bytesOf (rest c (want - filled) .outcome) ≡ take k (drop from image) ++ bytesOf (rest c′ (want - (filled + k)) .outcome)
-      more-bytes h = ap (λ r. bytesOf (r .outcome)) (more-wanted h) ∙ front-bytes (take k (drop from image)) (rest c′ (want - (filled + k)) .outcome) (more-answers h)
+      more-bytes : (h : filled + k < want) → isAnswered (rest c (want - filled) .outcome) ≡ true
+          → bytesOf (rest c (want - filled) .outcome) ≡ part ++ bytesOf (rest c′ (want - (filled + k)) .outcome)
+      more-bytes h a = ap (λ r. bytesOf (r .outcome)) (more-wanted h) ∙ front-bytes part (rest c′ (want - (filled + k)) .outcome) (more-answers h a)
 
+      -- a piece has no more bytes than are wanted, and all of those have room
       pub copy-room : filled + k ≤ length out
-      copy-room = ⊎-elim
-          (λ (h : want ≤ filled + k). omega (arith, part-size, (rw (all-wanted h) at (i .room))))
-          (λ (h : filled + k < want). omega (arith, part-size, (rw (more-bytes h, length-append) at (i .room))))
-          (split want (filled + k))
+      copy-room = omega (arith, turn .lies .small, i .low, i .room, i .long)
 
       pub copy-adds : Fits w64 (filled + k)
       copy-adds = omega (arith, turn .lies .small, i .low, i .wide)
@@ -141,20 +172,31 @@ module _ (image : List ℕ) (start partition kind want : ℕ) (out₀ : List ℕ
       pub copy-target : k ≤ length (midOf filled (length out - filled) out)
       copy-target = simp (length-take, length-drop) (omega (arith, copy-room))
 
-      module _ {ys : List ℕ} (w : ys ≡ take k (drop from image) ++ drop k (midOf filled (length out - filled) out)) where
-        stored : putMid filled (length out - filled) out ys ≡ sets out filled (take k (drop from image))
-        stored = tail-sets filled out (take k (drop from image)) ys k (sym part-size) copy-room w
+      module _ {ys : List ℕ} (w : ys ≡ part ++ drop k (midOf filled (length out - filled) out)) where
+        abbrev out′ : List ℕ
+        out′ = putMid filled (length out - filled) out ys
 
-        pub copy-enough : want ≤ filled + k → Wrote (rest c₀ want) out₀ (putMid filled (length out - filled) out ys)
-        copy-enough h = record { bytes = stored ∙ (rw (all-wanted h) at (i .stores)) ∙ sets-front whole out₀ (i .fits) }
+        stored : out′ ≡ sets out filled part
+        stored = tail-sets filled out part ys k (sym part-size) copy-room w
 
-        pub copy-next : filled + k < want → Copying (putMid filled (length out - filled) out ys) c′ (filled + k)
+        keeps : drop want out′ ≡ drop want out₀
+        keeps = ap (drop want) stored ∙ drop-sets part out filled want (omega (arith, part-size, turn .lies .small, i .low)) ∙ i .kept
+
+        pub copy-enough : want ≤ filled + k → Copied (rest c₀ want) want out₀ out′
+        copy-enough h = record {
+          bytes = λ a. stored ∙ (rw (all-wanted h) at (i .stores a .same)) ∙ sets-front whole out₀ (omega (arith, whole-few a, i .room));
+          kept = keeps;
+        }
+
+        pub copy-next : filled + k < want → Copying out′ c′ (filled + k)
         copy-next h = record {
-          stores = rw stored (rw (more-bytes h, sets-append, part-size) at (i .stores));
-          answers = more-answers h;
-          room = rw stored (rw length-sets (omega (arith, part-size, (rw (more-bytes h, length-append) at (i .room)))));
+          stores = λ a. record {
+            same = rw stored (rw (more-bytes h (i .stores a .answers), sets-append, part-size) at (i .stores a .same));
+            answers = more-answers h (i .stores a .answers);
+          };
+          kept = keeps;
           long = rw (stored, length-sets) (i .long);
           low = omega arith;
           wide = i .wide;
-          fits = i .fits;
+          room = i .room;
         }

@@ -1,9 +1,9 @@
 -- Laws of files: an extent in one division, the turns of a walk, the two passes, the entry, a read put together, and the promises.
 pub mod ExtentLaws
 pub mod PieceLaws
+pub mod BoundLaws
 pub mod MeasureLaws
 pub mod CopyLaws
 pub mod EntryLaws
 pub mod ReadLaws
-pub mod BoundLaws
 pub mod Promises

@@ -21,6 +21,8 @@ use Rattle.disc.specs.declared.replies.Reply.{Reply}
 use Rattle.disc.proofs.RanLaws.{ran-then}
 use Rattle.disc.proofs.ReplyLaws.{reply-refused}
 use Rattle.records.specs.declared.allocations.LongAd.{LongAd}
+use Rattle.chains.specs.Walks.{left}
+use Rattle.chains.specs.declared.cursors.ChainCursor.{ChainCursor}
 use Rattle.chains.specs.declared.follows.Chain.{Chain}
 use Rattle.chains.specs.declared.follows.Chain.the-variants.{Whole, Refused as BrokenOff}
 use Rattle.chains.specs.Follows.{WholeChain, BrokenChain, Followed}
@@ -31,9 +33,10 @@ use Rattle.files.specs.declared.extents.Measured.{Measured}
 use Rattle.files.specs.declared.extents.Measured.the-variants.{Sized, Refused}
 use Rattle.files.specs.Files.{fileBytes}
 use Rattle.files.specs.Pieces.{restAt}
-use Rattle.files.specs.Passes.{sizedBy, sized, Copies, Wrote}
+use Rattle.files.specs.Passes.{sizedBy, sized, Copied}
 use Rattle.files.specs.Places.{placeOf}
 use Rattle.files.specs.Wholes.{embeddedIn, embeddedRun, frontOf, bytesFrom, FoundPlace, Locates}
+use Rattle.files.proofs.BoundLaws.{same-bytes}
 use Rattle.files.proofs.EntryLaws.{locates}
 
 -- a reply is right where what is answered is right
@@ -82,9 +85,10 @@ told-refused (refused b) j a m e =
     record { outcome = cc; count = omega arith }
 
 -- an answer that fits, and one that doesn't
-fits : (full : Refusal) (r : Ran (List ℕ)) (before after : List ℕ) → isAnswered (r .outcome) ≡ true → length (bytesOf (r .outcome)) ≤ length before → Wrote r before after
+fits : (full : Refusal) (r : Ran (List ℕ)) (before after : List ℕ) → isAnswered (r .outcome) ≡ true → length (bytesOf (r .outcome)) ≤ length before
+    → after ≡ bytesOf (r .outcome) ++ drop (length (bytesOf (r .outcome))) before
     → Replied full r before after (record { answer = 0; count = reported (r .count); length = length (bytesOf (r .outcome)) })
-fits full r before after h k w = by (r .outcome) h k (w .bytes)
+fits full r before after h k w = by (r .outcome) h k w
   where
     by : (o : Outcome (List ℕ)) → isAnswered o ≡ true → length (bytesOf o) ≤ length before → after ≡ bytesOf o ++ drop (length (bytesOf o)) before
         → Replied full (record { outcome = o; count = r .count }) before after (record { answer = 0; count = reported (r .count); length = length (bytesOf o) })
@@ -116,9 +120,6 @@ module _ (full : Refusal) (rest : Ran (List ℕ)) (n : ℕ) {m : Measured} (q : 
     unfolding sized
     told-yes = told-sized (rest .outcome) (rest .count) size j (sym f ∙ q)
 
-    pub whole-copies : size ≤ length out → Copies rest (length out)
-    whole-copies h = let t = told-yes in record { answers = t .answers; fits = omega (arith, t .is) }
-
     module _ {k : ℕ} (g : k ≡ reported (n + j)) where
       counted : reported (n + rest .count) ≡ k
       counted = let t = told-yes in omega (arith, t .count)
@@ -128,10 +129,26 @@ module _ (full : Refusal) (rest : Ran (List ℕ)) (n : ℕ) {m : Measured} (q : 
           let t = told-yes in
           rw (y, d, ← counted) (too-many full (after n rest) out (t .answers) (omega (arith, t .is)))
 
-      pub whole-done : size ≤ length out → {z : List ℕ} → Wrote rest out z → Replied full (after n rest) out z (record { answer = 0; count = k; length = size })
-      whole-done h {z} w =
-          let t = told-yes in
-          rw (← counted, t .is) (fits full (after n rest) out z (t .answers) (omega (arith, t .is)) (record { bytes = w .bytes }))
+-- the copy wants as many bytes as were measured, which is all that the read answers
+module _ (image : List ℕ) (start partition kind : ℕ) (first : ChainCursor) (want : ℕ) where
+  abbrev rest : ℕ → Ran (List ℕ)
+  rest w = restAt image start partition kind first w
+
+  same-outcome : {size j : ℕ} → Told (rest want) size j → rest size .outcome ≡ rest want .outcome
+  same-outcome {size} {j} t = by (rest want .outcome) refl (t .answers) (t .is)
+    where
+      by : (o : Outcome (List ℕ)) → rest want .outcome ≡ o → isAnswered o ≡ true → size ≡ length (bytesOf o) → rest size .outcome ≡ o
+      by (answered b) e a i = rw i (same-bytes image start partition (left image start kind first) want b e)
+      by (refused r) e a i = absurd (let z : _≡_ {A = ℕ} 0 1 = cc in omega arith)
+
+  pub whole-done : (full : Refusal) (n : ℕ) (out : List ℕ) {m : Measured} → m ≡ sized 0 0 (rest want) → {size j : ℕ} → m ≡ Sized size j → {k : ℕ} → k ≡ reported (n + j) → size ≤ length out → {z : List ℕ} → Copied (rest size) size out z
+      → Replied full (after n (rest want)) out z (record { answer = 0; count = k; length = size })
+  whole-done full n out q {size} {j} f {k} g h {z} w =
+      let t = told-yes full (rest want) n q out f in
+      let e = same-outcome t in
+      let a : isAnswered (rest size .outcome) ≡ true = rw e (t .answers) in
+      let b : z ≡ bytesOf (rest want .outcome) ++ drop (length (bytesOf (rest want .outcome))) out = rw (← e) (w .bytes a) in
+      rw (← counted full (rest want) n q out f g, t .is) (fits full (after n (rest want)) out z (t .answers) (omega (arith, t .is)) b)
 
 -- ---- the bytes of the extents of a chain: r is what `follow` found
 

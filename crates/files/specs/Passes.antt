@@ -1,6 +1,6 @@
 -- What the passes over a file's extents say: for the contracts of private functions. There is nothing to believe here.
 -- Assumes nothing: these are definitions.
-use Prim.Native.Nat.{ℕ, _+_, _≤_}
+use Prim.Native.Nat.{ℕ, _+_}
 use mathlib.Core.Path.{_≡_}
 use mathlib.Core.Bool.{true}
 use mathlib.Core.List.{List, _++_}
@@ -21,11 +21,7 @@ sizedBy size count (refused r) = Refused r count
 unfoldable pub sized : ℕ → ℕ → Ran (List ℕ) → Measured
 sized size count r = sizedBy size (reported (count + r .count)) (r .outcome)
 
--- a read that is answered with bytes that fit
-pub record Copies (r : Ran (List ℕ)) (room : ℕ) : Type 0 where
-  pub answers : isAnswered (r .outcome) ≡ true
-  pub fits : length (bytesOf (r .outcome)) ≤ room
-
--- its bytes written over the front of what was lent, the rest kept
-pub record Wrote (r : Ran (List ℕ)) (before after : List ℕ) : Type 0 where
-  pub bytes : after ≡ bytesOf (r .outcome) ++ drop (length (bytesOf (r .outcome))) before
+-- what a copy of at most `want` bytes leaves: the bytes of a read that is answered over the front, and after any read all that is behind `want` as it came
+pub record Copied (r : Ran (List ℕ)) (want : ℕ) (before after : List ℕ) : Type 0 where
+  pub bytes : isAnswered (r .outcome) ≡ true → after ≡ bytesOf (r .outcome) ++ drop (length (bytesOf (r .outcome))) before
+  pub kept : drop want after ≡ drop want before

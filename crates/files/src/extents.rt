@@ -4,7 +4,7 @@ ghost use mathlib.Core.List.{_++_};
 ghost use Prim.Native.Nat.{_-_, _≤_};
 ghost use lib.ListN.{length, take, drop};
 ghost use Rattle.files.specs.Pieces.{restAt};
-ghost use Rattle.files.specs.Passes.{sized, Wrote, Copies};
+ghost use Rattle.files.specs.Passes.{sized, Copied};
 use crate::pieces::Turn;
 use crate::pieces::next_piece;
 use chains::cursors::ChainCursor;
@@ -65,7 +65,8 @@ pub(crate) fn copy_piece(image: &[u8], from: u64, n: u64, out: &mut [u8])
     disc::moves::copy(&image[at..end], out);
 }
 
-// Writes the bytes of the extents to the front of out, each behind the one before. They were measured: none is refused, and they fit.
+// Writes the bytes of the extents to the front of out, each behind the one before, and `want` of them at most. They were measured with another look
+// at the image, and that look is not relied on: whatever the image holds by now, nothing behind `want` bytes is written.
 pub(crate) fn copy(
     image: &[u8],
     start: u32,
@@ -75,8 +76,8 @@ pub(crate) fn copy(
     want: u64,
     out: &mut [u8],
 )
-    requires { ⌜ Copies (restAt (now image) start partition kind first want) (length (now out)) ⌝ }
-    ensures { λ _. ⌜ Wrote (restAt (now (image .entry)) start partition kind first want) (now (out .entry)) (now (out .exit)) ⌝ }
+    requires { ⌜ want ≤ length (now out) ⌝ }
+    ensures { λ _. ⌜ Copied (restAt (now (image .entry)) start partition kind first want) want (now (out .entry)) (now (out .exit)) ⌝ }
 {
     let mut c = first;
     let mut filled: usize = 0;

@@ -62,7 +62,7 @@ fn read_whole(
             if (out.len() as u64) < size {
                 return refusal(full.number(), count);
             }
-            copy(image, start, partition, kind, first, want, out);
+            copy(image, start, partition, kind, first, size, out);
             Reply {
                 answer: 0,
                 count: count,
