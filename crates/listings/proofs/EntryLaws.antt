@@ -2,7 +2,7 @@
 use mathlib.Core.Path.{_≡_, refl, sym, ap, _∙_}
 use mathlib.Core.Bool.{Bool, true, false, _||_}
 use mathlib.Core.List.{List, [], _∷_, _++_, append-nil, append-assoc}
-use Prim.Native.Nat.{ℕ, _+_, _-_, _*_, _/_, _%_, _<_, _≤_}
+use Prim.Native.Nat.{ℕ, _+_, _-_, _*_, _/_, _%_, _<_, _≤_, zero-le}
 use native.Mathlib.Nat.{add-sub-cancel-left}
 use native.Mathlib.Omega.{arith}
 use lib.ListN.{length, take, drop, length-append, length-drop, drop-of-length-le}
@@ -26,7 +26,7 @@ use Rattle.identifiers.specs.Wholes.{Whole}
 use Rattle.identifiers.proofs.IdentifierLaws.{read-identifier}
 use Rattle.listings.specs.Entries.{entryOf, isGood, isSkipped, nameIn}
 use Rattle.listings.specs.Listings.{recordHead, shown, isLong, answersTo}
-use Rattle.listings.specs.Passes.{Good, Parsed, Onward, icbIn, headIn, recordIn, earlierOf}
+use Rattle.listings.specs.Passes.{Good, Parsed, Recorded, Puts, icbIn, headIn, recordIn, earlierOf}
 use Rattle.listings.specs.declared.finds.Named.{Named}
 
 -- ---- a lent tail
@@ -55,8 +55,11 @@ module _ {s : List ℕ} {r : IdentifierRead} where
   pub parsed-is : Bytes s → r ≡ readIdentifier s → Parsed s r
   parsed-is b e = record { is = e; good = λ z. record { is = ap (λ (x : IdentifierRead). x .descriptor) e; whole = read-identifier s b e z } }
 
-  pub parsed-good : Parsed s r → r .answer ≡ 0 → Good s (r .descriptor)
+  parsed-good : Parsed s r → r .answer ≡ 0 → Good s (r .descriptor)
   parsed-good p z = p .good z
+
+  pub name-inside : Parsed s r → r .answer ≡ 0 → r .descriptor .«name_at» + r .descriptor .«name_length» ≤ length s
+  name-inside p z = p .good z .whole .within
 
   pub good-read : Parsed s r → r .answer ≡ 0 → isGood s ≡ true
   unfolding isGood
@@ -151,18 +154,30 @@ head-long : (directory : ℕ) (s : List ℕ) (n : ℕ) → length (headIn direct
 unfolding headIn
 head-long directory s n = refl
 
-module _ (s name d : List ℕ) (room : 21 + length name ≤ length d) {ys : List ℕ} {w : ℕ} (p : Wrote name (midOf 21 (length d - 21) d) ys w) where
-  pub record-wrote : {m : ℕ} {hd d′ : List ℕ} → m ≡ byte s 18 → hd ≡ headIn (m / 2 % 2) s w → d′ ≡ over hd (putMid 21 (length d - 21) d ys) → Wrote (recordIn s name) d d′ (21 + w)
-  unfolding recordIn
-  record-wrote {m} {hd} k j c =
-      let l = head-long (byte s 18 / 2 % 2) s (length name) in
-      let h : hd ≡ headIn (byte s 18 / 2 % 2) s (length name) = j ∙ rw (k, p .count) in
-      record {
-        count = rw (length-append, l) (ap (λ n. 21 + n) (p .count));
-        bytes =
-            c ∙ rw (h, tail-over 21 d name ys room (p .bytes), ← l)
-            (front-over (headIn (byte s 18 / 2 % 2) s (length name)) name d (omega (arith, room, l)));
-      }
+-- the returns of `put_record`
+module _ (marks : ℕ) (s name d : List ℕ) where
+  pub record-short : length d < 21 → Recorded marks s name d d 0
+  record-short h = record { inside = zero-le; wrote = λ room. absurd (omega arith) }
+
+  module _ {ys : List ℕ} {w : ℕ} (p : Wrote name (midOf 21 (length d - 21) d) ys w) (l : length (putMid 21 (length d - 21) d ys) ≡ length d) where
+    pub record-cut : length (putMid 21 (length d - 21) d ys) - 21 < w → Recorded marks s name d (putMid 21 (length d - 21) d ys) 0
+    record-cut h = record { inside = zero-le; wrote = λ room. absurd (omega (arith, p .count)) }
+
+    pub record-put : 21 ≤ length d → w ≤ length (putMid 21 (length d - 21) d ys) - 21 → {hd d′ : List ℕ} → hd ≡ headIn (marks / 2 % 2) s w
+        → d′ ≡ over hd (putMid 21 (length d - 21) d ys) → Recorded marks s name d d′ (21 + w)
+    unfolding recordIn
+    record-put least h {hd} j c =
+        let z = head-long (marks / 2 % 2) s (length name) in
+        let i : hd ≡ headIn (marks / 2 % 2) s (length name) = j ∙ rw (p .count) in
+        record {
+          inside = omega arith;
+          wrote = λ room. record {
+            count = rw (length-append, z) (ap (λ n. 21 + n) (p .count));
+            bytes =
+                c ∙ rw (i, tail-over 21 d name ys room (p .bytes), ← z)
+                (front-over (headIn (marks / 2 % 2) s (length name)) name d (omega (arith, room, z)));
+          };
+        }
 
 -- ---- an entry that is known to be good
 
@@ -185,27 +200,15 @@ module _ (s : List ℕ) (b : Bytes s) (e : isGood s ≡ true) where
       ∙ ap (λ (x : List ℕ). 0x44 ∷ 0x45 ∷ byte s 18 / 2 % 2 ∷ (x ++ le16 (known s .«name_size»))) (ap encodeLong (whole .icb) ∙ icb-recorded s b)
       ∙ ap (λ (x : ℕ). headIn (byte s 18 / 2 % 2) s x) (sym z)
 
-  pub icb-within : 36 ≤ length s
-  icb-within = omega (arith, whole .head, whole .within)
-
-  -- where its name and the next entry stand
-  module _ {from n : ℕ} (a : from ≡ nameAt s) (l : n ≡ byte s 19) where
-    pub name-within : from + n ≤ length s
-    name-within = omega (arith, whole .within, whole .from, whole .recorded)
-
-    next-is : (from + n + 3) / 4 * 4 ≡ nextAt s
-    unfolding nextAt nameEnd
-    next-is = rw (a, l)
-
-    pub onward : Onward s ((from + n + 3) / 4 * 4)
-    onward = record { is = next-is; least = omega (arith, whole .head, whole .from); near = omega (arith, name-within) }
+  name-within : nameAt s + byte s 19 ≤ length s
+  name-within = omega (arith, whole .within, whole .from, whole .recorded)
 
   -- its marks
   module _ {m : ℕ} (k : m ≡ byte s 18) {t : Bool} (u : t ≡ (bit 4 m || bit 8 m)) where
     marked : t ≡ isSkipped (known s)
     marked = skipped-is (known s) (rw (whole .characteristics, ← k) u)
 
-    pub left-out : t ≡ true → (d : List ℕ) → Wrote (shown (entryOf s)) d d 0
+    left-out : t ≡ true → (d : List ℕ) → Wrote (shown (entryOf s)) d d 0
     left-out h d = skipped-wrote known-good marked h d
 
     module _ (h : t ≡ false) {from n : ℕ} (a : from ≡ nameAt s) (l : n ≡ byte s 19) where
@@ -213,20 +216,47 @@ module _ (s : List ℕ) (b : Bytes s) (e : isGood s ≡ true) where
       unfolding nameIn entryOf recordedName
       name-there = rw (add-sub-cancel-left, a, l)
 
-      pub shown-record : shown (entryOf s) ≡ recordIn s (written (nameOf (take (from + n - from) (drop from s))))
+      shown-record : shown (entryOf s) ≡ recordIn m s (written (nameOf (take (from + n - from) (drop from s))))
       unfolding recordIn
       shown-record = shown-is known-good marked h ∙ (λ i. head-bytes (nameIn (entryOf s)) (size-is known-good) i ++ nameIn (entryOf s))
-          ∙ ap (λ (x : List ℕ). headIn (byte s 18 / 2 % 2) s (length x) ++ x) name-there
+          ∙ ap (λ (x : List ℕ). headIn (byte s 18 / 2 % 2) s (length x) ++ x) name-there ∙ rw k
 
-      pub name-room : (d : List ℕ) → length (shown (entryOf s)) ≤ length d → 21 + length (written (nameOf (take (from + n - from) (drop from s)))) ≤ length d
+      name-room : (d : List ℕ) → length (shown (entryOf s)) ≤ length d → 21 + length (written (nameOf (take (from + n - from) (drop from s)))) ≤ length d
       unfolding recordIn
       name-room d room =
           let name = written (nameOf (take (from + n - from) (drop from s))) in
           let long : length (shown (entryOf s)) ≡ 21 + length name = rw (shown-record, length-append, head-long) in
           omega (arith, long)
 
-      pub entry-wrote : {d d′ : List ℕ} {r : ℕ} → Wrote (recordIn s (written (nameOf (take (from + n - from) (drop from s))))) d d′ r → Wrote (shown (entryOf s)) d d′ r
-      entry-wrote w = rw shown-record w
+-- ---- the returns of `put_entry`
+
+module _ (s : List ℕ) (b : Bytes s) {from n : ℕ} (a : from ≡ nameAt s) (l : n ≡ byte s 19) where
+  pub put-past : 38 ≤ length s → length s < from + n → (d : List ℕ) → Puts s d d (record { wrote = 0; next = length s })
+  put-past h past d =
+      record {
+        inside = zero-le;
+        further = omega arith;
+        near = omega arith;
+        next = λ g. absurd (omega (arith, name-within s b g));
+        wrote = λ g. absurd (omega (arith, name-within s b g));
+      }
+
+  next-is : (from + n + 3) / 4 * 4 ≡ nextAt s
+  unfolding nextAt nameEnd
+  next-is = rw (a, l)
+
+  put-puts : from + n ≤ length s → {d d′ : List ℕ} {w : ℕ} → w ≤ length d → (isGood s ≡ true → length (shown (entryOf s)) ≤ length d → Wrote (shown (entryOf s)) d d′ w)
+      → Puts s d d′ (record { wrote = w; next = (from + n + 3) / 4 * 4 })
+  unfolding nameAt
+  put-puts h i k = record { inside = i; further = omega (arith, a); near = omega arith; next = λ g. next-is; wrote = k }
+
+  module _ (h : from + n ≤ length s) {m : ℕ} (k : m ≡ byte s 18) {t : Bool} (u : t ≡ (bit 4 m || bit 8 m)) where
+    pub put-left-out : t ≡ true → (d : List ℕ) → Puts s d d (record { wrote = 0; next = (from + n + 3) / 4 * 4 })
+    put-left-out v d = put-puts h zero-le (λ g room. left-out s b g k u v d)
+
+    pub put-recorded : t ≡ false → {d d′ : List ℕ} {w : ℕ} → Recorded m s (written (nameOf (take (from + n - from) (drop from s)))) d d′ w
+        → Puts s d d′ (record { wrote = w; next = (from + n + 3) / 4 * 4 })
+    put-recorded v {d} w = put-puts h (w .inside) (λ g room. rw (shown-record s b g k u v a l) (w .wrote (name-room s b g k u v a l d room)))
 
 -- ---- what was found already, or this entry
 
@@ -235,12 +265,11 @@ module _ (found : Named) (s component : List ℕ) where
   unfolding earlierOf
   earlier-found z = rw (eq-eqb (found .answer) 0 z)
 
-  module _ (n : found .answer ≡ 0 → ⊥) {b : Bool} (e : b ≡ answersTo component (entryOf s)) where
-    pub earlier-none : b ≡ false → found ≡ earlierOf found component (entryOf s)
+  module _ {f : FileIdentifierDescriptor} (n : found .answer ≡ 0 → ⊥) {b : Bool} (e : Good s f → b ≡ answersTo component (entryOf s)) where
+    pub earlier-none : b ≡ false → Good s f → found ≡ earlierOf found component (entryOf s)
     unfolding earlierOf
-    earlier-none h = rw (ne-eqb (found .answer) 0 n, ← e, h)
+    earlier-none h g = rw (ne-eqb (found .answer) 0 n, ← e g, h)
 
-    pub earlier-this : b ≡ true → {f : FileIdentifierDescriptor} → Good s f → {q : Bool} → q ≡ isDirectory f
-        → record { answer = 0; icb = f .icb; directory = q } ≡ earlierOf found component (entryOf s)
+    pub earlier-this : b ≡ true → {q : Bool} → q ≡ isDirectory f → Good s f → record { answer = 0; icb = f .icb; directory = q } ≡ earlierOf found component (entryOf s)
     unfolding earlierOf
-    earlier-this h g k = rw (ne-eqb (found .answer) 0 n, ← e, h, identifier-is g, k)
+    earlier-this h k g = rw (ne-eqb (found .answer) 0 n, ← e g, h, identifier-is g, k)

@@ -4,12 +4,13 @@ use mathlib.Core.Bool.{Bool, true, false, _||_}
 use mathlib.Core.List.{List, [], _∷_, _++_}
 use mathlib.Core.Option.{Option, none, some}
 use Prim.Native.Nat.{ℕ, zero, suc, _+_, _-_, _*_, _<_, _≤_, _^_, zero-le}
+use native.Mathlib.Nat.{sub-zero}
 use native.Mathlib.Omega.{arith}
 use lib.ListN.{length, take, drop, length-drop, length-append, length-take}
-use lib.Seq.{drop-drop, take-all, sets, length-sets}
+use lib.Seq.{drop-drop, take-all, sets}
 use lib.Dec.{eqb, ltb}
 use borrow.Author.Tests.{lt-ltb, le-ltb}
-use borrow.Rule.Slice.PartMut.{midOf, putMid}
+use borrow.Rule.Slice.PartMut.{midOf, putMid, same-len-mid}
 use mir.Syntax.{w64}
 use mir.Val.{Fits}
 use Rattle.disc.specs.Choice.{pick}
@@ -18,16 +19,16 @@ use Rattle.disc.specs.Ask.Outcome.{answered}
 use Rattle.disc.specs.Replies.{Replied}
 use Rattle.disc.specs.declared.refusals.Refusal.the-variants.{Malformed, LongName, NoRoom}
 use Rattle.disc.specs.declared.replies.Reply.{Reply}
-use Rattle.disc.proofs.MoveLaws.{over-fits, sets-append, sets-front}
+use Rattle.disc.proofs.MoveLaws.{over-fits, sets-append, sets-whole}
 use Rattle.disc.proofs.ReplyLaws.{reply-refused, reply-full, reply-done}
-use Rattle.names.specs.Names.{Wrote}
 use Rattle.identifiers.specs.declared.IdentifierRead.{IdentifierRead}
 use Rattle.identifiers.specs.Identifiers.{nameAt, nameEnd, nextAt}
 use Rattle.identifiers.specs.Wholes.{Whole}
 use Rattle.listings.specs.Entries.{Entry, entryOf, isGood, isSkipped, entriesFrom, entries, sound}
 use Rattle.listings.specs.Entries.Entries.{end, bad, entry}
 use Rattle.listings.specs.Listings.{shown, records, isLong, anyLong, listing, told, answersTo, firstNamed, findIn, unnamed, namedTo, namedOf}
-use Rattle.listings.specs.Passes.{Parsed, Onward, measuredOf, earlierOf}
+use Rattle.listings.specs.Passes.{Good, Parsed, Puts, measuredOf, earlierOf}
+use Rattle.listings.specs.declared.directory_entries.Put.{Put}
 use Rattle.listings.specs.declared.finds.Named.{Named}
 use Rattle.listings.specs.declared.lists.Measured.{Measured}
 use Rattle.listings.proofs.EntryLaws.{tail-over, good-read, bad-read, shown-length, long-is}
@@ -93,17 +94,6 @@ module _ (raw : List ℕ) (at : ℕ) where
         let q : drop (nextAt (tail raw at)) (tail raw at) ≡ drop (at + n) raw =
         ap (drop (nextAt (tail raw at))) tail-is ∙ drop-drop _ at raw ∙ ap (λ k. drop (at + k) raw) (sym e) in
         ap entries (sym tail-is) ∙ front-next (tail raw at) (rw tail-length (omega arith)) g ∙ ap (λ l. entry (entryOf (tail raw at)) (entries l)) q
-
-    -- the sums of the loop that writes
-    module _ {n : ℕ} (o : Onward (tail raw at) n) where
-      onward-far : at + n ≤ length raw + 3
-      onward-far = omega (arith, o .near, tail-length)
-
-      pub onward-less : length raw + 3 - (at + n) < length raw + 3 - at
-      onward-less = omega (arith, o .least)
-
-      pub onward-fits : length raw * 1 < 2 ^ 63 → Fits w64 (at + n)
-      onward-fits k = omega (arith, onward-far)
 
   module _ (h : at + 38 ≤ length raw) {r : IdentifierRead} (p : Parsed (tail raw at) r) where
     read-bad : (r .answer ≡ 0 → ⊥) → entries (drop at raw) ≡ bad
@@ -197,63 +187,71 @@ module _ {raw : List ℕ} {long : Bool} {n at : ℕ} (m : Measuring raw long n a
 
 -- ---- the loop that writes has come to `at`
 
+-- what is written, where the bytes are as they were measured
+pub record Filled (raw d₀ d : List ℕ) (n at : ℕ) : Type 0 where
+  pub sounds : sound (entries (drop at raw)) ≡ true
+  pub size : n + length (records (entries (drop at raw))) ≡ length d₀
+  pub rest : sets d n (records (entries (drop at raw))) ≡ sets d₀ 0 (records (entries raw))
+
+-- and where it stands, whatever they are
 pub record Filling (raw d₀ d : List ℕ) (n at : ℕ) : Type 0 where
   pub within : at ≤ length raw + 3
-  pub sounds : sound (entries (drop at raw)) ≡ true
-  pub size : n + length (records (entries (drop at raw))) ≡ length (records (entries raw))
-  pub rest : sets d n (records (entries (drop at raw))) ≡ sets d₀ 0 (records (entries raw))
+  pub inside : n ≤ length d
   pub long : length d ≡ length d₀
-  pub room : length (records (entries raw)) ≤ length d₀
+  pub filled : sound (entries raw) ≡ true → length (records (entries raw)) ≡ length d₀ → Filled raw d₀ d n at
 
-pub fill-starts : (raw d : List ℕ) → (sound (entries raw) ≡ true) × (length (records (entries raw)) ≤ length d) → Filling raw d d 0 0
-fill-starts raw d h = record { within = zero-le; sounds = h .0; size = omega arith; rest = refl; long = refl; room = h .1 }
+pub fill-starts : (raw d : List ℕ) → Filling raw d d 0 0
+fill-starts raw d =
+    record {
+      within = zero-le;
+      inside = zero-le;
+      long = refl;
+      filled = λ s l. record { sounds = s; size = omega arith; rest = refl };
+    }
 
 module _ {raw d₀ d : List ℕ} {n at : ℕ} (m : Filling raw d₀ d n at) where
-  pub fill-ends : length raw < at + 38 → Wrote (records (entries raw)) d₀ d n
+  pub fill-ends : length raw < at + 38 → sound (entries raw) ≡ true → length (records (entries raw)) ≡ length d₀ → d ≡ records (entries raw)
   unfolding records
-  fill-ends h =
+  fill-ends h s l =
       let e : records (entries (drop at raw)) ≡ [] = rw (at-end raw at h) in
-      record {
-        count = omega (arith, m .size, ap length e);
-        bytes = (rw e at (m .rest)) ∙ sets-front (records (entries raw)) d₀ (m .room) ∙ sym (over-fits (records (entries raw)) d₀ (m .room));
-      }
+      (rw e at (m .filled s l .rest)) ∙ sets-whole (records (entries raw)) d₀ l
 
-  module _ (h : at + 38 ≤ length raw) where
-    pub fill-good : isGood (tail raw at) ≡ true
-    fill-good = at-good raw at h (m .sounds)
+  module _ (h : at + 38 ≤ length raw) {p : Put} {ys : List ℕ} (w : Puts (tail raw at) (midOf n (length d - n) d) ys p) where
+    lent : length (midOf n (length d - n) d) ≡ length d - n
+    lent = simp (length-take, length-drop) (omega arith)
 
-    turn : {k : ℕ} → k ≡ nextAt (tail raw at) → records (entries (drop at raw)) ≡ shown (entryOf (tail raw at)) ++ records (entries (drop (at + k) raw))
-    unfolding records
-    turn e = rw (at-next raw at h fill-good e)
+    pub fill-fits : length d < 2 ^ 64 → Fits w64 (n + p .wrote)
+    fill-fits k = omega (arith, m .inside, w .inside, lent)
 
-    lengths : {k : ℕ} → k ≡ nextAt (tail raw at) → length (records (entries (drop at raw))) ≡ length (shown (entryOf (tail raw at))) + length (records (entries (drop (at + k) raw)))
-    lengths e = rw (turn e, length-append)
+    pub on-fits : length raw * 1 < 2 ^ 63 → Fits w64 (at + p .next)
+    on-fits k = omega (arith, w .near, tail-length raw at)
 
-    room-at : n + length (shown (entryOf (tail raw at))) ≤ length d
-    room-at = omega (arith, lengths refl, m .size, m .room, m .long)
+    pub on-less : length raw + 3 - (at + p .next) < length raw + 3 - at
+    on-less = omega (arith, w .further)
 
-    pub fill-start : n ≤ length d
-    fill-start = omega (arith, room-at)
-
-    pub fill-room : length (shown (entryOf (tail raw at))) ≤ length (midOf n (length d - n) d)
-    fill-room = simp (length-take, length-drop) (omega (arith, room-at))
-
-    module _ {k : ℕ} {ys : List ℕ} (w : Wrote (shown (entryOf (tail raw at))) (midOf n (length d - n) d) ys k) where
-      pub fill-fits : length d < 2 ^ 64 → Fits w64 (n + k)
-      fill-fits l = omega (arith, room-at, w .count)
-
-      pub fill-next : {v : ℕ} → Onward (tail raw at) v → Filling raw d₀ (putMid n (length d - n) d ys) (n + k) (at + v)
-      unfolding sound
-      fill-next o =
-          let s : putMid n (length d - n) d ys ≡ sets d n (shown (entryOf (tail raw at))) = tail-over n d (shown (entryOf (tail raw at))) ys room-at (w .bytes) in
-          record {
-            within = onward-far raw at h o;
-            sounds = rw (at-next raw at h fill-good (o .is)) at (m .sounds);
-            size = omega (arith, lengths (o .is), m .size, w .count);
-            rest = rw (s, w .count, ← sets-append, ← turn (o .is)) (m .rest);
-            long = rw (s, length-sets) (m .long);
-            room = m .room;
-          }
+    pub fill-next : length ys ≡ length (midOf n (length d - n) d) → Filling raw d₀ (putMid n (length d - n) d ys) (n + p .wrote) (at + p .next)
+    unfolding sound records
+    fill-next k =
+        let same : length (putMid n (length d - n) d ys) ≡ length d = same-len-mid n (length d - n) d ys k in
+        record {
+          within = omega (arith, w .near, tail-length raw at);
+          inside = omega (arith, m .inside, w .inside, lent);
+          long = same ∙ m .long;
+          filled = λ s l.
+              let f = m .filled s l in
+              let good = at-good raw at h (f .sounds) in
+              let q = at-next raw at h good (w .next good) in
+              let t : records (entries (drop at raw)) ≡ shown (entryOf (tail raw at)) ++ records (entries (drop (at + p .next) raw)) = rw q in
+              let z : length (records (entries (drop at raw))) ≡ length (shown (entryOf (tail raw at))) + length (records (entries (drop (at + p .next) raw))) = rw (t, length-append) in
+              let room : n + length (shown (entryOf (tail raw at))) ≤ length d = omega (arith, z, f .size, m .long) in
+              let v = w .wrote good (omega (arith, lent)) in
+              let u : putMid n (length d - n) d ys ≡ sets d n (shown (entryOf (tail raw at))) = tail-over n d (shown (entryOf (tail raw at))) ys room (v .bytes) in
+              record {
+                sounds = rw q at (f .sounds);
+                size = omega (arith, z, f .size, v .count);
+                rest = rw (u, v .count, ← sets-append, ← t) (f .rest);
+              };
+        }
 
 -- ---- the loop that looks for a name has come to `at`
 
@@ -300,13 +298,13 @@ module _ {component raw : List ℕ} {found : Named} {at : ℕ} (m : Finding comp
     unfolding findIn sound
     find-bad n e = rw (← m .same, read-bad raw at h p n) e
 
-    pub find-next : r .answer ≡ 0 → {a : Named} → a ≡ earlierOf found component (entryOf (tail raw at)) → Finding component raw a (at + r .descriptor .«total_size»)
+    pub find-next : r .answer ≡ 0 → {a : Named} → (Good (tail raw at) (r .descriptor) → a ≡ earlierOf found component (entryOf (tail raw at))) → Finding component raw a (at + r .descriptor .«total_size»)
     unfolding firstNamed sound
     find-next z e =
         let q = read-next raw at h p z in
         record {
           within = at-far raw at h p z;
-          rest = rw e (first-turn found component (entryOf (tail raw at)) _ ∙ (rw q at (m .rest)));
+          rest = rw (e (p .good z)) (first-turn found component (entryOf (tail raw at)) _ ∙ (rw q at (m .rest)));
           same = rw q at (m .same);
         }
 
@@ -345,8 +343,11 @@ module _ (raw : List ℕ) {m : Measured} (p : m ≡ measuredOf (entries raw)) wh
       pub list-full : {d : List ℕ} → length d < m .size → {a : ℕ} {reply : Reply} → a ≡ number NoRoom → reply ≡ record { answer = a; count = 0; length = 0 } → Replied NoRoom (told (listing raw)) d d reply
       list-full h e q = rw lists (reply-full (records (entries raw)) 0 0 (omega (arith, size-of)) refl (q ∙ rw e))
 
-      pub list-room : (k : ℕ) → m .size ≤ k → length (records (entries raw)) ≤ k
-      list-room k h = omega (arith, size-of)
-
-      pub list-done : {d d′ : List ℕ} {n : ℕ} → m .size ≤ length d → Wrote (records (entries raw)) d d′ n → Replied NoRoom (told (listing raw)) d d′ (record { answer = 0; count = 0; length = n })
-      list-done h w = rw (lists, w .count) (reply-done (records (entries raw)) 0 0 (omega (arith, size-of)) refl (w .bytes))
+      pub list-done : {d ys : List ℕ} → m .size ≤ length d
+          → (sound (entries raw) ≡ true → length (records (entries raw)) ≡ length (midOf 0 (m .size - 0) d) → ys ≡ records (entries raw))
+          → Replied NoRoom (told (listing raw)) d (putMid 0 (m .size - 0) d ys) (record { answer = 0; count = 0; length = m .size })
+      list-done {d} h w =
+          let l : length (records (entries raw)) ≤ length d = omega (arith, size-of) in
+          let k : length (records (entries raw)) ≡ length (midOf 0 (m .size - 0) d) = simp (length-take, length-drop) (omega (arith, size-of)) in
+          rw (lists, w sounds k, size-of)
+          (reply-done (records (entries raw)) 0 0 l refl (rw (over-fits (records (entries raw)) d l, sub-zero)))

@@ -9,12 +9,14 @@ use lib.ListN.{length}
 use lib.Dec.{eqb}
 use Rattle.disc.specs.Choice.{pick}
 use Rattle.records.specs.Bytes.{byte, six, le16}
+use Rattle.names.specs.Names.{Wrote}
 use Rattle.identifiers.specs.Identifiers.{readIdentifier, nextAt}
 use Rattle.identifiers.specs.Wholes.{Whole}
 use Rattle.identifiers.specs.declared.FileIdentifierDescriptor.{FileIdentifierDescriptor}
 use Rattle.identifiers.specs.declared.IdentifierRead.{IdentifierRead}
-use Rattle.listings.specs.Entries.{Entry, Entries, sound}
-use Rattle.listings.specs.Listings.{records, anyLong, answersTo, namedTo}
+use Rattle.listings.specs.Entries.{Entry, Entries, entryOf, isGood, sound}
+use Rattle.listings.specs.Listings.{shown, records, anyLong, answersTo, namedTo}
+use Rattle.listings.specs.declared.directory_entries.Put.{Put}
 use Rattle.listings.specs.declared.finds.Named.{Named}
 use Rattle.listings.specs.declared.lists.Measured.{Measured}
 
@@ -28,12 +30,6 @@ pub record Parsed (s : List ℕ) (r : IdentifierRead) : Type 0 where
   pub is : r ≡ readIdentifier s
   pub good : r .answer ≡ 0 → Good s (r .descriptor)
 
--- how far on the next entry starts: at most three bytes past the end
-pub record Onward (s : List ℕ) (r : ℕ) : Type 0 where
-  pub is : r ≡ nextAt s
-  pub least : 38 ≤ r
-  pub near : r ≤ length s + 3
-
 -- the head of an entry's record: the ICB's bytes as they are recorded, the name's length n
 abbrev pub icbIn : List ℕ → List ℕ
 icbIn s = six s 20 ++ six s 26 ++ byte s 32 ∷ byte s 33 ∷ byte s 34 ∷ byte s 35 ∷ []
@@ -41,9 +37,23 @@ icbIn s = six s 20 ++ six s 26 ++ byte s 32 ∷ byte s 33 ∷ byte s 34 ∷ byte
 unfoldable pub headIn : ℕ → List ℕ → ℕ → List ℕ
 headIn directory s n = 0x44 ∷ 0x45 ∷ directory ∷ (icbIn s ++ le16 n)
 
--- and the record, with a name in UTF-8
-unfoldable pub recordIn : List ℕ → List ℕ → List ℕ
-recordIn s name = headIn (byte s 18 / 2 % 2) s (length name) ++ name
+-- and the record, with the entry's characteristics and a name in UTF-8
+unfoldable pub recordIn : ℕ → List ℕ → List ℕ → List ℕ
+recordIn marks s name = headIn (marks / 2 % 2) s (length name) ++ name
+
+-- what writing a record says: what is written has room, and it is the record where that has
+pub record Recorded (marks : ℕ) (s name before after : List ℕ) (r : ℕ) : Type 0 where
+  pub inside : r ≤ length before
+  pub wrote : 21 + length name ≤ length before → Wrote (recordIn marks s name) before after r
+
+-- what writing an entry says, whatever bytes s has: what is written has room, and the next entry starts further on, at most three
+-- bytes past the end
+pub record Puts (s before after : List ℕ) (r : Put) : Type 0 where
+  pub inside : r .wrote ≤ length before
+  pub further : 1 ≤ r .next
+  pub near : r .next ≤ length s + 3
+  pub next : isGood s ≡ true → r .next ≡ nextAt s
+  pub wrote : isGood s ≡ true → length (shown (entryOf s)) ≤ length before → Wrote (shown (entryOf s)) before after (r .wrote)
 
 -- what measuring a directory's entries says
 abbrev pub measuredOf : Entries → Measured

@@ -1,15 +1,15 @@
 // One entry of a directory, at the front of bytes.
 ghost use mathlib.Core.Path.{_≡_};
-ghost use mathlib.Core.Bool.{true, false, _||_};
+ghost use mathlib.Core.Bool.{false, _||_};
 ghost use Prim.Native.Nat.{_+_, _≤_, _<_};
 ghost use lib.Dec.{ltb};
 ghost use lib.ListN.{length};
 ghost use Rattle.disc.specs.Choice.{pick};
-ghost use Rattle.names.specs.Names.{Wrote, nameOf, written};
+ghost use Rattle.names.specs.Names.{nameOf, written};
 ghost use Rattle.identifiers.specs.Identifiers.{bit};
-ghost use Rattle.listings.specs.Entries.{entryOf, isGood, isSkipped};
-ghost use Rattle.listings.specs.Listings.{shown, answersTo};
-ghost use Rattle.listings.specs.Passes.{Good, Parsed, Onward, headIn, recordIn};
+ghost use Rattle.listings.specs.Entries.{entryOf, isSkipped};
+ghost use Rattle.listings.specs.Listings.{answersTo};
+ghost use Rattle.listings.specs.Passes.{Good, Parsed, Recorded, Puts, headIn};
 use disc::moves::copy;
 use identifiers::FileIdentifierDescriptor;
 use identifiers::IdentifierRead;
@@ -93,42 +93,56 @@ fn head(directory: u8, s: &[u8], n: usize) -> [u8; 21]
 }
 
 // Writes the record of the entry at the front of s over the front of out, and returns its length: the name first, whose length is
-// then known, and over the 21 bytes before it the head.
-fn put_record(s: &[u8], recorded: &[u8], out: &mut [u8]) -> usize
-    requires { ⌜ (36 ≤ length (now s)) × (21 + length (written (nameOf (now recorded))) ≤ length (now out)) ⌝ }
-    ensures { λ r. ⌜ Wrote (recordIn (now (s .entry)) (written (nameOf (now (recorded .entry))))) (now (out .entry)) (now (out .exit)) r ⌝ }
+// then known, and over the 21 bytes before it the head. A record that has no room, which none has that was measured, is left out.
+fn put_record(marks: u8, s: &[u8], recorded: &[u8], out: &mut [u8]) -> usize
+    requires { ⌜ 36 ≤ length (now s) ⌝ }
+    ensures { λ r. ⌜ Recorded marks (now (s .entry)) (written (nameOf (now (recorded .entry)))) (now (out .entry)) (now (out .exit)) r ⌝ }
 {
+    if out.len() < 21 {
+        return 0;
+    }
     let n = put_name(recorded, &mut out[21..]);
-    let h = head(byte_at(s, 18) / 2 % 2, s, n);
+    if out.len() - 21 < n {
+        return 0;
+    }
+    let h = head(marks / 2 % 2, s, n);
     copy(&h, out);
     21 + n
 }
 
-// Writes the record of the entry at the front of s, which is good, and returns its length. Nothing is checked again.
-pub(crate) fn put_entry(s: &[u8], out: &mut [u8]) -> usize
-    requires { ⌜ (isGood (now s) ≡ true) × (length (shown (entryOf (now s))) ≤ length (now out)) ⌝ }
-    ensures { λ r. ⌜ Wrote (shown (entryOf (now (s .entry)))) (now (out .entry)) (now (out .exit)) r ⌝ }
+// How many bytes were written of an entry, and how far behind its start the next one starts.
+pub(crate) struct Put {
+    pub wrote: usize,
+    pub next: usize,
+}
+
+// Writes the record of the entry at the front of s. Its tag and its name are not checked again, and each of its fields is looked at
+// once. Where the name ends past the bytes, they are not those that were measured, and there is no next entry.
+pub(crate) fn put_entry(s: &[u8], out: &mut [u8]) -> Put
+    requires { ⌜ 38 ≤ length (now s) ⌝ }
+    ensures { λ r. ⌜ Puts (now (s .entry)) (now (out .entry)) (now (out .exit)) r ⌝ }
 {
-    if is_left_out(byte_at(s, 18)) {
-        return 0;
-    }
+    let marks = byte_at(s, 18);
     let from = name_at(s);
     let end = from + byte_at(s, 19) as usize;
-    put_record(s, &s[from..end], out)
+    if s.len() < end {
+        return Put {
+            wrote: 0,
+            next: s.len(),
+        };
+    }
+    let next = (end + 3) / 4 * 4;
+    if is_left_out(marks) {
+        return Put { wrote: 0, next };
+    }
+    let wrote = put_record(marks, s, &s[from..end], out);
+    Put { wrote, next }
 }
 
-// How far behind the entry at the front of s, which is good, the next one starts.
-pub(crate) fn next_at(s: &[u8]) -> usize
-    requires { ⌜ isGood (now s) ≡ true ⌝ }
-    ensures { λ r. ⌜ Onward (now (s .entry)) r ⌝ }
-{
-    (name_at(s) + byte_at(s, 19) as usize + 3) / 4 * 4
-}
-
-// Whether the entry f at the front of s is not skipped, and has the name that is looked for.
+// Whether the entry f, read at the front of s, is not skipped, and has the name that is looked for.
 pub(crate) fn answers_to(s: &[u8], f: FileIdentifierDescriptor, component: &[u8]) -> bool
-    requires { ⌜ Good (now s) f ⌝ }
-    ensures { λ r. ⌜ r ≡ answersTo (now (component .entry)) (entryOf (now (s .entry))) ⌝ }
+    requires { ⌜ f .«name_at» + f .«name_length» ≤ length (now s) ⌝ }
+    ensures { λ r. ⌜ (Good (now (s .entry)) f → r ≡ answersTo (now (component .entry)) (entryOf (now (s .entry)))) ⌝ }
 {
     if is_skipped(f) {
         return false;

@@ -1,5 +1,7 @@
 // The first entry of a name.
 ghost use mathlib.Core.Path.{_≡_};
+ghost use Prim.Native.Nat.{_+_, _≤_};
+ghost use lib.ListN.{length};
 ghost use Rattle.listings.specs.Entries.{entryOf};
 ghost use Rattle.listings.specs.Listings.{findIn, namedOf, unnamed};
 ghost use Rattle.listings.specs.Passes.{Good, earlierOf};
@@ -26,10 +28,10 @@ fn no_entry(answer: u64) -> Named
     }
 }
 
-// What was found already, else the entry f at the front of s if it answers to the component.
+// What was found already, else the entry f, read at the front of s, if it answers to the component.
 fn earlier(found: Named, s: &[u8], f: FileIdentifierDescriptor, component: &[u8]) -> Named
-    requires { ⌜ Good (now s) f ⌝ }
-    ensures { λ r. ⌜ r ≡ earlierOf found (now (component .entry)) (entryOf (now (s .entry))) ⌝ }
+    requires { ⌜ f .«name_at» + f .«name_length» ≤ length (now s) ⌝ }
+    ensures { λ r. ⌜ (Good (now (s .entry)) f → r ≡ earlierOf found (now (component .entry)) (entryOf (now (s .entry)))) ⌝ }
 {
     if found.answer == 0 {
         return found;

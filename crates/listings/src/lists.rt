@@ -1,17 +1,14 @@
 // A directory's listing: a record for each entry that is not skipped.
 ghost use mathlib.Core.Path.{_≡_};
 ghost use mathlib.Core.Bool.{true};
-ghost use Prim.Native.Nat.{_≤_};
 ghost use lib.ListN.{length};
 ghost use Rattle.disc.specs.Replies.{Replied};
 ghost use Rattle.disc.specs.declared.refusals.Refusal.the-variants.{NoRoom};
-ghost use Rattle.names.specs.Names.{Wrote};
 ghost use Rattle.listings.specs.Entries.{entries, sound};
 ghost use Rattle.listings.specs.Listings.{records, listing, told};
 ghost use Rattle.listings.specs.Passes.{measuredOf};
 use crate::directory_entries::entry_at;
 use crate::directory_entries::is_long;
-use crate::directory_entries::next_at;
 use crate::directory_entries::put_entry;
 use crate::directory_entries::record_size;
 use disc::refusals::Refusal;
@@ -52,19 +49,18 @@ fn measure(raw: &[u8]) -> Measured
     }
 }
 
-// Writes the records of the entries, which are all good, over the front of out, each behind the one before.
-fn put_entries(raw: &[u8], out: &mut [u8]) -> usize
-    requires { ⌜ (sound (entries (now raw)) ≡ true) × (length (records (entries (now raw))) ≤ length (now out)) ⌝ }
-    ensures { λ r. ⌜ Wrote (records (entries (now (raw .entry)))) (now (out .entry)) (now (out .exit)) r ⌝ }
+// Writes the records of the entries over out, each behind the one before. The entries are not checked again, so what is lent is the room
+// that was measured, and nothing behind it can be written, whatever the bytes are by now.
+fn put_entries(raw: &[u8], out: &mut [u8])
+    ensures { λ _. ⌜ (sound (entries (now (raw .entry))) ≡ true → length (records (entries (now (raw .entry)))) ≡ length (now (out .entry)) → now (out .exit) ≡ records (entries (now (raw .entry)))) ⌝ }
 {
     let mut n: usize = 0;
     let mut at: usize = 0;
     while at + 38 <= raw.len() {
-        let s = &raw[at..];
-        n += put_entry(s, &mut out[n..]);
-        at += next_at(s);
+        let p = put_entry(&raw[at..], &mut out[n..]);
+        n += p.wrote;
+        at += p.next;
     }
-    n
 }
 
 // The listing of a directory's bytes over the front of out.
@@ -78,12 +74,14 @@ pub fn list(raw: &[u8], out: &mut [u8]) -> Reply
     if m.long {
         return refusal(Refusal::LongName.number(), 0);
     }
-    if out.len() < m.size {
+    let size = m.size;
+    if out.len() < size {
         return refusal(Refusal::NoRoom.number(), 0);
     }
+    put_entries(raw, &mut out[0..size]);
     Reply {
         answer: 0,
         count: 0,
-        length: put_entries(raw, out) as u64,
+        length: size as u64,
     }
 }

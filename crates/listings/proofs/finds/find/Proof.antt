@@ -2,12 +2,12 @@
 use borrow.Author.Needs.{needs}
 use Prim.Native.Nat.{_+_, _-_}
 use lib.ListN.{length}
-use Rattle.listings.proofs.EntryLaws.{parsed-good}
+use Rattle.listings.proofs.EntryLaws.{name-inside}
 use Rattle.listings.proofs.WalkLaws.{Finding, find-starts, find-bad, next-fits, at-less, find-next, find-ends}
 use Rattle.listings.proofs.finds.find.Statement.{statement}
 use Rattle.listings.proofs.finds.find.Tie as tie
 
-ruleset finds = (parsed-good, find-starts, find-bad, next-fits, at-less, find-next, find-ends, needs)
+ruleset finds = (name-inside, find-starts, find-bad, next-fits, at-less, find-next, find-ends, needs)
 
 abbrev Inv-loop : tie.InvT-loop
 Inv-loop raw component found₀ at₀ found at = Finding component raw found at

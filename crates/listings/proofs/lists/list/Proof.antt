@@ -1,11 +1,11 @@
 -- `listings::lists::list` meets its contract: by the three refusals in their order, and then the records. Assumes nothing.
 use borrow.Author.Needs.{needs}
 use borrow.Author.Tests.{not-true, not-false}
-use Rattle.listings.proofs.WalkLaws.{sounds, list-bad, list-long, list-full, list-room, list-done}
+use Rattle.listings.proofs.WalkLaws.{list-bad, list-long, list-full, list-done}
 use Rattle.listings.proofs.lists.list.Statement.{statement}
 use Rattle.listings.proofs.lists.list.Tie as tie
 
-ruleset lists = (sounds, list-bad, list-long, list-full, list-room, list-done, not-true, not-false, needs)
+ruleset lists = (list-bad, list-long, list-full, list-done, not-true, not-false, needs)
 
 pub list-spec : {M : Type 1} → statement M
 list-spec =
@@ -19,6 +19,9 @@ list-spec =
     (λ c. search lists)
     (λ c κs. search lists)
     (λ c κs. search lists)
+    (λ c. search lists)
+    (λ c. search lists)
+    (λ c. search lists)
     (λ c. search lists)
     (λ c κs. search lists)
     (λ c. search lists)

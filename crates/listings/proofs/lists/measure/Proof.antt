@@ -2,12 +2,11 @@
 use borrow.Author.Needs.{needs}
 use Prim.Native.Nat.{_+_, _-_}
 use lib.ListN.{length}
-use Rattle.listings.proofs.EntryLaws.{parsed-good}
 use Rattle.listings.proofs.WalkLaws.{Measuring, measure-starts, measure-bad, name-fits, size-fits, next-fits, at-less, measure-next, measure-ends}
 use Rattle.listings.proofs.lists.measure.Statement.{statement}
 use Rattle.listings.proofs.lists.measure.Tie as tie
 
-ruleset measures = (parsed-good, measure-starts, measure-bad, name-fits, size-fits, next-fits, at-less, measure-next, measure-ends, needs)
+ruleset measures = (measure-starts, measure-bad, name-fits, size-fits, next-fits, at-less, measure-next, measure-ends, needs)
 
 abbrev Inv-loop : tie.InvT-loop
 Inv-loop raw long₀ n₀ at₀ long n at = Measuring raw long n at
