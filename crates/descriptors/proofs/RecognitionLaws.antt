@@ -1,23 +1,23 @@
 -- A sector's structure by its first byte and its identifier. Assumes nothing.
 use Prim.Native.Nat.{ℕ}
-use mathlib.Core.Path.{_≡_}
+use mathlib.Core.Path.{_≡_, ap, _∙_}
 use mathlib.Core.Bool.{Bool, _&&_, _||_}
 use mathlib.Core.List.{List}
 use lib.Dec.{eqb}
 use borrow.Author.Tests.{eq-eqb, ne-eqb}
-use Rattle.records.specs.Bytes.{byte}
+use Rattle.records.specs.Bytes.{byte, six}
 use Rattle.descriptors.specs.Recognition.{identified, nsr, other, identityOf, structureOf}
 use Rattle.descriptors.specs.declared.recognition.Structure.{Structure}
 use Rattle.descriptors.specs.declared.recognition.Structure.the-variants.{Unknown}
 
-module _ (s : List ℕ) {b : ℕ} where
-  pub type-other : b ≡ byte s 0 → (b ≡ 0 → ⊥) → Unknown ≡ structureOf s
+module _ (s : List ℕ) {f : List ℕ} (e : f ≡ six s 0) where
+  pub type-other : (byte f 0 ≡ 0 → ⊥) → Unknown ≡ structureOf s
   unfolding structureOf
-  type-other e h = rw (← e, ne-eqb b 0 h)
+  type-other h = simp (ne-eqb (byte s 0) 0 (rw e at h))
 
-  pub type-zero : {r : Structure} → b ≡ byte s 0 → b ≡ 0 → r ≡ identityOf s → r ≡ structureOf s
-  unfolding structureOf
-  type-zero e h k = rw (← e, eq-eqb b 0 h) k
+  pub type-zero : {r : Structure} → byte f 0 ≡ 0 → r ≡ identityOf f → r ≡ structureOf s
+  unfolding structureOf identityOf identified nsr other
+  type-zero h k = simp (eq-eqb (byte s 0) 0 (rw e at h)) (k ∙ ap identityOf e)
 
 -- The five bytes of an identifier, each as the call that read it ensures.
 pub identified-bytes : (s : List ℕ) (a b c d e : ℕ) {p q r t u : ℕ} → p ≡ byte s 1 → q ≡ byte s 2 → r ≡ byte s 3 → t ≡ byte s 4 → u ≡ byte s 5

@@ -97,17 +97,17 @@ module _ (s : List ℕ) {x : TagRead} where
   unfolding readLogical
   logical-yes e h k = rw (← e, h) k
 
-module _ (s : List ℕ) (t : DescriptorTag) {b : Bool} where
-  pub primary-unnamed : {r : PrimaryRead} → b ≡ decodes (take 32 (drop 24 s)) → b ≡ false → r ≡ noPrimary Malformed → r ≡ primaryBehind s t
+module _ (s : List ℕ) (t : DescriptorTag) {b : Bool} {label : List ℕ} where
+  pub primary-unnamed : {r : PrimaryRead} → label ≡ take 32 (drop 24 s) → b ≡ decodes label → b ≡ false → r ≡ noPrimary Malformed → r ≡ primaryBehind s t
   unfolding primaryBehind
-  primary-unnamed e h k = rw (← e, h) k
+  primary-unnamed l e h k = rw (← l, ← e, h) k
 
-  pub primary-named : {m n : ℕ} {label : List ℕ}
-      → b ≡ decodes (take 32 (drop 24 s))
+  pub primary-named : {m n : ℕ}
+      → label ≡ take 32 (drop 24 s)
+      → b ≡ decodes label
       → b ≡ true
       → m ≡ u32at s 16
       → n ≡ u32at s 20
-      → label ≡ take 32 (drop 24 s)
       → record {
         answer = 0;
         descriptor = record {
@@ -118,17 +118,17 @@ module _ (s : List ℕ) (t : DescriptorTag) {b : Bool} where
         };
       } ≡ primaryBehind s t
   unfolding primaryBehind
-  primary-named e h p q k = rw (← e, h, p, q, k)
+  primary-named l e h p q = rw (← l, ← e, h, p, q)
 
-  pub logical-unnamed : {r : LogicalRead} → b ≡ decodes (take 128 (drop 84 s)) → b ≡ false → r ≡ noLogical Malformed → r ≡ logicalBehind s t
+  pub logical-unnamed : {r : LogicalRead} → label ≡ take 128 (drop 84 s) → b ≡ decodes label → b ≡ false → r ≡ noLogical Malformed → r ≡ logicalBehind s t
   unfolding logicalBehind
-  logical-unnamed e h k = rw (← e, h) k
+  logical-unnamed l e h k = rw (← l, ← e, h) k
 
-  pub logical-named : {m n : ℕ} {label : List ℕ} {place : LongAd}
-      → b ≡ decodes (take 128 (drop 84 s))
+  pub logical-named : {m n : ℕ} {place : LongAd}
+      → label ≡ take 128 (drop 84 s)
+      → b ≡ decodes label
       → b ≡ true
       → m ≡ u32at s 16
-      → label ≡ take 128 (drop 84 s)
       → n ≡ u32at s 212
       → place ≡ longOf s 248
       → record {
@@ -142,4 +142,4 @@ module _ (s : List ℕ) (t : DescriptorTag) {b : Bool} where
         };
       } ≡ logicalBehind s t
   unfolding logicalBehind
-  logical-named e h p k q l = rw (← e, h, p, k, q, l)
+  logical-named l e h p q k = rw (← l, ← e, h, p, q, k)

@@ -47,12 +47,13 @@ fn no_logical(why: Refusal) -> LogicalRead
     }
 }
 
-// The descriptor in `s` behind its tag `t`.
+// The descriptor in `s` behind its tag `t`. The label is copied first: the copy is checked and kept.
 fn logical_behind(s: &[u8], t: DescriptorTag) -> LogicalRead
     requires { ⌜ 440 ≤ length (now s) ⌝ }
     ensures { λ r. ⌜ r ≡ logicalBehind (now (s .entry)) t ⌝ }
 {
-    if !is_label(&s[84..212]) {
+    let label = logical_label(s);
+    if !is_label(&label) {
         return no_logical(Refusal::Malformed);
     }
     LogicalRead {
@@ -60,7 +61,7 @@ fn logical_behind(s: &[u8], t: DescriptorTag) -> LogicalRead
         descriptor: LogicalVolumeDescriptor {
             tag: t,
             volume_descriptor_sequence_number: le32(s, 16),
-            logical_volume_identifier: logical_label(s),
+            logical_volume_identifier: label,
             logical_block_size: le32(s, 212),
             file_set_descriptor_location: long_at(s, 248),
         },

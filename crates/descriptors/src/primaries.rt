@@ -42,12 +42,13 @@ fn no_primary(why: Refusal) -> PrimaryRead
     }
 }
 
-// The descriptor in `s` behind its tag `t`.
+// The descriptor in `s` behind its tag `t`. The label is copied first: the copy is checked and kept.
 fn primary_behind(s: &[u8], t: DescriptorTag) -> PrimaryRead
     requires { ⌜ 56 ≤ length (now s) ⌝ }
     ensures { λ r. ⌜ r ≡ primaryBehind (now (s .entry)) t ⌝ }
 {
-    if !is_label(&s[24..56]) {
+    let label = volume_label(s);
+    if !is_label(&label) {
         return no_primary(Refusal::Malformed);
     }
     PrimaryRead {
@@ -56,7 +57,7 @@ fn primary_behind(s: &[u8], t: DescriptorTag) -> PrimaryRead
             tag: t,
             volume_descriptor_sequence_number: le32(s, 16),
             primary_volume_descriptor_number: le32(s, 20),
-            volume_identifier: volume_label(s),
+            volume_identifier: label,
         },
     }
 }

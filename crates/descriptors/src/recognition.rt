@@ -1,5 +1,6 @@
 // Volume structure descriptors: what the recognition probe finds in one sector.
 ghost use mathlib.Core.Path.{_≡_};
+ghost use Rattle.records.specs.Bytes.{six};
 ghost use Rattle.descriptors.specs.Recognition.{identified, nsr, other, identityOf, structureOf};
 use records::bytes::byte_at;
 
@@ -13,6 +14,20 @@ pub enum Structure {
     // CD001 or CDW02: another file system's, which the probe passes over.
     Other,
     Unknown,
+}
+
+// The first six bytes, each fetched once.
+fn fetch(s: &[u8]) -> [u8; 6]
+    ensures { λ r. ⌜ r ≡ six (now (s .entry)) 0 ⌝ }
+{
+    [
+        byte_at(s, 0),
+        byte_at(s, 1),
+        byte_at(s, 2),
+        byte_at(s, 3),
+        byte_at(s, 4),
+        byte_at(s, 5),
+    ]
 }
 
 // Whether bytes 1 to 5 are these.
@@ -60,8 +75,9 @@ fn identity_of(s: &[u8]) -> Structure
 pub fn structure_of(s: &[u8]) -> Structure
     ensures { λ r. ⌜ r ≡ structureOf (now (s .entry)) ⌝ }
 {
-    if byte_at(s, 0) != 0 {
+    let fetched = fetch(s);
+    if fetched[0] != 0 {
         return Structure::Unknown;
     }
-    identity_of(s)
+    identity_of(&fetched)
 }

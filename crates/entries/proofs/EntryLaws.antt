@@ -10,17 +10,19 @@ use borrow.Author.Tests.{eq-eqb, ne-eqb, lt-ltb, le-ltb, ltb-false}
 use Rattle.disc.specs.Choice.{pick}
 use Rattle.disc.specs.declared.refusals.Refusal.{Refusal}
 use Rattle.disc.specs.declared.refusals.Refusal.the-variants.{Malformed}
-use Rattle.records.specs.Bytes.{u16at, u32at}
+use Rattle.records.specs.Bytes.{u32at}
 use Rattle.tags.specs.Tags.{readTag}
 use Rattle.tags.specs.declared.DescriptorTag.{DescriptorTag}
 use Rattle.tags.specs.declared.TagRead.{TagRead}
 use Rattle.tags.specs.declared.TagRead.the-variants.{Read as ATag, Refused as NoTag}
+use Rattle.entries.specs.declared.«icb_tags».IcbTag.{IcbTag}
 use Rattle.entries.specs.declared.«file_entries».ObjectSize.the-variants.{Recorded, Absent}
 use Rattle.entries.specs.declared.«file_entries».EntryTail.{EntryTail}
 use Rattle.entries.specs.declared.«file_entries».FileEntry.{FileEntry}
 use Rattle.entries.specs.declared.«file_entries».EntryRead.{EntryRead}
 use Rattle.entries.specs.declared.«file_entries».EntryRead.the-variants.{Read, Refused}
 use Rattle.entries.specs.Bytes.{u64at}
+use Rattle.entries.specs.IcbTags.{icbTagOf}
 use Rattle.entries.specs.FileEntries.{plainTail, extendedTail, kindOf, entryOf, entryWith, entryAfter, readEntry}
 use Rattle.entries.specs.Wholes.{tailOf, WholeEntry}
 use Rattle.tags.proofs.RoundTrips.{tag-refused}
@@ -40,19 +42,19 @@ module _ (s : List ℕ) {blocks attributes descriptors : ℕ} where
 
 -- ---- the returns of `entry_with`
 
-module _ (s : List ℕ) (t : DescriptorTag) (d : EntryTail) {flags : ℕ} (e : flags ≡ u16at s 34) where
-  pub with-kind : 3 < flags % 8 → Refused Malformed ≡ entryWith s t d
+module _ (s : List ℕ) (t : DescriptorTag) (i : IcbTag) (d : EntryTail) where
+  pub with-kind : 3 < i .flags % 8 → Refused Malformed ≡ entryWith s t i d
   unfolding entryWith
-  with-kind h = rw (← e, lt-ltb 3 (flags % 8) h)
+  with-kind h = simp (lt-ltb 3 (i .flags % 8) h)
 
-  module _ (h : flags % 8 ≤ 3) where
-    pub with-over : {a : ℕ} → a ≡ d .prefix + d .attributes → length s < a + d .descriptors → Refused Malformed ≡ entryWith s t d
+  module _ (h : i .flags % 8 ≤ 3) where
+    pub with-over : {a : ℕ} → a ≡ d .prefix + d .attributes → length s < a + d .descriptors → Refused Malformed ≡ entryWith s t i d
     unfolding entryWith
-    with-over f k = rw (← e, le-ltb 3 (flags % 8) h) (simp (lt-ltb _ _ (rw f at k)))
+    with-over f k = simp (le-ltb 3 (i .flags % 8) h, lt-ltb _ _ (rw f at k))
 
-    pub with-read : {a : ℕ} → a ≡ d .prefix + d .attributes → a + d .descriptors ≤ length s → {x : FileEntry} → x ≡ entryOf s t d → Read x ≡ entryWith s t d
+    pub with-read : {a : ℕ} → a ≡ d .prefix + d .attributes → a + d .descriptors ≤ length s → {x : FileEntry} → x ≡ entryOf s t i d → Read x ≡ entryWith s t i d
     unfolding entryWith
-    with-read f k g = rw (← e, le-ltb 3 (flags % 8) h) (simp (le-ltb _ _ (rw f at k), g))
+    with-read f k g = simp (le-ltb 3 (i .flags % 8) h, le-ltb _ _ (rw f at k), g)
 
 -- ---- the returns of `entry_after`
 
@@ -71,18 +73,18 @@ module _ (s : List ℕ) {r : TagRead} where
   after-refused e = rw e
 
   module _ (t : DescriptorTag) (e : r ≡ ATag t) where
-    pub after-plain : t .id ≡ 261 → {d : EntryTail} → d ≡ plainTail s → {x : EntryRead} → x ≡ entryWith s t d → x ≡ entryAfter s r
+    pub after-plain : t .id ≡ 261 → {i : IcbTag} {d : EntryTail} → i ≡ icbTagOf s 16 → d ≡ plainTail s → {x : EntryRead} → x ≡ entryWith s t i d → x ≡ entryAfter s r
     unfolding entryAfter
-    after-plain h f k = rw (e, eq-eqb (t .id) 261 h, ← f) k
+    after-plain h g f k = rw (e, eq-eqb (t .id) 261 h, ← g, ← f) k
 
     module _ (n : t .id ≡ 261 → ⊥) where
       pub after-short : t .id ≡ 266 → length s < 216 → Refused Malformed ≡ entryAfter s r
       unfolding entryAfter
       after-short h l = rw (e, ne-eqb (t .id) 261 n, eq-eqb (t .id) 266 h, lt-ltb (length s) 216 l)
 
-      pub after-extended : t .id ≡ 266 → 216 ≤ length s → {d : EntryTail} → d ≡ extendedTail s → {x : EntryRead} → x ≡ entryWith s t d → x ≡ entryAfter s r
+      pub after-extended : t .id ≡ 266 → 216 ≤ length s → {i : IcbTag} {d : EntryTail} → i ≡ icbTagOf s 16 → d ≡ extendedTail s → {x : EntryRead} → x ≡ entryWith s t i d → x ≡ entryAfter s r
       unfolding entryAfter
-      after-extended h l f k = rw (e, ne-eqb (t .id) 261 n, eq-eqb (t .id) 266 h, le-ltb (length s) 216 l, ← f) k
+      after-extended h l g f k = rw (e, ne-eqb (t .id) 261 n, eq-eqb (t .id) 266 h, le-ltb (length s) 216 l, ← g, ← f) k
 
       pub after-other : (t .id ≡ 266 → ⊥) → Refused Malformed ≡ entryAfter s r
       unfolding entryAfter
@@ -102,19 +104,19 @@ module _ (s : List ℕ) where
 -- ---- what was read
 
 module _ (s : List ℕ) {e : FileEntry} where
-  with-says : (t : DescriptorTag) (d : EntryTail) → readTag s ≡ ATag t → 176 ≤ d .prefix → d ≡ tailOf s t → entryWith s t d ≡ Read e → WholeEntry s e
+  with-says : (t : DescriptorTag) (d : EntryTail) → readTag s ≡ ATag t → 176 ≤ d .prefix → d ≡ tailOf s t → entryWith s t (icbTagOf s 16) d ≡ Read e → WholeEntry s e
   unfolding entryWith entryOf
-  with-says t d g p f q = told (ltb 3 (kindOf s)) (ltb (length s) (d .prefix + d .attributes + d .descriptors)) refl refl q
+  with-says t d g p f q = told (ltb 3 (kindOf (icbTagOf s 16))) (ltb (length s) (d .prefix + d .attributes + d .descriptors)) refl refl q
     where
-      told : (a b : Bool) → ltb 3 (kindOf s) ≡ a → ltb (length s) (d .prefix + d .attributes + d .descriptors) ≡ b
-          → pick a (Refused Malformed) (pick b (Refused Malformed) (Read (entryOf s t d))) ≡ Read e → WholeEntry s e
+      told : (a b : Bool) → ltb 3 (kindOf (icbTagOf s 16)) ≡ a → ltb (length s) (d .prefix + d .attributes + d .descriptors) ≡ b
+          → pick a (Refused Malformed) (pick b (Refused Malformed) (Read (entryOf s t (icbTagOf s 16) d))) ≡ Read e → WholeEntry s e
       told true b x y q = absurd (let z : _≡_ {A = ℕ} 0 1 = cc in omega arith)
       told false true x y q = absurd (let z : _≡_ {A = ℕ} 0 1 = cc in omega arith)
       told false false x y q =
-          let i : e ≡ entryOf s t d = cc in
+          let i : e ≡ entryOf s t (icbTagOf s 16) d = cc in
           record {
             tag = rw i g;
-            fields = rw i (ap (entryOf s t) f);
+            fields = rw i (ap (entryOf s t (icbTagOf s 16)) f);
             information = rw i;
             kind = rw i;
             known = rw i (ltb-false _ _ x);
@@ -128,7 +130,7 @@ module _ (s : List ℕ) {e : FileEntry} where
   after-says (ATag t) g q = told (eqb (t .id) 261) (eqb (t .id) 266) (ltb (length s) 216) refl q
     where
       told : (a b c : Bool) → eqb (t .id) 261 ≡ a
-          → pick a (entryWith s t (plainTail s)) (pick b (pick c (Refused Malformed) (entryWith s t (extendedTail s))) (Refused Malformed)) ≡ Read e
+          → pick a (entryWith s t (icbTagOf s 16) (plainTail s)) (pick b (pick c (Refused Malformed) (entryWith s t (icbTagOf s 16) (extendedTail s))) (Refused Malformed)) ≡ Read e
           → WholeEntry s e
       told true b c x q = with-says t (plainTail s) g (omega arith) (rw x) q
       told false true true x q = absurd (let z : _≡_ {A = ℕ} 0 1 = cc in omega arith)
@@ -149,16 +151,16 @@ pub read-entry-refused : (s : List ℕ) {r : EntryRead} {why : Refusal} → r �
 unfolding readEntry entryAfter entryWith
 read-entry-refused s {r} {why} p q = told (ltb (length s) 176) (readTag s) refl (sym p ∙ q)
   where
-    fitted : (t : DescriptorTag) (d : EntryTail) (a b : Bool) → pick a (Refused Malformed) (pick b (Refused Malformed) (Read (entryOf s t d))) ≡ Refused why → why ≡ Malformed
+    fitted : (t : DescriptorTag) (d : EntryTail) (a b : Bool) → pick a (Refused Malformed) (pick b (Refused Malformed) (Read (entryOf s t (icbTagOf s 16) d))) ≡ Refused why → why ≡ Malformed
     fitted t d true b q = cc
     fitted t d false true q = cc
     fitted t d false false q = absurd (let z : _≡_ {A = ℕ} 0 1 = cc in omega arith)
 
-    tailed : (t : DescriptorTag) (d : EntryTail) → entryWith s t d ≡ Refused why → why ≡ Malformed
-    tailed t d q = fitted t d (ltb 3 (kindOf s)) (ltb (length s) (d .prefix + d .attributes + d .descriptors)) q
+    tailed : (t : DescriptorTag) (d : EntryTail) → entryWith s t (icbTagOf s 16) d ≡ Refused why → why ≡ Malformed
+    tailed t d q = fitted t d (ltb 3 (kindOf (icbTagOf s 16))) (ltb (length s) (d .prefix + d .attributes + d .descriptors)) q
 
     tagged : (t : DescriptorTag) (a b c : Bool)
-        → pick a (entryWith s t (plainTail s)) (pick b (pick c (Refused Malformed) (entryWith s t (extendedTail s))) (Refused Malformed)) ≡ Refused why
+        → pick a (entryWith s t (icbTagOf s 16) (plainTail s)) (pick b (pick c (Refused Malformed) (entryWith s t (icbTagOf s 16) (extendedTail s))) (Refused Malformed)) ≡ Refused why
         → why ≡ Malformed
     tagged t true b c q = tailed t (plainTail s) q
     tagged t false true true q = cc

@@ -28,9 +28,9 @@ module _ (s : List ℕ) (i : ℕ) {a b : ℕ} where
   unfolding icbTagOf
   icb-tag-fields p q r t u v w x = rw (p, q, r, t, u, v, w, x)
 
-pub entry-fields : (s : List ℕ) (t : DescriptorTag) (tail : EntryTail) {icb : IcbTag} {a b c d e f g h k at : ℕ}
-    → icb ≡ icbTagOf s 16 → a ≡ u32at s 36 → b ≡ u32at s 40 → c ≡ u32at s 44 → d ≡ u16at s 48 → e ≡ byte s 50 → f ≡ byte s 51 → g ≡ u32at s 52
-    → h ≡ u64at s 56 → k ≡ u16at s 34 → (at ≡ tail .prefix + tail .attributes) × (at < 0x1_0000_0100)
+pub entry-fields : (s : List ℕ) (t : DescriptorTag) (icb : IcbTag) (tail : EntryTail) {a b c d e f g h at : ℕ}
+    → a ≡ u32at s 36 → b ≡ u32at s 40 → c ≡ u32at s 44 → d ≡ u16at s 48 → e ≡ byte s 50 → f ≡ byte s 51 → g ≡ u32at s 52
+    → h ≡ u64at s 56 → (at ≡ tail .prefix + tail .attributes) × (at < 0x1_0000_0100)
     → record {
       tag = t;
       «icb_tag» = icb;
@@ -46,9 +46,9 @@ pub entry-fields : (s : List ℕ) (t : DescriptorTag) (tail : EntryTail) {icb : 
       «object_size» = tail .«object_size»;
       «length_of_extended_attributes» = tail .attributes;
       «length_of_allocation_descriptors» = tail .descriptors;
-      kind = k % 8;
+      kind = icb .flags % 8;
       «area_at» = at;
       «area_length» = tail .descriptors;
-    } ≡ entryOf s t tail
+    } ≡ entryOf s t icb tail
 unfolding entryOf
-entry-fields s t tail z p q r u v w x y m n = rw (z, p, q, r, u, v, w, x, y, m, n .0)
+entry-fields s t icb tail p q r u v w x y n = rw (p, q, r, u, v, w, x, y, n .0)

@@ -13,6 +13,7 @@ use Rattle.tags.specs.declared.TagRead.{TagRead}
 use Rattle.tags.specs.declared.TagRead.the-variants.{Read as ATag, Refused as NoTag}
 use Rattle.entries.specs.Bytes.{u64at}
 use Rattle.entries.specs.IcbTags.{icbTagOf}
+use Rattle.entries.specs.declared.«icb_tags».IcbTag.{IcbTag}
 use Rattle.entries.specs.declared.«file_entries».ObjectSize.the-variants.{Recorded, Absent}
 use Rattle.entries.specs.declared.«file_entries».EntryTail.{EntryTail}
 use Rattle.entries.specs.declared.«file_entries».FileEntry.{FileEntry}
@@ -39,14 +40,14 @@ extendedTail s = record {
 }
 
 -- the kind of descriptors, the low three bits of the ICB tag's flags (4/14.6.8): 0 short, 1 long, 2 ext, 3 embedded
-abbrev pub kindOf : List ℕ → ℕ
-kindOf s = u16at s 34 % 8
+abbrev pub kindOf : IcbTag → ℕ
+kindOf i = i .flags % 8
 
 -- every field at its offset (4/14.9.1 to 14.9.10 and 14.17.1 to 14.17.10 are alike); the area stands behind the attributes
-unfoldable pub entryOf : List ℕ → DescriptorTag → EntryTail → FileEntry
-entryOf s t d = record {
+unfoldable pub entryOf : List ℕ → DescriptorTag → IcbTag → EntryTail → FileEntry
+entryOf s t i d = record {
   tag = t;
-  «icb_tag» = icbTagOf s 16;
+  «icb_tag» = i;
   uid = u32at s 36;
   gid = u32at s 40;
   permissions = u32at s 44;
@@ -59,24 +60,24 @@ entryOf s t d = record {
   «object_size» = d .«object_size»;
   «length_of_extended_attributes» = d .attributes;
   «length_of_allocation_descriptors» = d .descriptors;
-  kind = kindOf s;
+  kind = kindOf i;
   «area_at» = d .prefix + d .attributes;
   «area_length» = d .descriptors;
 }
 
 -- the kind is at most 3, and attributes and area lie within the bytes given
-unfoldable pub entryWith : List ℕ → DescriptorTag → EntryTail → EntryRead
-entryWith s t d =
-    pick (ltb 3 (kindOf s)) (Refused Malformed)
+unfoldable pub entryWith : List ℕ → DescriptorTag → IcbTag → EntryTail → EntryRead
+entryWith s t i d =
+    pick (ltb 3 (kindOf i)) (Refused Malformed)
     (pick (ltb (length s) (d .prefix + d .attributes + d .descriptors)) (Refused Malformed)
-    (Read (entryOf s t d)))
+    (Read (entryOf s t i d)))
 
 -- behind a tag with id 261 or 266
 unfoldable pub entryAfter : List ℕ → TagRead → EntryRead
 entryAfter s (NoTag r) = Refused r
 entryAfter s (ATag t) =
-    pick (eqb (t .id) 261) (entryWith s t (plainTail s))
-    (pick (eqb (t .id) 266) (pick (ltb (length s) 216) (Refused Malformed) (entryWith s t (extendedTail s)))
+    pick (eqb (t .id) 261) (entryWith s t (icbTagOf s 16) (plainTail s))
+    (pick (eqb (t .id) 266) (pick (ltb (length s) 216) (Refused Malformed) (entryWith s t (icbTagOf s 16) (extendedTail s)))
     (Refused Malformed))
 
 -- reading an entry at the front of s

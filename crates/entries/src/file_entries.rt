@@ -86,15 +86,15 @@ fn area_start(d: EntryTail) -> usize
     d.prefix + d.attributes as usize
 }
 
-// Every field at its offset.
-fn entry_of(s: &[u8], t: DescriptorTag, d: EntryTail) -> FileEntry
-    requires { ⌜ (176 ≤ length (now s)) × (d .prefix ≤ 216) ⌝ }
-    ensures { λ r. ⌜ r ≡ entryOf (now (s .entry)) t d ⌝ }
+// Every field at its offset, behind the ICB tag that was read.
+fn entry_of(s: &[u8], t: DescriptorTag, icb: IcbTag, d: EntryTail) -> FileEntry
+    requires { ⌜ d .prefix ≤ 216 ⌝ }
+    ensures { λ r. ⌜ r ≡ entryOf (now (s .entry)) t icb d ⌝ }
 {
     let object_size = d.object_size;
     FileEntry {
         tag: t,
-        icb_tag: icb_tag_at(s, 16),
+        icb_tag: icb,
         uid: le32(s, 36),
         gid: le32(s, 40),
         permissions: le32(s, 44),
@@ -107,24 +107,24 @@ fn entry_of(s: &[u8], t: DescriptorTag, d: EntryTail) -> FileEntry
         object_size: object_size,
         length_of_extended_attributes: d.attributes,
         length_of_allocation_descriptors: d.descriptors,
-        kind: (le16(s, 34) % 8) as u8,
+        kind: (icb.flags % 8) as u8,
         area_at: area_start(d),
         area_length: d.descriptors as usize,
     }
 }
 
 // The entry, unless its kind is over 3 or its area ends past the bytes given.
-fn entry_with(s: &[u8], t: DescriptorTag, d: EntryTail) -> EntryRead
-    requires { ⌜ (176 ≤ length (now s)) × (d .prefix ≤ 216) ⌝ }
-    ensures { λ r. ⌜ r ≡ entryWith (now (s .entry)) t d ⌝ }
+fn entry_with(s: &[u8], t: DescriptorTag, icb: IcbTag, d: EntryTail) -> EntryRead
+    requires { ⌜ d .prefix ≤ 216 ⌝ }
+    ensures { λ r. ⌜ r ≡ entryWith (now (s .entry)) t icb d ⌝ }
 {
-    if 3 < le16(s, 34) % 8 {
+    if 3 < icb.flags % 8 {
         return EntryRead::Refused(Refusal::Malformed);
     }
     if s.len() < area_start(d) + d.descriptors as usize {
         return EntryRead::Refused(Refusal::Malformed);
     }
-    EntryRead::Read(entry_of(s, t, d))
+    EntryRead::Read(entry_of(s, t, icb, d))
 }
 
 // The entry behind the tag that was read at the front of `s`.
@@ -136,13 +136,13 @@ fn entry_after(s: &[u8], r: TagRead) -> EntryRead
         TagRead::Refused(why) => EntryRead::Refused(why),
         TagRead::Read(t) => {
             if t.id == 261 {
-                return entry_with(s, t, plain_tail(s));
+                return entry_with(s, t, icb_tag_at(s, 16), plain_tail(s));
             }
             if t.id == 266 {
                 if s.len() < 216 {
                     return EntryRead::Refused(Refusal::Malformed);
                 }
-                return entry_with(s, t, extended_tail(s));
+                return entry_with(s, t, icb_tag_at(s, 16), extended_tail(s));
             }
             EntryRead::Refused(Refusal::Malformed)
         }

@@ -42,19 +42,19 @@ module _ (s : List ℕ) where
   at-is e = rw e
 
   module _ (t : DescriptorTag) where
-    pub fields-are : {a n v k : ℕ} {icb : LongAd} (size : ℕ) → a ≡ nameAt s → n ≡ byte s 19 → v ≡ u16at s 16 → k ≡ byte s 18 → icb ≡ longOf s 20
-        → record { tag = t; «file_version_number» = v; «file_characteristics» = k; icb = icb; «name_at» = a; «name_length» = n; «name_size» = size; «total_size» = (a + n + 3) / 4 * 4 } ≡ identifierOf s t size
-    unfolding identifierOf nextAt nameEnd
-    fields-are size a n v k i = cc
+    pub fields-are : {v k : ℕ} {icb : LongAd} (a n size : ℕ) → v ≡ u16at s 16 → k ≡ byte s 18 → icb ≡ longOf s 20
+        → record { tag = t; «file_version_number» = v; «file_characteristics» = k; icb = icb; «name_at» = a; «name_length» = n; «name_size» = size; «total_size» = (a + n + 3) / 4 * 4 } ≡ identifierOf s t a n size
+    unfolding identifierOf
+    fields-are a n size v k i = rw (v, k, i)
 
-    module _ {size : NameSize} where
-      pub sized-not : size ≡ NoName → {r : IdentifierRead} → r ≡ refusedBy Malformed → r ≡ identifierSized s t size
+    module _ (a n : ℕ) {size : NameSize} where
+      pub sized-not : size ≡ NoName → {r : IdentifierRead} → r ≡ refusedBy Malformed → r ≡ identifierSized s t a n size
       unfolding identifierSized
       sized-not e k = rw e k
 
-      pub sized-whole : (n : ℕ) → size ≡ Size n → {f : FileIdentifierDescriptor} → f ≡ identifierOf s t n → record { answer = 0; descriptor = f } ≡ identifierSized s t size
+      pub sized-whole : (k : ℕ) → size ≡ Size k → {f : FileIdentifierDescriptor} → f ≡ identifierOf s t a n k → record { answer = 0; descriptor = f } ≡ identifierSized s t a n size
       unfolding identifierSized
-      sized-whole n e k = rw (e, k)
+      sized-whole k e g = rw (e, g)
 
     module _ {a n : ℕ} (e : a ≡ nameAt s) (f : n ≡ byte s 19) where
       end-is : a + n ≡ nameEnd s
@@ -65,11 +65,11 @@ module _ (s : List ℕ) where
       unfolding identifierNamed
       named-over h k = simp (lt-ltb (length s) (nameEnd s) (rw end-is at h)) k
 
-      pub named-sized : a + n ≤ length s → {size : NameSize} → size ≡ sizeOf (nameOf (take (a + n - a) (drop a s))) → {r : IdentifierRead} → r ≡ identifierSized s t size → r ≡ identifierNamed s t
+      pub named-sized : a + n ≤ length s → {size : NameSize} → size ≡ sizeOf (nameOf (take (a + n - a) (drop a s))) → {r : IdentifierRead} → r ≡ identifierSized s t a n size → r ≡ identifierNamed s t
       unfolding identifierNamed recordedName
       named-sized h z k =
           let g : a + n - a ≡ n = omega arith in
-          simp (le-ltb (length s) (nameEnd s) (rw end-is at h)) (k ∙ ap (identifierSized s t) (z ∙ rw (g, e, f)))
+          simp (le-ltb (length s) (nameEnd s) (rw end-is at h)) (rw (← e, ← f) (k ∙ ap (identifierSized s t a n) (z ∙ rw g)))
 
   module _ {q : TagRead} {r : IdentifierRead} where
     pub after-refused : {why : Refusal} → q ≡ NoTag why → r ≡ refusedBy why → r ≡ identifierAfter s q
@@ -112,7 +112,7 @@ sized-is (some name) e = cc
 
 module _ (s : List ℕ) (b : Bytes s) where
   sized-says : (t : DescriptorTag) → readTag s ≡ ATag t → t .id ≡ 257 → nameEnd s ≤ length s → (z : NameSize) → z ≡ sizeOf (nameOf (recordedName s))
-      → identifierSized s t z .answer ≡ 0 → Whole s (identifierSized s t z .descriptor)
+      → identifierSized s t (nameAt s) (byte s 19) z .answer ≡ 0 → Whole s (identifierSized s t (nameAt s) (byte s 19) z .descriptor)
   unfolding identifierSized identifierOf nameEnd nameAt recordedName nextAt
   sized-says t g i w NoName z q = absurd (omega arith)
   sized-says t g i w (Size n) z q =
@@ -147,8 +147,8 @@ module _ (s : List ℕ) (b : Bytes s) where
   after-says (ATag t) g z = told (eqb (t .id) 257) (ltb (length s) (nameEnd s)) refl refl z
     where
       told : (x y : Bool) → eqb (t .id) 257 ≡ x → ltb (length s) (nameEnd s) ≡ y
-          → pick x (pick y (refusedBy Malformed) (identifierSized s t (sizeOf (nameOf (recordedName s))))) (refusedBy Malformed) .answer ≡ 0
-          → Whole s (pick x (pick y (refusedBy Malformed) (identifierSized s t (sizeOf (nameOf (recordedName s))))) (refusedBy Malformed) .descriptor)
+          → pick x (pick y (refusedBy Malformed) (identifierSized s t (nameAt s) (byte s 19) (sizeOf (nameOf (recordedName s))))) (refusedBy Malformed) .answer ≡ 0
+          → Whole s (pick x (pick y (refusedBy Malformed) (identifierSized s t (nameAt s) (byte s 19) (sizeOf (nameOf (recordedName s))))) (refusedBy Malformed) .descriptor)
       told false y e f z = absurd (omega arith)
       told true true e f z = absurd (omega arith)
       told true false e f z = sized-says t g (eqb-true _ _ e) (ltb-false _ _ f) (sizeOf (nameOf (recordedName s))) refl z
@@ -169,8 +169,8 @@ unfolding readIdentifier identifierAfter identifierNamed identifierSized
 read-identifier-refused s e n = e ∙ told (ltb (length s) 38) (readTag s) refl (λ z. n (rw e z))
   where
     tagged : (t : DescriptorTag) (x y : Bool) (z : NameSize)
-        → (pick x (pick y (refusedBy Malformed) (identifierSized s t z)) (refusedBy Malformed) .answer ≡ 0 → ⊥)
-        → pick x (pick y (refusedBy Malformed) (identifierSized s t z)) (refusedBy Malformed) ≡ refusedBy Malformed
+        → (pick x (pick y (refusedBy Malformed) (identifierSized s t (nameAt s) (byte s 19) z)) (refusedBy Malformed) .answer ≡ 0 → ⊥)
+        → pick x (pick y (refusedBy Malformed) (identifierSized s t (nameAt s) (byte s 19) z)) (refusedBy Malformed) ≡ refusedBy Malformed
     tagged t false y z n = refl
     tagged t true true z n = refl
     tagged t true false NoName n = refl

@@ -35,22 +35,25 @@ unfoldable pub recordedName : List ℕ → List ℕ
 recordedName s = take (byte s 19) (drop (nameAt s) s)
 
 -- the next identifier starts at the end of this one, rounded up to 4 (4/14.4.9)
+abbrev pub rounded : ℕ → ℕ
+rounded end = (end + 3) / 4 * 4
+
 unfoldable pub nextAt : List ℕ → ℕ
-nextAt s = (nameEnd s + 3) / 4 * 4
+nextAt s = rounded (nameEnd s)
 
 -- ---- the record
 
--- every field at its offset (4/14.4.1 to 14.4.6); the name has n bytes of UTF-8
-unfoldable pub identifierOf : List ℕ → DescriptorTag → ℕ → FileIdentifierDescriptor
-identifierOf s t n = record {
+-- every field at its offset (4/14.4.1 to 14.4.6); the name's n bytes stand at `at`, and it has `size` bytes of UTF-8
+unfoldable pub identifierOf : List ℕ → DescriptorTag → ℕ → ℕ → ℕ → FileIdentifierDescriptor
+identifierOf s t at n size = record {
   tag = t;
   «file_version_number» = u16at s 16;
   «file_characteristics» = byte s 18;
   icb = longOf s 20;
-  «name_at» = nameAt s;
-  «name_length» = byte s 19;
-  «name_size» = n;
-  «total_size» = nextAt s;
+  «name_at» = at;
+  «name_length» = n;
+  «name_size» = size;
+  «total_size» = rounded (at + n);
 }
 
 abbrev pub noIdentifier : FileIdentifierDescriptor
@@ -69,13 +72,15 @@ abbrev pub refusedBy : Refusal → IdentifierRead
 refusedBy why = record { answer = number why; descriptor = noIdentifier }
 
 -- a bad d-string is refused
-unfoldable pub identifierSized : List ℕ → DescriptorTag → NameSize → IdentifierRead
-identifierSized s t NoName = refusedBy Malformed
-identifierSized s t (Size n) = record { answer = 0; descriptor = identifierOf s t n }
+unfoldable pub identifierSized : List ℕ → DescriptorTag → ℕ → ℕ → NameSize → IdentifierRead
+identifierSized s t at n NoName = refusedBy Malformed
+identifierSized s t at n (Size size) = record { answer = 0; descriptor = identifierOf s t at n size }
 
 -- before that, a name that ends past the bytes given
 unfoldable pub identifierNamed : List ℕ → DescriptorTag → IdentifierRead
-identifierNamed s t = pick (ltb (length s) (nameEnd s)) (refusedBy Malformed) (identifierSized s t (sizeOf (nameOf (recordedName s))))
+identifierNamed s t =
+    pick (ltb (length s) (nameEnd s)) (refusedBy Malformed)
+    (identifierSized s t (nameAt s) (byte s 19) (sizeOf (nameOf (recordedName s))))
 
 -- behind a tag with id 257
 unfoldable pub identifierAfter : List ℕ → TagRead → IdentifierRead

@@ -1,6 +1,6 @@
 // File identifiers: one entry of a directory.
 ghost use mathlib.Core.Path.{_≡_};
-ghost use Prim.Native.Nat.{_<_};
+ghost use Prim.Native.Nat.{_+_, _<_};
 ghost use Rattle.identifiers.specs.Identifiers.{nameAt, refusedBy, identifierOf, identifierSized, identifierNamed, identifierAfter, readIdentifier, isDeleted, isDirectory, isParent};
 use disc::refusals::Refusal;
 use names::dstrings::NameSize;
@@ -60,12 +60,17 @@ pub fn name_at(s: &[u8]) -> usize
     38 + le16(s, 36) as usize
 }
 
-// Every field at its offset; the name has `size` bytes of UTF-8.
-fn identifier_of(s: &[u8], t: DescriptorTag, size: usize) -> FileIdentifierDescriptor
-    ensures { λ r. ⌜ r ≡ identifierOf (now (s .entry)) t size ⌝ }
+// Every field at its offset; the name's `n` bytes stand at `at`, and it has `size` bytes of UTF-8.
+fn identifier_of(
+    s: &[u8],
+    t: DescriptorTag,
+    at: usize,
+    n: usize,
+    size: usize,
+) -> FileIdentifierDescriptor
+    requires { ⌜ at + n < 0x1_0000_0000 ⌝ }
+    ensures { λ r. ⌜ r ≡ identifierOf (now (s .entry)) t at n size ⌝ }
 {
-    let at = name_at(s);
-    let n = byte_at(s, 19) as usize;
     FileIdentifierDescriptor {
         tag: t,
         file_version_number: le16(s, 16),
@@ -79,28 +84,36 @@ fn identifier_of(s: &[u8], t: DescriptorTag, size: usize) -> FileIdentifierDescr
 }
 
 // The identifier, unless its name is no d-string.
-fn identifier_sized(s: &[u8], t: DescriptorTag, size: NameSize) -> IdentifierRead
-    ensures { λ r. ⌜ r ≡ identifierSized (now (s .entry)) t size ⌝ }
+fn identifier_sized(
+    s: &[u8],
+    t: DescriptorTag,
+    at: usize,
+    n: usize,
+    size: NameSize,
+) -> IdentifierRead
+    requires { ⌜ at + n < 0x1_0000_0000 ⌝ }
+    ensures { λ r. ⌜ r ≡ identifierSized (now (s .entry)) t at n size ⌝ }
 {
     match size {
         NameSize::Refused => refused_by(Refusal::Malformed),
-        NameSize::Size(n) => IdentifierRead {
+        NameSize::Size(k) => IdentifierRead {
             answer: 0,
-            descriptor: identifier_of(s, t, n),
+            descriptor: identifier_of(s, t, at, n, k),
         },
     }
 }
 
-// The same, unless its name ends past the bytes given.
+// The same, unless its name ends past the bytes given. Where it stands and how long it is are fetched here, once.
 fn identifier_named(s: &[u8], t: DescriptorTag) -> IdentifierRead
     ensures { λ r. ⌜ r ≡ identifierNamed (now (s .entry)) t ⌝ }
 {
     let at = name_at(s);
-    let end = at + byte_at(s, 19) as usize;
+    let n = byte_at(s, 19) as usize;
+    let end = at + n;
     if s.len() < end {
         return refused_by(Refusal::Malformed);
     }
-    identifier_sized(s, t, name_size(&s[at..end]))
+    identifier_sized(s, t, at, n, name_size(&s[at..end]))
 }
 
 // The identifier behind the tag that was read at the front of `s`.

@@ -2,19 +2,22 @@
 use mathlib.Core.Path.{_≡_, refl, sym, ap, _∙_}
 use mathlib.Core.Bool.{Bool, true, false}
 use mathlib.Core.List.{List, [], _∷_}
-use mathlib.Core.Option.{Option, none, some}
+use mathlib.Core.Option.{Option}
 use Prim.Native.Nat.{ℕ, suc, _+_, _<_, _≤_}
 use native.Mathlib.Numerals.{add-one}
 use native.Mathlib.Omega.{arith}
 use lib.ListN.{length, getD, take, drop, replicate, length-take, length-replicate, drop-of-length-le}
 use lib.Seq.{drop-cons, take-append-seam}
 use lib.Dec.{eqb}
-use borrow.Author.Tests.{lt-ltb, le-ltb}
+use borrow.Author.Tests.{ne-eqb, lt-ltb, le-ltb}
 use Rattle.disc.specs.Choice.{pick}
 use Rattle.disc.proofs.MoveLaws.{over-fits, over-long}
-use Rattle.names.specs.Names.{Wrote, nameOf, written, lower, sameName, matched, isNamed}
-use Rattle.names.specs.Units.{isSome}
+use Rattle.names.specs.declared.dstrings.Form.{Form}
+use Rattle.names.specs.declared.dstrings.Form.the-variants.{Empty, Units, Bad}
+use Rattle.names.specs.Names.{Wrote, nameOf, lower, sameName, matched, isNamed}
+use Rattle.names.specs.Units.{Formed, textOf}
 use Rattle.names.proofs.BodyLaws.{Bytes}
+use Rattle.names.proofs.NameLaws.{found}
 use Rattle.names.proofs.Promises.{at-most-508}
 
 pub same-lengths : (a b : List ℕ) → (length a ≡ length b → ⊥) → false ≡ sameName a b
@@ -58,19 +61,26 @@ module _ (s t : List ℕ) where
   unfolding isNamed
   named-long h = rw (lt-ltb 255 (length s) h)
 
-  module _ (h : length s ≤ 255) where
-    pub named-refused : {r : Bool} → r ≡ isSome (nameOf s) → r ≡ false → false ≡ isNamed s t
+  module _ (h : length s ≤ 255) {f : Form} (p : Formed s f) where
+    matches-by : {o : Option (List ℕ)} → nameOf s ≡ o → matched o t ≡ isNamed s t
     unfolding isNamed
-    named-refused e k = rw (le-ltb 255 (length s) h) (none-matches (nameOf s) (sym e ∙ k))
+    matches-by e = rw (le-ltb 255 (length s) h, e)
+
+    pub named-bad : f ≡ Bad → false ≡ isNamed s t
+    named-bad e = matches-by (found p e)
+
+    pub named-empty : f ≡ Empty → eqb (length t) 0 ≡ isNamed s t
+    unfolding sameName
+    named-empty e = empty-matches t ∙ matches-by (found p e)
       where
-        none-matches : (o : Option (List ℕ)) → isSome o ≡ false → false ≡ matched o t
-        none-matches none e = refl
-        none-matches (some name) e = absurd (let z : _≡_ {A = ℕ} 0 1 = cc in omega arith)
+        empty-matches : (t : List ℕ) → eqb (length t) 0 ≡ sameName [] t
+        empty-matches [] = refl
+        empty-matches (b ∷ t) = ne-eqb _ _ (λ (e : suc (length t) ≡ 0). omega arith)
 
     -- Here d is an array of 508 bytes with the name written into it, and n the name's length.
-    module _ {d : List ℕ} {n : ℕ} (w : Wrote (written (nameOf s)) (replicate 508 0) d n) (b : Bytes s) where
-      name-fits : length (written (nameOf s)) ≤ length {A = ℕ} (replicate 508 0)
-      name-fits = rw length-replicate (at-most-508 s b h)
+    module _ (step : ℕ) (e : f ≡ Units step) {d : List ℕ} {n : ℕ} (w : Wrote (textOf step (drop 1 s)) (replicate 508 0) d n) (b : Bytes s) where
+      name-fits : length (textOf step (drop 1 s)) ≤ length {A = ℕ} (replicate 508 0)
+      name-fits = rw length-replicate (rw (found p e) at (at-most-508 s b h))
 
       pub named-within : n ≤ length d
       named-within = rw (w .bytes, over-long, w .count) name-fits
@@ -78,13 +88,8 @@ module _ (s t : List ℕ) where
       pub named-long-enough : n ≡ length (take n d)
       named-long-enough = let k = named-within in simp length-take (omega arith)
 
-      named-front : take n d ≡ written (nameOf s)
-      named-front = rw (w .bytes, over-fits (written (nameOf s)) (replicate 508 0) name-fits, w .count) (take-append-seam (written (nameOf s)) _)
+      named-front : take n d ≡ textOf step (drop 1 s)
+      named-front = rw (w .bytes, over-fits (textOf step (drop 1 s)) (replicate 508 0) name-fits, w .count) (take-append-seam (textOf step (drop 1 s)) _)
 
-      pub named-same : {r q : Bool} → r ≡ isSome (nameOf s) → r ≡ true → q ≡ sameName (take n d) t → q ≡ isNamed s t
-      unfolding isNamed
-      named-same e k m = m ∙ rw (named-front, le-ltb 255 (length s) h) (some-matches (nameOf s) (sym e ∙ k))
-        where
-          some-matches : (o : Option (List ℕ)) → isSome o ≡ true → sameName (written o) t ≡ matched o t
-          some-matches none e = absurd (let z : _≡_ {A = ℕ} 0 1 = cc in omega arith)
-          some-matches (some name) e = refl
+      pub named-same : {q : Bool} → q ≡ sameName (take n d) t → q ≡ isNamed s t
+      named-same m = m ∙ rw named-front (matches-by (found p e))

@@ -1,6 +1,5 @@
 -- A whole d-string and a whole field, by the tests of the code. Assumes nothing.
 use mathlib.Core.Path.{_≡_, refl}
-use mathlib.Core.Bool.{true, false}
 use mathlib.Core.List.{List, [], _∷_}
 use Prim.Native.Nat.{ℕ, suc, _-_, _%_, _<_, _≤_, zero-le}
 use native.Mathlib.Omega.{arith}
@@ -15,7 +14,7 @@ use Rattle.names.specs.declared.dstrings.NameSize.the-variants.{Size, Re
 use Rattle.names.specs.declared.fields.FieldLength.{FieldLength}
 use Rattle.names.specs.declared.fields.FieldLength.the-variants.{Length, TooLong}
 use Rattle.names.specs.Names.{Wrote, nameOf, nameOfField, written, sizeOf}
-use Rattle.names.specs.Units.{Body, Formed, Measured, units, textOf, nameAs, isSome, frontName}
+use Rattle.names.specs.Units.{Body, Formed, Measured, units, textOf, nameAs, frontName}
 use Rattle.names.proofs.BodyLaws.{Bytes}
 use Rattle.names.proofs.Promises.{bytes-kept}
 
@@ -59,20 +58,11 @@ nothing-over [] = refl
 nothing-over (x ∷ d) = refl
 
 module _ {s : List ℕ} {f : Form} (p : Formed s f) where
-  found : {g : Form} → f ≡ g → nameOf s ≡ nameAs g s
+  pub found : {g : Form} → f ≡ g → nameOf s ≡ nameAs g s
   found e = rw (← e) (p .name)
 
   pub has-body : {step : ℕ} → f ≡ Units step → Body s step
   has-body e = rw e at (p .body)
-
-  pub named-empty : f ≡ Empty → true ≡ isSome (nameOf s)
-  named-empty e = rw (found e)
-
-  pub named-units : (step : ℕ) → f ≡ Units step → true ≡ isSome (nameOf s)
-  named-units step e = rw (found e)
-
-  pub named-bad : f ≡ Bad → false ≡ isSome (nameOf s)
-  named-bad e = rw (found e)
 
   pub size-empty : f ≡ Empty → Size 0 ≡ sizeOf (nameOf s)
   size-empty e = rw (found e)

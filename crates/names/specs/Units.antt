@@ -2,7 +2,6 @@
 -- the public contracts cite `Names` alone. Assumes nothing: these are definitions.
 use Prim.Native.Nat.{ℕ, _≤_, _+_, _*_}
 use mathlib.Core.Path.{_≡_}
-use mathlib.Core.Bool.{Bool, true, false}
 use mathlib.Core.List.{List, []}
 use mathlib.Core.Option.{Option, none, some}
 use lib.ListN.{length, getD, take, drop}
@@ -62,11 +61,6 @@ Readable Bad s = Unit {0}
 pub record Formed (s : List ℕ) (f : Form) : Type 0 where
   pub name : nameOf s ≡ nameAs f s
   pub body : Readable f s
-
--- Whether there is a name at all.
-abbrev pub isSome : Option (List ℕ) → Bool
-isSome none = false
-isSome (some name) = true
 
 -- ---- a field
 

@@ -5,7 +5,7 @@ use crate::units::unit_size;
 ghost use mathlib.Core.Path.{_≡_};
 ghost use lib.ListN.{length, drop};
 ghost use Rattle.names.specs.Names.{Wrote, nameOf, written, sizeOf};
-ghost use Rattle.names.specs.Units.{Body, Formed, textOf, isSome};
+ghost use Rattle.names.specs.Units.{Body, Formed, textOf};
 
 // How many bytes of UTF-8 a recorded name has.
 pub enum NameSize {
@@ -14,14 +14,14 @@ pub enum NameSize {
 }
 
 // How the body of a d-string is to be read: not at all, in units of a number of bytes, or not a d-string.
-enum Form {
+pub(crate) enum Form {
     Empty,
     Units(usize),
     Bad,
 }
 
 // How the body of the d-string s is to be read: its first byte, the compression id, says.
-fn form_of(s: &[u8]) -> Form
+pub(crate) fn form_of(s: &[u8]) -> Form
     ensures { λ r. ⌜ Formed (now (s .entry)) r ⌝ }
 {
     if s.len() == 0 {
@@ -63,7 +63,7 @@ fn text_size(s: &[u8], step: usize) -> usize
 }
 
 // Writes the UTF-8 of the units of s from its second byte on over the front of out, and returns how many bytes it has.
-fn put_text(s: &[u8], step: usize, out: &mut [u8]) -> usize
+pub(crate) fn put_text(s: &[u8], step: usize, out: &mut [u8]) -> usize
     requires { ⌜ Body (now s) step ⌝ }
     ensures { λ r. ⌜ Wrote (textOf step (drop 1 (now (s .entry)))) (now (out .entry)) (now (out .exit)) r ⌝ }
 {
@@ -78,17 +78,6 @@ fn put_text(s: &[u8], step: usize, out: &mut [u8]) -> usize
         i += step;
     }
     n
-}
-
-// Whether the d-string s has a name.
-pub(crate) fn has_name(s: &[u8]) -> bool
-    ensures { λ r. ⌜ r ≡ isSome (nameOf (now (s .entry))) ⌝ }
-{
-    match form_of(s) {
-        Form::Empty => true,
-        Form::Units(_) => true,
-        Form::Bad => false,
-    }
 }
 
 // How many bytes of UTF-8 the name of the d-string s has.

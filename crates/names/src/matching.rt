@@ -1,6 +1,7 @@
 // Names compared with ASCII case ignored.
-use crate::dstrings::has_name;
-use crate::dstrings::put_name;
+use crate::dstrings::Form;
+use crate::dstrings::form_of;
+use crate::dstrings::put_text;
 ghost use mathlib.Core.Path.{_≡_};
 ghost use lib.Dec.{eqb};
 ghost use Rattle.names.specs.Names.{lower, sameName, isNamed};
@@ -47,10 +48,13 @@ pub fn is_named(s: &[u8], component: &[u8]) -> bool
     if 255 < s.len() {
         return false;
     }
-    if !has_name(s) {
-        return false;
+    match form_of(s) {
+        Form::Bad => false,
+        Form::Empty => component.len() == 0,
+        Form::Units(step) => {
+            let mut name = [0u8; 508];
+            let n = put_text(s, step, &mut name);
+            same_name(&name[..n], component)
+        }
     }
-    let mut name = [0u8; 508];
-    let n = put_name(s, &mut name);
-    same_name(&name[..n], component)
 }

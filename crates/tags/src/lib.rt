@@ -96,6 +96,31 @@ fn tag_of(s: &[u8]) -> DescriptorTag
     }
 }
 
+// The bytes of a tag, each fetched once: what is checked is what is decoded, also where the lent bytes change meanwhile.
+fn fetch(s: &[u8]) -> [u8; 16]
+    requires { ⌜ 16 ≤ length (now s) ⌝ }
+    ensures { λ r. ⌜ r ≡ sixteen (now (s .entry)) ⌝ }
+{
+    [
+        s[0],
+        s[1],
+        s[2],
+        s[3],
+        s[4],
+        s[5],
+        s[6],
+        s[7],
+        s[8],
+        s[9],
+        s[10],
+        s[11],
+        s[12],
+        s[13],
+        s[14],
+        s[15],
+    ]
+}
+
 // A tag's bytes with the checksum `sum`.
 fn tag_bytes(t: DescriptorTag, sum: u8) -> [u8; 16]
     ensures { λ r. ⌜ r ≡ tagBytes t sum ⌝ }
@@ -127,8 +152,9 @@ impl DescriptorTag {
         if s.len() < 16 {
             return TagRead::Refused(Refusal::Malformed);
         }
-        if is_accepted(s) {
-            TagRead::Read(tag_of(s))
+        let fetched = fetch(s);
+        if is_accepted(&fetched) {
+            TagRead::Read(tag_of(&fetched))
         } else {
             TagRead::Refused(Refusal::Malformed)
         }

@@ -11,13 +11,11 @@ ruleset logicals = (logical-unnamed, logical-named, not-true, not-false, needs)
 pub logical-behind-spec : {M : Type 1} → statement M
 logical-behind-spec =
     tie.close (tie.spec
-    (λ c. search needs)
-    (λ c. search needs)
+    (λ c κs. search needs)
     (λ c. search needs)
     (λ c κs. search needs)
     (λ c κs. search needs)
     (λ c. search logicals)
-    (λ c κs. search needs)
     (λ c κs. search needs)
     (λ c κs. search needs)
     (λ c κs. search needs)

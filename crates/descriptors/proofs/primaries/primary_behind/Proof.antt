@@ -11,13 +11,11 @@ ruleset primaries = (primary-unnamed, primary-named, not-true, not-false, needs)
 pub primary-behind-spec : {M : Type 1} → statement M
 primary-behind-spec =
     tie.close (tie.spec
-    (λ c. search needs)
-    (λ c. search needs)
+    (λ c κs. search needs)
     (λ c. search needs)
     (λ c κs. search needs)
     (λ c κs. search needs)
     (λ c. search primaries)
-    (λ c κs. search needs)
     (λ c κs. search needs)
     (λ c κs. search needs)
     (λ c. search primaries))

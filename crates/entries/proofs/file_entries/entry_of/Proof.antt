@@ -4,6 +4,8 @@ use Rattle.entries.proofs.FieldLaws.{entry-fields}
 use Rattle.entries.proofs.file_entries.entry_of.Statement.{statement}
 use Rattle.entries.proofs.file_entries.entry_of.Tie as tie
 
+ruleset fields = (entry-fields, needs)
+
 pub entry-of-spec : {M : Type 1} → statement M
 entry-of-spec =
     tie.close (tie.spec
@@ -15,9 +17,7 @@ entry-of-spec =
     (λ c κs. search needs)
     (λ c κs. search needs)
     (λ c κs. search needs)
-    (λ c κs. search needs)
-    (λ c κs. search needs)
     (λ c. search needs)
     (λ c κs. search needs)
     (λ c. search needs)
-    (λ c. search (entry-fields, needs)))
+    (λ c. search fields))

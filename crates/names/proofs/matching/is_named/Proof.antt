@@ -1,21 +1,25 @@
 -- `names::matching::is_named` meets its contract: the name fits the array, whose front is compared. Assumes nothing.
 use borrow.Author.Needs.{needs}
-use borrow.Author.Tests.{not-true, not-false}
-use Rattle.names.proofs.MatchLaws.{named-long, named-refused, named-within, named-long-enough, named-same}
+use Rattle.names.proofs.NameLaws.{has-body}
+use Rattle.names.proofs.MatchLaws.{named-long, named-bad, named-empty, named-within, named-long-enough, named-same}
 use Rattle.names.proofs.matching.is_named.Statement.{statement}
 use Rattle.names.proofs.matching.is_named.Tie as tie
 
-ruleset matches = (named-long, named-refused, named-within, named-long-enough, named-same, not-true, not-false, needs)
+ruleset matches = (named-long, named-bad, named-empty, has-body, named-within, named-long-enough, named-same, needs)
 
 pub is-named-spec : {M : Type 1} → statement M
 is-named-spec =
     tie.close (tie.spec
     (λ c. search matches)
     (λ c κs. search needs)
-    (λ c. search matches)
     (λ c. search needs)
-    (λ c κs. search needs)
+    (λ c. search needs)
+    (λ c. search needs)
+    (λ c. search needs)
+    (λ c κs. search matches)
     (λ c. search matches)
     (λ c. search matches)
     (λ c κs. search needs)
+    (λ c. search matches)
+    (λ c. search matches)
     (λ c. search matches))
