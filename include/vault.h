@@ -3,7 +3,8 @@
  * Link target/staticlib/libvault_c.a, which `rt staticlib vault_c` makes from the proved sources.
  *
  * Nothing here allocates, keeps or frees memory: the caller lends the image, the output and the work space for the length of the call.
- * Lent pieces must not overlap. A piece of length 0 needs a pointer that isn't null.
+ * Lent pieces must not overlap. A piece of length 0 needs a pointer that isn't null. If the image changes during a call, the answer may be
+ * that of no image; the call still ends, with a number of the table, and stays inside the memory that it was lent.
  *
  * Every call on an image but the probe answers with a number and with a count of the sectors of 2,048 bytes that it asked for:
  *
