@@ -4,14 +4,15 @@
 //! tree. Its udf.rs is compiled word for word, with a module behind it: the entry of a file and the making of an opened disc are private
 //! there, and a module inside can reach them.
 //!
-//! The archives are target/staticlib/libvault_c.a and librecords_c.a. They are x86-64 code: linked where this program is that too, and on
-//! every machine linked with port.c into a program that answers through a pipe.
+//! The archives are libvault_c.a and librecords_c.a in the folder `VAULT_ARCHIVE`, by default target/staticlib of the repository. They are
+//! x86-64 code: linked where these programs are that too, and on every machine linked with port.c into a program that answers through a pipe.
+//! Where the original isn't there the race is still built, which needs the first archive alone.
 
 use std::path::{Path, PathBuf};
 use std::process::Command;
 use std::{env, fs};
 
-/// The crates whose archives are linked.
+/// The crates whose archives are linked; the second where the original is there.
 const CRATES: [&str; 2] = ["vault_c", "records_c"];
 
 const INSIDE: &str = "
@@ -52,24 +53,23 @@ fn main() {
     let folder = env::var("UDF_ORIGINAL").map(PathBuf::from).unwrap_or(root.join("../shared/docs/src"));
     println!("cargo::rerun-if-changed={}", folder.join("src").display());
     println!("cargo::rustc-env=ORIGINAL_FOLDER={}", folder.display());
-    if !original(&folder.join("src"), &out) {
+    let compared = original(&folder.join("src"), &out);
+    let linked = env::var("CARGO_CFG_TARGET_ARCH").unwrap() == "x86_64";
+    if !compared && !linked {
         return;
     }
-    let folder = root.join("target/staticlib");
-    let archives = CRATES.map(|name| folder.join(format!("lib{name}.a")));
-    for (name, archive) in CRATES.iter().zip(&archives) {
-        println!("cargo::rerun-if-changed={}", archive.display());
-        if !archive.exists() {
-            println!("cargo::error=target/staticlib/lib{name}.a is missing: make it with `rt staticlib {name}`");
-            return;
-        }
-    }
-    if env::var("CARGO_CFG_TARGET_ARCH").unwrap() == "x86_64" {
+    let crates = &CRATES[..if compared { 2 } else { 1 }];
+    let Some(archives) = archives(root, crates) else {
+        return;
+    };
+    if linked {
         println!("cargo::rustc-cfg=linked");
-        println!("cargo::rustc-link-search=native={}", folder.display());
-        for name in CRATES {
+        for name in crates {
             println!("cargo::rustc-link-lib=static={name}");
         }
+    }
+    if !compared {
+        return;
     }
     // libudfread takes part in the benchmark where it is installed.
     if Command::new("pkg-config").args(["--exists", "libudfread"]).status().is_ok_and(|s| s.success()) {
@@ -77,6 +77,24 @@ fn main() {
         println!("cargo::rustc-link-lib=udfread");
     }
     port(root, &archives, &out);
+}
+
+/// The archives of these crates, if all are there.
+fn archives(root: &Path, crates: &[&str]) -> Option<Vec<PathBuf>> {
+    println!("cargo::rerun-if-env-changed=VAULT_ARCHIVE");
+    let folder = env::var("VAULT_ARCHIVE").map_or_else(|_| root.join("target/staticlib"), PathBuf::from);
+    println!("cargo::rustc-link-search=native={}", folder.display());
+    let mut found = Vec::new();
+    for name in crates {
+        let archive = folder.join(format!("lib{name}.a"));
+        println!("cargo::rerun-if-changed={}", archive.display());
+        if !archive.exists() {
+            println!("cargo::error={} is missing: make it with `rt staticlib {name}` in the repository's root", archive.display());
+            return None;
+        }
+        found.push(archive);
+    }
+    Some(found)
 }
 
 /// Writes original.rs, which names the original's modules, where its two files are there.

@@ -4,7 +4,8 @@
 //! null. A shared slice and the spare room of a vector that is borrowed mutably can't overlap, nor can the rooms of two vectors; the image and
 //! the path are only read, so that it harms nothing if one is a part of the other. No slice's or vector's pointer is null, also at length
 //! 0. In return it promises, and that is proved, that a call reads and writes within the lengths it is given, keeps no
-//! pointer, and asks nothing of the values: a volume or an ICB may be any.
+//! pointer, and asks nothing of the values: a volume or an ICB may be any. The proofs take the image as standing still, which a `&[u8]`
+//! says of itself; lib.rs has what a map of a file has to see to.
 //!
 //! What is lent for writing isn't initialised: it is handed over as a pointer, and only what the call says it wrote is looked at.
 #![allow(unsafe_code)]

@@ -12,6 +12,15 @@
 //! }
 //! ```
 //!
+//! # The image stands still
+//!
+//! A `&[u8]` says that nobody writes to its bytes while it is borrowed. Memory of one's own is such a slice by itself. A map of a file is one
+//! only if nobody writes to the file, which no map can see to: whoever makes one, with `unsafe` in their own code or through a crate that
+//! has it, takes that duty over, and hands it on with the slice. Of an image that changes all the same an answer may be that of no image,
+//! neither as it was nor as it is; and [`Vault::part`] gives bytes of the image itself, which go on changing under whoever looks at them.
+//! Where the duty can't be kept, for a disc that is still being copied or a drive that may read a sector twice, read the image into memory
+//! first, as `std::fs::read` does.
+//!
 //! # Memory
 //!
 //! The proved calls allocate nothing: they write to memory that is lent to them and refuse by 5, 6 or 7 where it is too little. This crate

@@ -70,6 +70,28 @@ fn every_command_answers() {
     assert!(folder.vault(&["--help"]).out.contains("vault get IMAGE PATH FILE"));
 }
 
+/// A copy gives what a map gives, refusals and remarks too.
+#[test]
+fn a_copied_image_answers_the_same() {
+    let folder = with_show();
+    for words in [
+        &["label", "show.img"][..],
+        &["ls", "show.img"],
+        &["ls", "show.img", "SHOW"],
+        &["cat", "show.img", "SHOW/10.1a"],
+        &["stat", "show.img", "SHOW/11"],
+        &["probe", "show.img"],
+        &["cat", "show.img", "no"],
+        &["--sectors", "ls", "show.img", "SHOW/9"],
+    ] {
+        let (mapped, copied) = (folder.vault(words), folder.vault(&[&["--copy"], words].concat()));
+        assert_eq!((mapped.status, mapped.out, mapped.error), (copied.status, copied.out, copied.error), "{words:?}");
+    }
+    answers(&folder.vault(&["get", "show.img", "SHOW/10.1A", "cue", "--copy"]), "");
+    assert_eq!(std::fs::read_to_string(folder.at("cue")).unwrap(), UPPER);
+    refuses(&folder, &["--copy", "get", "show.img", "SHOW/9", "./show.img"], 64, "this is the image itself");
+}
+
 #[test]
 fn a_remark_where_a_path_gives_another_of_the_same_letters() {
     let folder = with_show();
@@ -119,6 +141,7 @@ fn bad_images_are_refused_by_every_command() {
         refuses(&folder, &["ls", image], status, phrase);
         refuses(&folder, &["ls", image, "SHOW"], status, phrase);
         refuses(&folder, &["cat", image, "SHOW/9"], status, phrase);
+        refuses(&folder, &["cat", image, "SHOW/9", "--copy"], status, phrase);
         refuses(&folder, &["stat", image, "SHOW/9"], status, phrase);
         refuses(&folder, &["get", image, "SHOW/9", "new"], status, phrase);
     }
@@ -132,11 +155,13 @@ fn bad_images_are_refused_by_every_command() {
 #[test]
 fn a_pipe_is_no_image() {
     let folder = with_show();
-    let mut child = folder.command(&["label", "/dev/stdin"]).stdin(Stdio::piped()).stderr(Stdio::piped()).spawn().unwrap();
-    drop(child.stdin.take());
-    let said = Said::of(child.wait_with_output().unwrap());
-    assert_eq!(said.status, 66);
-    assert!(said.error.contains("can be mapped"), "{said:?}");
+    for words in [&["label", "/dev/stdin"][..], &["--copy", "label", "/dev/stdin"]] {
+        let mut child = folder.command(words).stdin(Stdio::piped()).stderr(Stdio::piped()).spawn().unwrap();
+        drop(child.stdin.take());
+        let said = Said::of(child.wait_with_output().unwrap());
+        assert_eq!(said.status, 66);
+        assert!(said.error.contains("this is a pipe"), "{said:?}");
+    }
 }
 
 #[test]
@@ -213,9 +238,13 @@ fn large_files_are_read_whole() {
 
 /// `get` of the big file in a shell that has a limit set.
 fn limited(folder: &Folder, limit: &str, file: &str) -> Said {
+    within(folder, limit, &["get", "big.img", "big", file])
+}
+
+/// The command in a shell that has a limit set.
+fn within(folder: &Folder, limit: &str, words: &[&str]) -> Said {
     let line = format!("{limit}; exec \"$@\"");
-    let words = ["-c", &line, "sh", env!("CARGO_BIN_EXE_vault"), "get", "big.img", "big", file];
-    Said::of(Command::new("sh").args(words).current_dir(&folder.0).output().unwrap())
+    Said::of(Command::new("sh").args(["-c", &line, "sh", env!("CARGO_BIN_EXE_vault")]).args(words).current_dir(&folder.0).output().unwrap())
 }
 
 #[test]
@@ -226,6 +255,16 @@ fn memory_that_cannot_be_had_is_refusal_5() {
     let sentence = "vault: big.img: \"big\": the answer has more bytes than there is memory for (refusal 5)\n";
     assert_eq!((said.status, said.error.as_str()), (5, sentence));
     assert_eq!(folder.names(), ["big.img"]);
+}
+
+#[test]
+fn a_copy_that_does_not_fit_is_said() {
+    let (folder, _) = with_big();
+    let said = within(&folder, "ulimit -v 30000", &["--copy", "ls", "big.img"]);
+    let length = std::fs::metadata(folder.at("big.img")).unwrap().len();
+    let sentence = format!("vault: big.img: there is no memory for a copy of {length} bytes: without --copy the image is mapped\n");
+    assert_eq!((said.status, said.error, said.out), (66, sentence, String::new()));
+    assert_eq!(within(&folder, "ulimit -v 65000", &["--copy", "ls", "big.img"]).out, "big\n");
 }
 
 #[test]

@@ -21,6 +21,8 @@ struct Row {
     name: String,
     disc: Disc,
     query: Query,
+    /// What libudfread goes through.
+    #[cfg_attr(not(udfread), allow(dead_code))]
     directories: Vec<Icb>,
     /// Bytes that a copy would move.
     copy: Option<usize>,

@@ -1,98 +1,13 @@
-//! The archive linked in: the calls of include/vault.h, with lent memory as port.c lends it.
+//! The archive linked in, with lent memory as port.c lends it.
 
-use super::calls::{Call, Given, Icb, Query, Values, Volume};
+use super::calls::{Call, Given, Query, Values};
+use super::linked::{self, Lends};
 use super::ours::{Ask, Noise, Ours, Timed};
 use super::random::Random;
 use super::raw::{RawAsk, RawGiven};
 use super::raw_direct;
 use std::hint::black_box;
 use std::time::Instant;
-
-#[repr(C)]
-#[derive(Clone, Copy)]
-struct LbAddr {
-    block: u32,
-    partition: u16,
-}
-
-#[repr(C)]
-#[derive(Clone, Copy)]
-struct LongAd {
-    length: u32,
-    extent_type: u8,
-    location: LbAddr,
-    implementation_use: [u8; 6],
-}
-
-#[repr(C)]
-#[derive(Clone, Copy)]
-struct CVolume {
-    start: u32,
-    partition: u16,
-    root: LongAd,
-    label: [u8; 32],
-}
-
-#[repr(C)]
-struct Opened {
-    answer: u64,
-    count: u64,
-    volume: CVolume,
-}
-
-#[repr(C)]
-struct Found {
-    answer: u64,
-    count: u64,
-    icb: LongAd,
-}
-
-#[repr(C)]
-#[derive(Default)]
-struct Reply {
-    answer: u64,
-    count: u64,
-    length: u64,
-}
-
-type Bytes = *const u8;
-type Lent = *mut u8;
-
-unsafe extern "C" {
-    fn vault_probe(image: Bytes, n: usize) -> bool;
-    fn vault_open(image: Bytes, n: usize) -> Opened;
-    fn vault_label(image: Bytes, n: usize, out: Lent, room: usize) -> Reply;
-    fn vault_lookup(v: CVolume, image: Bytes, n: usize, path: Bytes, m: usize, work: Lent, w: usize) -> Found;
-    fn vault_failed(v: CVolume, image: Bytes, n: usize, path: Bytes, m: usize, work: Lent, w: usize, at: *mut usize) -> Reply;
-    fn vault_list(v: CVolume, image: Bytes, n: usize, icb: LongAd, out: Lent, room: usize, work: Lent, w: usize) -> Reply;
-    fn vault_read(v: CVolume, image: Bytes, n: usize, icb: LongAd, out: Lent, room: usize) -> Reply;
-    fn vault_part(v: CVolume, image: Bytes, n: usize, icb: LongAd, at: *mut usize) -> Reply;
-    fn vault_extents(v: CVolume, image: Bytes, n: usize, icb: LongAd, row: *mut [u32; 4], slots: usize) -> Reply;
-    fn vault_read_path(v: CVolume, image: Bytes, n: usize, path: Bytes, m: usize, out: Lent, room: usize, work: Lent, w: usize) -> Reply;
-}
-
-impl From<Icb> for LongAd {
-    fn from(i: Icb) -> LongAd {
-        LongAd {
-            length: i.length,
-            extent_type: i.extent_type,
-            location: LbAddr { block: i.block, partition: i.partition },
-            implementation_use: i.implementation_use,
-        }
-    }
-}
-
-impl From<LongAd> for Icb {
-    fn from(l: LongAd) -> Icb {
-        Icb {
-            length: l.length,
-            extent_type: l.extent_type,
-            block: l.location.block,
-            partition: l.location.partition,
-            implementation_use: l.implementation_use,
-        }
-    }
-}
 
 pub const GUARD: usize = 64;
 
@@ -121,7 +36,7 @@ impl Lending {
         unsafe { std::slice::from_raw_parts_mut(self.store.as_mut_ptr().cast(), n) }
     }
 
-    pub fn lent(&mut self) -> Lent {
+    pub fn lent(&mut self) -> *mut u8 {
         self.bytes()[GUARD..].as_mut_ptr()
     }
 
@@ -205,7 +120,7 @@ impl Ours for Direct {
 
     fn time(&mut self, timed: Timed, times: u32) -> std::io::Result<u64> {
         let (room, work) = match timed {
-            Timed::Query(q) => (if q.call == Call::Extents { q.room * 16 } else { q.room }, q.work),
+            Timed::Query(q) => (q.room_bytes(), q.work),
             Timed::Copy(n) => (n, 0),
         };
         let (mut out, mut work) = (Lending::new(room, 0), Lending::new(work, 0));
@@ -227,8 +142,7 @@ impl Ours for Direct {
 
 /// One call, and what held of the memory that was lent for it.
 fn call(q: &Query, disc: &[u8], salt: u8) -> Given {
-    let bytes = if q.call == Call::Extents { q.room * 16 } else { q.room };
-    let mut out = Lending::new(if q.call.has_room() { bytes } else { 0 }, salt);
+    let mut out = Lending::new(q.room_bytes(), salt);
     let mut work = Lending::new(if q.call.has_work() { q.work } else { 0 }, salt);
     let mut values = make(q, disc, out.lent(), work.lent());
     let gives = q.call.has_room() && values.answer == 0;
@@ -244,33 +158,9 @@ fn call(q: &Query, disc: &[u8], salt: u8) -> Given {
     Given { values, held }
 }
 
-fn make(q: &Query, disc: &[u8], out: Lent, work: Lent) -> Values {
-    let v = CVolume { start: q.volume.start, partition: q.volume.partition, root: q.volume.root.into(), label: q.volume.label };
-    let (d, n, p, m) = (disc.as_ptr(), disc.len(), q.path.as_ptr(), q.path.len());
-    let (icb, mut place, mut values) = (LongAd::from(q.icb), 0usize, Values::default());
-    // The header's word: lent pieces are as long as said, and don't overlap.
-    let reply = unsafe {
-        match q.call {
-            Call::Probe => Reply { answer: vault_probe(d, n) as u64, ..Reply::default() },
-            Call::Open => {
-                let o = vault_open(d, n);
-                let root = o.volume.root.into();
-                values.volume = Volume { start: o.volume.start, partition: o.volume.partition, root, label: o.volume.label };
-                Reply { answer: o.answer, count: o.count, length: 0 }
-            }
-            Call::Label => vault_label(d, n, out, q.room),
-            Call::Lookup => {
-                let f = vault_lookup(v, d, n, p, m, work, q.work);
-                values.icb = f.icb.into();
-                Reply { answer: f.answer, count: f.count, length: 0 }
-            }
-            Call::Failed => vault_failed(v, d, n, p, m, work, q.work, &mut place),
-            Call::List => vault_list(v, d, n, icb, out, q.room, work, q.work),
-            Call::Read => vault_read(v, d, n, icb, out, q.room),
-            Call::Part => vault_part(v, d, n, icb, &mut place),
-            Call::Extents => vault_extents(v, d, n, icb, out.cast(), q.room),
-            Call::ReadPath => vault_read_path(v, d, n, p, m, out, q.room, work, q.work),
-        }
-    };
-    Values { answer: reply.answer, count: reply.count, length: reply.length, place: place as u64, ..values }
+fn make(q: &Query, disc: &[u8], out: *mut u8, work: *mut u8) -> Values {
+    let mut place = 0;
+    let lends = Lends { image: disc.as_ptr(), image_length: disc.len(), path: q.path.as_ptr(), out, work, place: &mut place };
+    // SAFETY: lent pieces are as long as said, and don't overlap.
+    unsafe { linked::make(q, lends) }
 }

@@ -2,26 +2,22 @@
 
 mod aborts;
 mod bench;
-mod calls;
 mod compare;
 mod damage;
 #[cfg(linked)]
 mod direct;
-mod disc;
 mod expect;
 mod list;
 mod original;
 mod ours;
 mod port;
 mod queries;
-mod random;
 mod raw;
 mod raw_cases;
 #[cfg(linked)]
 mod raw_direct;
 mod raw_expect;
 mod raw_records;
-mod records;
 mod shapes_directories;
 mod shapes_files;
 mod shapes_opening;
@@ -32,6 +28,9 @@ mod udfread;
 mod volumes;
 mod wire;
 
+#[cfg(linked)]
+use common::linked;
+use common::{calls, disc, random, records};
 use ours::Way;
 use std::path::Path;
 use std::process::exit;

@@ -17,13 +17,15 @@ vault: look into a UDF disc. An image is a file or a drive; it is only read.
   vault probe IMAGE            whether it has a recognition sequence: yes or no
   vault sample FILE            writes the sample show's image, to try these on
 
+  --copy       read the whole image into memory first, and look at that
   --sectors    print on standard error how many sectors each call asked for
   --help       print this
   --           what follows is no option
 
 Names on a path stand between slashes. ASCII case is ignored, and the first
 entry that is equal so is taken. Control characters in names are printed as
-\\u{..}. Do not write to an image while it is looked at.
+\\u{..}. An image is mapped: nobody may write to it while it is looked at. Where
+that can't be kept, as with a disc that is still being copied, use --copy.
 
 Status: 0 done, 1 to 8 refused by that number, 64 wrong usage, 66 no image,
 74 output that can't be written.
@@ -55,22 +57,25 @@ pub enum Question {
 pub struct Args {
     pub command: Command,
     pub sectors: bool,
+    /// The image is copied, and not mapped.
+    pub copy: bool,
 }
 
 pub fn parse(given: impl IntoIterator<Item = OsString>) -> Result<Args, Failure> {
-    let (mut sectors, mut help, mut words) = (false, false, Vec::new());
+    let (mut sectors, mut copy, mut help, mut words) = (false, false, false, Vec::new());
     let mut given = given.into_iter();
     while let Some(word) = given.next() {
         match word.as_bytes() {
             b"--" => words.extend(given.by_ref()),
             b"--sectors" => sectors = true,
+            b"--copy" => copy = true,
             b"--help" | b"-h" => help = true,
             [b'-', _, ..] => return Err(Failure::usage(format!("there is no option {}", shown(word.as_bytes())))),
             _ => words.push(word),
         }
     }
     let command = if help { Command::Help } else { command(words)? };
-    Ok(Args { command, sectors })
+    Ok(Args { command, sectors, copy })
 }
 
 fn command(words: Vec<OsString>) -> Result<Command, Failure> {
@@ -131,10 +136,12 @@ mod tests {
     #[test]
     fn options_stand_anywhere() {
         let label = |image: &str| Command::Ask { image: image.into(), question: Question::Label };
-        let asked = |sectors| Args { command: label("a"), sectors };
-        assert_eq!(parsed("label a").unwrap(), asked(false));
-        assert_eq!(parsed("--sectors label a").unwrap(), asked(true));
-        assert_eq!(parsed("label a --sectors").unwrap(), asked(true));
+        let asked = |sectors, copy| Args { command: label("a"), sectors, copy };
+        assert_eq!(parsed("label a").unwrap(), asked(false, false));
+        assert_eq!(parsed("--sectors label a").unwrap(), asked(true, false));
+        assert_eq!(parsed("label a --sectors").unwrap(), asked(true, false));
+        assert_eq!(parsed("label --copy a").unwrap(), asked(false, true));
+        assert_eq!(parsed("--copy label a --sectors").unwrap(), asked(true, true));
         assert_eq!(parsed("label a --help").unwrap().command, Command::Help);
         assert_eq!(parsed("label -- --help").unwrap().command, label("--help"));
         assert_eq!(parsed("").unwrap().command, Command::Tour);
@@ -155,6 +162,7 @@ mod tests {
             "sample",
             "-x",
             "--sector",
+            "--copies",
             "label a -v",
         ] {
             assert_eq!(parsed(line).unwrap_err().status, crate::failure::USAGE, "{line}");

@@ -1,12 +1,12 @@
 //! The commands.
 
-use crate::args::{Command, HELP, Question};
+use crate::args::{Args, Command, HELP, Question};
 use crate::bar::Word;
 use crate::disc::{Disc, Found};
 use crate::failure::{Failure, USAGE};
 use crate::file;
+use crate::image::Image;
 use crate::log::Log;
-use crate::map::Image;
 use crate::names::shown;
 use crate::tour;
 use console::{AllocExtent, DirEntry, probe_vrs, read_volume_label};
@@ -14,8 +14,8 @@ use std::ffi::OsStr;
 use std::io::{self, Write};
 use std::os::unix::ffi::OsStrExt;
 
-pub fn run(command: &Command, out: &mut impl Write, log: &mut Log) -> Result<(), Failure> {
-    match command {
+pub fn run(args: &Args, out: &mut impl Write, log: &mut Log) -> Result<(), Failure> {
+    match &args.command {
         Command::Help => out.write_all(HELP.as_bytes()).map_err(Failure::output),
         Command::Tour => tour::give(out),
         Command::Sample { file } => file::Target::at(file)?.write(&tour::sample()?),
@@ -23,7 +23,7 @@ pub fn run(command: &Command, out: &mut impl Write, log: &mut Log) -> Result<(),
             if let Question::Get { file, .. } = question {
                 apart(image, file)?;
             }
-            ask(question, &Image::open(image)?, image, out, log)
+            ask(question, &Image::open(image, args.copy)?, image, out, log)
         }
     }
 }

@@ -8,7 +8,7 @@ use std::os::unix::ffi::OsStrExt;
 
 /// Wrong usage.
 pub const USAGE: u8 = 64;
-/// An image that can't be opened or mapped.
+/// An image that can't be opened, mapped or copied.
 pub const NO_IMAGE: u8 = 66;
 /// Output that can't be written.
 pub const NO_OUTPUT: u8 = 74;

@@ -6,6 +6,7 @@ mod commands;
 mod disc;
 mod failure;
 mod file;
+mod image;
 mod log;
 mod map;
 mod names;
@@ -30,7 +31,7 @@ fn main() -> ExitCode {
 fn run() -> Result<(), Failure> {
     let args = args::parse(std::env::args_os().skip(1))?;
     let (mut out, mut log) = (BufWriter::new(io::stdout().lock()), Log::default());
-    let done = commands::run(&args.command, &mut out, &mut log).and_then(|()| out.flush().map_err(Failure::output));
+    let done = commands::run(&args, &mut out, &mut log).and_then(|()| out.flush().map_err(Failure::output));
     log.remarks.iter().for_each(|text| say(text));
     if args.sectors {
         say(&format!("sectors asked for: {}", log.sectors()));

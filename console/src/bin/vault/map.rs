@@ -1,11 +1,22 @@
-//! An image file in memory: mapped, so that a disc of 25 GB opens at once and costs what is looked at. With the library's calls this is
-//! the only module with `unsafe` in it.
+//! A file in memory: mapped, so that a disc of 25 GB opens at once and costs what is looked at. With the library's calls this is the only
+//! module with `unsafe` in it.
+//!
+//! # What is relied on
+//!
+//! A `&[u8]` says to Rust that nobody writes to its bytes while it is borrowed. A mapped file can be written to by any process that may, and
+//! a drive that reads a page again may give other bytes; the system doesn't keep either from a map. So `Map` is sound in Rust's terms only
+//! if nobody writes to the image while the command runs. It is the user who knows: `--help` asks for it, and `--copy` is for where it isn't so.
+//!
+//! What still holds if someone does write: the Rust of this command looks at no byte of a map. It hands the slice to the archive's calls, as
+//! a pointer and a length, and these stay inside what they are lent whatever the image holds from one look to the next (docs/PROMISES.md,
+//! "What is assumed", says how far that is proved and how far it is tried). The answer may then be that of no image: a mixture of before and
+//! after. A file that is cut short meanwhile ends the command with a sentence.
 #![allow(unsafe_code)]
 
-use crate::failure::{Failure, NO_IMAGE};
-use std::ffi::{OsStr, c_int, c_void};
+use crate::failure::NO_IMAGE;
+use std::ffi::{c_int, c_void};
 use std::fs::File;
-use std::io::{self, Seek, SeekFrom};
+use std::io;
 use std::ops::Deref;
 use std::os::fd::AsRawFd;
 use std::ptr;
@@ -23,31 +34,17 @@ unsafe extern "C" {
 }
 
 /// A mapped file, or device.
-pub struct Image {
+pub struct Map {
     at: *mut c_void,
     length: usize,
 }
 
-impl Image {
-    pub fn open(name: &OsStr) -> Result<Image, Failure> {
-        Image::map(name).map_err(|error| match error.kind() {
-            io::ErrorKind::NotFound => Failure::file(NO_IMAGE, name, "there is no such file"),
-            io::ErrorKind::IsADirectory => Failure::file(NO_IMAGE, name, "this is a directory, and not the image of a disc"),
-            io::ErrorKind::NotSeekable => Failure::file(NO_IMAGE, name, "this is no file or device that can be mapped: copy it to a file"),
-            _ => Failure::file(NO_IMAGE, name, format!("the image can't be opened: {error}")),
-        })
-    }
-
-    fn map(name: &OsStr) -> io::Result<Image> {
-        let mut file = File::open(name)?;
-        if file.metadata()?.is_dir() {
-            return Err(io::ErrorKind::IsADirectory.into());
-        }
-        // Where the end is: a device, such as a drive, has no length in its metadata.
-        let length = usize::try_from(file.seek(SeekFrom::End(0))?).map_err(|_| io::ErrorKind::FileTooLarge)?;
+impl Map {
+    /// A map of a file's first `length` bytes. A byte that the file doesn't have ends the command when it is looked at.
+    pub fn new(file: &File, length: usize) -> io::Result<Map> {
         if length == 0 {
             // An empty map is refused by the system.
-            return Ok(Image { at: ptr::null_mut(), length });
+            return Ok(Map { at: ptr::null_mut(), length });
         }
         // SAFETY: a new map where the system puts it; no memory of this program is touched.
         let at = unsafe { mmap(ptr::null_mut(), length, PROT_READ, MAP_PRIVATE, file.as_raw_fd(), 0) };
@@ -56,24 +53,24 @@ impl Image {
         }
         // SAFETY: `gone` is of the form that the system calls, and does nothing that a handler may not.
         unsafe { signal(SIGBUS, gone) };
-        Ok(Image { at, length })
+        Ok(Map { at, length })
     }
 }
 
-impl Deref for Image {
+impl Deref for Map {
     type Target = [u8];
 
     fn deref(&self) -> &[u8] {
         if self.length == 0 {
             return &[];
         }
-        // SAFETY: `length` bytes are mapped from `at` on until this is dropped, and nobody in this program can write there. Who changes the
-        // file meanwhile changes what is read, which no mapped file can be kept from: an image is not to be written while it is looked at.
+        // SAFETY: `length` bytes are mapped from `at` on until this is dropped, and nobody in this program can write there. That no other
+        // program writes to the file is relied on: the head of this module.
         unsafe { std::slice::from_raw_parts(self.at.cast(), self.length) }
     }
 }
 
-impl Drop for Image {
+impl Drop for Map {
     fn drop(&mut self) {
         if self.length > 0 {
             // SAFETY: this map, whole, and nothing borrows from it any more.
@@ -103,7 +100,7 @@ mod tests {
     #[test]
     fn a_file_that_is_cut_short_ends_in_a_sentence() {
         if let Some(name) = std::env::var_os(CUT) {
-            let image = Image::open(&name).unwrap();
+            let image = Map::new(&File::open(&name).unwrap(), 8192).unwrap();
             File::options().write(true).open(&name).and_then(|file| file.set_len(0)).unwrap();
             std::process::exit(std::hint::black_box(image[4096]).into());
         }

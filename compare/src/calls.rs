@@ -40,6 +40,16 @@ impl Call {
     pub fn has_room(self) -> bool {
         matches!(self, Call::Label | Call::List | Call::Read | Call::Extents | Call::ReadPath)
     }
+
+    /// It says where in the image, or in the path, its answer stands.
+    pub fn has_place(self) -> bool {
+        matches!(self, Call::Failed | Call::Part)
+    }
+
+    /// It goes along a path.
+    pub fn has_path(self) -> bool {
+        matches!(self, Call::Lookup | Call::Failed | Call::ReadPath)
+    }
 }
 
 /// A long_ad.
@@ -106,6 +116,15 @@ impl Query {
 
     pub fn with(&self, room: usize, work: usize) -> Query {
         Query { room, work, ..self.clone() }
+    }
+
+    /// The bytes that are lent for its answer: a slot has 16.
+    pub fn room_bytes(&self) -> usize {
+        match self.call {
+            Call::Extents => self.room * 16,
+            call if call.has_room() => self.room,
+            _ => 0,
+        }
     }
 }
 

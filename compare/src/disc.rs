@@ -1,8 +1,8 @@
 //! An image in the making: descriptors and files put onto a disc, with a note of where each tag stands, for those who damage it.
 
-use super::calls::{Icb, Volume};
-use super::random::Random;
-use super::records::*;
+use crate::calls::{Icb, Volume};
+use crate::random::Random;
+use crate::records::*;
 
 #[derive(Clone)]
 pub struct Disc {

@@ -1,6 +1,6 @@
 //! The records of a disc, written: what stands at which offset is said here apart from both readers.
 
-use super::calls::Icb;
+use crate::calls::Icb;
 
 pub fn put16(b: &mut [u8], at: usize, v: u16) {
     b[at..at + 2].copy_from_slice(&v.to_le_bytes());

@@ -1,0 +1,172 @@
+//! What is asked of an image, and what has to hold of an answer whatever the image holds meanwhile.
+
+use crate::faults;
+use crate::memory::{Piece, Side, Store};
+use crate::stage::Raced;
+use common::calls::{Call, Icb, Query, Values};
+use common::linked::{self, Lends};
+
+/// The table ends here.
+const LAST_ANSWER: u64 = 8;
+
+/// More than any answer here has, in bytes and in slots.
+const PLENTY: usize = 1 << 19;
+const MANY_SLOTS: usize = 1 << 13;
+
+/// A query, what it is called if it goes wrong, and the answers that the image's two states give while they stand still.
+pub struct Ask {
+    pub query: Query,
+    pub words: &'static str,
+    still: [[u64; 4]; 2],
+}
+
+impl Ask {
+    /// Whether an answer is that of one of the two states.
+    pub fn is_of_either(&self, values: &Values) -> bool {
+        self.still.contains(&summed(values))
+    }
+}
+
+fn summed(v: &Values) -> [u64; 4] {
+    [v.answer, v.count, v.length, v.place]
+}
+
+/// The memory that is lent for calls.
+#[derive(Default)]
+pub struct Lender {
+    path: Store,
+    out: Store,
+    work: Store,
+    place: Store,
+}
+
+impl Lender {
+    /// Makes a call on an image that somebody may write to meanwhile. The bits of `sides` say with which guard each piece is flush. Gives
+    /// what was answered, or what must not be.
+    pub fn ask(&mut self, q: &Query, image: (*const u8, usize), sides: u64) -> Result<Values, String> {
+        let side = |bit: u32| if sides >> bit & 1 == 0 { Side::Left } else { Side::Right };
+        let mut path = self.path.piece(q.path.len(), side(0));
+        let mut out = self.out.piece(q.room_bytes(), side(1));
+        let mut work = self.work.piece(if q.call.has_work() { q.work } else { 0 }, side(2));
+        let mut place = self.place.piece(size_of::<usize>(), side(3));
+        path.bytes().copy_from_slice(&q.path);
+        let pieces = [&mut path, &mut out, &mut work, &mut place].map(|piece| (piece.at().addr(), piece.length));
+        faults::lend([(image.0.addr(), image.1), pieces[0], pieces[1], pieces[2], pieces[3]]);
+        let (path_at, out_at, work_at, place_at) = (path.at(), out.at(), work.at(), place.at().cast());
+        let lends = Lends { image: image.0, image_length: image.1, path: path_at, out: out_at, work: work_at, place: place_at };
+        // SAFETY: the pieces are of four stores, and the image of another: none overlap, and each is as long as said.
+        let values = unsafe { linked::make(q, lends) };
+        in_range(q, &values, image.1)?;
+        held(q, &values, [&mut path, &mut out, &mut work, &mut place])?;
+        Ok(values)
+    }
+}
+
+/// The numbers of an answer.
+fn in_range(q: &Query, v: &Values, image_length: usize) -> Result<(), String> {
+    if v.answer > LAST_ANSWER {
+        return Err(format!("the answer is {}, which isn't in the table", v.answer));
+    }
+    if v.answer == 0 && q.call.has_room() && v.length > q.room as u64 {
+        return Err(format!("done with a length of {}, and room for {}", v.length, q.room));
+    }
+    if v.answer != 0 && v.length != 0 && q.call != Call::Failed {
+        return Err(format!("refused by {} with a length of {}", v.answer, v.length));
+    }
+    let whole = if q.call == Call::Part { image_length } else { q.path.len() };
+    if q.call.has_place() && v.place.checked_add(v.length).is_none_or(|end| end > whole as u64) {
+        return Err(format!("{} bytes at {}, in {whole}", v.length, v.place));
+    }
+    Ok(())
+}
+
+/// The lent memory. All of it is left as it came, full of the pattern.
+fn held(q: &Query, v: &Values, [path, out, work, place]: [&mut Piece; 4]) -> Result<(), String> {
+    let slot = if q.call == Call::Extents { 16 } else { 1 };
+    let front = if v.answer == 0 && q.call.has_room() { v.length as usize * slot } else { 0 };
+    let (path_length, work_length, place_length) = (path.length, work.length, place.length);
+    for (name, piece, front) in
+        [("path", &path, path_length), ("output", &out, front), ("work space", &work, work_length), ("place", &place, place_length)]
+    {
+        if let Some(at) = piece.touched(front) {
+            return Err(format!("answer {}, length {}: byte {at} of the {name} was written to", v.answer, v.length));
+        }
+    }
+    if path.bytes() != q.path {
+        return Err("the path was written to".to_string());
+    }
+    if let Some(at) = work.bytes().iter().position(|b| *b != 0) {
+        return Err(format!("answer {}: byte {at} of the work space is not zero", v.answer));
+    }
+    path.restore(path_length);
+    out.restore(front);
+    work.restore(work_length);
+    place.restore(place_length);
+    Ok(())
+}
+
+/// Everything that is asked of an image: every call, with room that is exactly enough for each of its two states, a little less, and more.
+pub fn asks(raced: &Raced, lender: &mut Lender) -> Result<Vec<Ask>, String> {
+    let mut states = [raced.image.clone(), raced.image.clone()];
+    raced.flip.put(&mut states[1], 1);
+    let mut still = |q: &Query| -> Result<[Values; 2], String> {
+        let mut answer = |state: &[u8]| lender.ask(q, (state.as_ptr(), state.len()), 0);
+        Ok([answer(&states[0])?, answer(&states[1])?])
+    };
+    let v = raced.volume;
+    let mut works = vec![0];
+    for icb in &raced.icbs {
+        works.extend(still(&Query::on(Call::Read, v, *icb).with(PLENTY, 0))?.map(|values| values.length as usize));
+    }
+    let works = distinct(works);
+    let mut queries = Vec::new();
+    for call in Call::ALL {
+        for q in asked(raced, call) {
+            let plenty = q.with(if call == Call::Extents { MANY_SLOTS } else { PLENTY }, PLENTY);
+            let rooms = if call.has_room() { rooms(still(&plenty)?.map(|values| values.length as usize)) } else { vec![0] };
+            for room in rooms {
+                let works = if call.has_work() { &works[..] } else { &[0] };
+                queries.extend(works.iter().map(|work| q.with(room, *work)));
+            }
+        }
+    }
+    let ask = |query: Query| {
+        let still = still(&query)?.each_ref().map(summed);
+        Ok(Ask { words: words(raced, &query).leak(), query, still })
+    };
+    queries.into_iter().map(ask).collect()
+}
+
+/// The queries of a call, with no memory yet.
+fn asked(raced: &Raced, call: Call) -> Vec<Query> {
+    let v = raced.volume;
+    match call {
+        Call::Probe | Call::Open | Call::Label => vec![Query::of(call, v)],
+        _ if call.has_path() => raced.paths.iter().map(|path| Query::along(call, v, path)).collect(),
+        _ => raced.icbs.iter().map(|icb| Query::on(call, v, *icb)).collect(),
+    }
+}
+
+/// Exactly enough for either state, one less, and more.
+fn rooms(lengths: [usize; 2]) -> Vec<usize> {
+    let [a, b] = lengths;
+    distinct(vec![a, b, a.min(b).saturating_sub(1), a.max(b) + 100])
+}
+
+fn distinct(mut numbers: Vec<usize>) -> Vec<usize> {
+    numbers.sort();
+    numbers.dedup();
+    numbers
+}
+
+fn words(raced: &Raced, q: &Query) -> String {
+    let of = |icb: Icb| format!(" of block {}", icb.block);
+    let what = match q.call {
+        call if call.has_path() => format!(" along \"{}\"", q.path.escape_ascii()),
+        Call::Probe | Call::Open | Call::Label => String::new(),
+        _ => of(q.icb),
+    };
+    let room = if q.call.has_room() { format!(", room {}", q.room) } else { String::new() };
+    let work = if q.call.has_work() { format!(", work space {}", q.work) } else { String::new() };
+    format!("{}{what}{room}{work}, on the flip \"{}\"", q.call.name(), raced.name)
+}

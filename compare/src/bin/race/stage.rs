@@ -1,0 +1,106 @@
+//! An image in the making, around a subject, which its root names twice, as a file and as a directory: the subject's bytes are entries of a
+//! directory, so that it can be read, listed and walked through.
+
+use crate::flips::Flip;
+use common::calls::{Icb, Volume};
+use common::disc::{Disc, Layout};
+use common::records::*;
+
+/// An image, the place in it that is flipped, and what may be asked of it.
+pub struct Raced {
+    pub name: String,
+    pub image: Vec<u8>,
+    pub flip: Flip,
+    pub volume: Volume,
+    pub icbs: Vec<Icb>,
+    pub paths: Vec<Vec<u8>>,
+}
+
+/// The bytes that each entry of a directory has here.
+pub const CUE: usize = 48;
+/// Where an entry's descriptors start.
+pub const AREA: usize = 176;
+/// A length that goes beyond each of these images, and a block that is in none.
+pub const BEYOND: u64 = (1 << 30) - 1;
+pub const NOWHERE: u64 = 0xffff_fff0;
+/// An information length that none of these files comes to.
+pub const ENDLESS: u64 = u64::MAX >> 1;
+
+/// An image in the making.
+pub struct Stage {
+    pub disc: Disc,
+    cue: Icb,
+    named: usize,
+}
+
+impl Stage {
+    pub fn new() -> Stage {
+        let mut disc = Disc::new(40, 0);
+        let (cue, _) = disc.store(b"a look", &Layout::of(3));
+        Stage { disc, cue, named: 0 }
+    }
+
+    /// So many entries of a directory, with names that no other has.
+    pub fn cues(&mut self, n: usize) -> Vec<u8> {
+        let from = self.named;
+        self.named += n;
+        let bytes: Vec<u8> =
+            (from..self.named).flat_map(|i| Item::new(name8(format!("cue {i:05}").as_bytes()), self.cue, 0).bytes()).collect();
+        assert_eq!(bytes.len(), n * CUE);
+        bytes
+    }
+
+    pub fn lay(&mut self, bytes: &[u8]) -> u32 {
+        let block = self.disc.take(bytes.len().div_ceil(2048) as u32);
+        self.disc.put_block(block, bytes);
+        block
+    }
+
+    pub fn lay_cues(&mut self, n: usize) -> u32 {
+        let bytes = self.cues(n);
+        self.lay(&bytes)
+    }
+
+    /// Short descriptors of one cue each, all of the same.
+    pub fn many(&mut self, n: usize) -> Vec<u8> {
+        let block = self.lay_cues(1);
+        descriptor(0, CUE as u32, 0, block, 0).repeat(n)
+    }
+
+    /// The entry of the subject.
+    pub fn entry(&mut self, kind: u8, area: &[u8], information: u64) -> u32 {
+        self.lay(&Entry { extended: false, flags: kind.into(), information, attributes: 0, area }.bytes())
+    }
+
+    /// The image whole, around its subject. What is flipped stands at `offset` in a block.
+    pub fn flipped(self, name: &str, subject: u32, (block, offset): (u32, usize), width: usize, other: u64) -> Raced {
+        let at = (self.disc.volume.start as usize + block as usize) * 2048 + offset;
+        self.flipped_at(name, subject, at, width, other)
+    }
+
+    /// The same, where what is flipped stands at a place of the image.
+    pub fn flipped_at(mut self, name: &str, subject: u32, at: usize, width: usize, other: u64) -> Raced {
+        let icb = Icb::at(subject, 0);
+        let item = |name: &[u8], characteristics| Item::new(name8(name), icb, characteristics);
+        let root = self.disc.store_directory(&[item(b"FILE", 0), item(b"DIR", DIRECTORY)], &[], &Layout::of(3));
+        self.disc.finish(root, &name8(&[0xe9; 20]));
+        let paths = [&b"FILE"[..], b"DIR/CUE 00005", b"dir/none"].map(|path| path.to_vec());
+        Raced {
+            name: name.to_string(),
+            flip: Flip::new(&self.disc.image, at, width, other),
+            volume: self.disc.volume,
+            icbs: vec![icb, root],
+            paths: paths.to_vec(),
+            image: self.disc.image,
+        }
+    }
+}
+
+pub fn short(length: usize, block: u32) -> Vec<u8> {
+    descriptor(0, length as u32, 0, block, 0)
+}
+
+/// A descriptor that leads on to so many bytes of another area.
+pub fn leads(length: usize, block: u32) -> Vec<u8> {
+    descriptor(0, length as u32, 3, block, 0)
+}
