@@ -1,18 +1,17 @@
-//! Finds the original and the archives.
+//! Finds the original, and the archives for port.c.
 //!
 //! The original stands in the folder `UDF_ORIGINAL`, by default ../shared/docs/src beside the repository, and is never copied into the
 //! tree. Its udf.rs is compiled word for word, with a module behind it: the entry of a file and the making of an opened disc are private
 //! there, and a module inside can reach them.
 //!
-//! The archives are libvault_c.a and librecords_c.a in the folder `VAULT_ARCHIVE`, by default target/staticlib of the repository. They are
-//! x86-64 code: linked where these programs are that too, and on every machine linked with port.c into a program that answers through a pipe.
-//! Where the original isn't there the race is still built, which needs the first archive alone.
+//! The archives are x86-64 code: `strandlodge-sys` links them where these programs are that too, and says in which folder they are. On every
+//! machine they are linked with port.c into a program that answers through a pipe.
 
 use std::path::{Path, PathBuf};
 use std::process::Command;
 use std::{env, fs};
 
-/// The crates whose archives are linked; the second where the original is there.
+/// The crates whose archives are compared with the original.
 const CRATES: [&str; 2] = ["vault_c", "records_c"];
 
 const INSIDE: &str = "
@@ -53,24 +52,16 @@ fn main() {
     let folder = env::var("UDF_ORIGINAL").map(PathBuf::from).unwrap_or(root.join("../shared/docs/src"));
     println!("cargo::rerun-if-changed={}", folder.join("src").display());
     println!("cargo::rustc-env=ORIGINAL_FOLDER={}", folder.display());
-    let compared = original(&folder.join("src"), &out);
-    let linked = env::var("CARGO_CFG_TARGET_ARCH").unwrap() == "x86_64";
-    if !compared && !linked {
+    if (target("ARCH").as_str(), target("OS").as_str()) == ("x86_64", "linux") {
+        println!("cargo::rustc-cfg=linked");
+    }
+    // The race needs nothing of what follows.
+    if !original(&folder.join("src"), &out) {
         return;
     }
-    let crates = &CRATES[..if compared { 2 } else { 1 }];
-    let Some(archives) = archives(root, crates) else {
+    let Some(archives) = archives() else {
         return;
     };
-    if linked {
-        println!("cargo::rustc-cfg=linked");
-        for name in crates {
-            println!("cargo::rustc-link-lib=static={name}");
-        }
-    }
-    if !compared {
-        return;
-    }
     // libudfread takes part in the benchmark where it is installed.
     if Command::new("pkg-config").args(["--exists", "libudfread"]).status().is_ok_and(|s| s.success()) {
         println!("cargo::rustc-cfg=udfread");
@@ -79,13 +70,16 @@ fn main() {
     port(root, &archives, &out);
 }
 
-/// The archives of these crates, if all are there.
-fn archives(root: &Path, crates: &[&str]) -> Option<Vec<PathBuf>> {
-    println!("cargo::rerun-if-env-changed=VAULT_ARCHIVE");
-    let folder = env::var("VAULT_ARCHIVE").map_or_else(|_| root.join("target/staticlib"), PathBuf::from);
-    println!("cargo::rustc-link-search=native={}", folder.display());
+/// What this is compiled for.
+fn target(what: &str) -> String {
+    env::var(format!("CARGO_CFG_TARGET_{what}")).unwrap()
+}
+
+/// The archives, if all are there.
+fn archives() -> Option<Vec<PathBuf>> {
+    let folder = PathBuf::from(env::var("DEP_STRANDLODGE_FOLDER").unwrap());
     let mut found = Vec::new();
-    for name in crates {
+    for name in CRATES {
         let archive = folder.join(format!("lib{name}.a"));
         println!("cargo::rerun-if-changed={}", archive.display());
         if !archive.exists() {

@@ -1,90 +1,25 @@
 //! The archive linked in: the calls of include/vault.h.
 
 use crate::calls::{Call, Icb, Query, Values, Volume};
+use strandlodge_sys::vault as face;
+use strandlodge_sys::vault::*;
 
-#[repr(C)]
-#[derive(Clone, Copy)]
-struct LbAddr {
-    block: u32,
-    partition: u16,
-}
-
-#[repr(C)]
-#[derive(Clone, Copy)]
-struct LongAd {
-    length: u32,
-    extent_type: u8,
-    location: LbAddr,
-    implementation_use: [u8; 6],
-}
-
-#[repr(C)]
-#[derive(Clone, Copy)]
-struct CVolume {
-    start: u32,
-    partition: u16,
-    root: LongAd,
-    label: [u8; 32],
-}
-
-#[repr(C)]
-struct Opened {
-    answer: u64,
-    count: u64,
-    volume: CVolume,
-}
-
-#[repr(C)]
-struct Found {
-    answer: u64,
-    count: u64,
-    icb: LongAd,
-}
-
-#[repr(C)]
-#[derive(Default)]
-struct Reply {
-    answer: u64,
-    count: u64,
-    length: u64,
-}
-
-type Bytes = *const u8;
-type Lent = *mut u8;
-
-unsafe extern "C" {
-    fn vault_probe(image: Bytes, n: usize) -> bool;
-    fn vault_open(image: Bytes, n: usize) -> Opened;
-    fn vault_label(image: Bytes, n: usize, out: Lent, room: usize) -> Reply;
-    fn vault_lookup(v: CVolume, image: Bytes, n: usize, path: Bytes, m: usize, work: Lent, w: usize) -> Found;
-    fn vault_failed(v: CVolume, image: Bytes, n: usize, path: Bytes, m: usize, work: Lent, w: usize, at: *mut usize) -> Reply;
-    fn vault_list(v: CVolume, image: Bytes, n: usize, icb: LongAd, out: Lent, room: usize, work: Lent, w: usize) -> Reply;
-    fn vault_read(v: CVolume, image: Bytes, n: usize, icb: LongAd, out: Lent, room: usize) -> Reply;
-    fn vault_part(v: CVolume, image: Bytes, n: usize, icb: LongAd, at: *mut usize) -> Reply;
-    fn vault_extents(v: CVolume, image: Bytes, n: usize, icb: LongAd, row: *mut [u32; 4], slots: usize) -> Reply;
-    fn vault_read_path(v: CVolume, image: Bytes, n: usize, path: Bytes, m: usize, out: Lent, room: usize, work: Lent, w: usize) -> Reply;
-}
-
-impl From<Icb> for LongAd {
-    fn from(i: Icb) -> LongAd {
-        LongAd {
-            length: i.length,
-            extent_type: i.extent_type,
-            location: LbAddr { block: i.block, partition: i.partition },
-            implementation_use: i.implementation_use,
-        }
+fn lent(i: Icb) -> LongAd {
+    LongAd {
+        length: i.length,
+        extent_type: i.extent_type,
+        location: LbAddr { block: i.block, partition: i.partition },
+        implementation_use: i.implementation_use,
     }
 }
 
-impl From<LongAd> for Icb {
-    fn from(l: LongAd) -> Icb {
-        Icb {
-            length: l.length,
-            extent_type: l.extent_type,
-            block: l.location.block,
-            partition: l.location.partition,
-            implementation_use: l.implementation_use,
-        }
+fn given(l: LongAd) -> Icb {
+    Icb {
+        length: l.length,
+        extent_type: l.extent_type,
+        block: l.location.block,
+        partition: l.location.partition,
+        implementation_use: l.implementation_use,
     }
 }
 
@@ -107,23 +42,23 @@ pub struct Lends {
 ///
 /// The header's word: lent pieces are as long as said, and don't overlap.
 pub unsafe fn make(q: &Query, lends: Lends) -> Values {
-    let v = CVolume { start: q.volume.start, partition: q.volume.partition, root: q.volume.root.into(), label: q.volume.label };
+    let v = face::Volume { start: q.volume.start, partition: q.volume.partition, root: lent(q.volume.root), label: q.volume.label };
     let Lends { image: d, image_length: n, path: p, out, work, place } = lends;
-    let (icb, m, mut values) = (LongAd::from(q.icb), q.path.len(), Values::default());
+    let (icb, m, mut values) = (lent(q.icb), q.path.len(), Values::default());
     // SAFETY: the caller's word; and a place is a number that was lent.
     let reply = unsafe {
         match q.call {
-            Call::Probe => Reply { answer: vault_probe(d, n) as u64, ..Reply::default() },
+            Call::Probe => Reply { answer: vault_probe(d, n) as u64, count: 0, length: 0 },
             Call::Open => {
                 let o = vault_open(d, n);
-                let root = o.volume.root.into();
-                values.volume = Volume { start: o.volume.start, partition: o.volume.partition, root, label: o.volume.label };
+                let face::Volume { start, partition, root, label } = o.volume;
+                values.volume = Volume { start, partition, root: given(root), label };
                 Reply { answer: o.answer, count: o.count, length: 0 }
             }
             Call::Label => vault_label(d, n, out, q.room),
             Call::Lookup => {
                 let f = vault_lookup(v, d, n, p, m, work, q.work);
-                values.icb = f.icb.into();
+                values.icb = given(f.icb);
                 Reply { answer: f.answer, count: f.count, length: 0 }
             }
             Call::Failed => vault_failed(v, d, n, p, m, work, q.work, place),

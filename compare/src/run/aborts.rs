@@ -12,7 +12,7 @@ use std::process::{Command, Stdio};
 pub fn child() -> Result<()> {
     let from = &mut stdin().lock();
     let n = wire::number(from, 4)? as usize;
-    let image = sparse::unpack(&wire::bytes(from, n)?);
+    let image = sparse::expand(&wire::bytes(from, n)?).expect("a packed image");
     let call = Call::ALL[wire::number(from, 1)? as usize];
     let v = wire::volume(from)?;
     let icb = long(wire::icb(from)?);

@@ -7,6 +7,8 @@ mod damage;
 #[cfg(linked)]
 mod direct;
 mod expect;
+#[cfg(linked)]
+mod lending;
 mod list;
 mod original;
 mod ours;
@@ -21,19 +23,20 @@ mod raw_records;
 mod shapes_directories;
 mod shapes_files;
 mod shapes_opening;
-mod sparse;
 mod tally;
 #[cfg(udfread)]
 mod udfread;
 mod volumes;
+mod ways;
 mod wire;
 
 #[cfg(linked)]
 use common::linked;
 use common::{calls, disc, random, records};
-use ours::Way;
 use std::path::Path;
 use std::process::exit;
+use strandlodge_sys::sparse;
+use ways::Way;
 
 const USAGE: &str = "usage: compare [--seconds N] [--seed S] [--first] [--port | --port=PROGRAM]
        compare --bench [--port | --port=PROGRAM]
@@ -93,11 +96,11 @@ pub fn main() {
     };
     if o.bench {
         let emulated = std::env::consts::ARCH != "x86_64" && o.program.is_none();
-        return bench::run(ours::ours(way).as_mut(), emulated).expect("our side answers");
+        return bench::run(ways::ours(way).as_mut(), emulated).expect("our side answers");
     }
     let (seconds, seed) = (o.seconds.unwrap_or(60), o.seed.unwrap_or(1));
     let enough = if o.first { 1 } else { 8 };
-    let mut comparison = compare::Comparison::new(ours::ours(way), seed, enough);
+    let mut comparison = compare::Comparison::new(ways::ours(way), seed, enough);
     comparison.run(seconds);
     let tally = &comparison.tally;
     println!("{tally}, seed {seed}");

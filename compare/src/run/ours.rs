@@ -39,21 +39,3 @@ pub trait Ours {
     /// The nanoseconds that a query takes, so many times over, with memory that is warm; with no query, a copy of so many bytes.
     fn time(&mut self, timed: Timed, times: u32) -> std::io::Result<u64>;
 }
-
-/// How our side is called.
-pub enum Way<'a> {
-    /// The archive linked in, or the port where it can't be.
-    Best,
-    Port,
-    /// Another port, a program of this machine.
-    Program(&'a str),
-}
-
-pub fn ours(way: Way) -> Box<dyn Ours> {
-    match way {
-        #[cfg(linked)]
-        Way::Best => Box::new(super::direct::Direct::new()),
-        Way::Program(program) => Box::new(super::port::Port::start(Some(program))),
-        _ => Box::new(super::port::Port::start(None)),
-    }
-}

@@ -1,42 +1,10 @@
 //! The archive of records_c linked in: the calls of include/records.h, with lent memory as port.c lends it.
 
-use super::direct::{GUARD, Lending};
+use super::lending::{GUARD, Lending};
 use super::raw::{RawAsk, RawCall, RawGiven};
 use super::raw_records::*;
 
-#[repr(C)]
-struct Encoded<const N: usize> {
-    bytes: [u8; N],
-}
-
 type Bytes = *const u8;
-
-unsafe extern "C" {
-    fn records_parse_extent_ad(bytes: Bytes, n: usize) -> Answer<ExtentAd>;
-    fn records_parse_short_ad(bytes: Bytes, n: usize) -> Answer<ShortAd>;
-    fn records_parse_lb_addr(bytes: Bytes, n: usize) -> Answer<LbAddr>;
-    fn records_parse_long_ad(bytes: Bytes, n: usize) -> Answer<LongAd>;
-    fn records_parse_ext_ad(bytes: Bytes, n: usize) -> Answer<ExtAd>;
-    fn records_parse_tag(bytes: Bytes, n: usize) -> Answer<Tag>;
-    fn records_parse_aed(bytes: Bytes, n: usize) -> Answer<Aed>;
-    fn records_parse_anchor(bytes: Bytes, n: usize) -> Answer<Anchor>;
-    fn records_parse_primary_volume(bytes: Bytes, n: usize) -> Answer<PrimaryVolume>;
-    fn records_parse_partition(bytes: Bytes, n: usize) -> Answer<Partition>;
-    fn records_parse_logical_volume(bytes: Bytes, n: usize) -> Answer<LogicalVolume>;
-    fn records_parse_file_set(bytes: Bytes, n: usize) -> Answer<FileSet>;
-    fn records_parse_icb_tag(bytes: Bytes, n: usize) -> Answer<IcbTag>;
-    fn records_parse_file_entry(bytes: Bytes, n: usize) -> Answer<FileEntry>;
-    fn records_parse_file_identifier(bytes: Bytes, n: usize) -> Answer<FileIdentifier>;
-    fn records_decode_dstring(bytes: Bytes, n: usize, out: *mut u8, room: usize) -> Written;
-    fn records_decode_dstring_field(bytes: Bytes, n: usize, out: *mut u8, room: usize) -> Written;
-    fn records_encode_extent_ad(value: ExtentAd) -> Encoded<8>;
-    fn records_encode_short_ad(value: ShortAd) -> Encoded<8>;
-    fn records_encode_lb_addr(value: LbAddr) -> Encoded<6>;
-    fn records_encode_long_ad(value: LongAd) -> Encoded<16>;
-    fn records_encode_ext_ad(value: ExtAd) -> Encoded<20>;
-    fn records_encode_tag(value: Tag) -> Encoded<16>;
-    fn records_encode_aed(value: Aed) -> Encoded<24>;
-}
 
 fn parse<T: Flat>(call: unsafe extern "C" fn(Bytes, usize) -> Answer<T>, from: Bytes, n: usize) -> Vec<u8> {
     // The header's word: the piece is as long as said.

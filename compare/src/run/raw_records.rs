@@ -1,6 +1,7 @@
 //! The records of include/records.h, and the same flat: every field in order, little-endian, with nothing padded.
 
 use std::fmt::Debug;
+pub use strandlodge_sys::records::*;
 
 pub trait Flat: Sized + Debug {
     fn put(&self, to: &mut Vec<u8>);
@@ -52,14 +53,8 @@ impl<const N: usize> Flat for [u8; N] {
 }
 
 macro_rules! records {
-    ($($name:ident { $($field:ident: $type:ty),* $(,)? })*) => {
-        $(#[repr(C)]
-        #[derive(Clone, Copy, Debug)]
-        pub struct $name {
-            $(pub $field: $type),*
-        }
-
-        impl Flat for $name {
+    ($($name:ident { $($field:ident),* $(,)? })*) => {
+        $(impl Flat for $name {
             fn put(&self, to: &mut Vec<u8>) {
                 $(self.$field.put(to);)*
             }
@@ -72,90 +67,26 @@ macro_rules! records {
 }
 
 records! {
-    ExtentAd { length: u32, location: u32 }
-    ShortAd { length: u32, extent_type: u8, block_location: u32 }
-    LbAddr { block: u32, partition_ref: u16 }
-    LongAd { length: u32, extent_type: u8, location: LbAddr, implementation_use: [u8; 6] }
-    ExtAd {
-        length: u32,
-        extent_type: u8,
-        recorded_length: u32,
-        information_length: u32,
-        location: LbAddr,
-        implementation_use: [u8; 2],
-    }
-    Tag { id: u16, descriptor_version: u16, serial_number: u16, crc: u16, crc_length: u16, location: u32 }
-    Aed { tag: Tag, previous_allocation_extent_location: u32, length_of_allocation_descriptors: u32 }
-    Anchor { tag: Tag, main_volume_descriptor_sequence: ExtentAd, reserve_volume_descriptor_sequence: ExtentAd }
-    PrimaryVolume {
-        tag: Tag,
-        volume_descriptor_sequence_number: u32,
-        primary_volume_descriptor_number: u32,
-        volume_identifier: [u8; 32],
-    }
-    Partition {
-        tag: Tag,
-        volume_descriptor_sequence_number: u32,
-        partition_flags: u16,
-        partition_number: u16,
-        partition_starting_location: u32,
-        partition_length: u32,
-    }
-    LogicalVolume {
-        tag: Tag,
-        volume_descriptor_sequence_number: u32,
-        logical_volume_identifier: [u8; 128],
-        logical_block_size: u32,
-        file_set_descriptor_location: LongAd,
-    }
-    FileSet { tag: Tag, root_directory_icb: LongAd }
-    IcbTag {
-        prior_recorded_entries: u32,
-        strategy_type: u16,
-        strategy_parameter: u16,
-        max_entries: u16,
-        file_type: u8,
-        parent_icb: LbAddr,
-        flags: u16,
-    }
+    ExtentAd { length, location }
+    ShortAd { length, extent_type, block_location }
+    LbAddr { block, partition_ref }
+    LongAd { length, extent_type, location, implementation_use }
+    ExtAd { length, extent_type, recorded_length, information_length, location, implementation_use }
+    Tag { id, descriptor_version, serial_number, crc, crc_length, location }
+    Aed { tag, previous_allocation_extent_location, length_of_allocation_descriptors }
+    Anchor { tag, main_volume_descriptor_sequence, reserve_volume_descriptor_sequence }
+    PrimaryVolume { tag, volume_descriptor_sequence_number, primary_volume_descriptor_number, volume_identifier }
+    Partition { tag, volume_descriptor_sequence_number, partition_flags, partition_number, partition_starting_location, partition_length }
+    LogicalVolume { tag, volume_descriptor_sequence_number, logical_volume_identifier, logical_block_size, file_set_descriptor_location }
+    FileSet { tag, root_directory_icb }
+    IcbTag { prior_recorded_entries, strategy_type, strategy_parameter, max_entries, file_type, parent_icb, flags }
     FileEntry {
-        tag: Tag,
-        icb_tag: IcbTag,
-        uid: u32,
-        gid: u32,
-        permissions: u32,
-        file_link_count: u16,
-        record_format: u8,
-        record_display_attributes: u8,
-        record_length: u32,
-        information_length: u64,
-        logical_blocks_recorded: u64,
-        has_object_size: bool,
-        object_size: u64,
-        length_of_extended_attributes: u32,
-        length_of_allocation_descriptors: u32,
-        kind: u8,
-        area_at: usize,
-        area_length: usize,
+        tag, icb_tag, uid, gid, permissions, file_link_count, record_format, record_display_attributes, record_length, information_length,
+        logical_blocks_recorded, has_object_size, object_size, length_of_extended_attributes, length_of_allocation_descriptors, kind,
+        area_at, area_length,
     }
-    FileIdentifier {
-        tag: Tag,
-        file_version_number: u16,
-        file_characteristics: u8,
-        icb: LongAd,
-        name_at: usize,
-        name_length: usize,
-        name_size: usize,
-        total_size: usize,
-    }
-    Written { answer: u64, length: u64 }
-}
-
-#[repr(C)]
-#[derive(Clone, Copy, Debug)]
-pub struct Answer<T> {
-    pub answer: u64,
-    pub value: T,
+    FileIdentifier { tag, file_version_number, file_characteristics, icb, name_at, name_length, name_size, total_size }
+    Written { answer, length }
 }
 
 impl<T: Flat> Flat for Answer<T> {

@@ -1,0 +1,211 @@
+//! include/records.h: the raw records of a disc, parsed and encoded. Fields have the names of ECMA-167's fields.
+#![allow(missing_docs)]
+
+structs! {
+    STRUCTS:
+
+    records_extent_ad as ExtentAd, 8 aligned to 4 {
+        0 length: u32,
+        4 location: u32,
+    }
+
+    records_short_ad as ShortAd, 12 aligned to 4 {
+        0 length: u32,
+        4 extent_type: u8,
+        8 block_location: u32,
+    }
+
+    records_lb_addr as LbAddr, 8 aligned to 4 {
+        0 block: u32,
+        4 partition_ref: u16,
+    }
+
+    records_long_ad as LongAd, 24 aligned to 4 {
+        0 length: u32,
+        4 extent_type: u8,
+        8 location: LbAddr,
+        16 implementation_use: [u8; 6],
+    }
+
+    records_ext_ad as ExtAd, 28 aligned to 4 {
+        0 length: u32,
+        4 extent_type: u8,
+        8 recorded_length: u32,
+        12 information_length: u32,
+        16 location: LbAddr,
+        24 implementation_use: [u8; 2],
+    }
+
+    records_tag as Tag, 16 aligned to 4 {
+        0 id: u16,
+        2 descriptor_version: u16,
+        4 serial_number: u16,
+        6 crc: u16,
+        8 crc_length: u16,
+        12 location: u32,
+    }
+
+    records_aed as Aed, 24 aligned to 4 {
+        0 tag: Tag,
+        16 previous_allocation_extent_location: u32,
+        20 length_of_allocation_descriptors: u32,
+    }
+
+    records_anchor as Anchor, 32 aligned to 4 {
+        0 tag: Tag,
+        16 main_volume_descriptor_sequence: ExtentAd,
+        24 reserve_volume_descriptor_sequence: ExtentAd,
+    }
+
+    records_primary_volume as PrimaryVolume, 56 aligned to 4 {
+        0 tag: Tag,
+        16 volume_descriptor_sequence_number: u32,
+        20 primary_volume_descriptor_number: u32,
+        24 volume_identifier: [u8; 32],
+    }
+
+    records_partition as Partition, 32 aligned to 4 {
+        0 tag: Tag,
+        16 volume_descriptor_sequence_number: u32,
+        20 partition_flags: u16,
+        22 partition_number: u16,
+        24 partition_starting_location: u32,
+        28 partition_length: u32,
+    }
+
+    records_logical_volume as LogicalVolume, 176 aligned to 4 {
+        0 tag: Tag,
+        16 volume_descriptor_sequence_number: u32,
+        20 logical_volume_identifier: [u8; 128],
+        148 logical_block_size: u32,
+        152 file_set_descriptor_location: LongAd,
+    }
+
+    records_file_set as FileSet, 40 aligned to 4 {
+        0 tag: Tag,
+        16 root_directory_icb: LongAd,
+    }
+
+    records_icb_tag as IcbTag, 24 aligned to 4 {
+        0 prior_recorded_entries: u32,
+        4 strategy_type: u16,
+        6 strategy_parameter: u16,
+        8 max_entries: u16,
+        10 file_type: u8,
+        12 parent_icb: LbAddr,
+        20 flags: u16,
+    }
+
+    records_file_entry as FileEntry, 128 aligned to 8 {
+        0 tag: Tag,
+        16 icb_tag: IcbTag,
+        40 uid: u32,
+        44 gid: u32,
+        48 permissions: u32,
+        52 file_link_count: u16,
+        54 record_format: u8,
+        55 record_display_attributes: u8,
+        56 record_length: u32,
+        64 information_length: u64,
+        72 logical_blocks_recorded: u64,
+        80 has_object_size: bool,
+        88 object_size: u64,
+        96 length_of_extended_attributes: u32,
+        100 length_of_allocation_descriptors: u32,
+        104 kind: u8,
+        112 area_at: usize,
+        120 area_length: usize,
+    }
+
+    records_file_identifier as FileIdentifier, 80 aligned to 8 {
+        0 tag: Tag,
+        16 file_version_number: u16,
+        18 file_characteristics: u8,
+        20 icb: LongAd,
+        48 name_at: usize,
+        56 name_length: usize,
+        64 name_size: usize,
+        72 total_size: usize,
+    }
+
+    records_written as Written, 16 aligned to 8 {
+        0 answer: u64,
+        8 length: u64,
+    }
+}
+
+/// What a call that parses answers: `records_tag_answer` and its like.
+#[repr(C)]
+#[derive(Debug, Clone, Copy, PartialEq, Eq)]
+pub struct Answer<T> {
+    pub answer: u64,
+    pub value: T,
+}
+
+/// What a call that encodes answers: `records_tag_bytes` and its like.
+#[repr(C)]
+#[derive(Debug, Clone, Copy, PartialEq, Eq)]
+pub struct Encoded<const N: usize> {
+    pub bytes: [u8; N],
+}
+
+layouts! {
+    ANSWERS:
+    records_extent_ad_answer as Answer<ExtentAd>, 16 aligned to 8 { 0 answer, 8 value, }
+    records_short_ad_answer as Answer<ShortAd>, 24 aligned to 8 { 0 answer, 8 value, }
+    records_lb_addr_answer as Answer<LbAddr>, 16 aligned to 8 { 0 answer, 8 value, }
+    records_long_ad_answer as Answer<LongAd>, 32 aligned to 8 { 0 answer, 8 value, }
+    records_ext_ad_answer as Answer<ExtAd>, 40 aligned to 8 { 0 answer, 8 value, }
+    records_tag_answer as Answer<Tag>, 24 aligned to 8 { 0 answer, 8 value, }
+    records_aed_answer as Answer<Aed>, 32 aligned to 8 { 0 answer, 8 value, }
+    records_anchor_answer as Answer<Anchor>, 40 aligned to 8 { 0 answer, 8 value, }
+    records_primary_volume_answer as Answer<PrimaryVolume>, 64 aligned to 8 { 0 answer, 8 value, }
+    records_partition_answer as Answer<Partition>, 40 aligned to 8 { 0 answer, 8 value, }
+    records_logical_volume_answer as Answer<LogicalVolume>, 184 aligned to 8 { 0 answer, 8 value, }
+    records_file_set_answer as Answer<FileSet>, 48 aligned to 8 { 0 answer, 8 value, }
+    records_icb_tag_answer as Answer<IcbTag>, 32 aligned to 8 { 0 answer, 8 value, }
+    records_file_entry_answer as Answer<FileEntry>, 136 aligned to 8 { 0 answer, 8 value, }
+    records_file_identifier_answer as Answer<FileIdentifier>, 88 aligned to 8 { 0 answer, 8 value, }
+}
+
+layouts! {
+    ENCODED:
+    records_extent_ad_bytes as Encoded<8>, 8 aligned to 1 { 0 bytes, }
+    records_short_ad_bytes as Encoded<8>, 8 aligned to 1 { 0 bytes, }
+    records_lb_addr_bytes as Encoded<6>, 6 aligned to 1 { 0 bytes, }
+    records_long_ad_bytes as Encoded<16>, 16 aligned to 1 { 0 bytes, }
+    records_ext_ad_bytes as Encoded<20>, 20 aligned to 1 { 0 bytes, }
+    records_tag_bytes as Encoded<16>, 16 aligned to 1 { 0 bytes, }
+    records_aed_bytes as Encoded<24>, 24 aligned to 1 { 0 bytes, }
+}
+
+type Bytes = *const u8;
+
+unsafe extern "C" {
+    pub fn records_parse_extent_ad(bytes: Bytes, length: usize) -> Answer<ExtentAd>;
+    pub fn records_parse_short_ad(bytes: Bytes, length: usize) -> Answer<ShortAd>;
+    pub fn records_parse_lb_addr(bytes: Bytes, length: usize) -> Answer<LbAddr>;
+    pub fn records_parse_long_ad(bytes: Bytes, length: usize) -> Answer<LongAd>;
+    pub fn records_parse_ext_ad(bytes: Bytes, length: usize) -> Answer<ExtAd>;
+    pub fn records_parse_tag(bytes: Bytes, length: usize) -> Answer<Tag>;
+    pub fn records_parse_aed(bytes: Bytes, length: usize) -> Answer<Aed>;
+    pub fn records_parse_anchor(bytes: Bytes, length: usize) -> Answer<Anchor>;
+    pub fn records_parse_primary_volume(bytes: Bytes, length: usize) -> Answer<PrimaryVolume>;
+    pub fn records_parse_partition(bytes: Bytes, length: usize) -> Answer<Partition>;
+    pub fn records_parse_logical_volume(bytes: Bytes, length: usize) -> Answer<LogicalVolume>;
+    pub fn records_parse_file_set(bytes: Bytes, length: usize) -> Answer<FileSet>;
+    pub fn records_parse_icb_tag(bytes: Bytes, length: usize) -> Answer<IcbTag>;
+    pub fn records_parse_file_entry(bytes: Bytes, length: usize) -> Answer<FileEntry>;
+    pub fn records_parse_file_identifier(bytes: Bytes, length: usize) -> Answer<FileIdentifier>;
+
+    pub fn records_encode_extent_ad(value: ExtentAd) -> Encoded<8>;
+    pub fn records_encode_short_ad(value: ShortAd) -> Encoded<8>;
+    pub fn records_encode_lb_addr(value: LbAddr) -> Encoded<6>;
+    pub fn records_encode_long_ad(value: LongAd) -> Encoded<16>;
+    pub fn records_encode_ext_ad(value: ExtAd) -> Encoded<20>;
+    pub fn records_encode_tag(value: Tag) -> Encoded<16>;
+    pub fn records_encode_aed(value: Aed) -> Encoded<24>;
+
+    pub fn records_decode_dstring(bytes: Bytes, length: usize, out: *mut u8, out_length: usize) -> Written;
+    pub fn records_decode_dstring_field(bytes: Bytes, length: usize, out: *mut u8, out_length: usize) -> Written;
+}
