@@ -2,6 +2,7 @@
 
 use std::fmt;
 use std::ops::{Deref, DerefMut};
+use strandlodge_sys::vault;
 
 /// What every call on an image gives.
 pub type Result<T> = std::result::Result<Answer<T>, Refused>;
@@ -60,50 +61,62 @@ impl<T: IntoIterator> IntoIterator for Answer<T> {
 
 /// Why a call was refused: the numbers of the answer table (include/vault.h). The first four are the original's kinds of error.
 #[derive(Debug, Clone, Copy, PartialEq, Eq, Hash)]
-#[repr(u8)]
+#[non_exhaustive]
 pub enum Refusal {
-    /// A sector asked for isn't wholly inside the image.
-    Io = 1,
-    /// A descriptor, a name or a length is not what it must be.
-    Malformed = 2,
-    /// No volume, or no such path.
-    NotBluray = 3,
-    /// A form that isn't read.
-    Unsupported = 4,
-    /// The answer has more bytes than could be lent.
-    NoRoom = 5,
-    /// A directory has more bytes than could be lent.
-    NoWork = 6,
-    /// There are more extents than slots could be lent.
-    NoSlot = 7,
-    /// A listed name has more than 65,535 bytes.
-    LongName = 8,
+    /// 1: a sector asked for isn't wholly inside the image.
+    Io,
+    /// 2: a descriptor, a name or a length is not what it must be.
+    Malformed,
+    /// 3: no volume, or no such path.
+    NotBluray,
+    /// 4: a form that isn't read.
+    Unsupported,
+    /// 5: the answer has more bytes than could be lent.
+    NoRoom,
+    /// 6: a directory has more bytes than could be lent.
+    NoWork,
+    /// 7: there are more extents than slots could be lent.
+    NoSlot,
+    /// 8: a listed name has more than 65,535 bytes.
+    LongName,
+    /// A number that this crate's table doesn't have: the archive is of another version.
+    Unknown(u64),
 }
 
+/// The refusals and their numbers.
+const TABLE: [(Refusal, u64); 8] = [
+    (Refusal::Io, vault::IO),
+    (Refusal::Malformed, vault::MALFORMED),
+    (Refusal::NotBluray, vault::NOT_BLURAY),
+    (Refusal::Unsupported, vault::UNSUPPORTED),
+    (Refusal::NoRoom, vault::NO_ROOM),
+    (Refusal::NoWork, vault::NO_WORK),
+    (Refusal::NoSlot, vault::NO_SLOT),
+    (Refusal::LongName, vault::LONG_NAME),
+];
+
 impl Refusal {
-    /// The number in the answer table, 1 to 8.
-    pub fn number(self) -> u8 {
-        self as u8
-    }
-
-    /// The refusal that an answer number names; 0 is none. The table ends at 8.
-    pub(crate) fn of(answer: u64) -> Option<Refusal> {
-        Some(match answer {
-            0 => return None,
-            1 => Refusal::Io,
-            2 => Refusal::Malformed,
-            3 => Refusal::NotBluray,
-            4 => Refusal::Unsupported,
-            5 => Refusal::NoRoom,
-            6 => Refusal::NoWork,
-            7 => Refusal::NoSlot,
-            _ => Refusal::LongName,
-        })
-    }
-
-    /// What it means, in a sentence without its full stop.
-    pub fn sentence(self) -> &'static str {
+    /// The number that the call answered with, 1 to 8 in the answer table.
+    pub fn number(self) -> u64 {
         match self {
+            Refusal::Unknown(number) => number,
+            known => TABLE.iter().find(|(why, _)| *why == known).map_or(0, |(_, number)| *number),
+        }
+    }
+
+    /// The refusal that an answer number names; 0 is none.
+    pub(crate) fn of(answer: u64) -> Option<Refusal> {
+        if answer == vault::DONE {
+            return None;
+        }
+        Some(TABLE.iter().find(|(_, number)| *number == answer).map_or(Refusal::Unknown(answer), |(why, _)| *why))
+    }
+}
+
+/// What it means, in a sentence without its full stop.
+impl fmt::Display for Refusal {
+    fn fmt(&self, f: &mut fmt::Formatter<'_>) -> fmt::Result {
+        f.write_str(match self {
             Refusal::Io => "a sector that was asked for isn't wholly inside the image: it is cut short, or isn't the image of a disc",
             Refusal::Malformed => "a descriptor, a name or a length on the disc is not what it must be: it is damaged, or isn't UDF",
             Refusal::NotBluray => "there is no volume, or nothing of that name",
@@ -114,13 +127,8 @@ impl Refusal {
             Refusal::NoWork => "a directory has more bytes than there is memory for",
             Refusal::NoSlot => "the file has more extents than there is memory for",
             Refusal::LongName => "a listed name has more than 65,535 bytes",
-        }
-    }
-}
-
-impl fmt::Display for Refusal {
-    fn fmt(&self, f: &mut fmt::Formatter<'_>) -> fmt::Result {
-        f.write_str(self.sentence())
+            Refusal::Unknown(number) => return write!(f, "the archive answered with {number}, a number that isn't known here"),
+        })
     }
 }
 
@@ -136,8 +144,8 @@ pub struct Refused {
 }
 
 impl Refused {
-    /// The number in the answer table, 1 to 8.
-    pub fn number(&self) -> u8 {
+    /// The number that the call answered with, 1 to 8 in the answer table.
+    pub fn number(&self) -> u64 {
         self.why.number()
     }
 }
@@ -157,5 +165,28 @@ impl std::error::Error for Refused {
 impl From<Refused> for Refusal {
     fn from(refused: Refused) -> Refusal {
         refused.why
+    }
+}
+
+#[cfg(test)]
+mod tests {
+    use super::*;
+
+    #[test]
+    fn every_number_is_a_refusal_of_its_own() {
+        assert_eq!(Refusal::of(0), None);
+        for (why, number) in TABLE {
+            assert_eq!((Refusal::of(number), why.number()), (Some(why), number));
+        }
+        assert_eq!(TABLE.map(|(_, number)| number), [1, 2, 3, 4, 5, 6, 7, 8]);
+    }
+
+    #[test]
+    fn a_number_beyond_the_table_shows_itself() {
+        for number in [9, 15, 256 + 8, u64::MAX] {
+            let why = Refusal::of(number).unwrap();
+            assert_eq!((why, why.number()), (Refusal::Unknown(number), number));
+            assert!(why.to_string().contains(&number.to_string()), "{why}");
+        }
     }
 }

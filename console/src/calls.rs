@@ -1,4 +1,4 @@
-//! The calls of include/vault.h, declared and wrapped. This and the command's file map are the only modules with `unsafe` in them.
+//! The calls of include/vault.h, wrapped. This and the command's file map are the only modules with `unsafe` in them.
 //!
 //! Why the calls are sound. The header asks two things of a caller: that the lent pieces don't overlap, and that their pointers aren't
 //! null. A shared slice and the spare room of a vector that is borrowed mutably can't overlap, nor can the rooms of two vectors; the image and
@@ -7,68 +7,15 @@
 //! pointer, and asks nothing of the values: a volume or an ICB may be any. The proofs take the image as standing still, which a `&[u8]`
 //! says of itself; lib.rs has what a map of a file has to see to.
 //!
-//! What is lent for writing isn't initialised: it is handed over as a pointer, and only what the call says it wrote is looked at.
+//! What is lent for writing isn't initialised: it is handed over as a pointer, and only what the call says it wrote is looked at. (Of an
+//! image that changes meanwhile a call may say that it wrote bytes which it found gone when it came to copy them.)
 #![allow(unsafe_code)]
 
 use crate::answer::{Answer, Refusal, Refused, Result};
 use crate::records::LongAd;
+use strandlodge_sys::vault::*;
 
-/// An opened volume.
-#[derive(Debug, Clone, Copy, PartialEq, Eq)]
-#[repr(C)]
-pub struct Volume {
-    pub start: u32,
-    pub partition: u16,
-    pub root: LongAd,
-    pub label: [u8; 32],
-}
-
-/// A slot of the extent list.
-#[derive(Debug, Clone, Copy, PartialEq, Eq)]
-#[repr(C)]
-pub struct Slot {
-    pub length: u32,
-    pub extent_type: u32,
-    pub block: u32,
-    pub partition: u32,
-}
-
-#[repr(C)]
-struct Opened {
-    answer: u64,
-    count: u64,
-    volume: Volume,
-}
-
-#[repr(C)]
-struct Found {
-    answer: u64,
-    count: u64,
-    icb: LongAd,
-}
-
-#[repr(C)]
-struct Reply {
-    answer: u64,
-    count: u64,
-    length: u64,
-}
-
-type Bytes = *const u8;
 type Lent = *mut u8;
-
-unsafe extern "C" {
-    fn vault_probe(image: Bytes, n: usize) -> bool;
-    fn vault_open(image: Bytes, n: usize) -> Opened;
-    fn vault_label(image: Bytes, n: usize, out: Lent, room: usize) -> Reply;
-    fn vault_lookup(v: Volume, image: Bytes, n: usize, path: Bytes, m: usize, work: Lent, w: usize) -> Found;
-    fn vault_failed(v: Volume, image: Bytes, n: usize, path: Bytes, m: usize, work: Lent, w: usize, at: *mut usize) -> Reply;
-    fn vault_list(v: Volume, image: Bytes, n: usize, icb: LongAd, out: Lent, room: usize, work: Lent, w: usize) -> Reply;
-    fn vault_read(v: Volume, image: Bytes, n: usize, icb: LongAd, out: Lent, room: usize) -> Reply;
-    fn vault_part(v: Volume, image: Bytes, n: usize, icb: LongAd, at: *mut usize) -> Reply;
-    fn vault_extents(v: Volume, image: Bytes, n: usize, icb: LongAd, row: *mut Slot, slots: usize) -> Reply;
-    fn vault_read_path(v: Volume, image: Bytes, n: usize, path: Bytes, m: usize, out: Lent, room: usize, work: Lent, w: usize) -> Reply;
-}
 
 /// The value, where the number says that there is one.
 fn answered<T>(answer: u64, sectors: u64, value: T) -> Result<T> {
@@ -83,7 +30,7 @@ fn filled<T>(out: &mut Vec<T>, call: impl FnOnce(*mut T, usize) -> Reply) -> Res
     out.clear();
     let room = out.spare_capacity_mut();
     let reply = call(room.as_mut_ptr().cast(), room.len());
-    if reply.answer == 0 {
+    if reply.answer == DONE {
         // SAFETY: a call that is done has written the first `length` items of what was lent, and was lent as many: else it is refused.
         unsafe { out.set_len(reply.length as usize) };
     }
@@ -122,7 +69,7 @@ pub fn lookup(volume: Volume, image: &[u8], path: &[u8], work: &mut Vec<u8>) -> 
     let (work, w) = space(work);
     // SAFETY: the head of this module; `w` bytes from `work` on are the vector's own.
     let found = unsafe { vault_lookup(volume, image.as_ptr(), image.len(), path.as_ptr(), path.len(), work, w) };
-    answered(found.answer, found.count, found.icb)
+    answered(found.answer, found.count, LongAd::of_c(found.icb))
 }
 
 /// The component at which the lookup is refused by 3, or none where the path is there.
@@ -140,24 +87,24 @@ pub fn failed<'p>(volume: Volume, image: &[u8], path: &'p [u8], work: &mut Vec<u
 pub fn list(volume: Volume, image: &[u8], icb: LongAd, out: &mut Vec<u8>, work: &mut Vec<u8>) -> Result<()> {
     let (work, w) = space(work);
     // SAFETY: the head of this module; `room` bytes from `to` on are `out`'s own, and `w` from `work` on are the other vector's.
-    filled(out, |to, room| unsafe { vault_list(volume, image.as_ptr(), image.len(), icb, to, room, work, w) })
+    filled(out, |to, room| unsafe { vault_list(volume, image.as_ptr(), image.len(), icb.to_c(), to, room, work, w) })
 }
 
 pub fn read(volume: Volume, image: &[u8], icb: LongAd, out: &mut Vec<u8>) -> Result<()> {
     // SAFETY: the head of this module; `room` bytes from `to` on are `out`'s own.
-    filled(out, |to, room| unsafe { vault_read(volume, image.as_ptr(), image.len(), icb, to, room) })
+    filled(out, |to, room| unsafe { vault_read(volume, image.as_ptr(), image.len(), icb.to_c(), to, room) })
 }
 
 pub fn part(volume: Volume, image: &[u8], icb: LongAd) -> Result<&[u8]> {
     let mut at = 0;
     // SAFETY: the head of this module; `at` is a number of this function's.
-    let reply = unsafe { vault_part(volume, image.as_ptr(), image.len(), icb, &mut at) };
+    let reply = unsafe { vault_part(volume, image.as_ptr(), image.len(), icb.to_c(), &mut at) };
     answered(reply.answer, reply.count, named(image, at, reply.length))
 }
 
-pub fn extents(volume: Volume, image: &[u8], icb: LongAd, row: &mut Vec<Slot>) -> Result<()> {
+pub fn extents(volume: Volume, image: &[u8], icb: LongAd, row: &mut Vec<Extent>) -> Result<()> {
     // SAFETY: the head of this module; `slots` slots from `to` on are `row`'s own.
-    filled(row, |to, slots| unsafe { vault_extents(volume, image.as_ptr(), image.len(), icb, to, slots) })
+    filled(row, |to, slots| unsafe { vault_extents(volume, image.as_ptr(), image.len(), icb.to_c(), to, slots) })
 }
 
 pub fn read_path(volume: Volume, image: &[u8], path: &[u8], out: &mut Vec<u8>, work: &mut Vec<u8>) -> Result<()> {

@@ -6,7 +6,7 @@
 //! ```
 //! # fn show() -> Vec<u8> { Vec::new() }
 //! let image = show(); // the bytes of a disc
-//! match console::Vault::open(&image) {
+//! match strandlodge::Vault::open(&image) {
 //!     Ok(vault) => println!("{} sectors asked for", vault.sectors),
 //!     Err(refused) => println!("refusal {}: {refused}", refused.number()),
 //! }
@@ -17,7 +17,8 @@
 //! A `&[u8]` says that nobody writes to its bytes while it is borrowed. Memory of one's own is such a slice by itself. A map of a file is one
 //! only if nobody writes to the file, which no map can see to: whoever makes one, with `unsafe` in their own code or through a crate that
 //! has it, takes that duty over, and hands it on with the slice. Of an image that changes all the same an answer may be that of no image,
-//! neither as it was nor as it is; and [`Vault::part`] gives bytes of the image itself, which go on changing under whoever looks at them.
+//! neither as it was nor as it is, with bytes in it that were never written; and [`Vault::part`] gives bytes of the image itself, which go on
+//! changing under whoever looks at them.
 //! Where the duty can't be kept, for a disc that is still being copied or a drive that may read a sector twice, read the image into memory
 //! first, as `std::fs::read` does.
 //!
@@ -27,6 +28,9 @@
 //! lends a little, and more when that was the only trouble, so that a caller sees these numbers only where the memory can't be had, or
 //! where an answer is longer than any sound disc can give: a file of more bytes than its image (and more than 256 MiB), a directory of more
 //! than 256 MiB. Such a disc is refused, and nothing is allocated by what it says of itself.
+
+#[cfg(not(all(target_arch = "x86_64", target_os = "linux")))]
+compile_error!("the archive is x86-64 code for Linux");
 
 mod answer;
 mod calls;
@@ -39,9 +43,6 @@ mod vault;
 mod input;
 #[cfg(test)]
 mod replays;
-#[cfg(test)]
-#[path = "bin/vault/sparse.rs"]
-mod sparse;
 
 pub use answer::{Answer, Refusal, Refused, Result};
 pub use records::{AllocExtent, DirEntry, LbAddr, LongAd};

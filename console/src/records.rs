@@ -1,10 +1,10 @@
-//! The records that cross the interface, with the original's names for their fields.
+//! What calls are given and give, with the original's names.
 
 use crate::answer::Answer;
+use strandlodge_sys::vault as face;
 
 /// A block of a partition.
 #[derive(Debug, Clone, Copy, PartialEq, Eq)]
-#[repr(C)]
 pub struct LbAddr {
     /// The block, counted from the partition's start.
     pub block: u32,
@@ -14,7 +14,6 @@ pub struct LbAddr {
 
 /// Where something stands: the ICB of a file or a directory.
 #[derive(Debug, Clone, Copy, PartialEq, Eq)]
-#[repr(C)]
 pub struct LongAd {
     /// In bytes, below 2^30 where it was read from a disc.
     pub length: u32,
@@ -36,6 +35,20 @@ impl LongAd {
             location: LbAddr { block: u32::from_le_bytes([b[4], b[5], b[6], b[7]]), partition_ref: u16::from_le_bytes([b[8], b[9]]) },
             implementation_use: [b[10], b[11], b[12], b[13], b[14], b[15]],
         }
+    }
+
+    /// From the form in which it crosses the interface.
+    pub(crate) fn of_c(l: face::LongAd) -> LongAd {
+        let face::LongAd { length, extent_type, location, implementation_use } = l;
+        let location = LbAddr { block: location.block, partition_ref: location.partition };
+        LongAd { length, extent_type, location, implementation_use }
+    }
+
+    /// The form in which it crosses the interface.
+    pub(crate) fn to_c(self) -> face::LongAd {
+        let LongAd { length, extent_type, location, implementation_use } = self;
+        let location = face::LbAddr { block: location.block, partition: location.partition_ref };
+        face::LongAd { length, extent_type, location, implementation_use }
     }
 }
 

@@ -4,10 +4,11 @@
 //! What a call leaves in memory that it doesn't answer with is seen by those programs and by `compare`, and not here.
 
 use crate::answer::{Answer, Result};
-use crate::calls::{self, Slot, Volume};
+use crate::calls;
 use crate::input::Input;
 use crate::records::LongAd;
-use crate::sparse::expand;
+use strandlodge_sys::sparse::expand;
+use strandlodge_sys::vault::{Extent, Volume};
 
 impl Input<'_> {
     fn long_ad(&mut self) -> LongAd {
@@ -24,7 +25,7 @@ impl Input<'_> {
 
     fn volume(&mut self) -> Volume {
         let (start, partition) = self.place();
-        Volume { start, partition, root: self.long_ad(), label: [0; 32] }
+        Volume { start, partition, root: self.long_ad().to_c(), label: [0; 32] }
     }
 }
 
@@ -74,7 +75,7 @@ fn ask(call: u8, v: Volume, image: &[u8], q: &Lends) -> String {
     let written = |out: &[u8]| (out.len() as u64, sum_lent(out, q.room));
     match call {
         0 => format!("probe {} 0 0 0", u8::from(calls::probe(image))),
-        1 => line("open", &calls::open(image), 0, |v| (u64::from(v.start) << 16 | u64::from(v.partition), sum_icb(v.root))),
+        1 => line("open", &calls::open(image), 0, |v| (u64::from(v.start) << 16 | u64::from(v.partition), sum_icb(LongAd::of_c(v.root)))),
         2 => line("label", &calls::label(image, &mut out), as_it_came, |()| written(&out)),
         3 => line("lookup", &calls::lookup(v, image, q.path, &mut work), 0, |icb| (0, sum_icb(*icb))),
         4 => failed(&calls::failed(v, image, q.path, &mut work)),
@@ -96,7 +97,7 @@ fn failed(answer: &Result<Option<&[u8]>>) -> String {
 
 fn extents(v: Volume, image: &[u8], q: &Lends) -> String {
     let slots = q.room.min(256);
-    let mut row: Vec<Slot> = room(slots);
+    let mut row: Vec<Extent> = room(slots);
     let answer = calls::extents(v, image, q.icb, &mut row);
     let words: Vec<u32> = row.iter().flat_map(|s| [s.length, s.extent_type, s.block, s.partition]).collect();
     let sum = sum(words.into_iter().chain(std::iter::repeat_n(0xa5a5_a5a5, 4 * (slots - row.len()))));
@@ -129,7 +130,7 @@ fn the_list_of_the_gate() {
 
 /// The three lines of a query of `file_cases`, without whether slots and output behind the answer are as they came.
 fn file_case(v: Volume, image: &[u8], icb: LongAd, lent: usize, slots: usize) -> [String; 3] {
-    let say = |call: &str, answer: u8, count: u64, length: usize| format!("{call} {answer} count {count} length {length}");
+    let say = |call: &str, answer: u64, count: u64, length: usize| format!("{call} {answer} count {count} length {length}");
     let (mut out, mut row) = (room(lent), room(slots));
     let read = match calls::read(v, image, icb, &mut out) {
         Ok(a) => say("read", 0, a.sectors, out.len()),
@@ -159,7 +160,7 @@ fn the_files_of_the_gate() {
             let (start, partition) = all.place();
             let (icb, lent, slots) = (all.long_ad(), all.number(4), all.number(2));
             let what = expected.next().unwrap();
-            let v = Volume { start, partition, root: icb, label: [0; 32] };
+            let v = Volume { start, partition, root: icb.to_c(), label: [0; 32] };
             for given in file_case(v, &image, icb, lent, slots) {
                 assert_eq!(given, expected.next().unwrap(), "{what}");
             }

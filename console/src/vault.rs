@@ -1,10 +1,11 @@
 //! The calls, over a borrowed image.
 
 use crate::answer::{Answer, Refusal, Refused, Result};
-use crate::calls::{self, Slot, Volume};
+use crate::calls;
 use crate::records::{AllocExtent, DirEntry, LongAd, entries, text};
 use crate::room::{FIRST, MOST_DIRECTORY, Room, most_file, retry};
 use std::fmt;
+use strandlodge_sys::vault::{Extent, Volume};
 
 /// The bytes of a sector, and of a block.
 pub const SECTOR_SIZE: u64 = 2048;
@@ -73,7 +74,7 @@ impl<'a> Vault<'a> {
 
     /// The root directory.
     pub fn root_directory_icb(&self) -> LongAd {
-        self.volume.root
+        LongAd::of_c(self.volume.root)
     }
 
     /// The volume's name. The count is that of opening: the call opens the image again.
@@ -162,7 +163,7 @@ fn work_space() -> Room<u8> {
 }
 
 /// A partition of 65,536 is none, and a type is at most 3.
-fn extent(slot: &Slot) -> AllocExtent {
+fn extent(slot: &Extent) -> AllocExtent {
     AllocExtent {
         length: slot.length,
         extent_type: slot.extent_type as u8,

@@ -3,7 +3,7 @@
 mod common;
 
 use common::{SECTOR, show};
-use console::{LongAd, Refused, Result, Vault};
+use strandlodge::{LongAd, Refused, Result, Vault};
 
 /// Numbers below a bound, the same in each run.
 struct Random(u64);
@@ -47,7 +47,7 @@ fn early(refused: &Refused) {
 }
 
 /// The value or the number, and the count.
-fn parts<T>(answer: Result<T>) -> (std::result::Result<T, u8>, u64) {
+fn parts<T>(answer: Result<T>) -> (std::result::Result<T, u64>, u64) {
     match answer {
         Ok(answer) => (Ok(answer.value), answer.sectors),
         Err(refused) => (Err(refused.number()), refused.sectors),

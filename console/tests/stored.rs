@@ -5,9 +5,9 @@
 mod common;
 
 use common::input::Input;
-use common::sparse::expand;
-use console::{LbAddr, LongAd, Vault, probe_vrs, read_volume_label};
 use std::str::Lines;
+use strandlodge::{LbAddr, LongAd, Vault, probe_vrs, read_volume_label};
+use strandlodge_sys::sparse::expand;
 
 /// The lines of a stored output.
 struct Expected<'a>(Lines<'a>);
@@ -18,7 +18,7 @@ impl<'a> Expected<'a> {
     }
 }
 
-fn answer<T>(answer: &console::Result<T>) -> (u8, u64) {
+fn answer<T>(answer: &strandlodge::Result<T>) -> (u64, u64) {
     answer.as_ref().map_or_else(|refused| (refused.number(), refused.sectors), |answer| (0, answer.sectors))
 }
 
@@ -71,7 +71,7 @@ fn sum_lent(out: &[u8], room: usize) -> u64 {
 }
 
 /// Holds an answer of bytes to a stored line: number, count, length and sum. True if the query lent too little.
-fn held(line: &str, room: usize, given: &console::Result<impl AsRef<[u8]>>) -> bool {
+fn held(line: &str, room: usize, given: &strandlodge::Result<impl AsRef<[u8]>>) -> bool {
     let expected = numbers(line);
     let (number, count) = answer(given);
     assert!(!(5..=7).contains(&number), "{line}");
@@ -79,7 +79,7 @@ fn held(line: &str, room: usize, given: &console::Result<impl AsRef<[u8]>>) -> b
         return true;
     }
     let bytes = given.as_ref().map_or(&[][..], |answer| answer.value.as_ref());
-    assert_eq!(expected, [number.into(), count, bytes.len() as u64, sum_lent(bytes, room)], "{line}");
+    assert_eq!(expected, [number, count, bytes.len() as u64, sum_lent(bytes, room)], "{line}");
     false
 }
 
@@ -91,7 +91,7 @@ fn long_ad(recorded: &[u8]) -> LongAd {
 }
 
 /// A listing's records, of what was read from one.
-fn listing(entries: &[console::DirEntry]) -> Vec<u8> {
+fn listing(entries: &[strandlodge::DirEntry]) -> Vec<u8> {
     let mut listing = Vec::new();
     for entry in entries {
         let (icb, n) = (entry.icb, entry.name.len() as u16);
@@ -113,9 +113,9 @@ fn by_path(vault: &Vault, path: &[u8], room: usize, expected: &mut Expected) -> 
     let (number, count) = answer(&icb);
     assert!(number < 5, "{lookup}");
     if numbers(lookup)[0] != 6 {
-        assert_eq!(numbers(lookup)[..2], [number.into(), count], "{lookup}");
+        assert_eq!(numbers(lookup)[..2], [number, count], "{lookup}");
         let lost = vault.failed(path).map_or(0, |answer| answer.value.map_or(0, |component| component.len()));
-        assert_eq!(numbers(failed)[..3], [number.into(), count, lost as u64], "{failed}");
+        assert_eq!(numbers(failed)[..3], [number, count, lost as u64], "{failed}");
     }
     held(read, room, &vault.read_path(path))
 }
@@ -140,7 +140,7 @@ fn volumes_answer_every_query() {
         let image = expand(all.sized(4)).unwrap();
         assert_eq!(expected.next(), format!("image {name}"));
         let opened = Vault::open(&image);
-        assert_eq!(numbers(expected.next())[..2], [answer(&opened).0.into(), answer(&opened).1], "{name}");
+        assert_eq!(numbers(expected.next())[..2], [answer(&opened).0, answer(&opened).1], "{name}");
         let mut queries = Input(all.sized(4));
         while !queries.0.is_empty() {
             let (what, room, _work) = (queries.number(2), queries.number(4), queries.number(4));

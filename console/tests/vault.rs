@@ -3,12 +3,12 @@
 mod common;
 
 use common::{Disc, SECTOR, continuation, continued, identifier, named, noise, short_ad, show};
-use console::{AllocExtent, Answer, Refusal, Refused, Vault, probe_vrs, read_volume_label};
+use strandlodge::{AllocExtent, Answer, Refusal, Refused, Vault, probe_vrs, read_volume_label};
 
 const UPPER: &[u8] = b"cue 10.1A\nfront wash 80, blue backs 40, follow 6 seconds\n";
 const LOWER: &[u8] = b"cue 10.1a\nfront wash 20, the look before the interval\n";
 
-fn refused<T>(answer: console::Result<T>) -> (Refusal, u64) {
+fn refused<T>(answer: strandlodge::Result<T>) -> (Refusal, u64) {
     // The value may be of many bytes, and isn't printed.
     let Refused { why, sectors } = answer.map(|_| ()).expect_err("an answer");
     (why, sectors)

@@ -3,8 +3,8 @@
 
 pub mod command;
 pub mod input;
-#[path = "../../src/bin/vault/sparse.rs"]
-pub mod sparse;
+
+use strandlodge_sys::sparse;
 
 /// The sample show: its partition starts at 288, and its root is block 3.
 pub fn show() -> Vec<u8> {

@@ -28,7 +28,7 @@ entry that is equal so is taken. Control characters in names are printed as
 that can't be kept, as with a disc that is still being copied, use --copy.
 
 Status: 0 done, 1 to 8 refused by that number, 64 wrong usage, 66 no image,
-74 output that can't be written.
+70 an answer that isn't known, 74 output that can't be written.
 ";
 
 /// A path on the disc, in bytes: names there need not be this system's.

@@ -1,40 +1,16 @@
-//! The commands.
+//! The questions on an image, answered.
 
-use crate::args::{Args, Command, HELP, Question};
+use crate::args::Question;
 use crate::bar::Word;
 use crate::disc::{Disc, Found};
-use crate::failure::{Failure, USAGE};
+use crate::failure::Failure;
 use crate::file;
-use crate::image::Image;
 use crate::log::Log;
 use crate::names::shown;
-use crate::tour;
-use console::{AllocExtent, DirEntry, probe_vrs, read_volume_label};
 use std::ffi::OsStr;
 use std::io::{self, Write};
 use std::os::unix::ffi::OsStrExt;
-
-pub fn run(args: &Args, out: &mut impl Write, log: &mut Log) -> Result<(), Failure> {
-    match &args.command {
-        Command::Help => out.write_all(HELP.as_bytes()).map_err(Failure::output),
-        Command::Tour => tour::give(out),
-        Command::Sample { file } => file::Target::at(file)?.write(&tour::sample()?),
-        Command::Ask { image, question } => {
-            if let Question::Get { file, .. } = question {
-                apart(image, file)?;
-            }
-            ask(question, &Image::open(image, args.copy)?, image, out, log)
-        }
-    }
-}
-
-/// The image must not be what is written.
-fn apart(image: &OsStr, file: &OsStr) -> Result<(), Failure> {
-    if file::is_same(image, file) {
-        return Err(Failure::file(USAGE, file, "this is the image itself"));
-    }
-    Ok(())
-}
+use strandlodge::{AllocExtent, DirEntry, probe_vrs, read_volume_label};
 
 /// Answers a question on an image, which goes by `name`.
 pub fn ask(question: &Question, image: &[u8], name: &OsStr, out: &mut impl Write, log: &mut Log) -> Result<(), Failure> {

@@ -3,7 +3,7 @@
 use crate::failure::{Failure, USAGE};
 use crate::log::Log;
 use crate::names::shown;
-use console::{DirEntry, LongAd, Refusal, Refused, Vault};
+use strandlodge::{DirEntry, LongAd, Refusal, Refused, Vault};
 
 /// An opened image with the name that it goes by in messages. Every call is counted.
 pub struct Disc<'a, 'l> {
@@ -32,7 +32,7 @@ impl<'a, 'l> Disc<'a, 'l> {
     }
 
     /// Notes the count of a call on what a path gave, and gives its value.
-    pub fn count<T>(&mut self, path: &[u8], call: &'static str, answer: console::Result<T>) -> Result<T, Failure> {
+    pub fn count<T>(&mut self, path: &[u8], call: &'static str, answer: strandlodge::Result<T>) -> Result<T, Failure> {
         self.log.count(call, answer).map_err(|refused| self.refused(path, refused))
     }
 
@@ -90,7 +90,7 @@ impl<'a, 'l> Disc<'a, 'l> {
         // The component is a part of the path, so its place is the distance of the two.
         let above = path.get(..component.as_ptr().addr() - path.as_ptr().addr()).unwrap_or_default();
         let says = format!("{}: there is nothing named \"{}\" under {}", self.name, shown(component), quoted(above));
-        Failure::new(refused.number(), format!("{says} (refusal {})", refused.number()))
+        Failure::with_number(refused, says)
     }
 }
 

@@ -1,15 +1,17 @@
 //! How the command ends when it can't do what it was asked.
 
 use crate::names::shown;
-use console::Refused;
 use std::ffi::OsStr;
 use std::io;
 use std::os::unix::ffi::OsStrExt;
+use strandlodge::{Refusal, Refused};
 
 /// Wrong usage.
 pub const USAGE: u8 = 64;
 /// An image that can't be opened, mapped or copied.
 pub const NO_IMAGE: u8 = 66;
+/// An answer number that isn't known.
+pub const UNKNOWN: u8 = 70;
 /// Output that can't be written.
 pub const NO_OUTPUT: u8 = 74;
 
@@ -31,7 +33,15 @@ impl Failure {
 
     /// `about` is what was asked for.
     pub fn refused(about: impl AsRef<str>, refused: Refused) -> Failure {
-        Failure::new(refused.number(), format!("{}: {refused} (refusal {})", about.as_ref(), refused.number()))
+        Failure::with_number(refused, format!("{}: {refused}", about.as_ref()))
+    }
+
+    /// A refusal with its number behind the sentence. The number is the status, where it is one of the table.
+    pub fn with_number(refused: Refused, says: String) -> Failure {
+        match refused.why {
+            Refusal::Unknown(_) => Failure::new(UNKNOWN, says),
+            why => Failure::new(why.number() as u8, format!("{says} (refusal {})", why.number())),
+        }
     }
 
     /// Standard output that can't be written. A reader that has had enough is no failure.
@@ -44,5 +54,27 @@ impl Failure {
 
     pub fn file(status: u8, name: &OsStr, says: impl std::fmt::Display) -> Failure {
         Failure::new(status, format!("{}: {says}", shown(name.as_bytes())))
+    }
+}
+
+#[cfg(test)]
+mod tests {
+    use super::*;
+
+    #[test]
+    fn the_number_is_the_status() {
+        let failure = Failure::refused("a.img", Refused { why: Refusal::NoWork, sectors: 3 });
+        assert_eq!(failure.status, 6);
+        assert_eq!(failure.says.unwrap(), "a.img: a directory has more bytes than there is memory for (refusal 6)");
+    }
+
+    /// 256 would be a status of 0, and 320 that of wrong usage.
+    #[test]
+    fn an_unknown_number_is_no_status() {
+        for number in [9, 256, 320] {
+            let failure = Failure::refused("a.img", Refused { why: Refusal::Unknown(number), sectors: 3 });
+            assert_eq!(failure.status, UNKNOWN);
+            assert_eq!(failure.says.unwrap(), format!("a.img: the archive answered with {number}, a number that isn't known here"));
+        }
     }
 }

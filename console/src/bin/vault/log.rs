@@ -1,7 +1,7 @@
 //! What goes to standard error beside the answer: the sectors that each call asked for, and remarks.
 
-use console::{Refused, Result};
 use std::io::{self, Write};
+use strandlodge::{Refused, Result};
 
 #[derive(Default)]
 pub struct Log {

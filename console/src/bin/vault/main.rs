@@ -10,11 +10,13 @@ mod image;
 mod log;
 mod map;
 mod names;
-mod sparse;
 mod tour;
 
-use failure::Failure;
+use args::{Args, Command, HELP, Question};
+use failure::{Failure, USAGE};
+use image::Image;
 use log::{Log, say};
+use std::ffi::OsStr;
 use std::io::{self, BufWriter, Write};
 use std::process::ExitCode;
 
@@ -31,10 +33,32 @@ fn main() -> ExitCode {
 fn run() -> Result<(), Failure> {
     let args = args::parse(std::env::args_os().skip(1))?;
     let (mut out, mut log) = (BufWriter::new(io::stdout().lock()), Log::default());
-    let done = commands::run(&args, &mut out, &mut log).and_then(|()| out.flush().map_err(Failure::output));
+    let done = answer(&args, &mut out, &mut log).and_then(|()| out.flush().map_err(Failure::output));
     log.remarks.iter().for_each(|text| say(text));
     if args.sectors {
         say(&format!("sectors asked for: {}", log.sectors()));
     }
     done
+}
+
+fn answer(args: &Args, out: &mut impl Write, log: &mut Log) -> Result<(), Failure> {
+    match &args.command {
+        Command::Help => out.write_all(HELP.as_bytes()).map_err(Failure::output),
+        Command::Tour => tour::give(out),
+        Command::Sample { file } => file::Target::at(file)?.write(&tour::sample()?),
+        Command::Ask { image, question } => {
+            if let Question::Get { file, .. } = question {
+                apart(image, file)?;
+            }
+            commands::ask(question, &Image::open(image, args.copy)?, image, out, log)
+        }
+    }
+}
+
+/// The image must not be what is written.
+fn apart(image: &OsStr, file: &OsStr) -> Result<(), Failure> {
+    if file::is_same(image, file) {
+        return Err(Failure::file(USAGE, file, "this is the image itself"));
+    }
+    Ok(())
 }

@@ -6,9 +6,9 @@ use crate::disc::Disc;
 use crate::failure::{Failure, NO_IMAGE};
 use crate::log::Log;
 use crate::names::shown;
-use crate::sparse;
 use std::ffi::OsStr;
 use std::io::Write;
+use strandlodge_sys::sparse;
 
 /// The input of the program `first_cue`: a show with four cues, kept sparse. tools/show_image.py writes it.
 const PACKED: &[u8] = include_bytes!("../../../../crates/first_cue/stdin");
