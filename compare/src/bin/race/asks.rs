@@ -3,7 +3,7 @@
 use crate::faults;
 use crate::memory::{Piece, Side, Store};
 use crate::stage::Raced;
-use common::calls::{Call, Icb, Query, Values};
+use common::calls::{Call, Query, Values};
 use common::linked::{self, Lends};
 
 /// The table ends here.
@@ -50,13 +50,18 @@ impl Lender {
         let mut work = self.work.piece(if q.call.has_work() { q.work } else { 0 }, side(2));
         let mut place = self.place.piece(size_of::<usize>(), side(3));
         path.bytes().copy_from_slice(&q.path);
-        let pieces = [&mut path, &mut out, &mut work, &mut place].map(|piece| (piece.at().addr(), piece.length));
-        faults::lend([(image.0.addr(), image.1), pieces[0], pieces[1], pieces[2], pieces[3]]);
-        let (path_at, out_at, work_at, place_at) = (path.at(), out.at(), work.at(), place.at().cast());
-        let lends = Lends { image: image.0, image_length: image.1, path: path_at, out: out_at, work: work_at, place: place_at };
+        let (image_at, image_length) = image;
+        let lends = Lends { image: image_at, image_length, path: path.at(), out: out.at(), work: work.at(), place: place.at().cast() };
+        faults::lend([
+            (lends.image.addr(), image_length),
+            (lends.path.addr(), path.length),
+            (lends.out.addr(), out.length),
+            (lends.work.addr(), work.length),
+            (lends.place.addr(), place.length),
+        ]);
         // SAFETY: the pieces are of four stores, and the image of another: none overlap, and each is as long as said.
         let values = unsafe { linked::make(q, lends) };
-        in_range(q, &values, image.1)?;
+        in_range(q, &values, image_length)?;
         held(q, &values, [&mut path, &mut out, &mut work, &mut place])?;
         Ok(values)
     }
@@ -105,7 +110,7 @@ fn held(q: &Query, v: &Values, [path, out, work, place]: [&mut Piece; 4]) -> Res
     Ok(())
 }
 
-/// Everything that is asked of an image: every call, with room that is exactly enough for each of its two states, a little less, and more.
+/// Everything that is asked of an image.
 pub fn asks(raced: &Raced, lender: &mut Lender) -> Result<Vec<Ask>, String> {
     let mut states = [raced.image.clone(), raced.image.clone()];
     raced.flip.put(&mut states[1], 1);
@@ -113,28 +118,29 @@ pub fn asks(raced: &Raced, lender: &mut Lender) -> Result<Vec<Ask>, String> {
         let mut answer = |state: &[u8]| lender.ask(q, (state.as_ptr(), state.len()), 0);
         Ok([answer(&states[0])?, answer(&states[1])?])
     };
-    let v = raced.volume;
+    let mut asks = Vec::new();
+    for query in queries(raced, &mut still)? {
+        let still = still(&query)?.each_ref().map(summed);
+        asks.push(Ask { words: words(raced, &query).leak(), query, still });
+    }
+    Ok(asks)
+}
+
+/// Every call, with room and work space that are exactly enough for each of the image's two states, a little less, and more.
+fn queries(raced: &Raced, still: &mut impl FnMut(&Query) -> Result<[Values; 2], String>) -> Result<Vec<Query>, String> {
     let mut works = vec![0];
     for icb in &raced.icbs {
-        works.extend(still(&Query::on(Call::Read, v, *icb).with(PLENTY, 0))?.map(|values| values.length as usize));
+        works.extend(still(&Query::on(Call::Read, raced.volume, *icb).with(PLENTY, 0))?.map(|values| values.length as usize));
     }
     let works = distinct(works);
     let mut queries = Vec::new();
-    for call in Call::ALL {
-        for q in asked(raced, call) {
-            let plenty = q.with(if call == Call::Extents { MANY_SLOTS } else { PLENTY }, PLENTY);
-            let rooms = if call.has_room() { rooms(still(&plenty)?.map(|values| values.length as usize)) } else { vec![0] };
-            for room in rooms {
-                let works = if call.has_work() { &works[..] } else { &[0] };
-                queries.extend(works.iter().map(|work| q.with(room, *work)));
-            }
-        }
+    for q in Call::ALL.iter().flat_map(|call| asked(raced, *call)) {
+        let plenty = q.with(if q.call == Call::Extents { MANY_SLOTS } else { PLENTY }, PLENTY);
+        let rooms = if q.call.has_room() { rooms(still(&plenty)?.map(|values| values.length as usize)) } else { vec![0] };
+        let works = if q.call.has_work() { &works[..] } else { &[0] };
+        queries.extend(rooms.iter().flat_map(|room| works.iter().map(|work| q.with(*room, *work))));
     }
-    let ask = |query: Query| {
-        let still = still(&query)?.each_ref().map(summed);
-        Ok(Ask { words: words(raced, &query).leak(), query, still })
-    };
-    queries.into_iter().map(ask).collect()
+    Ok(queries)
 }
 
 /// The queries of a call, with no memory yet.
@@ -160,11 +166,10 @@ fn distinct(mut numbers: Vec<usize>) -> Vec<usize> {
 }
 
 fn words(raced: &Raced, q: &Query) -> String {
-    let of = |icb: Icb| format!(" of block {}", icb.block);
     let what = match q.call {
         call if call.has_path() => format!(" along \"{}\"", q.path.escape_ascii()),
         Call::Probe | Call::Open | Call::Label => String::new(),
-        _ => of(q.icb),
+        _ => format!(" of block {}", q.icb.block),
     };
     let room = if q.call.has_room() { format!(", room {}", q.room) } else { String::new() };
     let work = if q.call.has_work() { format!(", work space {}", q.work) } else { String::new() };

@@ -129,8 +129,9 @@ impl Line {
         line.number(BEGAN.get().map_or(0, |began| began.elapsed().as_millis() as usize));
         line.put(b" ms: ");
         // SAFETY: the words stay for good, and are as long as said.
-        line.put(unsafe { std::slice::from_raw_parts(ABOUT.0.load(Relaxed), ABOUT.1.load(Relaxed)) });
-        line.put(b": ");
+        let words = unsafe { std::slice::from_raw_parts(ABOUT.0.load(Relaxed), ABOUT.1.load(Relaxed)) };
+        line.put(words);
+        line.put(if words.is_empty() { b"" } else { b": " });
         line
     }
 

@@ -76,7 +76,8 @@ pub fn main() {
     let mut subjects = Vec::new();
     for raced in images::all() {
         if raced.name.contains(&o.flip) {
-            let asks = asks(&raced, &mut race.lender).unwrap_or_else(|seen| faults::fail(&format!("standing still, {seen}")));
+            let asks =
+                asks(&raced, &mut race.lender).unwrap_or_else(|seen| faults::fail(&format!("standing still, {}: {seen}", raced.name)));
             subjects.push(Subject { raced, asks, next: 0 });
         }
     }
@@ -103,14 +104,13 @@ impl Race {
         let side = *self.random.pick(&[Side::Left, Side::Right]);
         let mut image = self.images.piece(subject.raced.image.len(), side);
         image.bytes().copy_from_slice(&subject.raced.image);
-        let lent = (image.at(), image.length);
+        let (at, length) = (image.at(), image.length);
         let (flip, pause) = (subject.raced.flip, *self.random.pick(&PAUSES));
         let (lender, random, figures) = (&mut self.lender, &mut self.random, &mut self.figures);
-        flipping(flip, lent.0, pause, figures, |figures| calls(subject, (lent.0, lent.1), lender, random, figures))?;
-        if image.touched(image.length).is_some() || image.bytes() != subject.raced.image {
+        flipping(flip, at, pause, figures, |figures| calls(subject, (at, length), lender, random, figures))?;
+        if image.touched(length).is_some() || image.bytes() != subject.raced.image {
             return Err("the image was written to, in this call or one before it on the same image".to_string());
         }
-        let length = image.length;
         image.restore(length);
         Ok(())
     }

@@ -10,7 +10,7 @@
 //! What still holds if someone does write: the Rust of this command looks at no byte of a map. It hands the slice to the archive's calls, as
 //! a pointer and a length, and these stay inside what they are lent whatever the image holds from one look to the next (docs/PROMISES.md,
 //! "What is assumed", says how far that is proved and how far it is tried). The answer may then be that of no image: a mixture of before and
-//! after. A file that is cut short meanwhile ends the command with a sentence.
+//! after, with bytes in it that were never written. A file that is cut short meanwhile ends the command with a sentence.
 #![allow(unsafe_code)]
 
 use crate::failure::NO_IMAGE;
