@@ -18,7 +18,8 @@ use Rattle.disc.specs.declared.replies.Reply.{Reply}
 use Rattle.records.specs.declared.allocations.LongAd.{LongAd}
 use Rattle.listings.specs.Listings.{listing, told}
 use Rattle.directories.specs.Directories.{directoryBytes, listingAt}
-use Rattle.directories.specs.Places.{andThen, replyTo, Reads}
+use Rattle.directories.specs.Lookups.{andThen}
+use Rattle.directories.specs.Places.{replyTo, Reads}
 use Rattle.directories.proofs.SpaceLaws.{ran-known, reads-count, reads-bytes}
 
 -- the same reply with another count

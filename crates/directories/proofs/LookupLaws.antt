@@ -12,7 +12,7 @@ use mir.Val.{Fits}
 use Rattle.disc.specs.Choice.{pick}
 use Rattle.disc.specs.Refusals.{number}
 use Rattle.disc.specs.Counts.{reported}
-use Rattle.disc.specs.Ask.{Disc, Outcome, outcome}
+use Rattle.disc.specs.Ask.{Disc, Outcome}
 use Rattle.disc.specs.Ask.Outcome.{answered, refused}
 use Rattle.disc.specs.Ran.{Ran, ran, after, onward, followed}
 use Rattle.disc.specs.Replies.{replyBy, Replied}
@@ -24,8 +24,9 @@ use Rattle.disc.proofs.RanLaws.{ran-then}
 use Rattle.disc.proofs.ReplyLaws.{reply-refused}
 use Rattle.records.specs.declared.allocations.LongAd.{LongAd}
 use Rattle.files.specs.Files.{fileBytes}
-use Rattle.directories.specs.Lookups.{seekPath, icbOf, lookupOf, lostOf, readPathOf, foundTo, foundOf, lostAt, lostReply}
-use Rattle.directories.specs.Places.{andThen, Walks}
+use Rattle.listings.specs.Paths.{Component}
+use Rattle.directories.specs.Lookups.{seekPath, icbOf, lookupOf, readPathOf, andThen, foundTo, foundOf, failedOf, failedReply}
+use Rattle.directories.specs.Places.{Walks}
 use Rattle.directories.specs.declared.lookups.Found.{Found}
 use Rattle.directories.specs.declared.walks.Place.{Place}
 use Rattle.directories.proofs.PlaceLaws.{failed-stands}
@@ -43,32 +44,30 @@ module _ (d : Disc) (start partition work : ℕ) (root : LongAd) (path : List �
     pub look-found : record { answer = q .answer; count = q .count; icb = q .icb } ≡ foundOf (ran d (lookupOf start partition work root path))
     look-found = w .found ∙ ap foundOf (sym look-is)
 
-    pub look-lost : take (q .end - q .from) (drop (q .from) path) ≡ lostOf (outcome d (seekPath start partition work root path))
-    unfolding ran
-    look-lost = w .lost
+    pub look-at : q .from ≡ failedOf (ran d (seekPath start partition work root path)) .component .at
+    look-at = ap (λ (c : Component). c .at) (w .lost)
 
-    pub look-at : q .from ≡ lostAt d start partition work root path
-    look-at = w .at
-
-    pub look-length : record { answer = q .answer; count = q .count; length = q .end - q .from }
-        ≡ lostReply (ran d (lookupOf start partition work root path)) (outcome d (seekPath start partition work root path))
+    pub look-length : record { answer = q .answer; count = q .count; length = q .end - q .from } ≡ failedReply (failedOf (ran d (seekPath start partition work root path)))
     look-length =
         let n : length (take (q .end - q .from) (drop (q .from) path)) ≡ q .end - q .from =
         length-take-le (q .end - q .from) (drop (q .from) path) (rw length-drop (omega (arith, w .within))) in
-        rw (← look-found, ← look-lost, n)
+        let c : length (failedOf (ran d (seekPath start partition work root path)) .component .bytes) ≡ q .end - q .from = rw (← w .lost) n in
+        let a : q .answer ≡ failedOf (ran d (seekPath start partition work root path)) .answer = ap (λ (f : Found). f .answer) (w .found) in
+        let k : q .count ≡ failedOf (ran d (seekPath start partition work root path)) .count = ap (λ (f : Found). f .count) (w .found) in
+        rw (a, k, c)
 
 -- ---- the component as a part of the path
 
 module _ (d : Disc) (start partition work : ℕ) (root : LongAd) (path : List ℕ) {reply : Reply}
-    (e : reply ≡ lostReply (ran d (lookupOf start partition work root path)) (outcome d (seekPath start partition work root path))) where
-  pub failed-answer : reply .answer ≡ foundOf (ran d (lookupOf start partition work root path)) .answer
+    (e : reply ≡ failedReply (failedOf (ran d (seekPath start partition work root path)))) where
+  pub failed-answer : reply .answer ≡ failedOf (ran d (seekPath start partition work root path)) .answer
   failed-answer = rw e
 
-  pub failed-count : reply .count ≡ foundOf (ran d (lookupOf start partition work root path)) .count
+  pub failed-count : reply .count ≡ failedOf (ran d (seekPath start partition work root path)) .count
   failed-count = rw e
 
-  module _ {at : ℕ} (h : at ≡ lostAt d start partition work root path) where
-    pub failed-part : take (at + reply .length - at) (drop at path) ≡ lostOf (outcome d (seekPath start partition work root path))
+  module _ {at : ℕ} (h : at ≡ failedOf (ran d (seekPath start partition work root path)) .component .at) where
+    pub failed-part : take (at + reply .length - at) (drop at path) ≡ failedOf (ran d (seekPath start partition work root path)) .component .bytes
     failed-part = rw (e, h) (part-slice (failed-stands d start partition work root path))
 
     pub failed-room : at + reply .length ≤ length path

@@ -1,28 +1,27 @@
 -- What is proved of directories and paths: what the call for the component that failed asks for, that the first entry of a name wins, and what
 -- the ends of a path come to. Assumes nothing.
 use mathlib.Core.Path.{_≡_, refl, ap, _∙_}
-use mathlib.Core.Bool.{Bool, true, false}
+use mathlib.Core.Bool.{true, false}
 use mathlib.Core.List.{List, [], _∷_, _++_, append-nil}
-use mathlib.Core.Option.{some, Option, none}
-use Prim.Native.Nat.{ℕ, _<_, suc}
+use mathlib.Core.Option.{some}
+use Prim.Native.Nat.{ℕ, _<_}
 use lib.ListN.{length}
 use borrow.Author.Tests.{lt-leb}
-use Rattle.disc.specs.Ask.{Disc, Ask, Outcome, outcome, asked, then, ended, Agree}
+use Rattle.disc.specs.Ask.{Disc, Ask, Outcome, outcome, asked, then, ended}
 use Rattle.disc.specs.Ask.Outcome.{answered, refused}
 use Rattle.disc.specs.Ran.{ran}
 use Rattle.disc.specs.declared.refusals.Refusal.the-variants.{NoWork}
-use Rattle.disc.proofs.AskLaws.{asked-then, askedBehind, same-outcome, agree-front, agree-back}
+use Rattle.disc.proofs.AskLaws.{asked-then, askedBehind}
 use Rattle.disc.proofs.RanLaws.{ran-done}
 use Rattle.records.specs.declared.allocations.LongAd.{LongAd}
-use Rattle.identifiers.specs.Identifiers.{isDirectory}
 use Rattle.files.specs.Files.{fileBytes}
 use Rattle.listings.specs.Entries.{Entry, Entries, entries, sound}
 use Rattle.listings.specs.Entries.Entries.{entry}
 use Rattle.listings.specs.Listings.{answersTo, findIn}
-use Rattle.listings.specs.Paths.{front, behind, components}
+use Rattle.listings.specs.Paths.{Component, front, behind, componentsFrom, components}
 use Rattle.listings.proofs.Promises.{inFront, NoneAnswers, first-wins}
 use Rattle.directories.specs.Directories.{within, directoryBytes}
-use Rattle.directories.specs.Lookups.{entering, seeking, seekPath, icbOf, lookupOf, Sought, orLost, enteredBy, entered, lostAt}
+use Rattle.directories.specs.Lookups.{entering, seeking, seekPath, icbOf, lookupOf}
 use Rattle.directories.specs.Lookups.Sought.{reached, lost}
 use Rattle.directories.proofs.SpaceLaws.{ran-known}
 
@@ -46,37 +45,6 @@ pub failed-asks : (d : Disc) (start partition work : ℕ) (root : LongAd) (path 
 unfolding lookupOf
 failed-asks d start partition work root path = asked-known d (seekPath start partition work root path) icbOf
 
--- and so has its place the lookup's list
-module _ (d e : Disc) (start partition work : ℕ) where
-  same-entered : (cs : List (List ℕ)) (icb : LongAd) (directory : Bool) → Agree d e (asked d (seeking start partition work cs icb directory))
-      → entered d start partition work cs icb directory ≡ entered e start partition work cs icb directory
-  unfolding seeking entered
-  same-entered [] icb directory h = refl
-  same-entered (c ∷ cs) icb false h = refl
-  same-entered (c ∷ cs) icb true h =
-      let m : Ask (Option Entry) = entering start partition work icb c in
-      let k = rw (asked-then d m rest) at h in
-      let o : outcome d m ≡ outcome e m = same-outcome m d e (agree-front d e (asked d m) _ k) in
-      rw (← o) (by (λ x. same-entered cs (x .identifier .icb) (isDirectory (x .identifier))) (outcome d m) (agree-back d e (asked d m) _ k))
-    where
-      rest : Option Entry → Ask Sought
-      rest o = orLost c o (λ x. seeking start partition work cs (x .identifier .icb) (isDirectory (x .identifier)))
-
-      by : ((x : Entry) → Agree d e (asked d (seeking start partition work cs (x .identifier .icb) (isDirectory (x .identifier))))
-          → entered d start partition work cs (x .identifier .icb) (isDirectory (x .identifier)) ≡ entered e start partition work cs (x .identifier .icb) (isDirectory (x .identifier)))
-          → (o : Outcome (Option Entry)) → Agree d e (askedBehind d o rest)
-          → enteredBy o (λ x. entered d start partition work cs (x .identifier .icb) (isDirectory (x .identifier)))
-          ≡ enteredBy o (λ x. entered e start partition work cs (x .identifier .icb) (isDirectory (x .identifier)))
-      by ih (answered (some x)) g = ap suc (ih x g)
-      by ih (answered none) g = refl
-      by ih (refused r) g = refl
-
-  pub same-place : (root : LongAd) (path : List ℕ) → Agree d e (asked d (seekPath start partition work root path))
-      → lostAt d start partition work root path ≡ lostAt e start partition work root path
-  unfolding lostAt seekPath
-  same-place root path h =
-      rw (same-entered (components path) root true h, same-outcome (seekPath start partition work root path) d e h)
-
 -- ---- what a path comes to
 
 module _ (d : Disc) (start partition work : ℕ) where
@@ -97,11 +65,11 @@ module _ (d : Disc) (start partition work : ℕ) where
       ∙ rw (r, s, k, first-wins component before e rest n h)
 
   -- a component under what is no directory is lost before any further sector
-  pub under-file : (c : List ℕ) (cs : List (List ℕ)) (icb : LongAd) → ran d (seeking start partition work (c ∷ cs) icb false) ≡ record { outcome = answered (lost c); count = 0 }
+  pub under-file : (c : Component) (cs : List Component) (icb : LongAd) → ran d (seeking start partition work (c ∷ cs) icb false) ≡ record { outcome = answered (lost c); count = 0 }
   unfolding seeking
   under-file c cs icb = ran-done d (lost c)
 
   -- an empty path gives the root ICB, and count 0
   pub empty-path : (root : LongAd) → ran d (lookupOf start partition work root []) ≡ record { outcome = answered root; count = 0 }
-  unfolding lookupOf seekPath seeking components front behind
+  unfolding lookupOf seekPath seeking components componentsFrom front behind
   empty-path root = ran-known d (seekPath start partition work root []) icbOf ∙ rw (ran-done d (reached root))

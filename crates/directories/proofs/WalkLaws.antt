@@ -3,7 +3,7 @@ use mathlib.Core.Path.{_≡_, refl, sym, ap, _∙_}
 use mathlib.Core.Bool.{Bool, true, false}
 use mathlib.Core.List.{List, [], _∷_}
 use mathlib.Core.Option.{Option, none, some}
-use Prim.Native.Nat.{ℕ, suc, _+_, _-_, _<_, _≤_, zero-le}
+use Prim.Native.Nat.{ℕ, _+_, _-_, _<_, _≤_, zero-le}
 use native.Mathlib.Nat.{zero-add, add-sub-cancel-left}
 use native.Mathlib.Omega.{arith}
 use lib.ListN.{length, take, drop, length-drop, drop-of-length-le}
@@ -24,17 +24,16 @@ use Rattle.records.specs.declared.allocations.LongAd.{LongAd}
 use Rattle.identifiers.specs.Identifiers.{isDirectory}
 use Rattle.listings.specs.Entries.{Entry, entries, sound}
 use Rattle.listings.specs.Listings.{firstNamed, findIn, namedOf}
-use Rattle.listings.specs.Paths.{front, behind, components, slashes}
+use Rattle.listings.specs.Paths.{Component, front, behind, componentsFrom, components, slashes}
 use Rattle.listings.specs.declared.finds.Named.{Named}
 use Rattle.listings.proofs.PathLaws.{behind-slashes, front-is, slashes-long, no-more-slashes, first-component, front-some, component-within}
 use Rattle.directories.specs.Directories.{directoryBytes}
-use Rattle.directories.specs.Lookups.{Sought, entering, orLost, seeking, seekPath, icbOf, lostOf, foundTo, enteredBy, entered, startOf, lostBy, lostAt}
+use Rattle.directories.specs.Lookups.{Sought, entering, orLost, seeking, seekPath, icbOf, andThen, foundTo, lostOf}
 use Rattle.directories.specs.Lookups.Sought.{lost}
-use Rattle.directories.specs.Places.{andThen, replyTo, Reads, enteredTo, enteredOf, beyondOf, End, endOf, losesAt, leadsTo, On, left, Steps, Walks}
+use Rattle.directories.specs.Places.{replyTo, Reads, enteredTo, enteredOf, beyondOf, End, endOf, leadsTo, On, left, Steps, Walks}
 use Rattle.directories.specs.declared.lookups.Found.{Found}
 use Rattle.directories.specs.declared.walks.Entered.{Entered}
 use Rattle.directories.specs.declared.walks.Place.{Place}
-use Rattle.directories.proofs.PlaceLaws.{start-first, start-behind}
 use Rattle.directories.proofs.SpaceLaws.{number-some, ran-known, reads-count, reads-bytes}
 
 -- ---- one component
@@ -85,32 +84,29 @@ entered-count (refused r) n = refl
 abbrev notFound : ℕ → ℕ → Found
 notFound answer n = record { answer = answer; count = n; icb = noLong }
 
-end-reported : (r : Ran Sought) (a k at : ℕ) → endOf (after (reported (a + reported k)) r) at ≡ endOf (after a (after k r)) at
-end-reported r a k at = ap (λ n. record { found = foundTo (andThen (r .outcome) icbOf) n; lost = lostOf (r .outcome); at = lostBy (r .outcome) at }) (omega arith)
+end-reported : (r : Ran Sought) (a k : ℕ) → endOf (after (reported (a + reported k)) r) ≡ endOf (after a (after k r))
+end-reported r a k = ap (λ n. record { found = foundTo (andThen (r .outcome) icbOf) n; lost = lostOf (r .outcome) }) (omega arith)
 
-all : {f f′ : Found} {l l′ : List ℕ} {a a′ : ℕ} → f ≡ f′ → l ≡ l′ → a ≡ a′ → _≡_ {A = End} (record { found = f; lost = l; at = a }) (record { found = f′; lost = l′; at = a′ })
-all p q e = rw (p, q, e)
+both : {f f′ : Found} {l l′ : Component} → f ≡ f′ → l ≡ l′ → _≡_ {A = End} (record { found = f; lost = l }) (record { found = f′; lost = l′ })
+both p q = rw (p, q)
 
 -- behind the slashes at e
 module _ (path : List ℕ) (e : ℕ) {a : ℕ} (p : a ≡ e + slashes (drop e path)) where
   skipped : drop a path ≡ drop (slashes (drop e path)) (drop e path)
   skipped = rw (p, drop-drop)
 
-  same-components : components (drop a path) ≡ components (drop e path)
-  same-components = rw skipped (behind-slashes (drop e path))
+  same-components : componentsFrom a (drop a path) ≡ componentsFrom e (drop e path)
+  same-components = rw (skipped, p) (behind-slashes e (drop e path))
 
   none-left : slashes (drop a path) ≡ 0
   none-left = rw skipped (no-more-slashes (drop e path))
-
-  same-start : (n : ℕ) → a + startOf n (drop a path) ≡ e + startOf n (drop e path)
-  same-start n = rw skipped (omega (arith, p, start-behind n (drop e path)))
 
   skip-within : e ≤ length path → a ≤ length path
   skip-within h = omega (arith, p, slashes-long (drop e path), length-drop e path)
 
 module _ (d : Disc) (start partition work : ℕ) (path : List ℕ) {p : Place} (g : p .going ≡ true) (on : On path p) where
   ahead : leadsTo d start partition work path p
-      ≡ endOf (after (p .count) (ran d (seeking start partition work (components (drop (p .from) path)) (p .icb) (p .directory)))) (losesAt d start partition work path (p .from) (p .icb) (p .directory))
+      ≡ endOf (after (p .count) (ran d (seeking start partition work (componentsFrom (p .from) (drop (p .from) path)) (p .icb) (p .directory))))
   unfolding leadsTo
   ahead = rw g
 
@@ -122,7 +118,7 @@ module _ (d : Disc) (start partition work : ℕ) (path : List ℕ) {p : Place} (
 
   -- an end of the walk at which a part of the path is lost
   ends-here : (a b answer : ℕ) (icb : LongAd) (n : ℕ) → a ≤ b → b ≤ length path → n ≤ 0xffff_ffff_ffff_ffff
-      → record { found = record { answer = answer; count = n; icb = icb }; lost = take (b - a) (drop a path); at = a } ≡ leadsTo d start partition work path p
+      → record { found = record { answer = answer; count = n; icb = icb }; lost = record { bytes = take (b - a) (drop a path); at = a } } ≡ leadsTo d start partition work path p
       → Steps d start partition work path p (record { going = false; answer = answer; icb = icb; directory = false; count = n; from = a; end = b })
   unfolding leadsTo
   ends-here a b answer icb n u v c s =
@@ -134,16 +130,16 @@ module _ (d : Disc) (start partition work : ℕ) (path : List ℕ) {p : Place} (
 
   pub step-arrives : length path ≤ p .from → {q : Place}
       → q ≡ record { going = false; answer = 0; icb = p .icb; directory = false; count = p .count; from = 0; end = 0 } → Steps d start partition work path p q
-  unfolding components front behind seeking ran outcome asked
+  unfolding componentsFrom front behind seeking ran outcome asked
   step-arrives h e =
       let z : drop (p .from) path ≡ [] = drop-of-length-le path h in
       rw e
       (ends-here 0 0 0 (p .icb) (p .count) zero-le zero-le (on .counted)
-      (sym (ahead ∙ rw z (all (ap (λ n. record { answer = 0; count = n; icb = p .icb }) counts) refl refl))))
+      (sym (ahead ∙ rw z (both (ap (λ n. record { answer = 0; count = n; icb = p .icb }) counts) refl))))
 
   module _ (h : p .from < length path) {end : ℕ} (k : end ≡ p .from + length (front (drop (p .from) path))) where
-    some-left : components (drop (p .from) path) ≡ front (drop (p .from) path) ∷ components (drop end path)
-    some-left = first-component (drop (p .from) path) (on .clean g) (rw length-drop (omega arith)) ∙ rw (drop-drop, ← k)
+    some-left : componentsFrom (p .from) (drop (p .from) path) ≡ record { bytes = front (drop (p .from) path); at = p .from } ∷ componentsFrom end (drop end path)
+    some-left = first-component (p .from) (drop (p .from) path) (on .clean g) (rw length-drop (omega arith)) ∙ rw (drop-drop, ← k)
 
     end-within : end ≤ length path
     end-within = component-within path (p .from) h k
@@ -154,49 +150,28 @@ module _ (d : Disc) (start partition work : ℕ) (path : List ℕ) {p : Place} (
     component-is : take (end - p .from) (drop (p .from) path) ≡ front (drop (p .from) path)
     component-is = rw (k, add-sub-cancel-left) (front-is (drop (p .from) path))
 
-    -- a component that is lost starts here
-    here : p .from + startOf 0 (drop (p .from) path) ≡ p .from
-    unfolding startOf
-    here = omega (arith, on .clean g)
-
     pub step-dead : p .directory ≡ false → {l : LongAd} → l ≡ noLong → {q : Place}
         → q ≡ record { going = false; answer = 3; icb = l; directory = false; count = p .count; from = p .from; end = end } → Steps d start partition work path p q
-    unfolding seeking entered ran outcome asked
+    unfolding seeking ran outcome asked
     step-dead t j e =
         rw (e, j)
         (ends-here (p .from) end 3 noLong (p .count) (omega (arith, further)) end-within (on .counted)
-        (sym (ahead ∙ rw (some-left, t) (all (ap (notFound 3) counts) (sym component-is) here))))
+        (sym (ahead ∙ rw (some-left, t, ← component-is) (both (ap (notFound 3) counts) refl))))
 
     module _ (t : p .directory ≡ true) where
-      abbrev C : List ℕ
-      C = take (end - p .from) (drop (p .from) path)
+      abbrev C : Component
+      C = record { bytes = take (end - p .from) (drop (p .from) path); at = p .from }
 
       abbrev rest : Option Entry → Ask Sought
-      rest o = orLost C o (λ e. seeking start partition work (components (drop end path)) (e .identifier .icb) (isDirectory (e .identifier)))
+      rest o = orLost C o (λ e. seeking start partition work (componentsFrom end (drop end path)) (e .identifier .icb) (isDirectory (e .identifier)))
 
-      -- where the walk loses a component, by what entering this one gives
-      losing : Outcome (Option Entry) → ℕ
-      losing o = p .from + startOf (enteredBy o (λ e. entered d start partition work (components (drop end path)) (e .identifier .icb) (isDirectory (e .identifier)))) (drop (p .from) path)
-
-      turn : leadsTo d start partition work path p
-          ≡ endOf (after (p .count) (followed (ran d (entering start partition work (p .icb) C)) (λ o. ran d (rest o)))) (losing (ran d (entering start partition work (p .icb) C) .outcome))
-      unfolding seeking entered ran losing
-      turn =
-          ahead
-          ∙ rw (some-left, t, ← component-is)
-          (ap (λ x. endOf (after (p .count) x) (losing (outcome d (entering start partition work (p .icb) C)))) (ran-then d (entering start partition work (p .icb) C) rest))
-
-      -- behind this component, the others start as they do on the rest of the path
-      start-on : (n : ℕ) → end + slashes (drop end path) + startOf n (drop (end + slashes (drop end path)) path) ≡ p .from + startOf (suc n) (drop (p .from) path)
-      start-on n =
-          let x = rw (drop-drop, ← k) at (start-first n (drop (p .from) path) (on .clean g)) in
-          same-start path end refl n ∙ omega (arith, k, x)
+      turn : leadsTo d start partition work path p ≡ endOf (after (p .count) (followed (ran d (entering start partition work (p .icb) (C .bytes))) (λ o. ran d (rest o))))
+      unfolding seeking
+      turn = ahead ∙ rw (some-left, t, ← component-is) (ap (λ x. endOf (after (p .count) x)) (ran-then d (entering start partition work (p .icb) (C .bytes)) rest))
 
       -- on to the next component
       goes-on : (icb : LongAd) (directory : Bool) (n : ℕ) → n ≤ 0xffff_ffff_ffff_ffff
-          → endOf (after n (ran d (seeking start partition work (components (drop end path)) icb directory)))
-          (end + slashes (drop end path) + startOf (entered d start partition work (components (drop end path)) icb directory) (drop (end + slashes (drop end path)) path))
-          ≡ leadsTo d start partition work path p
+          → endOf (after n (ran d (seeking start partition work (componentsFrom end (drop end path)) icb directory))) ≡ leadsTo d start partition work path p
           → Steps d start partition work path p (record { going = true; answer = 0; icb = icb; directory = directory; count = n; from = end + slashes (drop end path); end = length path })
       unfolding leadsTo
       goes-on icb directory n c s =
@@ -206,21 +181,21 @@ module _ (d : Disc) (start partition work : ℕ) (path : List ℕ) {p : Place} (
             less = rw far (omega (arith, further));
           }
 
-      by-outcome : (o : Outcome (Option Entry)) (m : ℕ) → leadsTo d start partition work path p ≡ endOf (after (p .count) (onward o m (λ o. ran d (rest o)))) (losing o)
+      by-outcome : (o : Outcome (Option Entry)) (m : ℕ) → leadsTo d start partition work path p ≡ endOf (after (p .count) (onward o m (λ o. ran d (rest o))))
           → Steps d start partition work path p (beyondOf path (enteredTo o (reported m)) (reported (p .count + reported m)) (p .from) end)
-      unfolding beyondOf losing ran outcome asked
+      unfolding beyondOf ran outcome asked
       by-outcome (answered (some e)) m s =
-          goes-on (e .identifier .icb) (isDirectory (e .identifier)) _ (omega arith) (end-reported (ran d (rest (some e))) (p .count) m _ ∙ ap (endOf (after (p .count) (after m (ran d (rest (some e)))))) (start-on _) ∙ sym s)
+          goes-on (e .identifier .icb) (isDirectory (e .identifier)) _ (omega arith) (end-reported (ran d (rest (some e))) (p .count) m ∙ sym s)
       by-outcome (answered none) m s =
-          ends-here (p .from) end 3 noLong _ (omega (arith, further)) end-within (omega arith) (all (ap (notFound 3) (omega arith)) refl (sym here) ∙ sym s)
+          ends-here (p .from) end 3 noLong _ (omega (arith, further)) end-within (omega arith) (both (ap (notFound 3) (omega arith)) refl ∙ sym s)
       by-outcome (refused r) m s =
           simp (ne-eqb _ _ (number-some r))
-          (ends-here 0 0 (number r) noLong _ zero-le zero-le (omega arith) (all (ap (notFound (number r)) (omega arith)) refl refl ∙ sym s))
+          (ends-here 0 0 (number r) noLong _ zero-le zero-le (omega arith) (both (ap (notFound (number r)) (omega arith)) refl ∙ sym s))
 
-      pub step-enters : {e : Entered} → e ≡ enteredOf (ran d (entering start partition work (p .icb) C)) → {n : ℕ} → n ≡ reported (p .count + e .count)
+      pub step-enters : {e : Entered} → e ≡ enteredOf (ran d (entering start partition work (p .icb) (C .bytes))) → {n : ℕ} → n ≡ reported (p .count + e .count)
           → {q : Place} → q ≡ beyondOf path e n (p .from) end → Steps d start partition work path p q
       step-enters {e} x {n} y z =
-          let R : Ran (Option Entry) = ran d (entering start partition work (p .icb) C) in
+          let R : Ran (Option Entry) = ran d (entering start partition work (p .icb) (C .bytes)) in
           let c : e .count ≡ reported (R .count) = rw x (entered-count (R .outcome) (reported (R .count))) in
           let m : n ≡ reported (p .count + reported (R .count)) = y ∙ ap (λ k. reported (p .count + k)) c in
           rw (z, m, x) (by-outcome (R .outcome) (R .count) turn)
@@ -228,15 +203,15 @@ module _ (d : Disc) (start partition work : ℕ) (path : List ℕ) {p : Place} (
 -- the walk has come to p
 pub record Walking (d : Disc) (start partition work : ℕ) (root : LongAd) (path : List ℕ) (p : Place) : Type 0 where
   pub on : On path p
-  pub same : leadsTo d start partition work path p ≡ endOf (ran d (seekPath start partition work root path)) (startOf (entered d start partition work (components path) root true) path)
+  pub same : leadsTo d start partition work path p ≡ endOf (ran d (seekPath start partition work root path))
 
 pub walk-starts : (d : Disc) (start partition work : ℕ) (root : LongAd) (path : List ℕ) (a : ℕ) → a ≡ 0 + slashes (drop 0 path)
     → Walking d start partition work root path (record { going = true; answer = 0; icb = root; directory = true; count = 0; from = a; end = length path })
-unfolding leadsTo seekPath
+unfolding leadsTo seekPath components
 walk-starts d start partition work root path a e =
     record {
       on = record { ordered = skip-within path 0 e zero-le; within = omega arith; counted = zero-le; clean = λ x. none-left path 0 e };
-      same = rw (same-components path 0 e, same-start path 0 e) (simp zero-add);
+      same = rw (same-components path 0 e) (simp zero-add);
     }
 
 module _ {d : Disc} {start partition work : ℕ} {root : LongAd} {path : List ℕ} {p : Place} (w : Walking d start partition work root path p) where
@@ -244,10 +219,10 @@ module _ {d : Disc} {start partition work : ℕ} {root : LongAd} {path : List �
   walk-next v l s = record { on = s .on; same = (rw l at (s .same)) ∙ w .same }
 
   pub walk-ends : p .going ≡ false → Walks d start partition work root path p
-  unfolding leadsTo lostAt ran
+  unfolding leadsTo
   walk-ends g =
       let e = rw g at (w .same) in
-      record { found = ap (λ (x : End). x .found) e; lost = ap (λ (x : End). x .lost) e; at = ap (λ (x : End). x .at) e; ordered = w .on .ordered; within = w .on .within }
+      record { found = ap (λ (x : End). x .found) e; lost = ap (λ (x : End). x .lost) e; ordered = w .on .ordered; within = w .on .within }
 
 -- the returns of `beyond`
 module _ (path : List ℕ) (e : Entered) (count from end : ℕ) where

@@ -1,13 +1,13 @@
 -- A path looked up, the component that failed, and a file read by its path: document 01, "Directories and paths".
 -- Assumes nothing: these are definitions.
-use Prim.Native.Nat.{ℕ, zero, suc, _+_}
+use Prim.Native.Nat.{ℕ}
 use mathlib.Core.Bool.{Bool, true, false}
 use mathlib.Core.List.{List, [], _∷_}
 use mathlib.Core.Option.{Option, none, some}
-use lib.ListN.{length, drop}
+use lib.ListN.{length}
 use Rattle.disc.specs.Refusals.{number}
 use Rattle.disc.specs.Counts.{reported}
-use Rattle.disc.specs.Ask.{Disc, Ask, Outcome, outcome, then, ended}
+use Rattle.disc.specs.Ask.{Ask, Outcome, then, ended}
 use Rattle.disc.specs.Ask.Ask.{done}
 use Rattle.disc.specs.Ask.Outcome.{answered, refused}
 use Rattle.disc.specs.Ran.{Ran}
@@ -19,7 +19,7 @@ use Rattle.identifiers.specs.Identifiers.{isDirectory}
 use Rattle.files.specs.Files.{fileBytes}
 use Rattle.listings.specs.Entries.{Entry}
 use Rattle.listings.specs.Listings.{findIn}
-use Rattle.listings.specs.Paths.{front, components, slashes}
+use Rattle.listings.specs.Paths.{Component, noComponent, components}
 use Rattle.directories.specs.Directories.{directoryBytes}
 use Rattle.directories.specs.declared.lookups.Found.{Found}
 
@@ -32,18 +32,18 @@ entering start partition work icb component = then (directoryBytes start partiti
 -- where a path leads: to an ICB, or to a component that isn't there
 pub data Sought : Type 0 where
   reached : LongAd → Sought
-  lost : List ℕ → Sought
+  lost : Component → Sought
 
-abbrev pub orLost : {A : Type 0} → List ℕ → Option A → (A → Ask Sought) → Ask Sought
-orLost component none f = done (lost component)
-orLost component (some a) f = f a
+abbrev pub orLost : {A : Type 0} → Component → Option A → (A → Ask Sought) → Ask Sought
+orLost c none f = done (lost c)
+orLost c (some a) f = f a
 
 -- the components one after the other; one under what is no directory is lost before any further sector
-unfoldable pub seeking : ℕ → ℕ → ℕ → List (List ℕ) → LongAd → Bool → Ask Sought
+unfoldable pub seeking : ℕ → ℕ → ℕ → List Component → LongAd → Bool → Ask Sought
 seeking start partition work [] icb directory = done (reached icb)
 seeking start partition work (c ∷ cs) icb false = done (lost c)
 seeking start partition work (c ∷ cs) icb true =
-    then (entering start partition work icb c) (λ o.
+    then (entering start partition work icb (c .bytes)) (λ o.
     orLost c o (λ e. seeking start partition work cs (e .identifier .icb) (isDirectory (e .identifier))))
 
 -- a path from the root, which counts as a directory
@@ -55,17 +55,11 @@ seekPath start partition work root path = seeking start partition work (componen
 -- a component that isn't there is 3
 abbrev pub icbOf : Sought → Outcome LongAd
 icbOf (reached icb) = answered icb
-icbOf (lost component) = refused NotBluray
+icbOf (lost c) = refused NotBluray
 
 -- the ICB that it names
 unfoldable pub lookupOf : ℕ → ℕ → ℕ → LongAd → List ℕ → Ask LongAd
 lookupOf start partition work root path = then (seekPath start partition work root path) (λ s. ended (icbOf s))
-
--- the component that failed; empty if none was refused by 3
-abbrev pub lostOf : Outcome Sought → List ℕ
-lostOf (answered (reached icb)) = []
-lostOf (answered (lost component)) = component
-lostOf (refused r) = []
 
 -- the bytes of the file that it names: a lookup, then a read
 unfoldable pub readPathOf : ℕ → ℕ → ℕ → LongAd → List ℕ → Ask (List ℕ)
@@ -73,45 +67,41 @@ readPathOf start partition work root path = then (lookupOf start partition work 
 
 -- ---- a lookup as the code reports it
 
+abbrev pub andThen : {A B : Type 0} → Outcome A → (A → Outcome B) → Outcome B
+andThen (answered a) f = f a
+andThen (refused r) f = refused r
+
+abbrev pub answerOf : {A : Type 0} → Outcome A → ℕ
+answerOf (answered a) = 0
+answerOf (refused r) = number r
+
+abbrev pub icbFound : Outcome LongAd → LongAd
+icbFound (answered icb) = icb
+icbFound (refused r) = noLong
+
 abbrev pub foundTo : Outcome LongAd → ℕ → Found
-foundTo (answered icb) n = record { answer = 0; count = n; icb = icb }
-foundTo (refused r) n = record { answer = number r; count = n; icb = noLong }
+foundTo o n = record { answer = answerOf o; count = n; icb = icbFound o }
 
 abbrev pub foundOf : Ran LongAd → Found
 foundOf r = foundTo (r .outcome) (reported (r .count))
 
--- ---- the place of the component that failed
+-- ---- the component that failed
 
--- how many components a walk enters before it ends
-abbrev pub enteredBy : Outcome (Option Entry) → (Entry → ℕ) → ℕ
-enteredBy (answered (some e)) f = suc (f e)
-enteredBy (answered none) f = 0
-enteredBy (refused r) f = 0
+-- empty, at 0, if none was refused by 3
+abbrev pub lostOf : Outcome Sought → Component
+lostOf (answered (reached icb)) = noComponent
+lostOf (answered (lost c)) = c
+lostOf (refused r) = noComponent
 
-unfoldable pub entered : Disc → ℕ → ℕ → ℕ → List (List ℕ) → LongAd → Bool → ℕ
-entered d start partition work [] icb directory = 0
-entered d start partition work (c ∷ cs) icb false = 0
-entered d start partition work (c ∷ cs) icb true =
-    enteredBy (outcome d (entering start partition work icb c)) (λ e. entered d start partition work cs (e .identifier .icb) (isDirectory (e .identifier)))
+-- with the lookup's number and count
+pub record Failed : Type 0 where
+  pub answer : ℕ
+  pub count : ℕ
+  pub component : Component
 
--- where the first component of a path ends
-abbrev pub firstEnd : List ℕ → ℕ
-firstEnd path = slashes path + length (front (drop (slashes path) path))
+abbrev pub failedOf : Ran Sought → Failed
+failedOf r = record { answer = answerOf (andThen (r .outcome) icbOf); count = reported (r .count); component = lostOf (r .outcome) }
 
--- where the component behind n others starts
-unfoldable pub startOf : ℕ → List ℕ → ℕ
-startOf zero path = slashes path
-startOf (suc n) path = firstEnd path + startOf n (drop (firstEnd path) path)
-
--- 0 if none was refused by 3
-abbrev pub lostBy : Outcome Sought → ℕ → ℕ
-lostBy (answered (reached icb)) at = 0
-lostBy (answered (lost component)) at = at
-lostBy (refused r) at = 0
-
-unfoldable pub lostAt : Disc → ℕ → ℕ → ℕ → LongAd → List ℕ → ℕ
-lostAt d start partition work root path = lostBy (outcome d (seekPath start partition work root path)) (startOf (entered d start partition work (components path) root true) path)
-
--- its length, with the lookup's number and count
-abbrev pub lostReply : Ran LongAd → Outcome Sought → Reply
-lostReply r o = record { answer = foundOf r .answer; count = foundOf r .count; length = length (lostOf o) }
+-- by its length
+abbrev pub failedReply : Failed → Reply
+failedReply f = record { answer = f .answer; count = f .count; length = length (f .component .bytes) }

@@ -2,7 +2,7 @@
 -- place. There is nothing to believe here. Assumes nothing: these are definitions.
 use Prim.Native.Nat.{ℕ, _+_, _-_, _≤_, _<_}
 use mathlib.Core.Path.{_≡_}
-use mathlib.Core.Bool.{Bool, true, false}
+use mathlib.Core.Bool.{true, false}
 use mathlib.Core.List.{List, _++_}
 use mathlib.Core.Option.{Option, none, some}
 use lib.ListN.{length, take, drop}
@@ -18,15 +18,11 @@ use Rattle.records.specs.Allocations.{noLong}
 use Rattle.records.specs.declared.allocations.LongAd.{LongAd}
 use Rattle.identifiers.specs.Identifiers.{isDirectory}
 use Rattle.listings.specs.Entries.{Entry}
-use Rattle.listings.specs.Paths.{components, slashes}
-use Rattle.directories.specs.Lookups.{Sought, seeking, seekPath, lostOf, foundTo, icbOf, entered, startOf, lostBy, lostAt}
+use Rattle.listings.specs.Paths.{Component, componentsFrom, slashes}
+use Rattle.directories.specs.Lookups.{Sought, seeking, seekPath, icbOf, andThen, foundTo, lostOf}
 use Rattle.directories.specs.declared.lookups.Found.{Found}
 use Rattle.directories.specs.declared.walks.Entered.{Entered}
 use Rattle.directories.specs.declared.walks.Place.{Place}
-
-abbrev pub andThen : {A B : Type 0} → Outcome A → (A → Outcome B) → Outcome B
-andThen (answered a) f = f a
-andThen (refused r) f = refused r
 
 -- ---- a directory's bytes in the work space
 
@@ -60,26 +56,23 @@ beyondOf path e count from end =
     (pick (eqb (e .answer) 0) (record { going = true; answer = 0; icb = e .icb; directory = e .directory; count = count; from = end + slashes (drop end path); end = length path })
     (record { going = false; answer = e .answer; icb = e .icb; directory = false; count = count; from = 0; end = 0 }))
 
--- how a walk ends: the answer, the lost component and its place
+-- how a walk ends: what it found, and the component that it lost
 pub record End : Type 0 where
   pub found : Found
-  pub lost : List ℕ
-  pub at : ℕ
+  pub lost : Component
 
-abbrev pub endOf : Ran Sought → ℕ → End
-endOf r at = record { found = foundTo (andThen (r .outcome) icbOf) (reported (r .count)); lost = lostOf (r .outcome); at = lostBy (r .outcome) at }
-
--- where a walk along the rest of the path loses a component, if it does
-abbrev pub losesAt : Disc → ℕ → ℕ → ℕ → List ℕ → ℕ → LongAd → Bool → ℕ
-losesAt d start partition work path from icb directory =
-    from + startOf (entered d start partition work (components (drop from path)) icb directory) (drop from path)
+abbrev pub endOf : Ran Sought → End
+endOf r = record { found = foundTo (andThen (r .outcome) icbOf) (reported (r .count)); lost = lostOf (r .outcome) }
 
 -- the end that a place leads to: it is there already, or the rest of the path is yet to be walked
 unfoldable pub leadsTo : Disc → ℕ → ℕ → ℕ → List ℕ → Place → End
 leadsTo d start partition work path p =
     pick (p .going)
-    (endOf (after (p .count) (ran d (seeking start partition work (components (drop (p .from) path)) (p .icb) (p .directory)))) (losesAt d start partition work path (p .from) (p .icb) (p .directory)))
-    (record { found = record { answer = p .answer; count = p .count; icb = p .icb }; lost = take (p .end - p .from) (drop (p .from) path); at = p .from })
+    (endOf (after (p .count) (ran d (seeking start partition work (componentsFrom (p .from) (drop (p .from) path)) (p .icb) (p .directory)))))
+    (record {
+      found = record { answer = p .answer; count = p .count; icb = p .icb };
+      lost = record { bytes = take (p .end - p .from) (drop (p .from) path); at = p .from };
+    })
 
 -- a place on the path: while going, where a component starts or the path ends
 pub record On (path : List ℕ) (p : Place) : Type 0 where
@@ -100,8 +93,7 @@ pub record Steps (d : Disc) (start partition work : ℕ) (path : List ℕ) (p q 
 
 -- a whole walk
 pub record Walks (d : Disc) (start partition work : ℕ) (root : LongAd) (path : List ℕ) (q : Place) : Type 0 where
-  pub found : record { answer = q .answer; count = q .count; icb = q .icb } ≡ foundTo (andThen (ran d (seekPath start partition work root path) .outcome) icbOf) (reported (ran d (seekPath start partition work root path) .count))
-  pub lost : take (q .end - q .from) (drop (q .from) path) ≡ lostOf (ran d (seekPath start partition work root path) .outcome)
-  pub at : q .from ≡ lostAt d start partition work root path
+  pub found : record { answer = q .answer; count = q .count; icb = q .icb } ≡ endOf (ran d (seekPath start partition work root path)) .found
+  pub lost : record { bytes = take (q .end - q .from) (drop (q .from) path); at = q .from } ≡ endOf (ran d (seekPath start partition work root path)) .lost
   pub ordered : q .from ≤ q .end
   pub within : q .end ≤ length path

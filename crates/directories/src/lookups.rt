@@ -1,12 +1,11 @@
 // Paths looked up, and files read by them. The work space is all zero on return from each.
 ghost use mathlib.Core.Path.{_≡_};
 ghost use lib.ListN.{length, replicate};
-ghost use Rattle.disc.specs.Ask.{outcome};
 ghost use Rattle.disc.specs.Ran.{ran};
 ghost use Rattle.disc.specs.Images.{disc};
 ghost use Rattle.disc.specs.Replies.{Replied};
 ghost use Rattle.disc.specs.declared.refusals.Refusal.the-variants.{NoRoom};
-ghost use Rattle.directories.specs.Lookups.{seekPath, lookupOf, lostOf, lostAt, lostReply, readPathOf, foundOf};
+ghost use Rattle.directories.specs.Lookups.{seekPath, lookupOf, readPathOf, foundOf, failedOf, failedReply};
 use crate::walks::walk;
 use disc::counts::add_counts;
 use disc::moves::clear;
@@ -57,8 +56,8 @@ pub fn failed_at(
     work: &mut [u8],
     at: &mut usize,
 ) -> Reply
-    ensures { λ r. ⌜ r ≡ lostReply (ran (disc (now (image .entry))) (lookupOf start partition (length (now (work .entry))) root (now (path .entry)))) (outcome (disc (now (image .entry))) (seekPath start partition (length (now (work .entry))) root (now (path .entry)))) ⌝ }
-    ensures { λ _. ⌜ now (at .exit) ≡ lostAt (disc (now (image .entry))) start partition (length (now (work .entry))) root (now (path .entry)) ⌝ }
+    ensures { λ r. ⌜ r ≡ failedReply (failedOf (ran (disc (now (image .entry))) (seekPath start partition (length (now (work .entry))) root (now (path .entry))))) ⌝ }
+    ensures { λ _. ⌜ now (at .exit) ≡ failedOf (ran (disc (now (image .entry))) (seekPath start partition (length (now (work .entry))) root (now (path .entry)))) .component .at ⌝ }
     ensures { λ _. ⌜ now (work .exit) ≡ replicate (length (now (work .entry))) 0 ⌝ }
 {
     let p = walk(image, start, partition, root, path, work);
@@ -82,9 +81,9 @@ pub fn failed<'i, 'p>(
     answer: &mut u64,
     count: &mut u64,
 ) -> &'p [u8]
-    ensures { λ r. ⌜ now r ≡ lostOf (outcome (disc (now (image .entry))) (seekPath start partition (length (now (work .entry))) root (now (path .entry)))) ⌝ }
-    ensures { λ _. ⌜ now (answer .exit) ≡ foundOf (ran (disc (now (image .entry))) (lookupOf start partition (length (now (work .entry))) root (now (path .entry)))) .answer ⌝ }
-    ensures { λ _. ⌜ now (count .exit) ≡ foundOf (ran (disc (now (image .entry))) (lookupOf start partition (length (now (work .entry))) root (now (path .entry)))) .count ⌝ }
+    ensures { λ r. ⌜ now r ≡ failedOf (ran (disc (now (image .entry))) (seekPath start partition (length (now (work .entry))) root (now (path .entry)))) .component .bytes ⌝ }
+    ensures { λ _. ⌜ now (answer .exit) ≡ failedOf (ran (disc (now (image .entry))) (seekPath start partition (length (now (work .entry))) root (now (path .entry)))) .answer ⌝ }
+    ensures { λ _. ⌜ now (count .exit) ≡ failedOf (ran (disc (now (image .entry))) (seekPath start partition (length (now (work .entry))) root (now (path .entry)))) .count ⌝ }
     ensures { λ _. ⌜ now (work .exit) ≡ replicate (length (now (work .entry))) 0 ⌝ }
 {
     let mut at = 0;

@@ -3,14 +3,16 @@ use mathlib.Core.Path.{_≡_, refl, ap}
 use mathlib.Core.Bool.{Bool, true, false}
 use mathlib.Core.List.{List, [], _∷_}
 use Prim.Native.Nat.{ℕ, suc, _+_, _<_, _≤_, zero-le}
+use native.Mathlib.Nat.{add-zero, add-suc, suc-add}
 use native.Mathlib.Numerals.{add-one}
 use native.Mathlib.Omega.{arith}
 use lib.ListN.{length, getD, take, drop, length-drop, drop-of-length-le}
-use lib.Seq.{drop-cons}
+use lib.Seq.{drop-cons, drop-drop}
 use lib.Dec.{eqb}
 use borrow.Author.Tests.{eq-eqb, ne-eqb}
 use Rattle.disc.specs.Choice.{pick}
-use Rattle.listings.specs.Paths.{front, behind, components, slashes, unlessEmpty}
+use Rattle.disc.proofs.PartLaws.{PartAt}
+use Rattle.listings.specs.Paths.{Component, front, behind, componentsFrom, components, slashes, unlessEmpty}
 
 pick-both : {A : Type 0} (P : A → Type 0) (b : Bool) {x y : A} → P x → P y → P (pick b x y)
 pick-both P true h k = h
@@ -67,14 +69,15 @@ module _ {path : List ℕ} {at i : ℕ} (p : Spelling path at i) where
 -- ---- components, by what stands at the front
 
 -- slashes at the front do not count
-pub behind-slashes : (s : List ℕ) → components (drop (slashes s) s) ≡ components s
-unfolding components front behind slashes
-behind-slashes [] = refl
-behind-slashes (b ∷ s) = by-slash (eqb b 0x2f) refl (behind-slashes s)
+pub behind-slashes : (at : ℕ) (s : List ℕ) → componentsFrom (at + slashes s) (drop (slashes s) s) ≡ componentsFrom at s
+unfolding componentsFrom front behind slashes
+behind-slashes at [] = refl
+behind-slashes at (b ∷ s) = by-slash (eqb b 0x2f) refl (behind-slashes (suc at) s)
   where
-    by-slash : (t : Bool) → eqb b 0x2f ≡ t → components (drop (slashes s) s) ≡ components s → components (drop (pick t (suc (slashes s)) 0) (b ∷ s)) ≡ components (b ∷ s)
-    by-slash true e ih = rw e ih
-    by-slash false e ih = refl
+    by-slash : (t : Bool) → eqb b 0x2f ≡ t → componentsFrom (suc at + slashes s) (drop (slashes s) s) ≡ componentsFrom (suc at) s
+        → componentsFrom (at + pick t (suc (slashes s)) 0) (drop (pick t (suc (slashes s)) 0) (b ∷ s)) ≡ componentsFrom at (b ∷ s)
+    by-slash true e ih = rw (e, add-suc, ← suc-add) ih
+    by-slash false e ih = rw add-zero
 
 pub no-more-slashes : (s : List ℕ) → slashes (drop (slashes s) s) ≡ 0
 unfolding slashes
@@ -100,25 +103,27 @@ unfolding front
 front-is [] = refl
 front-is (b ∷ s) = pick-both (λ l. take (length l) (b ∷ s) ≡ l) (eqb b 0x2f) refl (ap (λ (l : List ℕ). b ∷ l) (front-is s))
 
-behind-is : (s : List ℕ) → behind s ≡ components (drop (length (front s)) s)
-unfolding front behind components
-behind-is [] = refl
-behind-is (b ∷ s) = by-slash (eqb b 0x2f) refl (behind-is s)
+behind-is : (at : ℕ) (s : List ℕ) → behind at s ≡ componentsFrom (at + length (front s)) (drop (length (front s)) s)
+unfolding front behind componentsFrom
+behind-is at [] = refl
+behind-is at (b ∷ s) = by-slash (eqb b 0x2f) refl (behind-is (suc at) s)
   where
-    by-slash : (t : Bool) → eqb b 0x2f ≡ t → behind s ≡ components (drop (length (front s)) s)
-        → pick t (unlessEmpty (front s) (behind s)) (behind s) ≡ components (drop (length (pick t [] (b ∷ front s))) (b ∷ s))
-    by-slash true e ih = rw e
-    by-slash false e ih = ih
+    by-slash : (t : Bool) → eqb b 0x2f ≡ t → behind (suc at) s ≡ componentsFrom (suc at + length (front s)) (drop (length (front s)) s)
+        → pick t (unlessEmpty (front s) (suc at) (behind (suc at) s)) (behind (suc at) s) ≡ componentsFrom (at + length (pick t [] (b ∷ front s))) (drop (length (pick t [] (b ∷ front s))) (b ∷ s))
+    by-slash true e ih = rw (e, add-zero)
+    by-slash false e ih = rw (add-suc, ← suc-add) ih
 
 -- no slash in front: a component, and those behind it
-pub first-component : (s : List ℕ) → slashes s ≡ 0 → 0 < length s → components s ≡ front s ∷ components (drop (length (front s)) s)
-unfolding components front slashes
-first-component [] z h = absurd (omega arith)
-first-component (b ∷ s) z h = by-slash (eqb b 0x2f) refl z
+pub first-component : (at : ℕ) (s : List ℕ) → slashes s ≡ 0 → 0 < length s
+    → componentsFrom at s ≡ record { bytes = front s; at = at } ∷ componentsFrom (at + length (front s)) (drop (length (front s)) s)
+unfolding componentsFrom front slashes
+first-component at [] z h = absurd (omega arith)
+first-component at (b ∷ s) z h = by-slash (eqb b 0x2f) refl z
   where
-    by-slash : (t : Bool) → eqb b 0x2f ≡ t → pick t (suc (slashes s)) 0 ≡ 0 → components (b ∷ s) ≡ front (b ∷ s) ∷ components (drop (length (front (b ∷ s))) (b ∷ s))
+    by-slash : (t : Bool) → eqb b 0x2f ≡ t → pick t (suc (slashes s)) 0 ≡ 0
+        → componentsFrom at (b ∷ s) ≡ record { bytes = front (b ∷ s); at = at } ∷ componentsFrom (at + length (front (b ∷ s))) (drop (length (front (b ∷ s))) (b ∷ s))
     by-slash true e k = absurd (omega arith)
-    by-slash false e k = rw (← behind-is (b ∷ s)) (rw e)
+    by-slash false e k = rw (← behind-is at (b ∷ s)) (rw e)
 
 pub front-some : (s : List ℕ) → slashes s ≡ 0 → 0 < length s → 1 ≤ length (front s)
 unfolding front slashes
@@ -131,3 +136,34 @@ front-some (b ∷ s) z h = by-slash (eqb b 0x2f) z
 
 pub component-within : (path : List ℕ) (at : ℕ) {e : ℕ} → at < length path → e ≡ at + length (front (drop at path)) → e ≤ length path
 component-within path at h q = omega (arith, q, front-long (drop at path), length-drop at path)
+
+-- ---- a component stands at its place
+
+abbrev pub InPath : List ℕ → Component → Type 0
+InPath path c = PartAt path (c .bytes) (c .at)
+
+unfoldable pub AllInPath : List ℕ → List Component → Type 0
+AllInPath path [] = Unit {0}
+AllInPath path (c ∷ cs) = InPath path c × AllInPath path cs
+
+module _ (path : List ℕ) where
+  -- the first of what stands at `at`, and others
+  front-stands : (at : ℕ) (s : List ℕ) → drop at path ≡ s → (cs : List Component) → AllInPath path cs → AllInPath path (unlessEmpty (front s) at cs)
+  unfolding AllInPath
+  front-stands at s e cs h = by (front s) (rw e (front-is s)) (omega (arith, front-long s, ap length e, length-drop at path))
+    where
+      by : (c : List ℕ) → take (length c) (drop at path) ≡ c → (0 < length c → at + length c ≤ length path) → AllInPath path (unlessEmpty c at cs)
+      by [] q l = h
+      by (b ∷ c) q l = (record { bytes = q; inside = l (omega arith) }, h)
+
+  behind-stand : (at : ℕ) (s : List ℕ) → drop at path ≡ s → AllInPath path (behind at s)
+  unfolding AllInPath behind
+  behind-stand at [] e = tt
+  behind-stand at (b ∷ s) e =
+      let k : drop (suc at) path ≡ s = rw (← add-one at, ← drop-drop 1 at path, e) in
+      let h = behind-stand (suc at) s k in
+      pick-both (AllInPath path) (eqb b 0x2f) (front-stands (suc at) s k (behind (suc at) s) h) h
+
+pub components-stand : (path : List ℕ) → AllInPath path (components path)
+unfolding components componentsFrom
+components-stand path = front-stands path 0 path refl (behind 0 path) (behind-stand path 0 path refl)

@@ -20,7 +20,7 @@ use Rattle.identifiers.specs.Identifiers.{nameAt, nameEnd, recordedName, nextAt
 use Rattle.listings.specs.Entries.{Entry, Entries, entryOf, isGood, isSkipped, nameIn, entriesFrom, entries, sound}
 use Rattle.listings.specs.Entries.Entries.{end, entry}
 use Rattle.listings.specs.Listings.{recordHead, shown, records, isLong, anyLong, listing, told, answersTo, firstNamed, findIn, namedOf}
-use Rattle.listings.specs.Paths.{front, behind, components}
+use Rattle.listings.specs.Paths.{front, behind, componentsFrom, components}
 use Rattle.listings.specs.declared.finds.Named.{Named}
 
 -- ---- the first entry of a name
@@ -88,7 +88,7 @@ pub none-listed : (listing (0 ∷ 0 ∷ 0 ∷ []) ≡ answered []) × (listing (
 unfolding pairs untilZero surrogate dropSurrogates encode utf8 nameOf nameAt nameEnd recordedName nextAt identifierOf identifierSized identifierNamed identifierAfter readIdentifier entryOf isGood isSkipped nameIn entriesFrom entries sound recordHead shown records isLong anyLong listing
 none-listed = (refl, refl)
 
--- "/a//b/" has the components "a" and "b"
-pub two-components : components (0x2f ∷ 0x61 ∷ 0x2f ∷ 0x2f ∷ 0x62 ∷ 0x2f ∷ []) ≡ (0x61 ∷ []) ∷ (0x62 ∷ []) ∷ []
-unfolding components front behind
+-- "/a//b/" has the components "a", at 1, and "b", at 4
+pub two-components : components (0x2f ∷ 0x61 ∷ 0x2f ∷ 0x2f ∷ 0x62 ∷ 0x2f ∷ []) ≡ record { bytes = 0x61 ∷ []; at = 1 } ∷ record { bytes = 0x62 ∷ []; at = 4 } ∷ []
+unfolding components componentsFrom front behind
 two-components = refl

@@ -15,7 +15,7 @@ use Rattle.volumes.specs.declared.openings.VolumeRecord.{VolumeRecord}
 use Rattle.volumes.specs.declared.openings.Opened.{Opened as OpenedBelow}
 use Rattle.areas.specs.declared.AllocExtent.{AllocExtent}
 use Rattle.layouts.specs.Calls.{PartReplied, Listed}
-use Rattle.directories.specs.Lookups.{Sought, lostOf, foundOf, lostReply}
+use Rattle.directories.specs.Lookups.{Sought, foundOf, failedOf, failedReply}
 use Rattle.directories.specs.declared.lookups.Found.{Found}
 use Rattle.vault.specs.Calls.{volumeOf, openedTo, openedBy, Written, written, cleared, Worked, worked, Looked, looked, Lost, lost, Parted, parted, Rowed, rowed, LostPlace, lostPlace, PartedPlace, partedPlace}
 use Rattle.layouts.specs.Places.{partReply}
@@ -31,15 +31,15 @@ worked-is work h z = rw (h .says, h .leaves, z)
 pub looked-is : (r : Ran LongAd) (work : List ℕ) {work′ : List ℕ} {found : Found} → found ≡ foundOf r → work′ ≡ cleared work → _≡_ {A = Looked} (record { found = found; work = work′ }) (looked work r)
 looked-is r work h z = rw (h, z)
 
-pub lost-is : (o : Outcome Sought) (r : Ran LongAd) (work : List ℕ) {work′ component : List ℕ} {answer count : ℕ}
-    → component ≡ lostOf o → answer ≡ foundOf r .answer → count ≡ foundOf r .count → work′ ≡ cleared work
-    → _≡_ {A = Lost} (record { component = component; answer = answer; count = count; work = work′ }) (lost work o r)
-lost-is o r work p a n z = rw (p, a, n, z)
+pub lost-is : (r : Ran Sought) (work : List ℕ) {work′ component : List ℕ} {answer count : ℕ}
+    → component ≡ failedOf r .component .bytes → answer ≡ failedOf r .answer → count ≡ failedOf r .count → work′ ≡ cleared work
+    → _≡_ {A = Lost} (record { component = component; answer = answer; count = count; work = work′ }) (lost work r)
+lost-is r work p a n z = rw (p, a, n, z)
 
-pub lost-place-is : (o : Outcome Sought) (r : Ran LongAd) (work : List ℕ) {a : ℕ} {work′ : List ℕ} {reply : Reply} {at : ℕ}
-    → reply ≡ lostReply r o → at ≡ a → work′ ≡ cleared work
-    → _≡_ {A = LostPlace} (record { reply = reply; at = at; work = work′ }) (lostPlace work o r a)
-lost-place-is o r work p q z = rw (p, q, z)
+pub lost-place-is : (r : Ran Sought) (work : List ℕ) {work′ : List ℕ} {reply : Reply} {at : ℕ}
+    → reply ≡ failedReply (failedOf r) → at ≡ failedOf r .component .at → work′ ≡ cleared work
+    → _≡_ {A = LostPlace} (record { reply = reply; at = at; work = work′ }) (lostPlace work r)
+lost-place-is r work p q z = rw (p, q, z)
 
 pub parted-is : (r : Ran (List ℕ)) {part : List ℕ} {answer count : ℕ} → PartReplied r part answer count → _≡_ {A = Parted} (record { part = part; answer = answer; count = count }) (parted r)
 parted-is r h = rw (h .gives, h .says, h .counts)

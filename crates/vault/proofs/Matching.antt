@@ -23,12 +23,11 @@ use Rattle.identifiers.specs.Identifiers.{isDirectory}
 use Rattle.listings.specs.Entries.{Entry, Entries, isSkipped, nameIn, entries, sound}
 use Rattle.listings.specs.Entries.Entries.{end, bad, entry}
 use Rattle.listings.specs.Listings.{answersTo, firstNamed, findIn}
-use Rattle.listings.specs.Paths.{front, behind, components}
+use Rattle.listings.specs.Paths.{Component, front, behind, componentsFrom, components}
 use Rattle.listings.proofs.Promises.{inFront, NoneAnswers, answers-folded}
 use Rattle.directories.specs.Directories.{directoryBytes}
-use Rattle.directories.specs.Lookups.{Sought, entering, orLost, seeking, seekPath, icbOf, foundOf}
+use Rattle.directories.specs.Lookups.{Sought, entering, orLost, seeking, seekPath, icbOf, andThen, foundOf}
 use Rattle.directories.specs.Lookups.Sought.{reached, lost}
-use Rattle.directories.specs.Places.{andThen}
 use Rattle.directories.specs.declared.lookups.Found.{Found}
 use Rattle.directories.proofs.SpaceLaws.{ran-known}
 use Rattle.directories.proofs.LookupLaws.{look-is}
@@ -84,37 +83,41 @@ alike-onward : (o : Outcome (Option Entry)) (n : ℕ) (f f′ : Option Entry →
 alike-onward (answered x) n f f′ h = record { to = h x .to; sectors = ap (λ m. n + m) (h x .sectors) }
 alike-onward (refused why) n f f′ h = record { to = refl; sectors = refl }
 
+-- a component with A to Z as a to z, wherever it stands
+abbrev pub folded : Component → List ℕ
+folded c = map lower (c .bytes)
+
 module _ (d : Disc) (start partition work : ℕ) where
-  walk : List (List ℕ) → LongAd → Bool → Ran Sought
+  walk : List Component → LongAd → Bool → Ran Sought
   walk cs icb directory = ran d (seeking start partition work cs icb directory)
 
-  on : List (List ℕ) → List ℕ → Option Entry → Ran Sought
+  on : List Component → Component → Option Entry → Ran Sought
   on cs c o = ran d (orLost c o (λ e. seeking start partition work cs (e .identifier .icb) (isDirectory (e .identifier))))
 
-  alike-on : (cs cs′ : List (List ℕ)) (c c′ : List ℕ) → ((icb : LongAd) (directory : Bool) → Alike (walk cs icb directory) (walk cs′ icb directory)) → (o : Option Entry) → Alike (on cs c o) (on cs′ c′ o)
+  alike-on : (cs cs′ : List Component) (c c′ : Component) → ((icb : LongAd) (directory : Bool) → Alike (walk cs icb directory) (walk cs′ icb directory)) → (o : Option Entry) → Alike (on cs c o) (on cs′ c′ o)
   unfolding walk on
   alike-on cs cs′ c c′ h none = rw (ran-done, ran-done) (record { to = refl; sectors = refl })
   alike-on cs cs′ c c′ h (some e) = h (e .identifier .icb) (isDirectory (e .identifier))
 
-  alike : (cs cs′ : List (List ℕ)) → map (map lower) cs ≡ map (map lower) cs′ → (icb : LongAd) (directory : Bool) → Alike (walk cs icb directory) (walk cs′ icb directory)
+  alike : (cs cs′ : List Component) → map folded cs ≡ map folded cs′ → (icb : LongAd) (directory : Bool) → Alike (walk cs icb directory) (walk cs′ icb directory)
   unfolding walk on seeking
   alike [] [] h icb directory = record { to = refl; sectors = refl }
   alike [] (c′ ∷ cs′) h icb directory = absurd (let z : _≡_ {A = ℕ} 0 1 = cc in omega arith)
   alike (c ∷ cs) [] h icb directory = absurd (let z : _≡_ {A = ℕ} 0 1 = cc in omega arith)
   alike (c ∷ cs) (c′ ∷ cs′) h icb false = rw (ran-done, ran-done) (record { to = refl; sectors = refl })
   alike (c ∷ cs) (c′ ∷ cs′) h icb true =
-      let p : map lower c ≡ map lower c′ = cc in
-      let q : map (map lower) cs ≡ map (map lower) cs′ = cc in
+      let p : folded c ≡ folded c′ = cc in
+      let q : map folded cs ≡ map folded cs′ = cc in
       rw (
-        ran-then d (entering start partition work icb c) (λ o. orLost c o (λ e. seeking start partition work cs (e .identifier .icb) (isDirectory (e .identifier)))),
-        ran-then d (entering start partition work icb c′) (λ o. orLost c′ o (λ e. seeking start partition work cs′ (e .identifier .icb) (isDirectory (e .identifier)))),
-        same-entering d start partition work icb c c′ p,
+        ran-then d (entering start partition work icb (c .bytes)) (λ o. orLost c o (λ e. seeking start partition work cs (e .identifier .icb) (isDirectory (e .identifier)))),
+        ran-then d (entering start partition work icb (c′ .bytes)) (λ o. orLost c′ o (λ e. seeking start partition work cs′ (e .identifier .icb) (isDirectory (e .identifier)))),
+        same-entering d start partition work icb (c .bytes) (c′ .bytes) p,
       )
-      (alike-onward (ran d (entering start partition work icb c′) .outcome) (ran d (entering start partition work icb c′) .count) (on cs c) (on cs′ c′)
+      (alike-onward (ran d (entering start partition work icb (c′ .bytes)) .outcome) (ran d (entering start partition work icb (c′ .bytes)) .count) (on cs c) (on cs′ c′)
       (alike-on cs cs′ c c′ (λ i t. alike cs cs′ q i t)))
 
 -- paths whose components are equal with ASCII case ignored have the same lookup
-pub lookup-case : (image : List ℕ) (v : Volume) (path path′ work : List ℕ) → map (map lower) (components path) ≡ map (map lower) (components path′)
+pub lookup-case : (image : List ℕ) (v : Volume) (path path′ work : List ℕ) → map folded (components path) ≡ map folded (components path′)
     → finds image v path work ≡ finds image v path′ work
 unfolding walk seekPath
 lookup-case image v path path′ work h =
@@ -129,26 +132,26 @@ lookup-case image v path path′ work h =
 -- cue 10.1A and cue 10.1a are one name: whichever stands first in its directory is taken for both
 pub one-cue : (image : List ℕ) (v : Volume) (work : List ℕ)
     → finds image v (0x31 ∷ 0x30 ∷ 0x2e ∷ 0x31 ∷ 0x41 ∷ []) work ≡ finds image v (0x31 ∷ 0x30 ∷ 0x2e ∷ 0x31 ∷ 0x61 ∷ []) work
-unfolding components front behind lower
+unfolding components componentsFrom front behind lower
 one-cue image v work = lookup-case image v (0x31 ∷ 0x30 ∷ 0x2e ∷ 0x31 ∷ 0x41 ∷ []) (0x31 ∷ 0x30 ∷ 0x2e ∷ 0x31 ∷ 0x61 ∷ []) work refl
 
 -- ---- the first entry of a name wins
 
 -- one step of a walk: the directory at icb is b, and e its first entry that answers to the component
-module _ (d : Disc) (start partition work : ℕ) (icb : LongAd) (c : List ℕ) {b : List ℕ} (r : ran d (directoryBytes start partition work icb) .outcome ≡ answered b)
+module _ (d : Disc) (start partition work : ℕ) (icb : LongAd) (c : Component) {b : List ℕ} (r : ran d (directoryBytes start partition work icb) .outcome ≡ answered b)
     (before : List Entry) (e : Entry) (rest : Entries) (k : entries b ≡ inFront before (entry e rest)) (s : sound (entries b) ≡ true)
-    (n : NoneAnswers c before) (h : answersTo c e ≡ true) where
-  pub seek-first : (cs : List (List ℕ)) → ran d (seeking start partition work (c ∷ cs) icb true)
+    (n : NoneAnswers (c .bytes) before) (h : answersTo (c .bytes) e ≡ true) where
+  pub seek-first : (cs : List Component) → ran d (seeking start partition work (c ∷ cs) icb true)
       ≡ after (ran d (directoryBytes start partition work icb) .count) (ran d (seeking start partition work cs (e .identifier .icb) (isDirectory (e .identifier))))
   unfolding seeking
   seek-first cs =
-      ran-then d (entering start partition work icb c) (λ o. orLost c o (λ x. seeking start partition work cs (x .identifier .icb) (isDirectory (x .identifier))))
-      ∙ rw (enters-first d start partition work icb c r before e rest k s n h)
+      ran-then d (entering start partition work icb (c .bytes)) (λ o. orLost c o (λ x. seeking start partition work cs (x .identifier .icb) (isDirectory (x .identifier))))
+      ∙ rw (enters-first d start partition work icb (c .bytes) r before e rest k s n h)
 
 -- of the lookup itself: a path of one component is answered with the ICB of the first entry of that name, after the sectors of the root directory
-pub lookup-first : (image : List ℕ) (v : Volume) (path work c : List ℕ) → components path ≡ c ∷ [] → {b : List ℕ}
+pub lookup-first : (image : List ℕ) (v : Volume) (path work : List ℕ) (c : Component) → components path ≡ c ∷ [] → {b : List ℕ}
     → ran (disc image) (directoryBytes (v .start) (v .partition) (length work) (v .root)) .outcome ≡ answered b
-    → (before : List Entry) (e : Entry) (rest : Entries) → entries b ≡ inFront before (entry e rest) → sound (entries b) ≡ true → NoneAnswers c before → answersTo c e ≡ true
+    → (before : List Entry) (e : Entry) (rest : Entries) → entries b ≡ inFront before (entry e rest) → sound (entries b) ≡ true → NoneAnswers (c .bytes) before → answersTo (c .bytes) e ≡ true
     → finds image v path work .found
     ≡ record { answer = 0; count = reported (ran (disc image) (directoryBytes (v .start) (v .partition) (length work) (v .root)) .count); icb = e .identifier .icb }
 unfolding seekPath seeking
@@ -190,9 +193,9 @@ record Got (r : Ran Sought) (c : List ℕ) : Type 0 where
   its : looks r .icb ≡ got .identifier .icb
   answers : answersTo c got ≡ true
 
-module _ (d : Disc) (start partition work : ℕ) (c : List ℕ) where
-  got-by : (o : Outcome (Option Entry)) (n : ℕ) → ((e : Entry) → o ≡ answered (some e) → answersTo c e ≡ true) → looks (onward o n (on d start partition work [] c)) .answer ≡ 0
-      → Got (onward o n (on d start partition work [] c)) c
+module _ (d : Disc) (start partition work : ℕ) (c : Component) where
+  got-by : (o : Outcome (Option Entry)) (n : ℕ) → ((e : Entry) → o ≡ answered (some e) → answersTo (c .bytes) e ≡ true) → looks (onward o n (on d start partition work [] c)) .answer ≡ 0
+      → Got (onward o n (on d start partition work [] c)) (c .bytes)
   unfolding looks on seeking
   got-by (refused why) n h q = absurd (refusal-numbered why q)
   got-by (answered none) n h q = absurd (let z : looks (after n (record { outcome = answered (lost c); count = 0 })) .answer ≡ 0 = rw (ran-done d (lost c)) at q in omega arith)
@@ -204,26 +207,26 @@ pub record Taken (image : List ℕ) (v : Volume) (path work c : List ℕ) : Type
   pub listed : isSkipped (taken .identifier) ≡ false
   pub named : map lower (nameIn taken) ≡ map lower c
 
-pub lookup-named : (image : List ℕ) (v : Volume) (path work c : List ℕ) → components path ≡ c ∷ [] → finds image v path work .found .answer ≡ 0 → Taken image v path work c
+pub lookup-named : (image : List ℕ) (v : Volume) (path work : List ℕ) (c : Component) → components path ≡ c ∷ [] → finds image v path work .found .answer ≡ 0 → Taken image v path work (c .bytes)
 unfolding looks on seekPath seeking entering
 lookup-named image v path work c p q =
     let d = disc image in
     let w : ran d (seekPath (v .start) (v .partition) (length work) (v .root) path)
-    ≡ onward (ran d (entering (v .start) (v .partition) (length work) (v .root) c) .outcome) (ran d (entering (v .start) (v .partition) (length work) (v .root) c) .count) (on d (v .start) (v .partition) (length work) [] c) =
-    rw p (ran-then d (entering (v .start) (v .partition) (length work) (v .root) c) (λ o. orLost c o (λ e. seeking (v .start) (v .partition) (length work) [] (e .identifier .icb) (isDirectory (e .identifier))))) in
+    ≡ onward (ran d (entering (v .start) (v .partition) (length work) (v .root) (c .bytes)) .outcome) (ran d (entering (v .start) (v .partition) (length work) (v .root) (c .bytes)) .count) (on d (v .start) (v .partition) (length work) [] c) =
+    rw p (ran-then d (entering (v .start) (v .partition) (length work) (v .root) (c .bytes)) (λ o. orLost c o (λ e. seeking (v .start) (v .partition) (length work) [] (e .identifier .icb) (isDirectory (e .identifier))))) in
     let l : finds image v path work .found ≡ looks (ran d (seekPath (v .start) (v .partition) (length work) (v .root) path)) =
     ap foundOf (look-is d (v .start) (v .partition) (length work) (v .root) path) in
     let g = got-by d (v .start) (v .partition) (length work) c
-    (ran d (entering (v .start) (v .partition) (length work) (v .root) c) .outcome) (ran d (entering (v .start) (v .partition) (length work) (v .root) c) .count)
-    (λ e k. enters (ran d (directoryBytes (v .start) (v .partition) (length work) (v .root)) .outcome) (sym (ap (λ (r : Ran (Option Entry)). r .outcome) (ran-known d (directoryBytes (v .start) (v .partition) (length work) (v .root)) (findIn c))) ∙ k))
+    (ran d (entering (v .start) (v .partition) (length work) (v .root) (c .bytes)) .outcome) (ran d (entering (v .start) (v .partition) (length work) (v .root) (c .bytes)) .count)
+    (λ e k. enters (ran d (directoryBytes (v .start) (v .partition) (length work) (v .root)) .outcome) (sym (ap (λ (r : Ran (Option Entry)). r .outcome) (ran-known d (directoryBytes (v .start) (v .partition) (length work) (v .root)) (findIn (c .bytes)))) ∙ k))
     (sym (ap (λ (f : Found). f .answer) (l ∙ ap looks w)) ∙ q) in
     record {
       taken = g .got;
       icb = ap (λ (f : Found). f .icb) (l ∙ ap looks w) ∙ g .its;
-      listed = answers-folded c (g .got) (g .answers) .0;
-      named = answers-folded c (g .got) (g .answers) .1;
+      listed = answers-folded (c .bytes) (g .got) (g .answers) .0;
+      named = answers-folded (c .bytes) (g .got) (g .answers) .1;
     }
   where
-    enters : (o : Outcome (List ℕ)) {e : Entry} → andThen o (findIn c) ≡ answered (some e) → answersTo c e ≡ true
-    enters (answered b) k = entered-answers c b k
+    enters : (o : Outcome (List ℕ)) {e : Entry} → andThen o (findIn (c .bytes)) ≡ answered (some e) → answersTo (c .bytes) e ≡ true
+    enters (answered b) k = entered-answers (c .bytes) b k
     enters (refused why) k = absurd (let z : _≡_ {A = ℕ} 0 1 = cc in omega arith)

@@ -26,7 +26,7 @@ use Rattle.listings.specs.Entries.{entries, sound}
 use Rattle.listings.specs.Listings.{records, anyLong, listing as listingOf}
 use Rattle.directories.specs.Directories.{within, directoryBytes, listingAt}
 use Rattle.directories.specs.Lookups.{readPathOf}
-use Rattle.directories.specs.Places.{andThen}
+use Rattle.directories.specs.Lookups.{andThen}
 use Rattle.directories.proofs.SpaceLaws.{ran-known}
 use Rattle.vault.specs.Calls.{reading, extentListing, listing, finding, pathReading, labels, reads, lists, readsPath, extents}
 use Rattle.vault.specs.declared.volume.Volume.{Volume}

@@ -48,7 +48,7 @@ use Rattle.files.specs.Reads.{joining, extentBytes, extentsBytes}
 use Rattle.files.specs.Files.{Located, located, entryAt, isEmbedded, chainOf, fileBytes, filePart, fileExtents}
 use Rattle.listings.specs.Entries.{Entry, entries, sound}
 use Rattle.listings.specs.Listings.{anyLong, listing, findIn}
-use Rattle.listings.specs.Paths.{components}
+use Rattle.listings.specs.Paths.{Component, components}
 use Rattle.identifiers.specs.Identifiers.{isDirectory}
 use Rattle.directories.specs.Directories.{within, directoryBytes, listingAt}
 use Rattle.directories.specs.Lookups.{Sought, entering, orLost, seeking, seekPath, icbOf, lookupOf, readPathOf}
@@ -292,11 +292,11 @@ module _ (P : Refusal → Type 0) (malformed : P Malformed) (missing : P NotBlur
       by true o = done-only tt
       by false o = refuse-only malformed
 
-  seeking-only : (cs : List (List ℕ)) (icb : LongAd) (directory : Bool) → Refuses P Any (seeking start partition work cs icb directory)
+  seeking-only : (cs : List Component) (icb : LongAd) (directory : Bool) → Refuses P Any (seeking start partition work cs icb directory)
   unfolding seeking
   seeking-only [] icb directory = done-only tt
   seeking-only (c ∷ cs) icb false = done-only tt
-  seeking-only (c ∷ cs) icb true = then-only (entering-only icb c) (λ o q. by o _ (λ e. seeking-only cs (e .identifier .icb) (isDirectory (e .identifier))))
+  seeking-only (c ∷ cs) icb true = then-only (entering-only icb (c .bytes)) (λ o q. by o _ (λ e. seeking-only cs (e .identifier .icb) (isDirectory (e .identifier))))
     where
       by : (o : Option Entry) (f : Entry → Ask Sought) → ((e : Entry) → Refuses P Any (f e)) → Refuses P Any (orLost c o f)
       by none f h = done-only tt
@@ -308,7 +308,7 @@ module _ (P : Refusal → Type 0) (malformed : P Malformed) (missing : P NotBlur
     where
       by : (s : Sought) → Refuses P Any (ended (icbOf s))
       by (reached icb) = done-only tt
-      by (lost component) = refuse-only missing
+      by (lost c) = refuse-only missing
 
   pub path-only : (root : LongAd) (path : List ℕ) → Refuses P Any (readPathOf start partition work root path)
   unfolding readPathOf

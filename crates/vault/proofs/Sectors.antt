@@ -17,7 +17,6 @@ use Rattle.disc.specs.Ran.{Ran, ran}
 use Rattle.disc.specs.Replies.{replyBy}
 use Rattle.disc.specs.declared.refusals.Refusal.the-variants.{NoRoom, NoSlot}
 use Rattle.disc.specs.declared.replies.Reply.{Reply}
-use Rattle.disc.proofs.AskLaws.{same-outcome}
 use Rattle.disc.proofs.RanLaws.{same-ran}
 use Rattle.disc.proofs.RefusalLaws.{refusal-numbered}
 use Rattle.records.specs.declared.allocations.LongAd.{LongAd}
@@ -28,14 +27,8 @@ use Rattle.files.specs.Files.{fileVisited, visitsIn}
 use Rattle.files.proofs.Promises.{read-bound}
 use Rattle.areas.specs.declared.AllocExtent.{AllocExtent}
 use Rattle.layouts.specs.Calls.{listReply}
-use Rattle.directories.specs.Lookups.{foundTo, lostAt}
-use Rattle.directories.proofs.Promises.{failed-asks, same-place}
-use Rattle.vault.specs.Calls.{reading, parting, extentListing, listing, seeking, finding, pathReading, openedTo, openedBy, opens, written, labels, reads, worked, lists, readsPath, looked, finds, lost, fails, parted, parts, rowed, extents, lostPlace, failsAt, partedPlace, partsAt}
-use Rattle.layouts.specs.Places.{partPlace}
-use Rattle.areas.specs.declared.AllocExtent.{AllocExtent}
-use Rattle.layouts.specs.Calls.{listReply}
-use Rattle.directories.specs.Lookups.{foundTo}
 use Rattle.directories.proofs.Promises.{failed-asks}
+use Rattle.vault.specs.Calls.{reading, parting, extentListing, listing, seeking, finding, pathReading, openedTo, openedBy, opens, written, labels, reads, worked, lists, readsPath, looked, finds, lost, fails, parted, parts, rowed, extents, lostPlace, failsAt, partedPlace, partsAt}
 use Rattle.layouts.specs.Places.{partPlace}
 use Rattle.layouts.proofs.Promises
 use Rattle.vault.specs.declared.volume.Volume.{Volume}
@@ -83,20 +76,11 @@ module _ (image other : List ℕ) where
       seeks : Agree (disc image) (disc other) (asked (disc image) (seeking v (length work) path))
       seeks = rw (failed-asks (disc image) (v .start) (v .partition) (length work) (v .root) path) at h
 
-      same-sought : outcome (disc image) (seeking v (length work) path) ≡ outcome (disc other) (seeking v (length work) path)
-      same-sought = same-outcome (seeking v (length work) path) (disc image) (disc other) seeks
-
       pub failed-same : fails image v path work ≡ fails other v path work
-      failed-same =
-          ap (λ o. lost work o (ran (disc image) (finding v (length work) path))) same-sought
-          ∙ same (λ r. lost work (outcome (disc other) (seeking v (length work) path)) r) (finding v (length work) path) image other h
+      failed-same = same (lost work) (seeking v (length work) path) image other seeks
 
       pub failed-at-same : failsAt image v path work ≡ failsAt other v path work
-      failed-at-same =
-          ap (λ o. lostPlace work o (ran (disc image) (finding v (length work) path)) (lostAt (disc image) (v .start) (v .partition) (length work) (v .root) path)) same-sought
-          ∙ ap (λ at. lostPlace work (outcome (disc other) (seeking v (length work) path)) (ran (disc image) (finding v (length work) path)) at)
-          (same-place (disc image) (disc other) (v .start) (v .partition) (length work) (v .root) path seeks)
-          ∙ same (λ r. lostPlace work (outcome (disc other) (seeking v (length work) path)) r (lostAt (disc other) (v .start) (v .partition) (length work) (v .root) path)) (finding v (length work) path) image other h
+      failed-at-same = same (lostPlace work) (seeking v (length work) path) image other seeks
 
 -- ---- the count that is reported
 
@@ -127,10 +111,6 @@ opened-counts : (o : Outcome VolumeRecord) (n : ℕ) → openedTo o n .count ≡
 opened-counts (answered v) n = refl
 opened-counts (refused why) n = refl
 
-found-counts : (o : Outcome LongAd) (n : ℕ) → foundTo o n .count ≡ n
-found-counts (answered icb) n = refl
-found-counts (refused why) n = refl
-
 module _ (image : List ℕ) where
   pub open-counts : opens image .count ≡ listed image opening
   unfolding ran
@@ -159,13 +139,14 @@ module _ (image : List ℕ) where
 
     pub lookup-counts : (path work : List ℕ) → finds image v path work .found .count ≡ listed image (finding v (length work) path)
     unfolding ran
-    lookup-counts path work = found-counts (outcome (disc image) (finding v (length work) path)) (listed image (finding v (length work) path))
+    lookup-counts path work = refl
 
     pub failed-counts : (path work : List ℕ) → fails image v path work .count ≡ listed image (finding v (length work) path)
-    failed-counts path work = lookup-counts path work
+    unfolding ran
+    failed-counts path work = rw (failed-asks (disc image) (v .start) (v .partition) (length work) (v .root) path)
 
     pub failed-at-counts : (path work : List ℕ) → failsAt image v path work .reply .count ≡ listed image (finding v (length work) path)
-    failed-at-counts path work = lookup-counts path work
+    failed-at-counts path work = failed-counts path work
 
     pub read-path-counts : (path out work : List ℕ) → readsPath image v path out work .reply .count ≡ listed image (pathReading v (length work) path)
     read-path-counts path out work = written-counts image out (pathReading v (length work) path)

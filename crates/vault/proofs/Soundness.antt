@@ -10,7 +10,7 @@ use lib.Dec.{leb}
 use Rattle.disc.specs.Choice.{pick}
 use Rattle.disc.specs.Refusals.{number}
 use Rattle.disc.specs.Counts.{reported}
-use Rattle.disc.specs.Ask.{Outcome, outcome}
+use Rattle.disc.specs.Ask.{Outcome}
 use Rattle.disc.specs.Ask.Outcome.{answered, refused}
 use Rattle.disc.specs.Images.{disc, bytesOf}
 use Rattle.disc.specs.Ran.{Ran, ran}
@@ -26,12 +26,10 @@ use Rattle.volumes.specs.Labels.{labelling}
 use Rattle.volumes.specs.declared.openings.VolumeRecord.{VolumeRecord}
 use Rattle.areas.specs.declared.AllocExtent.{AllocExtent}
 use Rattle.layouts.specs.Calls.{answerOf, listReply, listLeft}
-use Rattle.directories.specs.Lookups.{Sought, icbOf, lostOf, foundTo, foundOf, lostBy, lostAt}
+use Rattle.listings.specs.Paths.{Component, noComponent}
+use Rattle.directories.specs.Lookups.{Sought, icbOf, andThen, foundTo, lostOf}
 use Rattle.layouts.proofs.PartLaws.{part-stands, place-none}
-use Rattle.areas.specs.declared.AllocExtent.{AllocExtent}
-use Rattle.layouts.specs.Calls.{answerOf}
 use Rattle.directories.specs.Lookups.Sought.{reached, lost}
-use Rattle.directories.specs.Places.{andThen}
 use Rattle.directories.proofs.PlaceLaws.{failed-stands}
 use Rattle.directories.proofs.LookupLaws.{look-is}
 use Rattle.vault.specs.Calls.{reading, parting, extentListing, listing, seeking, finding, pathReading, noVolume, openedTo, opens, written, labels, reads, lists, readsPath, finds, fails, parts, extents, failsAt, partsAt}
@@ -138,40 +136,30 @@ pub part-at-sound : (image : List ℕ) (v : Volume) (icb : LongAd)
     × ((partsAt image v icb .reply .answer ≡ 0 → ⊥) → partsAt image v icb .at ≡ 0)
 part-at-sound image v icb = (refl, part-stands image (v .start) (v .partition) icb, λ h. place-none image (v .start) (v .partition) icb h)
 
--- the call for the component that failed has the lookup's number and count, and an empty part if the number is not 3
-lost-three : (o : Outcome Sought) (n : ℕ) → (foundTo (andThen o icbOf) n .answer ≡ 3 → ⊥) → lostOf o ≡ []
-lost-three (answered (reached icb)) n h = refl
-lost-three (answered (lost c)) n h = absurd (h refl)
-lost-three (refused r) n h = refl
+-- the call for the component that failed has the lookup's number and count, and an empty part at 0 if the number is not 3
+lost-three : (o : Outcome Sought) → (Rattle.directories.specs.Lookups.answerOf (andThen o icbOf) ≡ 3 → ⊥) → lostOf o ≡ noComponent
+lost-three (answered (reached icb)) h = refl
+lost-three (answered (lost c)) h = absurd (h refl)
+lost-three (refused r) h = refl
 
 pub failed-sound : (image : List ℕ) (v : Volume) (path work : List ℕ)
     → (fails image v path work .answer ≡ finds image v path work .found .answer)
     × (fails image v path work .count ≡ finds image v path work .found .count)
     × ((fails image v path work .answer ≡ 3 → ⊥) → fails image v path work .component ≡ [])
-unfolding ran
-failed-sound image v path work = (
-  refl,
-  refl,
-  λ h.
-      lost-three (outcome (disc image) (seeking v (length work) path)) (reported (ran (disc image) (seeking v (length work) path) .count))
-      (λ q. h (ap (λ (r : Ran LongAd). foundOf r .answer) (look-is (disc image) (v .start) (v .partition) (length work) (v .root) path) ∙ q)),
-)
+failed-sound image v path work =
+    let l = look-is (disc image) (v .start) (v .partition) (length work) (v .root) path in (
+      rw l,
+      rw l,
+      λ h. ap (λ (c : Component). c .bytes) (lost-three (ran (disc image) (seeking v (length work) path) .outcome) h),
+    )
 
 -- and so has the call for its place, with the component's length; the component stands there; zeros if the number is not 3
-lost-nowhere : (o : Outcome Sought) (n at : ℕ) → (foundTo (andThen o icbOf) n .answer ≡ 3 → ⊥) → lostBy o at ≡ 0
-lost-nowhere (answered (reached icb)) n at h = refl
-lost-nowhere (answered (lost c)) n at h = absurd (h refl)
-lost-nowhere (refused r) n at h = refl
-
 pub failed-at-sound : (image : List ℕ) (v : Volume) (path work : List ℕ)
     → (failsAt image v path work .reply ≡ record { answer = fails image v path work .answer; count = fails image v path work .count; length = length (fails image v path work .component) })
     × PartAt path (fails image v path work .component) (failsAt image v path work .at)
     × ((failsAt image v path work .reply .answer ≡ 3 → ⊥) → failsAt image v path work .at ≡ 0)
-unfolding ran lostAt
 failed-at-sound image v path work = (
   refl,
   failed-stands (disc image) (v .start) (v .partition) (length work) (v .root) path,
-  λ h.
-      lost-nowhere (outcome (disc image) (seeking v (length work) path)) (reported (ran (disc image) (seeking v (length work) path) .count)) _
-      (λ q. h (ap (λ (r : Ran LongAd). foundOf r .answer) (look-is (disc image) (v .start) (v .partition) (length work) (v .root) path) ∙ q)),
+  λ h. ap (λ (c : Component). c .at) (lost-three (ran (disc image) (seeking v (length work) path) .outcome) h),
 )

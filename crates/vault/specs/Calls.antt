@@ -5,7 +5,7 @@ use mathlib.Core.List.{List}
 use lib.ListN.{length, replicate}
 use Rattle.disc.specs.Refusals.{number}
 use Rattle.disc.specs.Counts.{reported}
-use Rattle.disc.specs.Ask.{Ask, Outcome, outcome}
+use Rattle.disc.specs.Ask.{Ask, Outcome}
 use Rattle.disc.specs.Ask.Outcome.{answered, refused}
 use Rattle.disc.specs.Images.{disc, bytesOf}
 use Rattle.disc.specs.Ran.{Ran, ran}
@@ -22,7 +22,7 @@ use Rattle.files.specs.Files.{fileBytes, filePart, fileExtents}
 use Rattle.layouts.specs.Calls.{answerOf, listReply, listLeft}
 use Rattle.layouts.specs.Places.{partReply, partPlace}
 use Rattle.directories.specs.Directories.{listingAt}
-use Rattle.directories.specs.Lookups.{Sought, seekPath, lookupOf, lostOf, readPathOf, foundOf, lostAt, lostReply}
+use Rattle.directories.specs.Lookups.{Sought, seekPath, lookupOf, readPathOf, foundOf, failedOf, failedReply}
 use Rattle.directories.specs.declared.lookups.Found.{Found}
 use Rattle.vault.specs.declared.volume.Volume.{Volume}
 use Rattle.vault.specs.declared.volume.Opened.{Opened}
@@ -121,11 +121,11 @@ pub record Lost : Type 0 where
   pub count : ℕ
   pub work : List ℕ
 
-abbrev pub lost : List ℕ → Outcome Sought → Ran LongAd → Lost
-lost work o r = record { component = lostOf o; answer = foundOf r .answer; count = foundOf r .count; work = cleared work }
+abbrev pub lost : List ℕ → Ran Sought → Lost
+lost work r = record { component = failedOf r .component .bytes; answer = failedOf r .answer; count = failedOf r .count; work = cleared work }
 
 abbrev pub fails : List ℕ → Volume → List ℕ → List ℕ → Lost
-fails image v path work = lost work (outcome (disc image) (seeking v (length work) path)) (ran (disc image) (finding v (length work) path))
+fails image v path work = lost work (ran (disc image) (seeking v (length work) path))
 
 -- the same by its place in the path: the reply has its length
 pub record LostPlace : Type 0 where
@@ -133,13 +133,11 @@ pub record LostPlace : Type 0 where
   pub at : ℕ
   pub work : List ℕ
 
-abbrev pub lostPlace : List ℕ → Outcome Sought → Ran LongAd → ℕ → LostPlace
-lostPlace work o r at = record { reply = lostReply r o; at = at; work = cleared work }
+abbrev pub lostPlace : List ℕ → Ran Sought → LostPlace
+lostPlace work r = record { reply = failedReply (failedOf r); at = failedOf r .component .at; work = cleared work }
 
 abbrev pub failsAt : List ℕ → Volume → List ℕ → List ℕ → LostPlace
-failsAt image v path work =
-    lostPlace work (outcome (disc image) (seeking v (length work) path)) (ran (disc image) (finding v (length work) path))
-    (lostAt (disc image) (v .start) (v .partition) (length work) (v .root) path)
+failsAt image v path work = lostPlace work (ran (disc image) (seeking v (length work) path))
 
 -- ---- the uncopied part of an embedded file
 
