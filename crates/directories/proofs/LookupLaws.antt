@@ -26,9 +26,9 @@ use Rattle.records.specs.declared.allocations.LongAd.{LongAd}
 use Rattle.files.specs.Files.{fileBytes}
 use Rattle.listings.specs.Paths.{Component}
 use Rattle.directories.specs.Lookups.{seekPath, icbOf, lookupOf, readPathOf, andThen, foundTo, foundOf, failedOf, failedReply}
-use Rattle.directories.specs.Places.{Walks}
+use Rattle.directories.specs.inner.Walks.{Walks}
 use Rattle.directories.specs.declared.lookups.Found.{Found}
-use Rattle.directories.specs.declared.walks.Place.{Place}
+use Rattle.directories.specs.declared.walks.PathPlace.{PathPlace}
 use Rattle.directories.proofs.PlaceLaws.{failed-stands}
 use Rattle.directories.proofs.SpaceLaws.{number-some, ran-known}
 use Rattle.directories.proofs.ListLaws.{recount}
@@ -40,7 +40,7 @@ module _ (d : Disc) (start partition work : ℕ) (root : LongAd) (path : List �
   unfolding lookupOf
   look-is = ran-known d (seekPath start partition work root path) icbOf
 
-  module _ {q : Place} (w : Walks d start partition work root path q) where
+  module _ {q : PathPlace} (w : Walks d start partition work root path q) where
     pub look-found : record { answer = q .answer; count = q .count; icb = q .icb } ≡ foundOf (ran d (lookupOf start partition work root path))
     look-found = w .found ∙ ap foundOf (sym look-is)
 

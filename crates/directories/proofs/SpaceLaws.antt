@@ -23,7 +23,7 @@ use Rattle.records.specs.declared.allocations.LongAd.{LongAd}
 use Rattle.files.specs.Files.{fileBytes}
 use Rattle.directories.specs.Directories.{within, directoryBytes}
 use Rattle.directories.specs.Lookups.{andThen}
-use Rattle.directories.specs.Places.{replyTo, onFront, Reads}
+use Rattle.directories.specs.inner.Spaces.{replyTo, onFront, Reads}
 
 -- no refusal has the number of "done"
 pub number-some : (r : Refusal) → number r ≡ 0 → ⊥

@@ -30,10 +30,11 @@ use Rattle.listings.proofs.PathLaws.{behind-slashes, front-is, slashes-long, no
 use Rattle.directories.specs.Directories.{directoryBytes}
 use Rattle.directories.specs.Lookups.{Sought, entering, orLost, seeking, seekPath, icbOf, andThen, foundTo, lostOf}
 use Rattle.directories.specs.Lookups.Sought.{lost}
-use Rattle.directories.specs.Places.{replyTo, Reads, enteredTo, enteredOf, beyondOf, End, endOf, leadsTo, On, left, Steps, Walks}
+use Rattle.directories.specs.inner.Spaces.{replyTo, Reads}
+use Rattle.directories.specs.inner.Walks.{enteredTo, enteredOf, beyondOf, End, endOf, leadsTo, On, stepsLeft, Steps, Walks}
 use Rattle.directories.specs.declared.lookups.Found.{Found}
 use Rattle.directories.specs.declared.walks.Entered.{Entered}
-use Rattle.directories.specs.declared.walks.Place.{Place}
+use Rattle.directories.specs.declared.walks.PathPlace.{PathPlace}
 use Rattle.directories.proofs.SpaceLaws.{number-some, ran-known, reads-count, reads-bytes}
 
 -- ---- one component
@@ -104,13 +105,13 @@ module _ (path : List ℕ) (e : ℕ) {a : ℕ} (p : a ≡ e + slashes (drop e pa
   skip-within : e ≤ length path → a ≤ length path
   skip-within h = omega (arith, p, slashes-long (drop e path), length-drop e path)
 
-module _ (d : Disc) (start partition work : ℕ) (path : List ℕ) {p : Place} (g : p .going ≡ true) (on : On path p) where
+module _ (d : Disc) (start partition work : ℕ) (path : List ℕ) {p : PathPlace} (g : p .going ≡ true) (on : On path p) where
   ahead : leadsTo d start partition work path p
       ≡ endOf (after (p .count) (ran d (seeking start partition work (componentsFrom (p .from) (drop (p .from) path)) (p .icb) (p .directory))))
   unfolding leadsTo
   ahead = rw g
 
-  far : left path p ≡ 1 + (length path - p .from)
+  far : stepsLeft path p ≡ 1 + (length path - p .from)
   far = rw g
 
   counts : reported (p .count + 0) ≡ p .count
@@ -128,7 +129,7 @@ module _ (d : Disc) (start partition work : ℕ) (path : List ℕ) {p : Place} (
         less = rw far (omega arith);
       }
 
-  pub step-arrives : length path ≤ p .from → {q : Place}
+  pub step-arrives : length path ≤ p .from → {q : PathPlace}
       → q ≡ record { going = false; answer = 0; icb = p .icb; directory = false; count = p .count; from = 0; end = 0 } → Steps d start partition work path p q
   unfolding componentsFrom front behind seeking ran outcome asked
   step-arrives h e =
@@ -150,7 +151,7 @@ module _ (d : Disc) (start partition work : ℕ) (path : List ℕ) {p : Place} (
     component-is : take (end - p .from) (drop (p .from) path) ≡ front (drop (p .from) path)
     component-is = rw (k, add-sub-cancel-left) (front-is (drop (p .from) path))
 
-    pub step-dead : p .directory ≡ false → {l : LongAd} → l ≡ noLong → {q : Place}
+    pub step-dead : p .directory ≡ false → {l : LongAd} → l ≡ noLong → {q : PathPlace}
         → q ≡ record { going = false; answer = 3; icb = l; directory = false; count = p .count; from = p .from; end = end } → Steps d start partition work path p q
     unfolding seeking ran outcome asked
     step-dead t j e =
@@ -193,7 +194,7 @@ module _ (d : Disc) (start partition work : ℕ) (path : List ℕ) {p : Place} (
           (ends-here 0 0 (number r) noLong _ zero-le zero-le (omega arith) (both (ap (notFound (number r)) (omega arith)) refl ∙ sym s))
 
       pub step-enters : {e : Entered} → e ≡ enteredOf (ran d (entering start partition work (p .icb) (C .bytes))) → {n : ℕ} → n ≡ reported (p .count + e .count)
-          → {q : Place} → q ≡ beyondOf path e n (p .from) end → Steps d start partition work path p q
+          → {q : PathPlace} → q ≡ beyondOf path e n (p .from) end → Steps d start partition work path p q
       step-enters {e} x {n} y z =
           let R : Ran (Option Entry) = ran d (entering start partition work (p .icb) (C .bytes)) in
           let c : e .count ≡ reported (R .count) = rw x (entered-count (R .outcome) (reported (R .count))) in
@@ -201,7 +202,7 @@ module _ (d : Disc) (start partition work : ℕ) (path : List ℕ) {p : Place} (
           rw (z, m, x) (by-outcome (R .outcome) (R .count) turn)
 
 -- the walk has come to p
-pub record Walking (d : Disc) (start partition work : ℕ) (root : LongAd) (path : List ℕ) (p : Place) : Type 0 where
+pub record Walking (d : Disc) (start partition work : ℕ) (root : LongAd) (path : List ℕ) (p : PathPlace) : Type 0 where
   pub on : On path p
   pub same : leadsTo d start partition work path p ≡ endOf (ran d (seekPath start partition work root path))
 
@@ -214,8 +215,8 @@ walk-starts d start partition work root path a e =
       same = rw (same-components path 0 e) (simp zero-add);
     }
 
-module _ {d : Disc} {start partition work : ℕ} {root : LongAd} {path : List ℕ} {p : Place} (w : Walking d start partition work root path p) where
-  pub walk-next : (v : ℕ) → v ≡ work → {q : Place} → Steps d start partition v path p q → Walking d start partition work root path q
+module _ {d : Disc} {start partition work : ℕ} {root : LongAd} {path : List ℕ} {p : PathPlace} (w : Walking d start partition work root path p) where
+  pub walk-next : (v : ℕ) → v ≡ work → {q : PathPlace} → Steps d start partition v path p q → Walking d start partition work root path q
   walk-next v l s = record { on = s .on; same = (rw l at (s .same)) ∙ w .same }
 
   pub walk-ends : p .going ≡ false → Walks d start partition work root path p
@@ -226,13 +227,13 @@ module _ {d : Disc} {start partition work : ℕ} {root : LongAd} {path : List �
 
 -- the returns of `beyond`
 module _ (path : List ℕ) (e : Entered) (count from end : ℕ) where
-  pub beyond-lost : e .lost ≡ true → {q : Place} → q ≡ record { going = false; answer = e .answer; icb = e .icb; directory = false; count = count; from = from; end = end }
+  pub beyond-lost : e .lost ≡ true → {q : PathPlace} → q ≡ record { going = false; answer = e .answer; icb = e .icb; directory = false; count = count; from = from; end = end }
       → q ≡ beyondOf path e count from end
   unfolding beyondOf
   beyond-lost h k = rw h k
 
   module _ (h : e .lost ≡ false) where
-    pub beyond-refused : (e .answer ≡ 0 → ⊥) → {q : Place} → q ≡ record { going = false; answer = e .answer; icb = e .icb; directory = false; count = count; from = 0; end = 0 }
+    pub beyond-refused : (e .answer ≡ 0 → ⊥) → {q : PathPlace} → q ≡ record { going = false; answer = e .answer; icb = e .icb; directory = false; count = count; from = 0; end = 0 }
         → q ≡ beyondOf path e count from end
     unfolding beyondOf
     beyond-refused z k = rw (h, ne-eqb (e .answer) 0 z) k

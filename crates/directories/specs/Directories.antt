@@ -1,4 +1,4 @@
--- A directory listed from its ICB: document 01, "Directories and paths" and "Answer numbers". Assumes nothing: these are definitions.
+-- A directory listed from its ICB: document 01, "Directories and paths" and "Answer numbers".
 use Prim.Native.Nat.{ℕ}
 use mathlib.Core.List.{List}
 use lib.ListN.{length}

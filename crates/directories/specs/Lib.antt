@@ -1,4 +1,4 @@
 -- What the contracts cite: what a reader must believe, then what the private functions alone cite.
 pub mod Directories
 pub mod Lookups
-pub mod Places
+pub mod inner

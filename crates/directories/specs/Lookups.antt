@@ -1,5 +1,4 @@
 -- A path looked up, the component that failed, and a file read by its path: document 01, "Directories and paths".
--- Assumes nothing: these are definitions.
 use Prim.Native.Nat.{ℕ}
 use mathlib.Core.Bool.{Bool, true, false}
 use mathlib.Core.List.{List, [], _∷_}

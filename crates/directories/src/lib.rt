@@ -1,5 +1,5 @@
 // Directories from their ICBs: listed, and paths looked up and read.
-pub mod lists;
+pub mod listed;
 pub mod lookups;
 pub mod spaces;
 pub mod walks;

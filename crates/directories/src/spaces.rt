@@ -3,7 +3,7 @@ ghost use lib.ListN.{length};
 ghost use Rattle.disc.specs.Ran.{ran};
 ghost use Rattle.disc.specs.Images.{disc};
 ghost use Rattle.directories.specs.Directories.{directoryBytes};
-ghost use Rattle.directories.specs.Places.{Reads};
+ghost use Rattle.directories.specs.inner.Spaces.{Reads};
 use disc::refusals::Refusal;
 use disc::replies::Reply;
 use files::reads::read_file;

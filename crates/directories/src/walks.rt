@@ -5,7 +5,7 @@ ghost use lib.ListN.{length};
 ghost use Rattle.disc.specs.Ran.{ran};
 ghost use Rattle.disc.specs.Images.{disc};
 ghost use Rattle.directories.specs.Lookups.{entering};
-ghost use Rattle.directories.specs.Places.{enteredOf, beyondOf, On, Steps, Walks};
+ghost use Rattle.directories.specs.inner.Walks.{enteredOf, beyondOf, On, Steps, Walks};
 use crate::spaces::read_directory;
 use disc::counts::add_counts;
 use listings::finds::find;
@@ -25,7 +25,7 @@ pub struct Entered {
 
 // A place on the walk along a path: while going, the directory or file at which the component from `from` on is looked for;
 // at the end, the answer, and from `from` to `end` the component that was lost.
-pub struct Place {
+pub struct PathPlace {
     pub going: bool,
     pub answer: u64,
     pub icb: LongAd,
@@ -69,10 +69,10 @@ fn enter(
 }
 
 // The end of a walk: with an answer, and where a component was lost, its place.
-fn stopped(answer: u64, icb: LongAd, count: u64, from: usize, end: usize) -> Place
+fn stopped(answer: u64, icb: LongAd, count: u64, from: usize, end: usize) -> PathPlace
     ensures { λ r. ⌜ r ≡ record { going = false; answer = answer; icb = icb; directory = false; count = count; from = from; end = end } ⌝ }
 {
-    Place {
+    PathPlace {
         going: false,
         answer,
         icb,
@@ -84,7 +84,7 @@ fn stopped(answer: u64, icb: LongAd, count: u64, from: usize, end: usize) -> Pla
 }
 
 // Beyond a component that was entered, or stopped there.
-fn beyond(path: &[u8], e: Entered, count: u64, from: usize, end: usize) -> Place
+fn beyond(path: &[u8], e: Entered, count: u64, from: usize, end: usize) -> PathPlace
     ensures { λ r. ⌜ r ≡ beyondOf (now (path .entry)) e count from end ⌝ }
 {
     let icb = e.icb;
@@ -94,7 +94,7 @@ fn beyond(path: &[u8], e: Entered, count: u64, from: usize, end: usize) -> Place
     if e.answer != 0 {
         return stopped(e.answer, icb, count, 0, 0);
     }
-    Place {
+    PathPlace {
         going: true,
         answer: 0,
         icb,
@@ -106,7 +106,14 @@ fn beyond(path: &[u8], e: Entered, count: u64, from: usize, end: usize) -> Place
 }
 
 // One step of the walk.
-fn step(image: &[u8], start: u32, partition: u16, path: &[u8], p: Place, work: &mut [u8]) -> Place
+fn step(
+    image: &[u8],
+    start: u32,
+    partition: u16,
+    path: &[u8],
+    p: PathPlace,
+    work: &mut [u8],
+) -> PathPlace
     requires { ⌜ (p .going ≡ true) × On (now path) p ⌝ }
     ensures { λ q. ⌜ Steps (disc (now (image .entry))) start partition (length (now (work .entry))) (now (path .entry)) p q ⌝ }
 {
@@ -131,10 +138,10 @@ pub(crate) fn walk(
     root: LongAd,
     path: &[u8],
     work: &mut [u8],
-) -> Place
+) -> PathPlace
     ensures { λ r. ⌜ Walks (disc (now (image .entry))) start partition (length (now (work .entry))) root (now (path .entry)) r ⌝ }
 {
-    let mut p = Place {
+    let mut p = PathPlace {
         going: true,
         answer: 0,
         icb: root,

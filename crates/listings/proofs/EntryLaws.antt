@@ -26,7 +26,7 @@ use Rattle.identifiers.specs.Wholes.{Whole}
 use Rattle.identifiers.proofs.IdentifierLaws.{read-identifier}
 use Rattle.listings.specs.Entries.{entryOf, isGood, isSkipped, nameIn}
 use Rattle.listings.specs.Listings.{recordHead, shown, isLong, answersTo}
-use Rattle.listings.specs.Passes.{Good, Parsed, Recorded, Puts, icbIn, headIn, recordIn, earlierOf}
+use Rattle.listings.specs.inner.Passes.{Good, Parsed, Recorded, Puts, icbIn, headIn, recordIn, earlierOf}
 use Rattle.listings.specs.declared.finds.Named.{Named}
 
 -- ---- a lent tail

@@ -27,10 +27,10 @@ use Rattle.identifiers.specs.Wholes.{Whole}
 use Rattle.listings.specs.Entries.{Entry, entryOf, isGood, isSkipped, entriesFrom, entries, sound}
 use Rattle.listings.specs.Entries.Entries.{end, bad, entry}
 use Rattle.listings.specs.Listings.{shown, records, isLong, anyLong, listing, told, answersTo, firstNamed, findIn, unnamed, namedTo, namedOf}
-use Rattle.listings.specs.Passes.{Good, Parsed, Puts, measuredOf, earlierOf}
+use Rattle.listings.specs.inner.Passes.{Good, Parsed, Puts, sizeOfListing, earlierOf}
 use Rattle.listings.specs.declared.directory_entries.Put.{Put}
 use Rattle.listings.specs.declared.finds.Named.{Named}
-use Rattle.listings.specs.declared.lists.Measured.{Measured}
+use Rattle.listings.specs.declared.listing.ListingSize.{ListingSize}
 use Rattle.listings.proofs.EntryLaws.{tail-over, good-read, bad-read, shown-length, long-is}
 
 -- ---- the entries at the front of s
@@ -146,7 +146,7 @@ measure-starts raw = record { within = zero-le; small = zero-le; size = omega ar
 
 module _ {raw : List ℕ} {long : Bool} {n at : ℕ} (m : Measuring raw long n at) where
   module _ (h : at + 38 ≤ length raw) {r : IdentifierRead} (p : Parsed (tail raw at) r) where
-    pub measure-bad : (r .answer ≡ 0 → ⊥) → record { good = false; long = false; size = 0 } ≡ measuredOf (entries raw)
+    pub measure-bad : (r .answer ≡ 0 → ⊥) → record { good = false; long = false; size = 0 } ≡ sizeOfListing (entries raw)
     unfolding sound
     measure-bad g = rw (← m .same, read-bad raw at h p g)
 
@@ -177,7 +177,7 @@ module _ {raw : List ℕ} {long : Bool} {n at : ℕ} (m : Measuring raw long n a
               same = rw q at (m .same);
             }
 
-  pub measure-ends : length raw < at + 38 → record { good = true; long = long; size = n } ≡ measuredOf (entries raw)
+  pub measure-ends : length raw < at + 38 → record { good = true; long = long; size = n } ≡ sizeOfListing (entries raw)
   unfolding sound records anyLong
   measure-ends h =
       let q = at-end raw at h in
@@ -310,7 +310,7 @@ module _ {component raw : List ℕ} {found : Named} {at : ℕ} (m : Finding comp
 
 -- ---- the listing, by what was measured
 
-module _ (raw : List ℕ) {m : Measured} (p : m ≡ measuredOf (entries raw)) where
+module _ (raw : List ℕ) {m : ListingSize} (p : m ≡ sizeOfListing (entries raw)) where
   goodness : (b : Bool) → sound (entries raw) ≡ b → m .good ≡ b
   goodness true h = rw (p, h)
   goodness false h = rw (p, h)

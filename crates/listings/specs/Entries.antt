@@ -1,5 +1,4 @@
 -- A directory's bytes: its file identifiers (ECMA-167 4/14.4) one behind the other. Document 01, "Directories and paths".
--- Assumes nothing: these are definitions.
 use Prim.Native.Nat.{ℕ, zero, suc, _-_}
 use mathlib.Core.Bool.{Bool, true, false, _||_}
 use mathlib.Core.List.{List, [], _∷_}

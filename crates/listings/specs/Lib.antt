@@ -2,4 +2,4 @@
 pub mod Entries
 pub mod Listings
 pub mod Paths
-pub mod Passes
+pub mod inner

@@ -1,4 +1,4 @@
--- What a directory's bytes list, and which entry has a name: document 01, "Directories and paths". Assumes nothing: these are definitions.
+-- What a directory's bytes list, and which entry has a name: document 01, "Directories and paths".
 use Prim.Native.Nat.{ℕ}
 use mathlib.Core.Bool.{Bool, true, false}
 use mathlib.Core.List.{List, [], _∷_, _++_}

@@ -1,4 +1,4 @@
--- A path's components: document 01, "Directories and paths". Assumes nothing: these are definitions.
+-- A path's components: document 01, "Directories and paths".
 use Prim.Native.Nat.{ℕ, suc}
 use mathlib.Core.List.{List, [], _∷_}
 use lib.Dec.{eqb}

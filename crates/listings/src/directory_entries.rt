@@ -9,7 +9,7 @@ ghost use Rattle.names.specs.Names.{nameOf, written};
 ghost use Rattle.identifiers.specs.Identifiers.{bit};
 ghost use Rattle.listings.specs.Entries.{entryOf, isSkipped};
 ghost use Rattle.listings.specs.Listings.{answersTo};
-ghost use Rattle.listings.specs.Passes.{Good, Parsed, Recorded, Puts, headIn};
+ghost use Rattle.listings.specs.inner.Passes.{Good, Parsed, Recorded, Puts, headIn};
 use disc::moves::copy;
 use identifiers::FileIdentifierDescriptor;
 use identifiers::IdentifierRead;

@@ -4,7 +4,7 @@ ghost use Prim.Native.Nat.{_+_, _≤_};
 ghost use lib.ListN.{length};
 ghost use Rattle.listings.specs.Entries.{entryOf};
 ghost use Rattle.listings.specs.Listings.{findIn, namedOf, unnamed};
-ghost use Rattle.listings.specs.Passes.{Good, earlierOf};
+ghost use Rattle.listings.specs.inner.Passes.{Good, earlierOf};
 use crate::directory_entries::answers_to;
 use crate::directory_entries::entry_at;
 use identifiers::FileIdentifierDescriptor;

@@ -1,5 +1,5 @@
 // A directory's bytes: its entries listed and searched, and the components of a path.
 pub mod directory_entries;
 pub mod finds;
-pub mod lists;
+pub mod listing;
 pub mod paths;

@@ -3,7 +3,7 @@ ghost use mathlib.Core.Path.{_≡_};
 ghost use Rattle.layouts.specs.Calls.{wordsOf, extentOf};
 ghost use Rattle.probes.specs.Probes.{probed};
 ghost use Rattle.vault.specs.Calls.{opens, labels, reads, lists, readsPath, finds, fails, failsAt, parts, partsAt, extents};
-use directories::lists::list_directory;
+use directories::listed::list_directory;
 use directories::lookups::Found;
 use disc::refusals::Refusal;
 use disc::replies::Reply;

@@ -3,7 +3,7 @@ use borrow.Author.Needs.{needs}
 use mathlib.Core.Path.{_≡_}
 use lib.ListN.{length}
 use Rattle.disc.specs.Images.{disc}
-use Rattle.directories.specs.Places.{left}
+use Rattle.directories.specs.inner.Walks.{stepsLeft}
 use Rattle.directories.proofs.WalkLaws.{Walking, walk-starts, walk-next, walk-ends}
 use Rattle.directories.proofs.walks.walk.Statement.{statement}
 use Rattle.directories.proofs.walks.walk.Tie as tie
@@ -14,7 +14,7 @@ abbrev Inv-loop : tie.InvT-loop
 Inv-loop image start partition path work₀ p₀ work p = Walking (disc image) start partition (length work₀) (p₀ .icb) path p × (length work ≡ length work₀)
 
 abbrev μ-loop : tie.MeasureT-loop
-μ-loop image start partition path work₀ p₀ work p = left path p
+μ-loop image start partition path work₀ p₀ work p = stepsLeft path p
 
 pub walk-spec : {M : Type 1} → statement M
 walk-spec =

@@ -1,9 +1,8 @@
--- What the private functions promise each other: a directory read into the work space, and the walk along a path as steps from place to
--- place. There is nothing to believe here. Assumes nothing: these are definitions.
+-- The walk along a path, as steps from place to place.
 use Prim.Native.Nat.{ℕ, _+_, _-_, _≤_, _<_}
 use mathlib.Core.Path.{_≡_}
 use mathlib.Core.Bool.{true, false}
-use mathlib.Core.List.{List, _++_}
+use mathlib.Core.List.{List}
 use mathlib.Core.Option.{Option, none, some}
 use lib.ListN.{length, take, drop}
 use lib.Dec.{eqb}
@@ -13,7 +12,6 @@ use Rattle.disc.specs.Counts.{reported}
 use Rattle.disc.specs.Ask.{Disc, Outcome}
 use Rattle.disc.specs.Ask.Outcome.{answered, refused}
 use Rattle.disc.specs.Ran.{Ran, ran, after}
-use Rattle.disc.specs.declared.replies.Reply.{Reply}
 use Rattle.records.specs.Allocations.{noLong}
 use Rattle.records.specs.declared.allocations.LongAd.{LongAd}
 use Rattle.identifiers.specs.Identifiers.{isDirectory}
@@ -22,23 +20,7 @@ use Rattle.listings.specs.Paths.{Component, componentsFrom, slashes}
 use Rattle.directories.specs.Lookups.{Sought, seeking, seekPath, icbOf, andThen, foundTo, lostOf}
 use Rattle.directories.specs.declared.lookups.Found.{Found}
 use Rattle.directories.specs.declared.walks.Entered.{Entered}
-use Rattle.directories.specs.declared.walks.Place.{Place}
-
--- ---- a directory's bytes in the work space
-
-abbrev pub replyTo : Outcome (List ℕ) → ℕ → Reply
-replyTo (answered b) n = record { answer = 0; count = n; length = length b }
-replyTo (refused r) n = record { answer = number r; count = n; length = 0 }
-
-abbrev pub onFront : Outcome (List ℕ) → List ℕ → List ℕ
-onFront (answered b) d = b ++ drop (length b) d
-onFront (refused r) d = d
-
-pub record Reads (r : Ran (List ℕ)) (before after : List ℕ) (reply : Reply) : Type 0 where
-  pub says : reply ≡ replyTo (r .outcome) (reported (r .count))
-  pub leaves : after ≡ onFront (r .outcome) before
-
--- ---- the walk
+use Rattle.directories.specs.declared.walks.PathPlace.{PathPlace}
 
 -- what entering a directory gives: an entry, no entry, or a refusal
 abbrev pub enteredTo : Outcome (Option Entry) → ℕ → Entered
@@ -50,7 +32,7 @@ abbrev pub enteredOf : Ran (Option Entry) → Entered
 enteredOf r = enteredTo (r .outcome) (reported (r .count))
 
 -- the place behind a component that was entered
-unfoldable pub beyondOf : List ℕ → Entered → ℕ → ℕ → ℕ → Place
+unfoldable pub beyondOf : List ℕ → Entered → ℕ → ℕ → ℕ → PathPlace
 beyondOf path e count from end =
     pick (e .lost) (record { going = false; answer = e .answer; icb = e .icb; directory = false; count = count; from = from; end = end })
     (pick (eqb (e .answer) 0) (record { going = true; answer = 0; icb = e .icb; directory = e .directory; count = count; from = end + slashes (drop end path); end = length path })
@@ -65,7 +47,7 @@ abbrev pub endOf : Ran Sought → End
 endOf r = record { found = foundTo (andThen (r .outcome) icbOf) (reported (r .count)); lost = lostOf (r .outcome) }
 
 -- the end that a place leads to: it is there already, or the rest of the path is yet to be walked
-unfoldable pub leadsTo : Disc → ℕ → ℕ → ℕ → List ℕ → Place → End
+unfoldable pub leadsTo : Disc → ℕ → ℕ → ℕ → List ℕ → PathPlace → End
 leadsTo d start partition work path p =
     pick (p .going)
     (endOf (after (p .count) (ran d (seeking start partition work (componentsFrom (p .from) (drop (p .from) path)) (p .icb) (p .directory)))))
@@ -75,24 +57,24 @@ leadsTo d start partition work path p =
     })
 
 -- a place on the path: while going, where a component starts or the path ends
-pub record On (path : List ℕ) (p : Place) : Type 0 where
+pub record On (path : List ℕ) (p : PathPlace) : Type 0 where
   pub ordered : p .from ≤ p .end
   pub within : p .end ≤ length path
   pub counted : p .count ≤ 0xffff_ffff_ffff_ffff
   pub clean : p .going ≡ true → slashes (drop (p .from) path) ≡ 0
 
 -- how far it is to the end
-abbrev pub left : List ℕ → Place → ℕ
-left path p = pick (p .going) (1 + (length path - p .from)) 0
+abbrev pub stepsLeft : List ℕ → PathPlace → ℕ
+stepsLeft path p = pick (p .going) (1 + (length path - p .from)) 0
 
 -- one step: to a place on the path, nearer the end, that leads to the same end
-pub record Steps (d : Disc) (start partition work : ℕ) (path : List ℕ) (p q : Place) : Type 0 where
+pub record Steps (d : Disc) (start partition work : ℕ) (path : List ℕ) (p q : PathPlace) : Type 0 where
   pub same : leadsTo d start partition work path q ≡ leadsTo d start partition work path p
   pub on : On path q
-  pub less : left path q < left path p
+  pub less : stepsLeft path q < stepsLeft path p
 
 -- a whole walk
-pub record Walks (d : Disc) (start partition work : ℕ) (root : LongAd) (path : List ℕ) (q : Place) : Type 0 where
+pub record Walks (d : Disc) (start partition work : ℕ) (root : LongAd) (path : List ℕ) (q : PathPlace) : Type 0 where
   pub found : record { answer = q .answer; count = q .count; icb = q .icb } ≡ endOf (ran d (seekPath start partition work root path)) .found
   pub lost : record { bytes = take (q .end - q .from) (drop (q .from) path); at = q .from } ≡ endOf (ran d (seekPath start partition work root path)) .lost
   pub ordered : q .from ≤ q .end

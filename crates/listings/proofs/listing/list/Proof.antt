@@ -1,9 +1,9 @@
--- `listings::lists::list` meets its contract: by the three refusals in their order, and then the records. Assumes nothing.
+-- `listings::listing::list` meets its contract: by the three refusals in their order, and then the records. Assumes nothing.
 use borrow.Author.Needs.{needs}
 use borrow.Author.Tests.{not-true, not-false}
 use Rattle.listings.proofs.WalkLaws.{list-bad, list-long, list-full, list-done}
-use Rattle.listings.proofs.lists.list.Statement.{statement}
-use Rattle.listings.proofs.lists.list.Tie as tie
+use Rattle.listings.proofs.listing.list.Statement.{statement}
+use Rattle.listings.proofs.listing.list.Tie as tie
 
 ruleset lists = (list-bad, list-long, list-full, list-done, not-true, not-false, needs)
 

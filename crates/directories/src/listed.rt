@@ -9,7 +9,7 @@ ghost use Rattle.directories.specs.Directories.{listingAt};
 use crate::spaces::read_directory;
 use disc::moves::clear;
 use disc::replies::Reply;
-use listings::lists::list;
+use listings::listing::list;
 use records::allocations::LongAd;
 
 // The listing, with the directory's bytes left in the work space.

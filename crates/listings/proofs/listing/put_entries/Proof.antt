@@ -1,11 +1,11 @@
--- `listings::lists::put_entries` meets its contract: what is written has room, and if the bytes are as they were measured, what is left to
+-- `listings::listing::put_entries` meets its contract: what is written has room, and if the bytes are as they were measured, what is left to
 -- write makes, with what was written, the whole. Assumes nothing.
 use borrow.Author.Needs.{needs}
 use Prim.Native.Nat.{_+_, _-_}
 use lib.ListN.{length}
 use Rattle.listings.proofs.WalkLaws.{Filling, fill-starts, fill-fits, on-fits, on-less, fill-next, fill-ends}
-use Rattle.listings.proofs.lists.put_entries.Statement.{statement}
-use Rattle.listings.proofs.lists.put_entries.Tie as tie
+use Rattle.listings.proofs.listing.put_entries.Statement.{statement}
+use Rattle.listings.proofs.listing.put_entries.Tie as tie
 
 ruleset fills = (fill-starts, fill-fits, on-fits, on-less, fill-next, fill-ends, needs)
 

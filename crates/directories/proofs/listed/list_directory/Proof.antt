@@ -1,8 +1,8 @@
--- `directories::lists::list_directory` meets its contract: the work space is cleared last. Assumes nothing.
+-- `directories::listed::list_directory` meets its contract: the work space is cleared last. Assumes nothing.
 use borrow.Author.Needs.{needs}
 use Rattle.disc.proofs.MoveLaws.{zeros-of}
-use Rattle.directories.proofs.lists.list_directory.Statement.{statement}
-use Rattle.directories.proofs.lists.list_directory.Tie as tie
+use Rattle.directories.proofs.listed.list_directory.Statement.{statement}
+use Rattle.directories.proofs.listed.list_directory.Tie as tie
 
 pub list-directory-spec : {M : Type 1} → statement M
 list-directory-spec =

@@ -1,5 +1,4 @@
--- What the passes over a directory's bytes say: for the contracts of private functions. There is nothing to believe here.
--- Assumes nothing: these are definitions.
+-- What the passes over a directory's bytes say.
 use Prim.Native.Nat.{ℕ, _+_, _/_, _%_, _≤_}
 use mathlib.Core.Path.{_≡_}
 use mathlib.Core.Bool.{true, false}
@@ -18,7 +17,7 @@ use Rattle.listings.specs.Entries.{Entry, Entries, entryOf, isGood, soun
 use Rattle.listings.specs.Listings.{shown, records, anyLong, answersTo, namedTo}
 use Rattle.listings.specs.declared.directory_entries.Put.{Put}
 use Rattle.listings.specs.declared.finds.Named.{Named}
-use Rattle.listings.specs.declared.lists.Measured.{Measured}
+use Rattle.listings.specs.declared.listing.ListingSize.{ListingSize}
 
 -- f is a good entry at the front of s
 pub record Good (s : List ℕ) (f : FileIdentifierDescriptor) : Type 0 where
@@ -56,8 +55,8 @@ pub record Puts (s before after : List ℕ) (r : Put) : Type 0 where
   pub wrote : isGood s ≡ true → length (shown (entryOf s)) ≤ length before → Wrote (shown (entryOf s)) before after (r .wrote)
 
 -- what measuring a directory's entries says
-abbrev pub measuredOf : Entries → Measured
-measuredOf es =
+abbrev pub sizeOfListing : Entries → ListingSize
+sizeOfListing es =
     pick (sound es)
     (record { good = true; long = anyLong es; size = length (records es) })
     (record { good = false; long = false; size = 0 })

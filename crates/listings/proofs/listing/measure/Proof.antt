@@ -1,10 +1,10 @@
--- `listings::lists::measure` meets its contract: what is left to measure makes, with what was measured, the whole. Assumes nothing.
+-- `listings::listing::measure` meets its contract: what is left to measure makes, with what was measured, the whole. Assumes nothing.
 use borrow.Author.Needs.{needs}
 use Prim.Native.Nat.{_+_, _-_}
 use lib.ListN.{length}
 use Rattle.listings.proofs.WalkLaws.{Measuring, measure-starts, measure-bad, name-fits, size-fits, next-fits, at-less, measure-next, measure-ends}
-use Rattle.listings.proofs.lists.measure.Statement.{statement}
-use Rattle.listings.proofs.lists.measure.Tie as tie
+use Rattle.listings.proofs.listing.measure.Statement.{statement}
+use Rattle.listings.proofs.listing.measure.Tie as tie
 
 ruleset measures = (measure-starts, measure-bad, name-fits, size-fits, next-fits, at-less, measure-next, measure-ends, needs)
 

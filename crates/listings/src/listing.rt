@@ -6,7 +6,7 @@ ghost use Rattle.disc.specs.Replies.{Replied};
 ghost use Rattle.disc.specs.declared.refusals.Refusal.the-variants.{NoRoom};
 ghost use Rattle.listings.specs.Entries.{entries, sound};
 ghost use Rattle.listings.specs.Listings.{records, listing, told};
-ghost use Rattle.listings.specs.Passes.{measuredOf};
+ghost use Rattle.listings.specs.inner.Passes.{sizeOfListing};
 use crate::directory_entries::entry_at;
 use crate::directory_entries::is_long;
 use crate::directory_entries::put_entry;
@@ -16,14 +16,14 @@ use disc::replies::Reply;
 use disc::replies::refusal;
 
 // Whether all entries are good, whether a listed name is too long, and how many bytes the listing takes.
-pub struct Measured {
+pub struct ListingSize {
     pub good: bool,
     pub long: bool,
     pub size: usize,
 }
 
-fn measure(raw: &[u8]) -> Measured
-    ensures { λ r. ⌜ r ≡ measuredOf (entries (now (raw .entry))) ⌝ }
+fn measure(raw: &[u8]) -> ListingSize
+    ensures { λ r. ⌜ r ≡ sizeOfListing (entries (now (raw .entry))) ⌝ }
 {
     let mut long = false;
     let mut n: usize = 0;
@@ -31,7 +31,7 @@ fn measure(raw: &[u8]) -> Measured
     while at + 38 <= raw.len() {
         let r = entry_at(&raw[at..]);
         if r.answer != 0 {
-            return Measured {
+            return ListingSize {
                 good: false,
                 long: false,
                 size: 0,
@@ -42,7 +42,7 @@ fn measure(raw: &[u8]) -> Measured
         n += record_size(f);
         at += f.total_size;
     }
-    Measured {
+    ListingSize {
         good: true,
         long,
         size: n,

@@ -1,0 +1,3 @@
+-- What the private functions alone cite: there is nothing to believe here.
+pub mod Spaces
+pub mod Walks

@@ -1,0 +1,2 @@
+-- What the private functions alone cite: there is nothing to believe here.
+pub mod Passes
