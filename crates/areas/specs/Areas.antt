@@ -11,8 +11,9 @@ use Rattle.records.specs.declared.allocations.ShortAd.{ShortAd}
 use Rattle.records.specs.declared.allocations.LbAddr.{LbAddr}
 use Rattle.records.specs.declared.allocations.LongAd.{LongAd}
 use Rattle.records.specs.declared.allocations.ExtAd.{ExtAd}
-use Rattle.areas.specs.declared.PartitionRef.{PartitionRef}
-use Rattle.areas.specs.declared.PartitionRef.the-variants.{Unnamed, Named}
+use Rattle.disc.specs.declared.places.Block.{Block}
+use Rattle.disc.specs.declared.places.PartitionRef.{PartitionRef}
+use Rattle.disc.specs.declared.places.PartitionRef.the-variants.{Unnamed, Named}
 use Rattle.areas.specs.declared.AllocExtent.{AllocExtent}
 use Rattle.areas.specs.declared.AdContinuation.{AdContinuation}
 use Rattle.areas.specs.declared.Descriptor.{Descriptor}
@@ -30,9 +31,9 @@ unfoldable pub sizeOf : ℕ → ℕ
 sizeOf kind = pick (eqb kind 0) 8 (pick (eqb kind 1) 16 20)
 
 abbrev pub extent : ℕ → ℕ → ℕ → PartitionRef → AllocExtent
-extent length type block partition = record { length = length; «extent_type» = type; block = block; «partition_ref» = partition }
+extent length type block partition = record { length = length; «extent_type» = type; block = record { 0 = block }; «partition_ref» = partition }
 
-abbrev pub continuation : ℕ → ℕ → PartitionRef → AdContinuation
+abbrev pub continuation : ℕ → Block → PartitionRef → AdContinuation
 continuation length block partition = record { length = length; block = block; «partition_ref» = partition }
 
 -- length 0 ends an area, whatever the type; type 3 continues it; an extent that isn't recorded whole is compressed

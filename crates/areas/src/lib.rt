@@ -2,29 +2,25 @@
 ghost use mathlib.Core.Path.{_≡_};
 ghost use Rattle.records.specs.Allocations.{shortOf, longOf, extOf};
 ghost use Rattle.areas.specs.Areas.{sizeOf, says, shortSays, longSays, extSays, descriptorAt, nextOf, areaAt};
+use disc::places::Block;
+use disc::places::PartitionRef;
 use disc::refusals::Refusal;
 use records::allocations::ext_at;
 use records::allocations::long_at;
 use records::allocations::short_at;
 
-// The partition that a descriptor names: a short_ad names none.
-pub enum PartitionRef {
-    Unnamed,
-    Named(u16),
-}
-
 // `length` is the effective one: an ext_ad's information length, else the stored length.
 pub struct AllocExtent {
     pub length: u32,
     pub extent_type: u8,
-    pub block: u32,
+    pub block: Block,
     pub partition_ref: PartitionRef,
 }
 
 // Where the next area stands.
 pub struct AdContinuation {
     pub length: u32,
-    pub block: u32,
+    pub block: Block,
     pub partition_ref: PartitionRef,
 }
 
@@ -78,9 +74,10 @@ fn says(stored: AllocExtent, whole: bool, effective: AllocExtent) -> Descriptor
     }
     if stored.extent_type == 3 {
         let partition = stored.partition_ref;
+        let block = stored.block;
         return Descriptor::Continued(AdContinuation {
             length: stored.length,
-            block: stored.block,
+            block: block,
             partition_ref: partition,
         });
     }
@@ -97,7 +94,7 @@ fn short_says(s: &[u8], i: usize) -> Descriptor
     let e = AllocExtent {
         length: a.length,
         extent_type: a.extent_type,
-        block: a.block_location,
+        block: Block(a.block_location),
         partition_ref: PartitionRef::Unnamed,
     };
     says(e, true, e)
@@ -110,7 +107,7 @@ fn long_says(s: &[u8], i: usize) -> Descriptor
     let e = AllocExtent {
         length: a.length,
         extent_type: a.extent_type,
-        block: a.location.block,
+        block: Block(a.location.block),
         partition_ref: PartitionRef::Named(a.location.partition_ref),
     };
     says(e, true, e)
@@ -123,13 +120,13 @@ fn ext_says(s: &[u8], i: usize) -> Descriptor
     let stored = AllocExtent {
         length: a.length,
         extent_type: a.extent_type,
-        block: a.location.block,
+        block: Block(a.location.block),
         partition_ref: PartitionRef::Named(a.location.partition_ref),
     };
     let effective = AllocExtent {
         length: a.information_length,
         extent_type: a.extent_type,
-        block: a.location.block,
+        block: Block(a.location.block),
         partition_ref: PartitionRef::Named(a.location.partition_ref),
     };
     says(stored, a.recorded_length == a.information_length, effective)

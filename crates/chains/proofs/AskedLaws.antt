@@ -2,6 +2,7 @@
 use mathlib.Core.Path.{_≡_, refl}
 use mathlib.Core.Bool.{Bool, true, false}
 use mathlib.Core.List.{List, [], _++_}
+use mathlib.Core.Option.{Option, none, some}
 use Prim.Native.Nat.{ℕ, zero, suc, _+_, _*_, _≤_}
 use native.Mathlib.Omega.{arith}
 use lib.Dec.{ltb}
@@ -13,6 +14,8 @@ use Rattle.disc.specs.Ask.Ask.{done, refuse, ask}
 use Rattle.disc.specs.Ask.Outcome.{answered, refused}
 use Rattle.disc.specs.Ran.{ran, onward}
 use Rattle.disc.specs.Images.{sectors}
+use Rattle.disc.specs.Places.{placed, standing}
+use Rattle.disc.specs.declared.places.Mount.{Mount}
 use Rattle.disc.specs.declared.refusals.Refusal.{Refusal}
 use Rattle.disc.specs.declared.refusals.Refusal.the-variants.{Malformed, Unsupported}
 use Rattle.disc.proofs.RanLaws.{ran-done, ran-refuse, ran-there, ran-missing, ran-then}
@@ -23,7 +26,7 @@ use Rattle.areas.specs.declared.AdContinuation.{AdContinuation}
 use Rattle.areas.specs.declared.AdEnding.{AdEnding}
 use Rattle.areas.specs.declared.AdEnding.the-variants.{End, Continuation, Refused}
 use Rattle.areas.specs.Areas.{Area}
-use Rattle.chains.specs.Chains.{sectorsFor, foreign, areaIn, nextArea, continued, chain}
+use Rattle.chains.specs.Chains.{sectorsFor, areaIn, areaFrom, nextArea, continued, chain}
 
 -- ---- a tree that asks for at most n sectors, whatever it is given
 
@@ -71,33 +74,37 @@ area-asks : (kind size : ℕ) (s : List ℕ) (r : AedRead) → AtMost 0 (areaIn 
 area-asks kind size s (NoHeader r) = refuse-asks r 0
 area-asks kind size s (Header h) = pick-asks (ltb size (24 + h .«length_of_allocation_descriptors»)) 0 (refuse-asks Malformed 0) (done-asks _ 0)
 
-next-asks : (start partition kind : ℕ) (e : AdContinuation) → AtMost 512 (nextArea start partition kind e)
-unfolding nextArea
-next-asks start partition kind e =
-    pick-asks (foreign partition (e .«partition_ref»)) 512 (refuse-asks Unsupported 512)
-    (pick-asks (ltb (e .length) 24) 512 (refuse-asks Malformed 512)
-    (by (ltb 1048576 (e .length)) refl))
+from-asks : (kind length at : ℕ) → AtMost 512 (areaFrom kind length at)
+unfolding areaFrom
+from-asks kind length at = pick-asks (ltb length 24) 512 (refuse-asks Malformed 512) (by (ltb 1048576 length) refl)
   where
-    by : (b : Bool) → ltb 1048576 (e .length) ≡ b
-        → AtMost 512 (pick b (refuse Unsupported) (then (sectors (sectorsFor (e .length)) (start + e .block)) (λ s. areaIn kind (e .length) s (readAed s))))
+    by : (b : Bool) → ltb 1048576 length ≡ b → AtMost 512 (pick b (refuse Unsupported) (then (sectors (sectorsFor length) at) (λ s. areaIn kind length s (readAed s))))
     by true t = refuse-asks Unsupported 512
     by false t =
-        fewer-asks (sectorsFor (e .length) + 0) 512 (omega (arith, ltb-false 1048576 (e .length) t))
-        (then-asks _ _ (sectorsFor (e .length)) 0 (sectors-asks _ _) (λ s. area-asks kind (e .length) s (readAed s)))
+        fewer-asks (sectorsFor length + 0) 512 (omega (arith, ltb-false 1048576 length t))
+        (then-asks _ _ (sectorsFor length) 0 (sectors-asks _ _) (λ s. area-asks kind length s (readAed s)))
 
-continued-asks : (start partition kind n : ℕ) (how : AdEnding) → AtMost (512 * n) (continued start partition kind n how)
+pub standing-asks : {A : Type 0} (o : Option ℕ) (f : ℕ → Ask A) (n : ℕ) → ((s : ℕ) → AtMost n (f s)) → AtMost n (standing o f)
+standing-asks none f n h = refuse-asks Unsupported n
+standing-asks (some s) f n h = h s
+
+next-asks : (m : Mount) (kind : ℕ) (e : AdContinuation) → AtMost 512 (nextArea m kind e)
+unfolding nextArea
+next-asks m kind e = standing-asks (placed m (e .«partition_ref») (e .block .0)) _ 512 (from-asks kind (e .length))
+
+continued-asks : (m : Mount) (kind n : ℕ) (how : AdEnding) → AtMost (512 * n) (continued m kind n how)
 unfolding continued
-continued-asks start partition kind zero End = done-asks [] _
-continued-asks start partition kind zero (Refused r) = refuse-asks r _
-continued-asks start partition kind zero (Continuation e) = refuse-asks Malformed _
-continued-asks start partition kind (suc n) End = done-asks [] _
-continued-asks start partition kind (suc n) (Refused r) = refuse-asks r _
-continued-asks start partition kind (suc n) (Continuation e) =
+continued-asks m kind zero End = done-asks [] _
+continued-asks m kind zero (Refused r) = refuse-asks r _
+continued-asks m kind zero (Continuation e) = refuse-asks Malformed _
+continued-asks m kind (suc n) End = done-asks [] _
+continued-asks m kind (suc n) (Refused r) = refuse-asks r _
+continued-asks m kind (suc n) (Continuation e) =
     fewer-asks (512 + (512 * n + 0)) (512 * suc n) (omega arith)
-    (then-asks _ _ 512 (512 * n + 0) (next-asks start partition kind e)
-    (λ a. then-asks _ _ (512 * n) 0 (continued-asks start partition kind n (a .ending)) (λ more. done-asks _ 0)))
+    (then-asks _ _ 512 (512 * n + 0) (next-asks m kind e)
+    (λ a. then-asks _ _ (512 * n) 0 (continued-asks m kind n (a .ending)) (λ more. done-asks _ 0)))
 
-pub chain-asks : (start partition kind n : ℕ) (x : Area) → AtMost (512 * n) (chain start partition kind n x)
-chain-asks start partition kind n x =
+pub chain-asks : (m : Mount) (kind n : ℕ) (x : Area) → AtMost (512 * n) (chain m kind n x)
+chain-asks m kind n x =
     fewer-asks (512 * n + 0) (512 * n) (omega arith)
-    (then-asks _ _ (512 * n) 0 (continued-asks start partition kind n (x .ending)) (λ more. done-asks (x .extents ++ more) 0))
+    (then-asks _ _ (512 * n) 0 (continued-asks m kind n (x .ending)) (λ more. done-asks (x .extents ++ more) 0))

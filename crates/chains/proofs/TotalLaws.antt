@@ -2,6 +2,7 @@
 use mathlib.Core.Path.{_≡_, refl}
 use mathlib.Core.Bool.{Bool, true, false}
 use mathlib.Core.List.{List, [], _++_}
+use mathlib.Core.Option.{Option, none, some}
 use Prim.Native.Nat.{ℕ, zero, suc, _+_, _*_, _≤_, _^_}
 use native.Mathlib.Nat.{suc-mul}
 use native.Mathlib.Omega.{arith}
@@ -13,6 +14,8 @@ use Rattle.disc.specs.Ask.Ask.{done, refuse}
 use Rattle.disc.specs.Ask.Outcome.{answered, refused}
 use Rattle.disc.specs.Ran.{ran, onward}
 use Rattle.disc.specs.Images.{sectors}
+use Rattle.disc.specs.Places.{placed, standing}
+use Rattle.disc.specs.declared.places.Mount.{Mount}
 use Rattle.disc.specs.declared.refusals.Refusal.{Refusal}
 use Rattle.disc.specs.declared.refusals.Refusal.the-variants.{Malformed, Unsupported}
 use Rattle.disc.proofs.RanLaws.{ran-done, ran-refuse, ran-then}
@@ -25,7 +28,7 @@ use Rattle.areas.specs.declared.AdEnding.{AdEnding}
 use Rattle.areas.specs.declared.AdEnding.the-variants.{End, Continuation, Refused}
 use Rattle.areas.specs.Areas.{Area}
 use Rattle.areas.proofs.TotalLaws.{total, total-append, area-total}
-use Rattle.chains.specs.Chains.{sectorsFor, foreign, areaIn, nextArea, continued, chain}
+use Rattle.chains.specs.Chains.{sectorsFor, areaIn, areaFrom, nextArea, continued, chain}
 
 -- ---- a tree whose answers have at most a size, whatever it is given
 
@@ -59,33 +62,40 @@ module _ {A : Type 0} (size : A → ℕ) (n : ℕ) where
 abbrev held : Area → ℕ
 held x = total (x .extents)
 
-module _ (start partition kind : ℕ) where
+module _ (v : Mount) (kind : ℕ) where
   area-within : (size : ℕ) (s : List ℕ) (r : AedRead) → size ≤ 1048576 → Within held (2 ^ 47) (areaIn kind size s r)
   area-within size s (NoHeader r) l = refuse-within held (2 ^ 47) r
   area-within size s (Header h) l = pick-within held (2 ^ 47) (ltb size (24 + h .«length_of_allocation_descriptors»)) (λ t. refuse-within held (2 ^ 47) Malformed)
       (λ t. done-within held (2 ^ 47) _ (omega (arith, ltb-false size (24 + h .«length_of_allocation_descriptors») t, area-total kind s 24 (h .«length_of_allocation_descriptors»))))
 
-  next-within : (a : AdContinuation) → Within held (2 ^ 47) (nextArea start partition kind a)
+  from-within : (length at : ℕ) → Within held (2 ^ 47) (areaFrom kind length at)
+  unfolding areaFrom
+  from-within length at =
+      pick-within held (2 ^ 47) (ltb length 24) (λ t. refuse-within held (2 ^ 47) Malformed) (λ t.
+      pick-within held (2 ^ 47) (ltb 1048576 length) (λ t. refuse-within held (2 ^ 47) Unsupported) (λ t.
+      then-within held (2 ^ 47) (sectors (sectorsFor length) at) _ (λ d s e. area-within length s (readAed s) (ltb-false 1048576 length t))))
+
+  next-within : (a : AdContinuation) → Within held (2 ^ 47) (nextArea v kind a)
   unfolding nextArea
-  next-within a =
-      pick-within held (2 ^ 47) (foreign partition (a .«partition_ref»)) (λ t. refuse-within held (2 ^ 47) Unsupported) (λ t.
-      pick-within held (2 ^ 47) (ltb (a .length) 24) (λ t. refuse-within held (2 ^ 47) Malformed) (λ t.
-      pick-within held (2 ^ 47) (ltb 1048576 (a .length)) (λ t. refuse-within held (2 ^ 47) Unsupported) (λ t.
-      then-within held (2 ^ 47) (sectors (sectorsFor (a .length)) (start + a .block)) _ (λ d s e. area-within (a .length) s (readAed s) (ltb-false 1048576 (a .length) t)))))
+  next-within a = by (placed v (a .«partition_ref») (a .block .0))
+    where
+      by : (o : Option ℕ) → Within held (2 ^ 47) (standing o (areaFrom kind (a .length)))
+      by none = refuse-within held (2 ^ 47) Unsupported
+      by (some at) = from-within (a .length) at
 
   -- more extents behind some
   joined-within : (n k : ℕ) (es : List AllocExtent) (m : Ask (List AllocExtent)) → total es ≤ k → Within total n m → Within total (n + k) (then m (λ more. done (es ++ more)))
   joined-within n k es m h p = then-within total (n + k) m _ (λ d more e. done-within total (n + k) _ (rw total-append (let g : total more ≤ n = rw e at (p .most d) in omega arith)))
 
-  continued-within : (n : ℕ) (how : AdEnding) → Within total (n * 2 ^ 47) (continued start partition kind n how)
+  continued-within : (n : ℕ) (how : AdEnding) → Within total (n * 2 ^ 47) (continued v kind n how)
   unfolding continued total
   continued-within zero End = done-within total _ [] (omega arith)
   continued-within zero (Refused r) = refuse-within total _ r
   continued-within zero (Continuation a) = refuse-within total _ Malformed
   continued-within (suc n) End = done-within total _ [] (omega arith)
   continued-within (suc n) (Refused r) = refuse-within total _ r
-  continued-within (suc n) (Continuation a) = rw suc-mul (then-within total _ (nextArea start partition kind a) _ (λ d x e.
+  continued-within (suc n) (Continuation a) = rw suc-mul (then-within total _ (nextArea v kind a) _ (λ d x e.
       joined-within (n * 2 ^ 47) (2 ^ 47) (x .extents) _ (rw e at (next-within a .most d)) (continued-within n (x .ending))))
 
-  pub chain-within : (n k : ℕ) (x : Area) → held x ≤ k → Within total (n * 2 ^ 47 + k) (chain start partition kind n x)
+  pub chain-within : (n k : ℕ) (x : Area) → held x ≤ k → Within total (n * 2 ^ 47 + k) (chain v kind n x)
   chain-within n k x h = joined-within (n * 2 ^ 47) k (x .extents) _ h (continued-within n (x .ending))

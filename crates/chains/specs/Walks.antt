@@ -1,9 +1,12 @@
 -- What a cursor stands for: the extents that are left of a chain, read off the image where its areas stand. There is nothing to believe here: that these
--- are the extents of a chain that is whole is proved (proofs/FollowLaws.antt). Assumes nothing: these are definitions.
+-- are the extents of a chain that is whole is proved (proofs/FollowLaws.antt).
 use Prim.Native.Nat.{ℕ, zero, suc, _+_, _-_, _*_, _^_}
 use mathlib.Core.List.{List, [], _++_}
+use mathlib.Core.Option.{Option, none, some}
 use lib.Dec.{eqb}
 use Rattle.disc.specs.Choice.{pick}
+use Rattle.disc.specs.Places.{placed}
+use Rattle.disc.specs.declared.places.Mount.{Mount}
 use Rattle.records.specs.Bytes.{u32at}
 use Rattle.areas.specs.declared.AllocExtent.{AllocExtent}
 use Rattle.areas.specs.declared.AdContinuation.{AdContinuation}
@@ -11,33 +14,38 @@ use Rattle.areas.specs.declared.AdStep.{AdStep}
 use Rattle.areas.specs.declared.AdStep.the-variants.{Extent, Continuation as Continues, End as Stops, Refused as Refuses}
 use Rattle.areas.specs.declared.AdEnding.{AdEnding}
 use Rattle.areas.specs.declared.AdEnding.the-variants.{End, Continuation, Refused}
-use Rattle.areas.specs.Areas.{Area, areaAt, nextOf}
+use Rattle.areas.specs.Areas.{Area, ended, areaAt, nextOf}
 use Rattle.chains.specs.declared.cursors.ChainCursor.{ChainCursor}
 use Rattle.chains.specs.declared.cursors.ChainStep.{ChainStep}
 use Rattle.chains.specs.declared.cursors.ChainStep.the-variants.{Takes, Hops, Ends}
 
--- where a continuation's sectors stand, and how long the area in them says it is
-abbrev pub placeOf : ℕ → AdContinuation → ℕ
-placeOf start a = 2048 * (start + a .block)
+-- the area in the sectors from s on, as long as the header in front of it says
+abbrev pub areaPlace : ℕ → ℕ
+areaPlace s = 2048 * s + 24
 
 abbrev pub areaSize : List ℕ → ℕ → ℕ
-areaSize image place = u32at image (place + 20)
+areaSize image s = u32at image (2048 * s + 20)
+
+abbrev pub areaThere : List ℕ → ℕ → Option ℕ → Area
+areaThere image kind none = ended End
+areaThere image kind (some s) = areaAt kind image (areaPlace s) (areaSize image s)
+
+abbrev pub nextThere : List ℕ → Mount → ℕ → AdContinuation → Area
+nextThere image m kind a = areaThere image kind (placed m (a .«partition_ref») (a .block .0))
 
 -- the extents behind an area, through n areas at most
-unfoldable pub beyond : List ℕ → ℕ → ℕ → ℕ → AdEnding → List AllocExtent
-beyond image start kind zero how = []
-beyond image start kind (suc n) End = []
-beyond image start kind (suc n) (Refused r) = []
-beyond image start kind (suc n) (Continuation a) =
-    areaAt kind image (placeOf start a + 24) (areaSize image (placeOf start a)) .extents ++
-    beyond image start kind n (areaAt kind image (placeOf start a + 24) (areaSize image (placeOf start a)) .ending)
+unfoldable pub beyond : List ℕ → Mount → ℕ → ℕ → AdEnding → List AllocExtent
+beyond image m kind zero how = []
+beyond image m kind (suc n) End = []
+beyond image m kind (suc n) (Refused r) = []
+beyond image m kind (suc n) (Continuation a) = nextThere image m kind a .extents ++ beyond image m kind n (nextThere image m kind a .ending)
 
 -- the extents of an area and behind it
-abbrev pub through : List ℕ → ℕ → ℕ → ℕ → Area → List AllocExtent
-through image start kind n x = x .extents ++ beyond image start kind n (x .ending)
+abbrev pub through : List ℕ → Mount → ℕ → ℕ → Area → List AllocExtent
+through image m kind n x = x .extents ++ beyond image m kind n (x .ending)
 
-unfoldable pub left : List ℕ → ℕ → ℕ → ChainCursor → List AllocExtent
-left image start kind c = through image start kind (c .hops) (areaAt kind image (c .at) (c .left))
+unfoldable pub left : List ℕ → Mount → ℕ → ChainCursor → List AllocExtent
+left image m kind c = through image m kind (c .hops) (areaAt kind image (c .at) (c .left))
 
 -- what a step of a walk makes smaller
 abbrev pub weight : ChainCursor → ℕ
@@ -45,15 +53,18 @@ weight c = c .hops * 2 ^ 32 + c .left
 
 -- ---- a step
 
-abbrev pub hopping : List ℕ → ℕ → AdContinuation → ℕ → ChainStep
-hopping image start a hops =
-    pick (eqb hops 0) Ends (Hops (record { at = placeOf start a + 24; left = areaSize image (placeOf start a); hops = hops - 1 }))
+abbrev pub hopTo : List ℕ → Option ℕ → ℕ → ChainStep
+hopTo image none hops = Ends
+hopTo image (some s) hops = Hops (record { at = areaPlace s; left = areaSize image s; hops = hops - 1 })
 
-abbrev pub stepped : List ℕ → ℕ → ℕ → AdStep → ChainStep
-stepped image start hops Stops = Ends
-stepped image start hops (Refuses r) = Ends
-stepped image start hops (Extent e c) = Takes e (record { at = c .at; left = c .left; hops = hops })
-stepped image start hops (Continues a) = hopping image start a hops
+abbrev pub hopping : List ℕ → Mount → AdContinuation → ℕ → ChainStep
+hopping image m a hops = pick (eqb hops 0) Ends (hopTo image (placed m (a .«partition_ref») (a .block .0)) hops)
 
-unfoldable pub stepOf : List ℕ → ℕ → ℕ → ChainCursor → ChainStep
-stepOf image start kind c = stepped image start (c .hops) (nextOf kind image (record { at = c .at; left = c .left }))
+abbrev pub stepped : List ℕ → Mount → ℕ → AdStep → ChainStep
+stepped image m hops Stops = Ends
+stepped image m hops (Refuses r) = Ends
+stepped image m hops (Extent e c) = Takes e (record { at = c .at; left = c .left; hops = hops })
+stepped image m hops (Continues a) = hopping image m a hops
+
+unfoldable pub stepOf : List ℕ → Mount → ℕ → ChainCursor → ChainStep
+stepOf image m kind c = stepped image m (c .hops) (nextOf kind image (record { at = c .at; left = c .left }))

@@ -1,12 +1,13 @@
 // The area that continues another, looked for where it stands in the image.
-ghost use Rattle.chains.specs.Follows.{Entered};
-use crate::references::is_foreign;
+ghost use Prim.Native.Nat.{_<_, _^_};
+ghost use Rattle.chains.specs.Follows.{Entered, EnteredFrom};
 use crate::references::sectors_for;
 use areas::AdContinuation;
 use disc::images::held_from;
 use disc::images::run_part;
-use disc::places::Block;
-use disc::places::sector_of;
+use disc::places::Mount;
+use disc::places::Placed;
+use disc::places::Sector;
 use disc::refusals::Refusal;
 use tags::AedRead;
 use tags::AllocationExtentDescriptor;
@@ -21,23 +22,23 @@ pub enum NextArea {
     Refused(Refusal, u64),
 }
 
-// The checks of a continuation, in order. Its sectors are one part of the image: nothing is copied.
-pub(crate) fn next_area(image: &[u8], start: u32, partition: u16, a: AdContinuation) -> NextArea
-    ensures { λ r. ⌜ Entered (now (image .entry)) start partition a r ⌝ }
+// A continuation has a header at least, and at most this many bytes.
+const HEADER: u32 = 24;
+
+const LONGEST: u32 = 1048576;
+
+// The area in `length` bytes from a sector on: the checks in order. Its sectors are one part of the image: nothing is copied.
+fn area_from(image: &[u8], length: u32, first: Sector) -> NextArea
+    requires { ⌜ first .0 < 2 ^ 33 ⌝ }
+    ensures { λ r. ⌜ EnteredFrom (now (image .entry)) length (first .0) r ⌝ }
 {
-    let reference = a.partition_ref;
-    if is_foreign(partition, reference) {
-        return NextArea::Refused(Refusal::Unsupported, 0);
-    }
-    let length = a.length;
-    if length < 24 {
+    if length < HEADER {
         return NextArea::Refused(Refusal::Malformed, 0);
     }
-    if 1048576 < length {
+    if LONGEST < length {
         return NextArea::Refused(Refusal::Unsupported, 0);
     }
     let n = sectors_for(length);
-    let first = sector_of(start, Block(a.block));
     let held = held_from(image, first);
     if held < n {
         return NextArea::Refused(Refusal::Io, held + 1);
@@ -55,5 +56,17 @@ pub(crate) fn next_area(image: &[u8], start: u32, partition: u16, a: AdContinuat
                 sectors: n,
             }
         }
+    }
+}
+
+// The area that continues another; one that stands in another partition is refused before its checks.
+pub(crate) fn next_area(image: &[u8], mount: Mount, a: AdContinuation) -> NextArea
+    ensures { λ r. ⌜ Entered (now (image .entry)) mount a r ⌝ }
+{
+    let reference = a.partition_ref;
+    let block = a.block;
+    match mount.placed(reference, block) {
+        Placed::Nowhere => NextArea::Refused(Refusal::Unsupported, 0),
+        Placed::At(first) => area_from(image, a.length, first),
     }
 }

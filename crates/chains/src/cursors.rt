@@ -1,14 +1,17 @@
 // A cursor over the allocation descriptors of a file, through the areas that continue one another. It stands for the extents that are left:
 // it is only put to use where the chain was followed without a refusal.
 ghost use mathlib.Core.Path.{_≡_};
-ghost use Rattle.chains.specs.Walks.{hopping, stepOf};
+ghost use mathlib.Core.Option.{some};
+ghost use Prim.Native.Nat.{_≤_, _<_, _^_};
+ghost use Rattle.chains.specs.Walks.{hopTo, hopping, stepOf};
 use areas::AdContinuation;
 use areas::AdCursor;
 use areas::AdStep;
 use areas::AllocExtent;
 use areas::next_ad;
-use disc::places::Block;
-use disc::places::sector_of;
+use disc::places::Mount;
+use disc::places::Placed;
+use disc::places::Sector;
 use records::bytes::le32;
 
 // `left` bytes of descriptors stand at `at`; `hops` more areas may follow.
@@ -24,14 +27,11 @@ pub enum ChainStep {
     Ends,
 }
 
-// Behind a continuation: the area in the sectors that it names, behind their header of 24 bytes.
-fn hop(image: &[u8], start: u32, a: AdContinuation, hops: u8) -> ChainStep
-    ensures { λ r. ⌜ r ≡ hopping (now (image .entry)) start a hops ⌝ }
+// To the area in the sectors from `first` on, behind their header of 24 bytes.
+fn hop_to(image: &[u8], first: Sector, hops: u8) -> ChainStep
+    requires { ⌜ (first .0 < 2 ^ 33) × (1 ≤ hops) ⌝ }
+    ensures { λ r. ⌜ r ≡ hopTo (now (image .entry)) (some (first .0)) hops ⌝ }
 {
-    if hops == 0 {
-        return ChainStep::Ends;
-    }
-    let first = sector_of(start, Block(a.block));
     let place = (2048 * first.0) as usize;
     let size = le32(image, place + 20);
     ChainStep::Hops(ChainCursor {
@@ -41,9 +41,24 @@ fn hop(image: &[u8], start: u32, a: AdContinuation, hops: u8) -> ChainStep
     })
 }
 
+// Behind a continuation.
+fn hop(image: &[u8], mount: Mount, a: AdContinuation, hops: u8) -> ChainStep
+    ensures { λ r. ⌜ r ≡ hopping (now (image .entry)) mount a hops ⌝ }
+{
+    if hops == 0 {
+        return ChainStep::Ends;
+    }
+    let reference = a.partition_ref;
+    let block = a.block;
+    match mount.placed(reference, block) {
+        Placed::Nowhere => ChainStep::Ends,
+        Placed::At(first) => hop_to(image, first, hops),
+    }
+}
+
 // The next step of a walk: an extent, another area, or the end.
-pub fn advance(image: &[u8], start: u32, kind: u8, c: ChainCursor) -> ChainStep
-    ensures { λ r. ⌜ r ≡ stepOf (now (image .entry)) start kind c ⌝ }
+pub fn advance(image: &[u8], mount: Mount, kind: u8, c: ChainCursor) -> ChainStep
+    ensures { λ r. ⌜ r ≡ stepOf (now (image .entry)) mount kind c ⌝ }
 {
     let here = AdCursor {
         at: c.at,
@@ -60,6 +75,6 @@ pub fn advance(image: &[u8], start: u32, kind: u8, c: ChainCursor) -> ChainStep
                 hops: c.hops,
             },
         ),
-        AdStep::Continuation(a) => hop(image, start, a, c.hops),
+        AdStep::Continuation(a) => hop(image, mount, a, c.hops),
     }
 }

@@ -6,6 +6,7 @@ use crate::cursors::ChainCursor;
 use areas::AdCursor;
 use areas::AdEnding;
 use areas::ending_of;
+use disc::places::Mount;
 use disc::refusals::Refusal;
 
 // What following a chain comes to: the sectors asked for, or a refusal and the sectors asked for.
@@ -14,8 +15,8 @@ pub enum Chain {
     Refused(Refusal, u64),
 }
 
-pub fn follow(image: &[u8], start: u32, partition: u16, kind: u8, first: ChainCursor) -> Chain
-    ensures { λ r. ⌜ Followed (now (image .entry)) start partition kind first r ⌝ }
+pub fn follow(image: &[u8], mount: Mount, kind: u8, first: ChainCursor) -> Chain
+    ensures { λ r. ⌜ Followed (now (image .entry)) mount kind first r ⌝ }
 {
     let mut c = first;
     let mut count: u64 = 0;
@@ -32,7 +33,7 @@ pub fn follow(image: &[u8], start: u32, partition: u16, kind: u8, first: ChainCu
                 if hops == 0 {
                     return Chain::Refused(Refusal::Malformed, count);
                 }
-                match next_area(image, start, partition, a) {
+                match next_area(image, mount, a) {
                     NextArea::Refused(why, n) => return Chain::Refused(why, count + n),
                     NextArea::Found { at, size, sectors } => {
                         count += sectors;

@@ -5,20 +5,20 @@ use mathlib.Core.List.{List}
 use Prim.Native.Nat.{ℕ, _-_}
 use lib.ListN.{length, take, drop}
 use lib.Dec.{leb}
+use Rattle.disc.specs.declared.places.Mount.{Mount}
 use Rattle.disc.specs.Choice.{pick}
 use Rattle.disc.specs.Refusals.{number}
 use Rattle.disc.specs.Counts.{reported}
-use Rattle.disc.specs.Ask.{Disc, Outcome}
+use Rattle.disc.specs.Ask.{Disc, Outcome, andThen}
 use Rattle.disc.specs.Ask.Outcome.{answered, refused}
-use Rattle.disc.specs.Ran.{Ran, ran}
+use Rattle.disc.specs.Ran.{Ran, ran, told}
 use Rattle.disc.specs.Replies.{replyBy, Replied}
 use Rattle.disc.specs.declared.refusals.Refusal.{Refusal}
 use Rattle.disc.specs.declared.refusals.Refusal.the-variants.{NoRoom}
 use Rattle.disc.specs.declared.replies.Reply.{Reply}
 use Rattle.records.specs.declared.allocations.LongAd.{LongAd}
-use Rattle.listings.specs.Listings.{listing, told}
+use Rattle.listings.specs.Listings.{listing}
 use Rattle.directories.specs.Directories.{directoryBytes, listingAt}
-use Rattle.directories.specs.Lookups.{andThen}
 use Rattle.directories.specs.inner.Spaces.{replyTo, Reads}
 use Rattle.directories.proofs.SpaceLaws.{ran-known, reads-count, reads-bytes}
 
@@ -39,19 +39,19 @@ refused-replied : (o : Outcome (List ℕ)) (n : ℕ) {reply : Reply} → reply �
 refused-replied (answered b) n p h f d = absurd (h (rw p))
 refused-replied (refused r) n p h f d = record { says = p; leaves = refl }
 
-module _ (d : Disc) (start partition : ℕ) (icb : LongAd) (w w′ : List ℕ) {read : Reply} (p : Reads (ran d (directoryBytes start partition (length w) icb)) w w′ read) where
+module _ (d : Disc) (v : Mount) (icb : LongAd) (w w′ : List ℕ) {read : Reply} (p : Reads (ran d (directoryBytes v (length w) icb)) w w′ read) where
   abbrev R : Ran (List ℕ)
-  R = ran d (directoryBytes start partition (length w) icb)
+  R = ran d (directoryBytes v (length w) icb)
 
-  listing-is : ran d (listingAt start partition (length w) icb) ≡ record { outcome = andThen (R .outcome) listing; count = R .count }
+  listing-is : ran d (listingAt v (length w) icb) ≡ record { outcome = andThen (R .outcome) listing; count = R .count }
   unfolding listingAt
-  listing-is = ran-known d (directoryBytes start partition (length w) icb) listing
+  listing-is = ran-known d (directoryBytes v (length w) icb) listing
 
-  pub list-refused : (read .answer ≡ 0 → ⊥) → (o : List ℕ) → Replied NoRoom (ran d (listingAt start partition (length w) icb)) o o read
+  pub list-refused : (read .answer ≡ 0 → ⊥) → (o : List ℕ) → Replied NoRoom (ran d (listingAt v (length w) icb)) o o read
   list-refused h o = rw listing-is (refused-replied (R .outcome) (R .count) (p .says) h listing o)
 
   pub list-listed : read .answer ≡ 0 → {o o′ : List ℕ} (l : Reply) → Replied NoRoom (told (listing (take (read .length - 0) (drop 0 w′)))) o o′ l
-      → Replied NoRoom (ran d (listingAt start partition (length w) icb)) o o′ (record { answer = l .answer; count = read .count; length = l .length })
+      → Replied NoRoom (ran d (listingAt v (length w) icb)) o o′ (record { answer = l .answer; count = read .count; length = l .length })
   list-listed h {o} l e =
       let b : List ℕ = take (read .length - 0) (drop 0 w′) in
       rw (listing-is, reads-bytes p h, reads-count p)

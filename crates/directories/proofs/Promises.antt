@@ -7,6 +7,7 @@ use mathlib.Core.Option.{some}
 use Prim.Native.Nat.{ℕ, _<_}
 use lib.ListN.{length}
 use borrow.Author.Tests.{lt-leb}
+use Rattle.disc.specs.declared.places.Mount.{Mount}
 use Rattle.disc.specs.Ask.{Disc, Ask, Outcome, outcome, asked, then, ended}
 use Rattle.disc.specs.Ask.Outcome.{answered, refused}
 use Rattle.disc.specs.Ran.{ran}
@@ -41,35 +42,35 @@ asked-known {A} {B} d m f = asked-then d m (λ a. ended (f a)) ∙ ap (λ l. ask
     by (refused r) = refl
 
 -- the call for the component that failed asks for the lookup's sectors
-pub failed-asks : (d : Disc) (start partition work : ℕ) (root : LongAd) (path : List ℕ) → asked d (lookupOf start partition work root path) ≡ asked d (seekPath start partition work root path)
+pub failed-asks : (d : Disc) (v : Mount) (work : ℕ) (root : LongAd) (path : List ℕ) → asked d (lookupOf v work root path) ≡ asked d (seekPath v work root path)
 unfolding lookupOf
-failed-asks d start partition work root path = asked-known d (seekPath start partition work root path) icbOf
+failed-asks d v work root path = asked-known d (seekPath v work root path) icbOf
 
 -- ---- what a path comes to
 
-module _ (d : Disc) (start partition work : ℕ) where
+module _ (d : Disc) (v : Mount) (work : ℕ) where
   -- a directory whose bytes exceed the work space is 6, after the sectors of the read
-  pub no-work : (icb : LongAd) {b : List ℕ} → ran d (fileBytes start partition icb) .outcome ≡ answered b → work < length b
-      → ran d (directoryBytes start partition work icb) ≡ record { outcome = refused NoWork; count = ran d (fileBytes start partition icb) .count }
+  pub no-work : (icb : LongAd) {b : List ℕ} → ran d (fileBytes v icb) .outcome ≡ answered b → work < length b
+      → ran d (directoryBytes v work icb) ≡ record { outcome = refused NoWork; count = ran d (fileBytes v icb) .count }
   unfolding directoryBytes within
-  no-work icb {b} e h = ran-known d (fileBytes start partition icb) (within work) ∙ rw (e, lt-leb (length b) work h)
+  no-work icb {b} e h = ran-known d (fileBytes v icb) (within work) ∙ rw (e, lt-leb (length b) work h)
 
   -- the first entry of a name wins, whatever stands behind it
-  pub enters-first : (icb : LongAd) (component : List ℕ) {b : List ℕ} → ran d (directoryBytes start partition work icb) .outcome ≡ answered b
+  pub enters-first : (icb : LongAd) (component : List ℕ) {b : List ℕ} → ran d (directoryBytes v work icb) .outcome ≡ answered b
       → (before : List Entry) (e : Entry) (rest : Entries) → entries b ≡ inFront before (entry e rest) → sound (entries b) ≡ true
       → NoneAnswers component before → answersTo component e ≡ true
-      → ran d (entering start partition work icb component) ≡ record { outcome = answered (some e); count = ran d (directoryBytes start partition work icb) .count }
+      → ran d (entering v work icb component) ≡ record { outcome = answered (some e); count = ran d (directoryBytes v work icb) .count }
   unfolding entering findIn
   enters-first icb component {b} r before e rest k s n h =
-      ran-known d (directoryBytes start partition work icb) (findIn component)
+      ran-known d (directoryBytes v work icb) (findIn component)
       ∙ rw (r, s, k, first-wins component before e rest n h)
 
   -- a component under what is no directory is lost before any further sector
-  pub under-file : (c : Component) (cs : List Component) (icb : LongAd) → ran d (seeking start partition work (c ∷ cs) icb false) ≡ record { outcome = answered (lost c); count = 0 }
+  pub under-file : (c : Component) (cs : List Component) (icb : LongAd) → ran d (seeking v work (c ∷ cs) icb false) ≡ record { outcome = answered (lost c); count = 0 }
   unfolding seeking
   under-file c cs icb = ran-done d (lost c)
 
   -- an empty path gives the root ICB, and count 0
-  pub empty-path : (root : LongAd) → ran d (lookupOf start partition work root []) ≡ record { outcome = answered root; count = 0 }
+  pub empty-path : (root : LongAd) → ran d (lookupOf v work root []) ≡ record { outcome = answered root; count = 0 }
   unfolding lookupOf seekPath seeking components componentsFrom front behind
-  empty-path root = ran-known d (seekPath start partition work root []) icbOf ∙ rw (ran-done d (reached root))
+  empty-path root = ran-known d (seekPath v work root []) icbOf ∙ rw (ran-done d (reached root))

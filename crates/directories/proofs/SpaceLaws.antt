@@ -8,40 +8,25 @@ use native.Mathlib.Omega.{arith}
 use lib.ListN.{length, take, drop, length-append}
 use lib.Seq.{take-append-seam}
 use lib.Dec.{leb}
+use Rattle.disc.proofs.RefusalLaws.{refusal-numbered}
+use Rattle.disc.specs.declared.places.Mount.{Mount}
 use Rattle.disc.specs.Choice.{pick}
 use Rattle.disc.specs.Refusals.{number}
 use Rattle.disc.specs.Counts.{reported}
-use Rattle.disc.specs.Ask.{Disc, Ask, Outcome, outcome, asked, then, ended}
+use Rattle.disc.specs.Ask.{Disc, Ask, Outcome, outcome, asked, then, ended, andThen}
 use Rattle.disc.specs.Ask.Outcome.{answered, refused}
 use Rattle.disc.specs.Ran.{Ran, ran, onward}
 use Rattle.disc.specs.Replies.{replyBy, leftBy, Replied}
 use Rattle.disc.specs.declared.refusals.Refusal.{Refusal}
-use Rattle.disc.specs.declared.refusals.Refusal.the-variants.{Io, Malformed, NotBluray, Unsupported, NoRoom, NoWork, NoSlot, LongName}
+use Rattle.disc.specs.declared.refusals.Refusal.the-variants.{NoWork}
 use Rattle.disc.specs.declared.replies.Reply.{Reply}
-use Rattle.disc.proofs.RanLaws.{ran-then}
+use Rattle.disc.proofs.RanLaws.{ran-then, ran-ended}
 use Rattle.records.specs.declared.allocations.LongAd.{LongAd}
 use Rattle.files.specs.Files.{fileBytes}
 use Rattle.directories.specs.Directories.{within, directoryBytes}
-use Rattle.directories.specs.Lookups.{andThen}
 use Rattle.directories.specs.inner.Spaces.{replyTo, onFront, Reads}
 
--- no refusal has the number of "done"
-pub number-some : (r : Refusal) → number r ≡ 0 → ⊥
-number-some Io h = omega arith
-number-some Malformed h = omega arith
-number-some NotBluray h = omega arith
-number-some Unsupported h = omega arith
-number-some NoRoom h = omega arith
-number-some NoWork h = omega arith
-number-some NoSlot h = omega arith
-number-some LongName h = omega arith
-
 -- ---- what follows without a question
-
-pub ran-ended : {A : Type 0} (d : Disc) (o : Outcome A) → ran d (ended o) ≡ record { outcome = o; count = 0 }
-unfolding ran outcome asked
-ran-ended d (answered a) = refl
-ran-ended d (refused r) = refl
 
 -- it asks for nothing more
 pub ran-known : {A B : Type 0} (d : Disc) (m : Ask A) (f : A → Outcome B)
@@ -72,14 +57,14 @@ left-within (answered b) w = by (leb (length b) (length w))
     by true = refl
     by false = refl
 
-pub read-within : (d : Disc) (start partition : ℕ) (icb : LongAd) {w w′ : List ℕ} {reply : Reply}
-    → Replied NoWork (ran d (fileBytes start partition icb)) w w′ reply → Reads (ran d (directoryBytes start partition (length w) icb)) w w′ reply
+pub read-within : (d : Disc) (v : Mount) (icb : LongAd) {w w′ : List ℕ} {reply : Reply}
+    → Replied NoWork (ran d (fileBytes v icb)) w w′ reply → Reads (ran d (directoryBytes v (length w) icb)) w w′ reply
 unfolding directoryBytes
-read-within d start partition icb {w} p =
-    rw (ran-known d (fileBytes start partition icb) (within (length w)))
+read-within d v icb {w} p =
+    rw (ran-known d (fileBytes v icb) (within (length w)))
     (record {
-      says = p .says ∙ reply-within (ran d (fileBytes start partition icb) .outcome) (length w) _;
-      leaves = p .leaves ∙ left-within (ran d (fileBytes start partition icb) .outcome) w;
+      says = p .says ∙ reply-within (ran d (fileBytes v icb) .outcome) (length w) _;
+      leaves = p .leaves ∙ left-within (ran d (fileBytes v icb) .outcome) w;
     })
 
 -- ---- what such a reply says of the outcome o
@@ -105,7 +90,7 @@ module _ (o : Outcome (List ℕ)) (n : ℕ) {reply : Reply} (p : reply ≡ reply
     where
       by : (o : Outcome (List ℕ)) → reply ≡ replyTo o n → w′ ≡ onFront o w → o ≡ answered (take (reply .length) w′)
       by (answered b) p q = rw (p, q) (ap answered (sym (take-append-seam b _)))
-      by (refused r) p q = absurd (number-some r (sym (ap (λ (x : Reply). x .answer) p) ∙ h))
+      by (refused r) p q = absurd (refusal-numbered r (sym (ap (λ (x : Reply). x .answer) p) ∙ h))
 
 -- the same of a run
 module _ {r : Ran (List ℕ)} {w w′ : List ℕ} {reply : Reply} (p : Reads r w w′ reply) where

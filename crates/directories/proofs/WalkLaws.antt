@@ -10,10 +10,12 @@ use lib.ListN.{length, take, drop, length-drop, drop-of-length-le}
 use lib.Seq.{drop-drop}
 use lib.Dec.{eqb}
 use borrow.Author.Tests.{ne-eqb, eq-eqb}
+use Rattle.disc.proofs.RefusalLaws.{refusal-numbered}
+use Rattle.disc.specs.declared.places.Mount.{Mount}
 use Rattle.disc.specs.Choice.{pick}
 use Rattle.disc.specs.Refusals.{number}
 use Rattle.disc.specs.Counts.{reported}
-use Rattle.disc.specs.Ask.{Disc, Ask, Outcome, outcome, asked}
+use Rattle.disc.specs.Ask.{Disc, Ask, Outcome, outcome, asked, andThen}
 use Rattle.disc.specs.Ask.Outcome.{answered, refused}
 use Rattle.disc.specs.Ran.{Ran, ran, after, onward, followed}
 use Rattle.disc.specs.declared.refusals.Refusal.the-variants.{Malformed}
@@ -28,14 +30,14 @@ use Rattle.listings.specs.Paths.{Component, front, behind, componentsFrom, comp
 use Rattle.listings.specs.declared.finds.Named.{Named}
 use Rattle.listings.proofs.PathLaws.{behind-slashes, front-is, slashes-long, no-more-slashes, first-component, front-some, component-within}
 use Rattle.directories.specs.Directories.{directoryBytes}
-use Rattle.directories.specs.Lookups.{Sought, entering, orLost, seeking, seekPath, icbOf, andThen, foundTo, lostOf}
+use Rattle.directories.specs.Lookups.{Sought, entering, orLost, seeking, seekPath, icbOf, foundTo, lostOf}
 use Rattle.directories.specs.Lookups.Sought.{lost}
 use Rattle.directories.specs.inner.Spaces.{replyTo, Reads}
 use Rattle.directories.specs.inner.Walks.{enteredTo, enteredOf, beyondOf, End, endOf, leadsTo, On, stepsLeft, Steps, Walks}
 use Rattle.directories.specs.declared.lookups.Found.{Found}
 use Rattle.directories.specs.declared.walks.Entered.{Entered}
 use Rattle.directories.specs.declared.walks.PathPlace.{PathPlace}
-use Rattle.directories.proofs.SpaceLaws.{number-some, ran-known, reads-count, reads-bytes}
+use Rattle.directories.proofs.SpaceLaws.{ran-known, reads-count, reads-bytes}
 
 -- ---- one component
 
@@ -57,20 +59,20 @@ named-entered component b n {r} e = by (sound (entries b)) (firstNamed component
     by true (some x) e = rw e
     by false o e = rw e
 
-module _ (d : Disc) (start partition : ℕ) (icb : LongAd) (component : List ℕ) (w w′ : List ℕ) {read : Reply} (p : Reads (ran d (directoryBytes start partition (length w) icb)) w w′ read) where
+module _ (d : Disc) (v : Mount) (icb : LongAd) (component : List ℕ) (w w′ : List ℕ) {read : Reply} (p : Reads (ran d (directoryBytes v (length w) icb)) w w′ read) where
   abbrev R : Ran (List ℕ)
-  R = ran d (directoryBytes start partition (length w) icb)
+  R = ran d (directoryBytes v (length w) icb)
 
-  entering-is : ran d (entering start partition (length w) icb component) ≡ record { outcome = andThen (R .outcome) (findIn component); count = R .count }
+  entering-is : ran d (entering v (length w) icb component) ≡ record { outcome = andThen (R .outcome) (findIn component); count = R .count }
   unfolding entering
-  entering-is = ran-known d (directoryBytes start partition (length w) icb) (findIn component)
+  entering-is = ran-known d (directoryBytes v (length w) icb) (findIn component)
 
   pub enter-refused : (read .answer ≡ 0 → ⊥) → {l : LongAd} → l ≡ noLong
-      → record { answer = read .answer; lost = false; icb = l; directory = false; count = read .count } ≡ enteredOf (ran d (entering start partition (length w) icb component))
+      → record { answer = read .answer; lost = false; icb = l; directory = false; count = read .count } ≡ enteredOf (ran d (entering v (length w) icb component))
   enter-refused h e = rw (e, entering-is) (refused-entered (R .outcome) (reported (R .count)) (p .says) h (findIn component))
 
   pub enter-found : read .answer ≡ 0 → (r : Named) → r ≡ namedOf (findIn component (take (read .length - 0) (drop 0 w′)))
-      → record { answer = r .answer; lost = eqb (r .answer) 3; icb = r .icb; directory = r .directory; count = read .count } ≡ enteredOf (ran d (entering start partition (length w) icb component))
+      → record { answer = r .answer; lost = eqb (r .answer) 3; icb = r .icb; directory = r .directory; count = read .count } ≡ enteredOf (ran d (entering v (length w) icb component))
   enter-found h r e =
       rw (entering-is, reads-bytes p h, reads-count p)
       (named-entered component (take (read .length - 0) (drop 0 w′)) (reported (R .count)) e)
@@ -105,9 +107,9 @@ module _ (path : List ℕ) (e : ℕ) {a : ℕ} (p : a ≡ e + slashes (drop e pa
   skip-within : e ≤ length path → a ≤ length path
   skip-within h = omega (arith, p, slashes-long (drop e path), length-drop e path)
 
-module _ (d : Disc) (start partition work : ℕ) (path : List ℕ) {p : PathPlace} (g : p .going ≡ true) (on : On path p) where
-  ahead : leadsTo d start partition work path p
-      ≡ endOf (after (p .count) (ran d (seeking start partition work (componentsFrom (p .from) (drop (p .from) path)) (p .icb) (p .directory))))
+module _ (d : Disc) (v : Mount) (work : ℕ) (path : List ℕ) {p : PathPlace} (g : p .going ≡ true) (on : On path p) where
+  ahead : leadsTo d v work path p
+      ≡ endOf (after (p .count) (ran d (seeking v work (componentsFrom (p .from) (drop (p .from) path)) (p .icb) (p .directory))))
   unfolding leadsTo
   ahead = rw g
 
@@ -119,8 +121,8 @@ module _ (d : Disc) (start partition work : ℕ) (path : List ℕ) {p : PathPlac
 
   -- an end of the walk at which a part of the path is lost
   ends-here : (a b answer : ℕ) (icb : LongAd) (n : ℕ) → a ≤ b → b ≤ length path → n ≤ 0xffff_ffff_ffff_ffff
-      → record { found = record { answer = answer; count = n; icb = icb }; lost = record { bytes = take (b - a) (drop a path); at = a } } ≡ leadsTo d start partition work path p
-      → Steps d start partition work path p (record { going = false; answer = answer; icb = icb; directory = false; count = n; from = a; end = b })
+      → record { found = record { answer = answer; count = n; icb = icb }; lost = record { bytes = take (b - a) (drop a path); at = a } } ≡ leadsTo d v work path p
+      → Steps d v work path p (record { going = false; answer = answer; icb = icb; directory = false; count = n; from = a; end = b })
   unfolding leadsTo
   ends-here a b answer icb n u v c s =
       record {
@@ -130,7 +132,7 @@ module _ (d : Disc) (start partition work : ℕ) (path : List ℕ) {p : PathPlac
       }
 
   pub step-arrives : length path ≤ p .from → {q : PathPlace}
-      → q ≡ record { going = false; answer = 0; icb = p .icb; directory = false; count = p .count; from = 0; end = 0 } → Steps d start partition work path p q
+      → q ≡ record { going = false; answer = 0; icb = p .icb; directory = false; count = p .count; from = 0; end = 0 } → Steps d v work path p q
   unfolding componentsFrom front behind seeking ran outcome asked
   step-arrives h e =
       let z : drop (p .from) path ≡ [] = drop-of-length-le path h in
@@ -152,7 +154,7 @@ module _ (d : Disc) (start partition work : ℕ) (path : List ℕ) {p : PathPlac
     component-is = rw (k, add-sub-cancel-left) (front-is (drop (p .from) path))
 
     pub step-dead : p .directory ≡ false → {l : LongAd} → l ≡ noLong → {q : PathPlace}
-        → q ≡ record { going = false; answer = 3; icb = l; directory = false; count = p .count; from = p .from; end = end } → Steps d start partition work path p q
+        → q ≡ record { going = false; answer = 3; icb = l; directory = false; count = p .count; from = p .from; end = end } → Steps d v work path p q
     unfolding seeking ran outcome asked
     step-dead t j e =
         rw (e, j)
@@ -164,16 +166,16 @@ module _ (d : Disc) (start partition work : ℕ) (path : List ℕ) {p : PathPlac
       C = record { bytes = take (end - p .from) (drop (p .from) path); at = p .from }
 
       abbrev rest : Option Entry → Ask Sought
-      rest o = orLost C o (λ e. seeking start partition work (componentsFrom end (drop end path)) (e .identifier .icb) (isDirectory (e .identifier)))
+      rest o = orLost C o (λ e. seeking v work (componentsFrom end (drop end path)) (e .identifier .icb) (isDirectory (e .identifier)))
 
-      turn : leadsTo d start partition work path p ≡ endOf (after (p .count) (followed (ran d (entering start partition work (p .icb) (C .bytes))) (λ o. ran d (rest o))))
+      turn : leadsTo d v work path p ≡ endOf (after (p .count) (followed (ran d (entering v work (p .icb) (C .bytes))) (λ o. ran d (rest o))))
       unfolding seeking
-      turn = ahead ∙ rw (some-left, t, ← component-is) (ap (λ x. endOf (after (p .count) x)) (ran-then d (entering start partition work (p .icb) (C .bytes)) rest))
+      turn = ahead ∙ rw (some-left, t, ← component-is) (ap (λ x. endOf (after (p .count) x)) (ran-then d (entering v work (p .icb) (C .bytes)) rest))
 
       -- on to the next component
       goes-on : (icb : LongAd) (directory : Bool) (n : ℕ) → n ≤ 0xffff_ffff_ffff_ffff
-          → endOf (after n (ran d (seeking start partition work (componentsFrom end (drop end path)) icb directory))) ≡ leadsTo d start partition work path p
-          → Steps d start partition work path p (record { going = true; answer = 0; icb = icb; directory = directory; count = n; from = end + slashes (drop end path); end = length path })
+          → endOf (after n (ran d (seeking v work (componentsFrom end (drop end path)) icb directory))) ≡ leadsTo d v work path p
+          → Steps d v work path p (record { going = true; answer = 0; icb = icb; directory = directory; count = n; from = end + slashes (drop end path); end = length path })
       unfolding leadsTo
       goes-on icb directory n c s =
           record {
@@ -182,44 +184,44 @@ module _ (d : Disc) (start partition work : ℕ) (path : List ℕ) {p : PathPlac
             less = rw far (omega (arith, further));
           }
 
-      by-outcome : (o : Outcome (Option Entry)) (m : ℕ) → leadsTo d start partition work path p ≡ endOf (after (p .count) (onward o m (λ o. ran d (rest o))))
-          → Steps d start partition work path p (beyondOf path (enteredTo o (reported m)) (reported (p .count + reported m)) (p .from) end)
+      by-outcome : (o : Outcome (Option Entry)) (m : ℕ) → leadsTo d v work path p ≡ endOf (after (p .count) (onward o m (λ o. ran d (rest o))))
+          → Steps d v work path p (beyondOf path (enteredTo o (reported m)) (reported (p .count + reported m)) (p .from) end)
       unfolding beyondOf ran outcome asked
       by-outcome (answered (some e)) m s =
           goes-on (e .identifier .icb) (isDirectory (e .identifier)) _ (omega arith) (end-reported (ran d (rest (some e))) (p .count) m ∙ sym s)
       by-outcome (answered none) m s =
           ends-here (p .from) end 3 noLong _ (omega (arith, further)) end-within (omega arith) (both (ap (notFound 3) (omega arith)) refl ∙ sym s)
       by-outcome (refused r) m s =
-          simp (ne-eqb _ _ (number-some r))
+          simp (ne-eqb _ _ (refusal-numbered r))
           (ends-here 0 0 (number r) noLong _ zero-le zero-le (omega arith) (both (ap (notFound (number r)) (omega arith)) refl ∙ sym s))
 
-      pub step-enters : {e : Entered} → e ≡ enteredOf (ran d (entering start partition work (p .icb) (C .bytes))) → {n : ℕ} → n ≡ reported (p .count + e .count)
-          → {q : PathPlace} → q ≡ beyondOf path e n (p .from) end → Steps d start partition work path p q
+      pub step-enters : {e : Entered} → e ≡ enteredOf (ran d (entering v work (p .icb) (C .bytes))) → {n : ℕ} → n ≡ reported (p .count + e .count)
+          → {q : PathPlace} → q ≡ beyondOf path e n (p .from) end → Steps d v work path p q
       step-enters {e} x {n} y z =
-          let R : Ran (Option Entry) = ran d (entering start partition work (p .icb) (C .bytes)) in
+          let R : Ran (Option Entry) = ran d (entering v work (p .icb) (C .bytes)) in
           let c : e .count ≡ reported (R .count) = rw x (entered-count (R .outcome) (reported (R .count))) in
           let m : n ≡ reported (p .count + reported (R .count)) = y ∙ ap (λ k. reported (p .count + k)) c in
           rw (z, m, x) (by-outcome (R .outcome) (R .count) turn)
 
 -- the walk has come to p
-pub record Walking (d : Disc) (start partition work : ℕ) (root : LongAd) (path : List ℕ) (p : PathPlace) : Type 0 where
+pub record Walking (d : Disc) (v : Mount) (work : ℕ) (root : LongAd) (path : List ℕ) (p : PathPlace) : Type 0 where
   pub on : On path p
-  pub same : leadsTo d start partition work path p ≡ endOf (ran d (seekPath start partition work root path))
+  pub same : leadsTo d v work path p ≡ endOf (ran d (seekPath v work root path))
 
-pub walk-starts : (d : Disc) (start partition work : ℕ) (root : LongAd) (path : List ℕ) (a : ℕ) → a ≡ 0 + slashes (drop 0 path)
-    → Walking d start partition work root path (record { going = true; answer = 0; icb = root; directory = true; count = 0; from = a; end = length path })
+pub walk-starts : (d : Disc) (v : Mount) (work : ℕ) (root : LongAd) (path : List ℕ) (a : ℕ) → a ≡ 0 + slashes (drop 0 path)
+    → Walking d v work root path (record { going = true; answer = 0; icb = root; directory = true; count = 0; from = a; end = length path })
 unfolding leadsTo seekPath components
-walk-starts d start partition work root path a e =
+walk-starts d v work root path a e =
     record {
       on = record { ordered = skip-within path 0 e zero-le; within = omega arith; counted = zero-le; clean = λ x. none-left path 0 e };
       same = rw (same-components path 0 e) (simp zero-add);
     }
 
-module _ {d : Disc} {start partition work : ℕ} {root : LongAd} {path : List ℕ} {p : PathPlace} (w : Walking d start partition work root path p) where
-  pub walk-next : (v : ℕ) → v ≡ work → {q : PathPlace} → Steps d start partition v path p q → Walking d start partition work root path q
-  walk-next v l s = record { on = s .on; same = (rw l at (s .same)) ∙ w .same }
+module _ {d : Disc} {v : Mount} {work : ℕ} {root : LongAd} {path : List ℕ} {p : PathPlace} (w : Walking d v work root path p) where
+  pub walk-next : (k : ℕ) → k ≡ work → {q : PathPlace} → Steps d v k path p q → Walking d v work root path q
+  walk-next k l s = record { on = s .on; same = (rw l at (s .same)) ∙ w .same }
 
-  pub walk-ends : p .going ≡ false → Walks d start partition work root path p
+  pub walk-ends : p .going ≡ false → Walks d v work root path p
   unfolding leadsTo
   walk-ends g =
       let e = rw g at (w .same) in

@@ -3,6 +3,7 @@ use Prim.Native.Nat.{ℕ}
 use mathlib.Core.List.{List}
 use lib.ListN.{length}
 use lib.Dec.{leb}
+use Rattle.disc.specs.declared.places.Mount.{Mount}
 use Rattle.disc.specs.Choice.{pick}
 use Rattle.disc.specs.Ask.{Ask, Outcome, then, ended}
 use Rattle.disc.specs.Ask.Outcome.{answered, refused}
@@ -16,9 +17,9 @@ unfoldable pub within : ℕ → List ℕ → Outcome (List ℕ)
 within work b = pick (leb (length b) work) (answered b) (refused NoWork)
 
 -- a directory is a file (ECMA-167 4/8.6), read into a work space of so many bytes
-unfoldable pub directoryBytes : ℕ → ℕ → ℕ → LongAd → Ask (List ℕ)
-directoryBytes start partition work icb = then (fileBytes start partition icb) (λ b. ended (within work b))
+unfoldable pub directoryBytes : Mount → ℕ → LongAd → Ask (List ℕ)
+directoryBytes v work icb = then (fileBytes v icb) (λ b. ended (within work b))
 
 -- its listing
-unfoldable pub listingAt : ℕ → ℕ → ℕ → LongAd → Ask (List ℕ)
-listingAt start partition work icb = then (directoryBytes start partition work icb) (λ b. ended (listing b))
+unfoldable pub listingAt : Mount → ℕ → LongAd → Ask (List ℕ)
+listingAt v work icb = then (directoryBytes v work icb) (λ b. ended (listing b))

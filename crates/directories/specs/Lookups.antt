@@ -4,9 +4,11 @@ use mathlib.Core.Bool.{Bool, true, false}
 use mathlib.Core.List.{List, [], _∷_}
 use mathlib.Core.Option.{Option, none, some}
 use lib.ListN.{length}
+use Rattle.disc.specs.Replies.{answerOf}
+use Rattle.disc.specs.declared.places.Mount.{Mount}
 use Rattle.disc.specs.Refusals.{number}
 use Rattle.disc.specs.Counts.{reported}
-use Rattle.disc.specs.Ask.{Ask, Outcome, then, ended}
+use Rattle.disc.specs.Ask.{Ask, Outcome, then, ended, andThen}
 use Rattle.disc.specs.Ask.Ask.{done}
 use Rattle.disc.specs.Ask.Outcome.{answered, refused}
 use Rattle.disc.specs.Ran.{Ran}
@@ -25,8 +27,8 @@ use Rattle.directories.specs.declared.lookups.Found.{Found}
 -- ---- the walk
 
 -- the first entry of a name in the directory at icb, if it has one
-unfoldable pub entering : ℕ → ℕ → ℕ → LongAd → List ℕ → Ask (Option Entry)
-entering start partition work icb component = then (directoryBytes start partition work icb) (λ b. ended (findIn component b))
+unfoldable pub entering : Mount → ℕ → LongAd → List ℕ → Ask (Option Entry)
+entering v work icb component = then (directoryBytes v work icb) (λ b. ended (findIn component b))
 
 -- where a path leads: to an ICB, or to a component that isn't there
 pub data Sought : Type 0 where
@@ -38,16 +40,16 @@ orLost c none f = done (lost c)
 orLost c (some a) f = f a
 
 -- the components one after the other; one under what is no directory is lost before any further sector
-unfoldable pub seeking : ℕ → ℕ → ℕ → List Component → LongAd → Bool → Ask Sought
-seeking start partition work [] icb directory = done (reached icb)
-seeking start partition work (c ∷ cs) icb false = done (lost c)
-seeking start partition work (c ∷ cs) icb true =
-    then (entering start partition work icb (c .bytes)) (λ o.
-    orLost c o (λ e. seeking start partition work cs (e .identifier .icb) (isDirectory (e .identifier))))
+unfoldable pub seeking : Mount → ℕ → List Component → LongAd → Bool → Ask Sought
+seeking v work [] icb directory = done (reached icb)
+seeking v work (c ∷ cs) icb false = done (lost c)
+seeking v work (c ∷ cs) icb true =
+    then (entering v work icb (c .bytes)) (λ o.
+    orLost c o (λ e. seeking v work cs (e .identifier .icb) (isDirectory (e .identifier))))
 
 -- a path from the root, which counts as a directory
-unfoldable pub seekPath : ℕ → ℕ → ℕ → LongAd → List ℕ → Ask Sought
-seekPath start partition work root path = seeking start partition work (components path) root true
+unfoldable pub seekPath : Mount → ℕ → LongAd → List ℕ → Ask Sought
+seekPath v work root path = seeking v work (components path) root true
 
 -- ---- what is asked of a path
 
@@ -57,22 +59,14 @@ icbOf (reached icb) = answered icb
 icbOf (lost c) = refused NotBluray
 
 -- the ICB that it names
-unfoldable pub lookupOf : ℕ → ℕ → ℕ → LongAd → List ℕ → Ask LongAd
-lookupOf start partition work root path = then (seekPath start partition work root path) (λ s. ended (icbOf s))
+unfoldable pub lookupOf : Mount → ℕ → LongAd → List ℕ → Ask LongAd
+lookupOf v work root path = then (seekPath v work root path) (λ s. ended (icbOf s))
 
 -- the bytes of the file that it names: a lookup, then a read
-unfoldable pub readPathOf : ℕ → ℕ → ℕ → LongAd → List ℕ → Ask (List ℕ)
-readPathOf start partition work root path = then (lookupOf start partition work root path) (λ icb. fileBytes start partition icb)
+unfoldable pub readPathOf : Mount → ℕ → LongAd → List ℕ → Ask (List ℕ)
+readPathOf v work root path = then (lookupOf v work root path) (λ icb. fileBytes v icb)
 
 -- ---- a lookup as the code reports it
-
-abbrev pub andThen : {A B : Type 0} → Outcome A → (A → Outcome B) → Outcome B
-andThen (answered a) f = f a
-andThen (refused r) f = refused r
-
-abbrev pub answerOf : {A : Type 0} → Outcome A → ℕ
-answerOf (answered a) = 0
-answerOf (refused r) = number r
 
 abbrev pub icbFound : Outcome LongAd → LongAd
 icbFound (answered icb) = icb

@@ -8,22 +8,16 @@ ghost use Rattle.disc.specs.declared.refusals.Refusal.the-variants.{NoRoom};
 ghost use Rattle.directories.specs.Directories.{listingAt};
 use crate::spaces::read_directory;
 use disc::moves::clear;
+use disc::places::Mount;
 use disc::replies::Reply;
 use listings::listing::list;
 use records::allocations::LongAd;
 
 // The listing, with the directory's bytes left in the work space.
-fn list_read(
-    image: &[u8],
-    start: u32,
-    partition: u16,
-    icb: LongAd,
-    out: &mut [u8],
-    work: &mut [u8],
-) -> Reply
-    ensures { λ r. ⌜ Replied NoRoom (ran (disc (now (image .entry))) (listingAt start partition (length (now (work .entry))) icb)) (now (out .entry)) (now (out .exit)) r ⌝ }
+fn list_read(image: &[u8], mount: Mount, icb: LongAd, out: &mut [u8], work: &mut [u8]) -> Reply
+    ensures { λ r. ⌜ Replied NoRoom (ran (disc (now (image .entry))) (listingAt mount (length (now (work .entry))) icb)) (now (out .entry)) (now (out .exit)) r ⌝ }
 {
-    let read = read_directory(image, start, partition, icb, work);
+    let read = read_directory(image, mount, icb, work);
     if read.answer != 0 {
         return read;
     }
@@ -39,16 +33,15 @@ fn list_read(
 // Writes the listing of the directory at icb over the front of out. The work space is all zero on return.
 pub fn list_directory(
     image: &[u8],
-    start: u32,
-    partition: u16,
+    mount: Mount,
     icb: LongAd,
     out: &mut [u8],
     work: &mut [u8],
 ) -> Reply
-    ensures { λ r. ⌜ Replied NoRoom (ran (disc (now (image .entry))) (listingAt start partition (length (now (work .entry))) icb)) (now (out .entry)) (now (out .exit)) r ⌝ }
+    ensures { λ r. ⌜ Replied NoRoom (ran (disc (now (image .entry))) (listingAt mount (length (now (work .entry))) icb)) (now (out .entry)) (now (out .exit)) r ⌝ }
     ensures { λ _. ⌜ now (work .exit) ≡ replicate (length (now (work .entry))) 0 ⌝ }
 {
-    let reply = list_read(image, start, partition, icb, out, work);
+    let reply = list_read(image, mount, icb, out, work);
     clear(work);
     reply
 }

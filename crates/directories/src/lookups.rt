@@ -9,6 +9,7 @@ ghost use Rattle.directories.specs.Lookups.{seekPath, lookupOf, readPath
 use crate::walks::walk;
 use disc::counts::add_counts;
 use disc::moves::clear;
+use disc::places::Mount;
 use disc::refusals::Refusal;
 use disc::replies::Reply;
 use disc::replies::refusal;
@@ -24,18 +25,11 @@ pub struct Found {
 }
 
 // The ICB that the path names.
-pub fn lookup(
-    image: &[u8],
-    start: u32,
-    partition: u16,
-    root: LongAd,
-    path: &[u8],
-    work: &mut [u8],
-) -> Found
-    ensures { λ r. ⌜ r ≡ foundOf (ran (disc (now (image .entry))) (lookupOf start partition (length (now (work .entry))) root (now (path .entry)))) ⌝ }
+pub fn lookup(image: &[u8], mount: Mount, root: LongAd, path: &[u8], work: &mut [u8]) -> Found
+    ensures { λ r. ⌜ r ≡ foundOf (ran (disc (now (image .entry))) (lookupOf mount (length (now (work .entry))) root (now (path .entry)))) ⌝ }
     ensures { λ _. ⌜ now (work .exit) ≡ replicate (length (now (work .entry))) 0 ⌝ }
 {
-    let p = walk(image, start, partition, root, path, work);
+    let p = walk(image, mount, root, path, work);
     clear(work);
     let icb = p.icb;
     Found {
@@ -49,18 +43,17 @@ pub fn lookup(
 // count are the lookup's.
 pub fn failed_at(
     image: &[u8],
-    start: u32,
-    partition: u16,
+    mount: Mount,
     root: LongAd,
     path: &[u8],
     work: &mut [u8],
     at: &mut usize,
 ) -> Reply
-    ensures { λ r. ⌜ r ≡ failedReply (failedOf (ran (disc (now (image .entry))) (seekPath start partition (length (now (work .entry))) root (now (path .entry))))) ⌝ }
-    ensures { λ _. ⌜ now (at .exit) ≡ failedOf (ran (disc (now (image .entry))) (seekPath start partition (length (now (work .entry))) root (now (path .entry)))) .component .at ⌝ }
+    ensures { λ r. ⌜ r ≡ failedReply (failedOf (ran (disc (now (image .entry))) (seekPath mount (length (now (work .entry))) root (now (path .entry))))) ⌝ }
+    ensures { λ _. ⌜ now (at .exit) ≡ failedOf (ran (disc (now (image .entry))) (seekPath mount (length (now (work .entry))) root (now (path .entry)))) .component .at ⌝ }
     ensures { λ _. ⌜ now (work .exit) ≡ replicate (length (now (work .entry))) 0 ⌝ }
 {
-    let p = walk(image, start, partition, root, path, work);
+    let p = walk(image, mount, root, path, work);
     clear(work);
     *at = p.from;
     Reply {
@@ -73,21 +66,20 @@ pub fn failed_at(
 // That component, as a part of the path.
 pub fn failed<'i, 'p>(
     image: &'i [u8],
-    start: u32,
-    partition: u16,
+    mount: Mount,
     root: LongAd,
     path: &'p [u8],
     work: &mut [u8],
     answer: &mut u64,
     count: &mut u64,
 ) -> &'p [u8]
-    ensures { λ r. ⌜ now r ≡ failedOf (ran (disc (now (image .entry))) (seekPath start partition (length (now (work .entry))) root (now (path .entry)))) .component .bytes ⌝ }
-    ensures { λ _. ⌜ now (answer .exit) ≡ failedOf (ran (disc (now (image .entry))) (seekPath start partition (length (now (work .entry))) root (now (path .entry)))) .answer ⌝ }
-    ensures { λ _. ⌜ now (count .exit) ≡ failedOf (ran (disc (now (image .entry))) (seekPath start partition (length (now (work .entry))) root (now (path .entry)))) .count ⌝ }
+    ensures { λ r. ⌜ now r ≡ failedOf (ran (disc (now (image .entry))) (seekPath mount (length (now (work .entry))) root (now (path .entry)))) .component .bytes ⌝ }
+    ensures { λ _. ⌜ now (answer .exit) ≡ failedOf (ran (disc (now (image .entry))) (seekPath mount (length (now (work .entry))) root (now (path .entry)))) .answer ⌝ }
+    ensures { λ _. ⌜ now (count .exit) ≡ failedOf (ran (disc (now (image .entry))) (seekPath mount (length (now (work .entry))) root (now (path .entry)))) .count ⌝ }
     ensures { λ _. ⌜ now (work .exit) ≡ replicate (length (now (work .entry))) 0 ⌝ }
 {
     let mut at = 0;
-    let reply = failed_at(image, start, partition, root, path, work, &mut at);
+    let reply = failed_at(image, mount, root, path, work, &mut at);
     *answer = reply.answer;
     *count = reply.count;
     let end = at + reply.length as usize;
@@ -97,22 +89,21 @@ pub fn failed<'i, 'p>(
 // The bytes of the file that the path names, over the front of out.
 pub fn read_path(
     image: &[u8],
-    start: u32,
-    partition: u16,
+    mount: Mount,
     root: LongAd,
     path: &[u8],
     out: &mut [u8],
     work: &mut [u8],
 ) -> Reply
-    ensures { λ r. ⌜ Replied NoRoom (ran (disc (now (image .entry))) (readPathOf start partition (length (now (work .entry))) root (now (path .entry)))) (now (out .entry)) (now (out .exit)) r ⌝ }
+    ensures { λ r. ⌜ Replied NoRoom (ran (disc (now (image .entry))) (readPathOf mount (length (now (work .entry))) root (now (path .entry)))) (now (out .entry)) (now (out .exit)) r ⌝ }
     ensures { λ _. ⌜ now (work .exit) ≡ replicate (length (now (work .entry))) 0 ⌝ }
 {
-    let found = lookup(image, start, partition, root, path, work);
+    let found = lookup(image, mount, root, path, work);
     if found.answer != 0 {
         return refusal(found.answer, found.count);
     }
     let icb = found.icb;
-    let read = read_file(image, start, partition, icb, out, Refusal::NoRoom);
+    let read = read_file(image, mount, icb, out, Refusal::NoRoom);
     Reply {
         answer: read.answer,
         count: add_counts(found.count, read.count),

@@ -4,20 +4,15 @@ ghost use Rattle.disc.specs.Ran.{ran};
 ghost use Rattle.disc.specs.Images.{disc};
 ghost use Rattle.directories.specs.Directories.{directoryBytes};
 ghost use Rattle.directories.specs.inner.Spaces.{Reads};
+use disc::places::Mount;
 use disc::refusals::Refusal;
 use disc::replies::Reply;
 use files::reads::read_file;
 use records::allocations::LongAd;
 
 // Reads the directory at icb over the front of the work space, and leaves it there.
-pub(crate) fn read_directory(
-    image: &[u8],
-    start: u32,
-    partition: u16,
-    icb: LongAd,
-    work: &mut [u8],
-) -> Reply
-    ensures { λ r. ⌜ Reads (ran (disc (now (image .entry))) (directoryBytes start partition (length (now (work .entry))) icb)) (now (work .entry)) (now (work .exit)) r ⌝ }
+pub(crate) fn read_directory(image: &[u8], mount: Mount, icb: LongAd, work: &mut [u8]) -> Reply
+    ensures { λ r. ⌜ Reads (ran (disc (now (image .entry))) (directoryBytes mount (length (now (work .entry))) icb)) (now (work .entry)) (now (work .exit)) r ⌝ }
 {
-    read_file(image, start, partition, icb, work, Refusal::NoWork)
+    read_file(image, mount, icb, work, Refusal::NoWork)
 }

@@ -8,6 +8,7 @@ ghost use Rattle.directories.specs.Lookups.{entering};
 ghost use Rattle.directories.specs.inner.Walks.{enteredOf, beyondOf, On, Steps, Walks};
 use crate::spaces::read_directory;
 use disc::counts::add_counts;
+use disc::places::Mount;
 use listings::finds::find;
 use listings::paths::component_end;
 use listings::paths::component_from;
@@ -36,17 +37,10 @@ pub struct PathPlace {
 }
 
 // The entry of a component in the directory at icb, which is read into the work space and left there.
-fn enter(
-    image: &[u8],
-    start: u32,
-    partition: u16,
-    icb: LongAd,
-    component: &[u8],
-    work: &mut [u8],
-) -> Entered
-    ensures { λ r. ⌜ r ≡ enteredOf (ran (disc (now (image .entry))) (entering start partition (length (now (work .entry))) icb (now (component .entry)))) ⌝ }
+fn enter(image: &[u8], mount: Mount, icb: LongAd, component: &[u8], work: &mut [u8]) -> Entered
+    ensures { λ r. ⌜ r ≡ enteredOf (ran (disc (now (image .entry))) (entering mount (length (now (work .entry))) icb (now (component .entry)))) ⌝ }
 {
-    let read = read_directory(image, start, partition, icb, work);
+    let read = read_directory(image, mount, icb, work);
     if read.answer != 0 {
         return Entered {
             answer: read.answer,
@@ -106,16 +100,9 @@ fn beyond(path: &[u8], e: Entered, count: u64, from: usize, end: usize) -> PathP
 }
 
 // One step of the walk.
-fn step(
-    image: &[u8],
-    start: u32,
-    partition: u16,
-    path: &[u8],
-    p: PathPlace,
-    work: &mut [u8],
-) -> PathPlace
+fn step(image: &[u8], mount: Mount, path: &[u8], p: PathPlace, work: &mut [u8]) -> PathPlace
     requires { ⌜ (p .going ≡ true) × On (now path) p ⌝ }
-    ensures { λ q. ⌜ Steps (disc (now (image .entry))) start partition (length (now (work .entry))) (now (path .entry)) p q ⌝ }
+    ensures { λ q. ⌜ Steps (disc (now (image .entry))) mount (length (now (work .entry))) (now (path .entry)) p q ⌝ }
 {
     let icb = p.icb;
     let from = p.from;
@@ -126,20 +113,19 @@ fn step(
     if !p.directory {
         return stopped(3, no_long(), p.count, from, end);
     }
-    let e = enter(image, start, partition, icb, &path[from..end], work);
+    let e = enter(image, mount, icb, &path[from..end], work);
     beyond(path, e, add_counts(p.count, e.count), from, end)
 }
 
 // The whole walk. What is left in the work space is of no use to the caller.
 pub(crate) fn walk(
     image: &[u8],
-    start: u32,
-    partition: u16,
+    mount: Mount,
     root: LongAd,
     path: &[u8],
     work: &mut [u8],
 ) -> PathPlace
-    ensures { λ r. ⌜ Walks (disc (now (image .entry))) start partition (length (now (work .entry))) root (now (path .entry)) r ⌝ }
+    ensures { λ r. ⌜ Walks (disc (now (image .entry))) mount (length (now (work .entry))) root (now (path .entry)) r ⌝ }
 {
     let mut p = PathPlace {
         going: true,
@@ -151,7 +137,7 @@ pub(crate) fn walk(
         end: path.len(),
     };
     while p.going {
-        let q = step(image, start, partition, path, p, work);
+        let q = step(image, mount, path, p, work);
         p = q;
     }
     p

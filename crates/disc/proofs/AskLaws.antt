@@ -1,7 +1,7 @@
 -- Laws of every tree of questions: what two discs that agree on its list make of it, what a grown disc makes of it, and that walking it
 -- by hand asks and ends the same. Assumes nothing.
-use mathlib.Core.Path.{_≡_, refl, ap}
-use mathlib.Core.List.{List, [], _∷_, _++_}
+use mathlib.Core.Path.{_≡_, refl, ap, _∙_}
+use mathlib.Core.List.{List, [], _∷_, _++_, append-nil}
 use mathlib.Core.Logic.{_⊎_, inl, inr}
 use Prim.Native.Nat.{ℕ}
 use lib.ListN.{length}
@@ -80,6 +80,15 @@ asked-then d (ask s k) f = ap (λ l. s ∷ l) (behind (d s) (λ b. asked-then d 
         ≡ given x (λ b. asked d (k b)) [] ++ askedBehind d (given x (λ b. outcome d (k b)) (refused Io)) f
     behind (holds b) ih = ih b
     behind lacks ih = refl
+
+-- what is made of an answer asks for nothing more
+pub asked-done : {A B : Type 0} (d : Disc) (m : Ask A) (f : A → B) → asked d (then m (λ a. done (f a))) ≡ asked d m
+unfolding asked
+asked-done {A} {B} d m f = asked-then d m (λ a. done (f a)) ∙ by (outcome d m)
+  where
+    by : (o : Outcome A) → asked d m ++ askedBehind d o (λ a. done (f a)) ≡ asked d m
+    by (answered a) = append-nil (asked d m)
+    by (refused r) = append-nil (asked d m)
 
 -- ---- a call walked by hand, a sector at a time, asks for the same sectors and comes to the same
 

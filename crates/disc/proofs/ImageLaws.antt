@@ -18,7 +18,7 @@ use Rattle.disc.specs.Ask.Held.{holds, lacks}
 use Rattle.disc.specs.Ask.Ask.{done}
 use Rattle.disc.specs.Ask.Outcome.{answered, refused}
 use Rattle.disc.specs.Ran.{Ran, ran, after, followed}
-use Rattle.disc.specs.Images.{there, disc, sectors, heldFrom, bytesOf, runOf}
+use Rattle.disc.specs.Images.{there, disc, sectors, heldFrom, bytesOf}
 use Rattle.disc.proofs.RanLaws.{ran-done, ran-there, ran-missing, ran-then}
 
 -- either order holds
@@ -112,12 +112,6 @@ sectors-run image (suc n) at = ⊎-elim
 
 -- the answers of the code, k being how many sectors the image has from `at` on
 module _ (image : List ℕ) (n at k : ℕ) (e : k ≡ heldFrom image at) where
-  pub run-short : k < n → record { whole = false; asked = k + 1 } ≡ runOf (ran (disc image) (sectors n at))
-  run-short h = rw (sectors-run image n at, ← e, lt-leb n k h)
-
-  pub run-whole : n ≤ k → record { whole = true; asked = n } ≡ runOf (ran (disc image) (sectors n at))
-  run-whole h = rw (sectors-run image n at, ← e, le-leb n k h)
-
   run-bytes : (p : Ran (List ℕ)) → ran (disc image) (sectors n at) ≡ p → bytesOf (outcome (disc image) (sectors n at)) ≡ bytesOf (p .outcome)
   unfolding ran
   run-bytes p q = ap (λ (r : Ran (List ℕ)). bytesOf (r .outcome)) q

@@ -1,6 +1,7 @@
 -- Laws that hold of every tree, every image and every lent slice; crates above cite them.
 pub mod PickLaws
 pub mod RefusalLaws
+pub mod PlaceLaws
 pub mod AskLaws
 pub mod RanLaws
 pub mod CountLaws

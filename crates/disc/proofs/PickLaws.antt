@@ -4,6 +4,7 @@ use mathlib.Core.Path.{_≡_, refl}
 use mathlib.Core.Bool.{Bool, true, false}
 use mathlib.Core.List.{List}
 use Prim.Native.Nat.{ℕ, _<_, _≤_}
+use native.Mathlib.Omega.{arith}
 use lib.ListN.{length}
 use lib.Dec.{ltb, leb, eqb}
 use borrow.Author.Needs.{needs}
@@ -42,7 +43,16 @@ pick-length A false x y r e = e
 
 pub ruleset picks = (pick-lt, pick-le, pick-leb, pick-ltb, pick-eq, pick-ne, pick-yes, pick-no, pick-length, needs)
 
+-- what holds of both sides
+pub pick-both : {A : Type 0} (P : A → Type 0) (b : Bool) {x y : A} → P x → P y → P (pick b x y)
+pick-both P true p q = p
+pick-both P false p q = q
+
 -- ---- the other way: what a choice came to tells which side it took
+
+-- no test passes and fails
+pub not-both : {A : Type 0} → _≡_ {A = Bool} false true → A
+not-both {A} e = absurd (let z : _≡_ {A = ℕ} 0 1 = cc in omega arith)
 
 -- it gave what only its first side gives
 pub picked : {A : Type 0} (P : A → Type 0) (b : Bool) (x y : A) → P (pick b x y) → (P y → ⊥) → (b ≡ true) × P x

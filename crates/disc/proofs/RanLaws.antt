@@ -7,11 +7,11 @@ use native.Mathlib.Omega.{arith}
 use lib.ListN.{length}
 use Rattle.disc.specs.declared.refusals.Refusal.{Refusal}
 use Rattle.disc.specs.declared.refusals.Refusal.the-variants.{Io}
-use Rattle.disc.specs.Ask.{Held, Disc, Ask, Outcome, outcome, asked, then, Agree}
+use Rattle.disc.specs.Ask.{Held, Disc, Ask, Outcome, outcome, asked, then, ended, Agree}
 use Rattle.disc.specs.Ask.Held.{holds, lacks}
 use Rattle.disc.specs.Ask.Ask.{done, refuse, ask}
 use Rattle.disc.specs.Ask.Outcome.{answered, refused}
-use Rattle.disc.specs.Ran.{Ran, ran, after, onward, followed}
+use Rattle.disc.specs.Ran.{Ran, ran, after, onward, followed, told}
 use Rattle.disc.proofs.AskLaws.{same-outcome, same-asked}
 
 module _ {A : Type 0} (d : Disc) where
@@ -65,3 +65,12 @@ unfolding then ran outcome asked
 ran-then d (done a) f = simp zero-add
 ran-then d (refuse r) f = refl
 ran-then d (ask s k) f = then-step d s k f (d s) refl (λ b. ran-then d (k b) f)
+
+-- an outcome that is known asks for nothing more
+pub ran-ended : {A : Type 0} (d : Disc) (o : Outcome A) → ran d (ended o) ≡ told o
+ran-ended d (answered a) = ran-done d a
+ran-ended d (refused r) = ran-refuse d r
+
+-- what is refused isn't answered
+pub never : {A : Type 0} {B : Type 0} {b : B} {r : Refusal} → refused r ≡ answered b → A
+never e = absurd (let z : _≡_ {A = ℕ} 0 1 = cc in omega arith)

@@ -1,29 +1,41 @@
 -- Laws of replies. Assumes nothing.
 use mathlib.Core.Path.{_≡_, refl, sym, _∙_}
+use mathlib.Core.Bool.{Bool, true, false}
 use mathlib.Core.List.{List}
 use Prim.Native.Nat.{ℕ, _≤_, _<_}
 use lib.ListN.{length}
+use lib.Dec.{leb}
 use borrow.Author.Tests.{le-leb, lt-leb}
+use Rattle.disc.specs.Choice.{pick}
 use Rattle.disc.specs.Refusals.{number}
 use Rattle.disc.specs.Counts.{reported}
-use Rattle.disc.specs.Ask.{Disc, Ask, asked, Agree}
+use Rattle.disc.specs.Ask.{Disc, Ask, Outcome, asked, Agree}
 use Rattle.disc.specs.Ask.Outcome.{answered, refused}
 use Rattle.disc.specs.Moves.{over}
 use Rattle.disc.specs.Ran.{Ran, ran}
-use Rattle.disc.specs.Replies.{Replied}
+use Rattle.disc.specs.Replies.{replyBy, Replied}
 use Rattle.disc.specs.declared.refusals.Refusal.{Refusal}
 use Rattle.disc.specs.declared.replies.Reply.{Reply}
 use Rattle.disc.proofs.MoveLaws.{over-fits}
 use Rattle.disc.proofs.RanLaws.{same-ran}
 
 -- a contract by `Replied` leaves one result
-pub replied-one : {full : Refusal} {r : Ran (List ℕ)} {b a a′ : List ℕ} {p p′ : Reply} → Replied full r b a p → Replied full r b a′ p′ → (p ≡ p′) × (a ≡ a′)
+pub replied-one : {A : Type 0} {full : Refusal} {r : Ran (List A)} {b a a′ : List A} {p p′ : Reply} → Replied full r b a p → Replied full r b a′ p′ → (p ≡ p′) × (a ≡ a′)
 replied-one h k = (h .says ∙ sym (k .says), h .leaves ∙ sym (k .leaves))
 
 -- demand 3: on discs that agree on the list of a call, the same reply and the same memory
-pub same-replied : {full : Refusal} (m : Ask (List ℕ)) (d e : Disc) → Agree d e (asked d m) → {b a : List ℕ} {p : Reply}
+pub same-replied : {A : Type 0} {full : Refusal} (m : Ask (List A)) (d e : Disc) → Agree d e (asked d m) → {b a : List A} {p : Reply}
     → Replied full (ran d m) b a p → Replied full (ran e m) b a p
 same-replied m d e h k = rw (same-ran m d e h) at k
+
+-- a reply has the count that it was made with
+pub reply-counts : {A : Type 0} (full : Refusal) (room n : ℕ) (o : Outcome (List A)) → replyBy full room n o .count ≡ n
+reply-counts full room n (answered b) = by (leb (length b) room)
+  where
+    by : (t : Bool) → pick {A = Reply} t (record { answer = 0; count = n; length = length b }) (record { answer = number full; count = n; length = 0 }) .count ≡ n
+    by true = refl
+    by false = refl
+reply-counts full room n (refused r) = refl
 
 -- ---- the ways a call comes to its reply
 

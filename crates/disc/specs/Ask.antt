@@ -1,4 +1,4 @@
--- A call is a tree of questions: it asks for a sector, is given its bytes, and goes on. Assumes nothing: these are definitions.
+-- A call is a tree of questions: it asks for a sector, is given its bytes, and goes on.
 use mathlib.Core.Path.{_≡_}
 use mathlib.Core.List.{List, [], _∷_}
 use Prim.Native.Nat.{ℕ, zero, suc}
@@ -88,3 +88,8 @@ fedTimes (suc n) d m = fedTimes n d (fed d m)
 abbrev pub ended : {A : Type 0} → Outcome A → Ask A
 ended (answered a) = done a
 ended (refused r) = refuse r
+
+-- go on with what was answered, or stay refused
+abbrev pub andThen : {A B : Type 0} → Outcome A → (A → Outcome B) → Outcome B
+andThen (answered a) f = f a
+andThen (refused r) f = refused r

@@ -1,4 +1,4 @@
--- A choice by a test. Assumes nothing: these are definitions.
+-- A choice by a test.
 use mathlib.Core.Bool.{Bool, true, false}
 
 -- the first where the test passes, else the second

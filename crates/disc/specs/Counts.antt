@@ -1,4 +1,4 @@
--- A count of sectors as a call reports it. Assumes nothing: these are definitions.
+-- A count of sectors as a call reports it.
 use Prim.Native.Nat.{ℕ, min}
 
 abbrev pub reported : ℕ → ℕ

@@ -1,4 +1,4 @@
--- The disc that a lent image is, and a run of its sectors: document 01, "Opening a volume". Assumes nothing: these are definitions.
+-- The disc that a lent image is, and a run of its sectors: document 01, "Opening a volume".
 use mathlib.Core.Bool.{Bool, true, false}
 use mathlib.Core.List.{List, [], _++_}
 use Prim.Native.Nat.{ℕ, zero, suc, _+_, _-_, _*_, _/_}
@@ -9,8 +9,6 @@ use Rattle.disc.specs.Ask.{Disc, Ask, Outcome, then}
 use Rattle.disc.specs.Ask.Held.{holds, lacks}
 use Rattle.disc.specs.Ask.Ask.{done, ask}
 use Rattle.disc.specs.Ask.Outcome.{answered, refused}
-use Rattle.disc.specs.Ran.{Ran}
-use Rattle.disc.specs.declared.images.Run.{Run}
 
 -- sector s is there where bytes 2,048 s to 2,048 s + 2,047 all are
 abbrev pub there : List ℕ → ℕ → Bool
@@ -36,7 +34,3 @@ bytesOf (refused r) = []
 abbrev pub isAnswered : {A : Type 0} → Outcome A → Bool
 isAnswered (answered a) = true
 isAnswered (refused r) = false
-
--- a run as the code reports it
-abbrev pub runOf : Ran (List ℕ) → Run
-runOf r = record { whole = isAnswered (r .outcome); asked = r .count }

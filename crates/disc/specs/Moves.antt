@@ -1,4 +1,4 @@
--- Lent memory after bytes were moved into it. Assumes nothing: these are definitions.
+-- Lent memory after bytes were moved into it.
 use mathlib.Core.List.{List, _++_}
 use Prim.Native.Nat.{ℕ}
 use lib.ListN.{length, take, drop}

@@ -1,5 +1,6 @@
--- What a call comes to on a disc, together with how many sectors it asked for. Assumes nothing: these are definitions.
+-- What a call comes to on a disc, together with how many sectors it asked for.
 use Prim.Native.Nat.{ℕ, _+_}
+use mathlib.Core.List.{List, map}
 use lib.ListN.{length}
 use Rattle.disc.specs.Ask.{Disc, Ask, Outcome, asked}
 use Rattle.disc.specs.Ask.Outcome.{answered, refused}
@@ -23,3 +24,15 @@ onward (refused r) n f = record { outcome = refused r; count = n }
 -- one run behind another, counts added
 abbrev pub followed : {A B : Type 0} → Ran A → (A → Ran B) → Ran B
 followed r f = onward (r .outcome) (r .count) f
+
+-- what is known of bytes at hand asks for no sector
+abbrev pub told : {A : Type 0} → Outcome A → Ran A
+told o = record { outcome = o; count = 0 }
+
+-- the same of each element of a list
+abbrev pub eachIn : {A B : Type 0} → (A → B) → Outcome (List A) → Outcome (List B)
+eachIn f (answered l) = answered (map f l)
+eachIn f (refused r) = refused r
+
+abbrev pub each : {A B : Type 0} → (A → B) → Ran (List A) → Ran (List B)
+each f r = record { outcome = eachIn f (r .outcome); count = r .count }

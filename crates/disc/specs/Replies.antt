@@ -1,4 +1,4 @@
--- What a call that writes bytes into lent memory says and leaves there. Assumes nothing: these are definitions.
+-- What a call that writes into lent memory says and leaves there.
 use Prim.Native.Nat.{ℕ}
 use mathlib.Core.Path.{_≡_}
 use mathlib.Core.List.{List, _++_}
@@ -13,23 +13,28 @@ use Rattle.disc.specs.Ran.{Ran}
 use Rattle.disc.specs.declared.refusals.Refusal.{Refusal}
 use Rattle.disc.specs.declared.replies.Reply.{Reply}
 
--- where there is room for so many bytes: `full` is the refusal of more, given after every other
-abbrev pub replyBy : Refusal → ℕ → ℕ → Outcome (List ℕ) → Reply
+-- the answer number of an outcome
+abbrev pub answerOf : {A : Type 0} → Outcome A → ℕ
+answerOf (answered a) = 0
+answerOf (refused r) = number r
+
+-- where there is room for so many elements, bytes or slots: `full` is the refusal of more, given after every other
+abbrev pub replyBy : {A : Type 0} → Refusal → ℕ → ℕ → Outcome (List A) → Reply
 replyBy full room count (refused r) = record { answer = number r; count = count; length = 0 }
 replyBy full room count (answered b) =
     pick (leb (length b) room)
     (record { answer = 0; count = count; length = length b })
     (record { answer = number full; count = count; length = 0 })
 
-abbrev pub replyOf : Refusal → ℕ → Ran (List ℕ) → Reply
+abbrev pub replyOf : {A : Type 0} → Refusal → ℕ → Ran (List A) → Reply
 replyOf full room r = replyBy full room (reported (r .count)) (r .outcome)
 
--- what was lent, with the answer over its front; a refusal changes no byte
-abbrev pub leftBy : List ℕ → Outcome (List ℕ) → List ℕ
+-- what was lent, with the answer over its front; a refusal changes nothing
+abbrev pub leftBy : {A : Type 0} → List A → Outcome (List A) → List A
 leftBy lent (refused r) = lent
 leftBy lent (answered b) = pick (leb (length b) (length lent)) (b ++ drop (length b) lent) lent
 
 -- both together
-pub record Replied (full : Refusal) (r : Ran (List ℕ)) (before after : List ℕ) (reply : Reply) : Type 0 where
+pub record Replied {A : Type 0} (full : Refusal) (r : Ran (List A)) (before after : List A) (reply : Reply) : Type 0 where
   pub says : reply ≡ replyOf full (length before) r
   pub leaves : after ≡ leftBy before (r .outcome)

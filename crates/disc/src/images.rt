@@ -2,15 +2,8 @@
 ghost use mathlib.Core.Path.{_≡_};
 ghost use Prim.Native.Nat.{_+_, _-_, _*_, _/_, _<_};
 ghost use Rattle.disc.specs.Ask.{bytesIn, outcome};
-ghost use Rattle.disc.specs.Ran.{ran};
-ghost use Rattle.disc.specs.Images.{there, disc, sectors, heldFrom, runOf, bytesOf};
+ghost use Rattle.disc.specs.Images.{disc, sectors, heldFrom, bytesOf};
 use crate::places::Sector;
-
-// What asking for a run of sectors in turn comes to: whether all are there, and how many were asked for, the missing one included.
-pub struct Run {
-    pub whole: bool,
-    pub asked: u64,
-}
 
 // How many sectors the image has from `first` on.
 pub fn held_from(image: &[u8], first: Sector) -> u64
@@ -23,13 +16,6 @@ pub fn held_from(image: &[u8], first: Sector) -> u64
     held - first.0
 }
 
-// Whether a sector is there.
-pub fn is_there(image: &[u8], s: Sector) -> bool
-    ensures { λ r. ⌜ r ≡ there (now (image .entry)) (s .0) ⌝ }
-{
-    s.0 < (image.len() / 2048) as u64
-}
-
 // A sector's bytes where they stand in the image; an empty part where it isn't there.
 pub fn sector_at(image: &[u8], s: Sector) -> &[u8]
     ensures { λ r. ⌜ now r ≡ bytesIn (disc (now (image .entry)) (s .0)) ⌝ }
@@ -40,23 +26,6 @@ pub fn sector_at(image: &[u8], s: Sector) -> &[u8]
     let from = s.0 as usize * 2048;
     let end = from + 2048;
     &image[from..end]
-}
-
-// A run of n sectors, counted and tested by one division: an image is one slice, so they are all there exactly when the last one is.
-pub fn run_at(image: &[u8], first: Sector, n: u64) -> Run
-    ensures { λ r. ⌜ r ≡ runOf (ran (disc (now (image .entry))) (sectors n (first .0))) ⌝ }
-{
-    let held = held_from(image, first);
-    if held < n {
-        return Run {
-            whole: false,
-            asked: held + 1,
-        };
-    }
-    Run {
-        whole: true,
-        asked: n,
-    }
 }
 
 // The bytes of a run of n sectors where they stand in the image; an empty part where one of them isn't there.

@@ -1,15 +1,59 @@
-// Two counters that stay apart: a block is counted from the partition's start, a sector from the disc's.
+// Two counters that stay apart: a block is counted from the partition's start, a sector from the disc's. One value says how a volume is read,
+// and it alone turns the one into the other.
 ghost use mathlib.Core.Path.{_≡_};
-ghost use Prim.Native.Nat.{_+_};
+ghost use Rattle.disc.specs.Places.{sectorOf, placed, placedBy, icbPlaced, Stands};
 
 pub struct Block(pub u32);
 
 // The sum of two 32-bit numbers passes 2^32, so a sector's number has 64 bits.
 pub struct Sector(pub u64);
 
-// The sole crossing: `start` is the partition's starting location.
-pub fn sector_of(start: u32, block: Block) -> Sector
-    ensures { λ r. ⌜ r .0 ≡ start + block .0 ⌝ }
-{
-    Sector(start as u64 + block.0 as u64)
+// The partition that a descriptor names: a short_ad names none.
+pub enum PartitionRef {
+    Unnamed,
+    Named(u16),
+}
+
+// How a volume is read: where its partition starts, and the partition's number.
+#[repr(C)]
+pub struct Mount {
+    pub start: u32,
+    pub partition: u16,
+}
+
+// Where a block stands: in a sector, or nowhere on this volume.
+pub enum Placed {
+    At(Sector),
+    Nowhere,
+}
+
+impl Mount {
+    // The sole crossing.
+    fn sector_of(self, block: Block) -> Sector
+        ensures { λ r. ⌜ r .0 ≡ sectorOf self (block .0) ⌝ }
+    {
+        Sector(self.start as u64 + block.0 as u64)
+    }
+
+    // The sector of a block under the reference that a descriptor gives.
+    pub fn placed(self, reference: PartitionRef, block: Block) -> Placed
+        ensures { λ r. ⌜ Stands self reference (block .0) r ⌝ }
+    {
+        match reference {
+            PartitionRef::Unnamed => Placed::At(self.sector_of(block)),
+            PartitionRef::Named(p) => {
+                if p != self.partition {
+                    return Placed::Nowhere;
+                }
+                Placed::At(self.sector_of(block))
+            }
+        }
+    }
+
+    // The sector of the block that an ICB names: its reference isn't looked at.
+    pub fn icb_placed(self, block: Block) -> Sector
+        ensures { λ r. ⌜ r .0 ≡ icbPlaced self (block .0) ⌝ }
+    {
+        self.sector_of(block)
+    }
 }

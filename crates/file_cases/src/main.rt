@@ -6,6 +6,7 @@
 ghost use mathlib.Core.Path.{_≡_};
 ghost use Prim.Native.Nat.{_≤_, _<_, _^_};
 ghost use lib.ListN.{length};
+use disc::places::Mount;
 use disc::refusals::Refusal;
 use files::reads::read_file;
 use layouts::lists::file_words;
@@ -103,18 +104,18 @@ fn is_free(row: &[[u32; 4]], from: usize) -> bool {
 
 // ---- the three calls
 
-fn say_read(image: &[u8], start: u32, partition: u16, icb: LongAd, out: &mut [u8]) {
+fn say_read(image: &[u8], mount: Mount, icb: LongAd, out: &mut [u8]) {
     fill(out);
-    let r = read_file(image, start, partition, icb, out, Refusal::NoRoom);
+    let r = read_file(image, mount, icb, out, Refusal::NoRoom);
     say_answer(b"read ", r.answer, r.count, r.length);
     say_number(b" sum ", sum(out));
     say(b"\n");
 }
 
-fn say_part(image: &[u8], start: u32, partition: u16, icb: LongAd) {
+fn say_part(image: &[u8], mount: Mount, icb: LongAd) {
     let mut answer: u64 = 99;
     let mut count: u64 = 99;
-    let p = file_part(image, start, partition, icb, &mut answer, &mut count);
+    let p = file_part(image, mount, icb, &mut answer, &mut count);
     say_answer(b"part ", answer, count, p.len() as u64);
     say_number(b" sum ", sum(p));
     say(b"\n");
@@ -143,20 +144,20 @@ fn say_slots(n: usize, row: &[[u32; 4]]) {
 }
 
 // The first n slots of the row are lent.
-fn lend_row(image: &[u8], start: u32, partition: u16, icb: LongAd, n: usize, row: &mut [[u32; 4]])
+fn lend_row(image: &[u8], mount: Mount, icb: LongAd, n: usize, row: &mut [[u32; 4]])
     requires { ⌜ n ≤ length (now row) ⌝ }
 {
-    let r = file_words(image, start, partition, icb, &mut row[..n]);
+    let r = file_words(image, mount, icb, &mut row[..n]);
     say_answer(b"extents ", r.answer, r.count, r.length);
     say_slots(r.length as usize, row);
 }
 
-fn say_extents(image: &[u8], start: u32, partition: u16, icb: LongAd, n: usize)
+fn say_extents(image: &[u8], mount: Mount, icb: LongAd, n: usize)
     requires { ⌜ n ≤ 256 ⌝ }
 {
     let free = [FREE; 4];
     let mut row = [free; 256];
-    lend_row(image, start, partition, icb, n, &mut row);
+    lend_row(image, mount, icb, n, &mut row);
 }
 
 // ---- the file of images
@@ -177,15 +178,13 @@ fn query(image: &[u8], q: &[u8], out: &mut [u8]) {
     let icb = long_at(q, 6);
     say_query(q, icb);
     let room = least(le32(q, 22) as usize, out.len());
-    say_read(image, le32(q, 0), le16(q, 4), icb, &mut out[..room]);
-    say_part(image, le32(q, 0), le16(q, 4), icb);
-    say_extents(
-        image,
-        le32(q, 0),
-        le16(q, 4),
-        icb,
-        least(le16(q, 26) as usize, 256),
-    );
+    let mount = Mount {
+        start: le32(q, 0),
+        partition: le16(q, 4),
+    };
+    say_read(image, mount, icb, &mut out[..room]);
+    say_part(image, mount, icb);
+    say_extents(image, mount, icb, least(le16(q, 26) as usize, 256));
 }
 
 // The queries of 28 bytes each.

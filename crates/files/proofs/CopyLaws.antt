@@ -17,8 +17,9 @@ use Rattle.disc.specs.Ask.Outcome.{answered, refused}
 use Rattle.disc.specs.Ran.{Ran}
 use Rattle.disc.specs.Images.{bytesOf, isAnswered}
 use Rattle.disc.specs.Moves.{over}
+use Rattle.disc.specs.declared.places.Mount.{Mount}
 use Rattle.disc.specs.declared.refusals.Refusal.{Refusal}
-use Rattle.disc.proofs.ImageLaws.{split}
+use Rattle.disc.proofs.PickLaws.{not-both}
 use Rattle.disc.proofs.MoveLaws.{over-fits, sets-append, sets-front}
 use Rattle.chains.specs.Walks.{weight}
 use Rattle.chains.specs.declared.cursors.ChainCursor.{ChainCursor}
@@ -46,9 +47,6 @@ tail-sets a xs v ys n l h e =
 
 -- ---- what is answered, piece by piece
 
-never : {A : Type 0} → _≡_ {A = Bool} false true → A
-never {A} e = absurd (let z : _≡_ {A = ℕ} 0 1 = cc in omega arith)
-
 -- what is stored before `n` leaves what is behind it
 drop-sets : (v l : List ℕ) (i n : ℕ) → i + length v ≤ n → drop n (sets l i v) ≡ drop n l
 drop-sets [] l i n h = refl
@@ -60,13 +58,13 @@ front-answers b (refused a) = refl
 
 front-bytes : (b : List ℕ) (o : Outcome (List ℕ)) → isAnswered o ≡ true → bytesOf (beforeOutcome b o) ≡ b ++ bytesOf o
 front-bytes b (answered a) h = refl
-front-bytes b (refused a) h = never h
+front-bytes b (refused a) h = not-both h
 
 -- ---- the loop
 
-module _ (image : List ℕ) (start partition kind want : ℕ) (out₀ : List ℕ) (c₀ : ChainCursor) where
+module _ (image : List ℕ) (m : Mount) (kind want : ℕ) (out₀ : List ℕ) (c₀ : ChainCursor) where
   abbrev rest : ChainCursor → ℕ → Ran (List ℕ)
-  rest c w = restAt image start partition kind c w
+  rest c w = restAt image m kind c w
 
   abbrev whole : List ℕ
   whole = bytesOf (rest c₀ want .outcome)
@@ -79,8 +77,8 @@ module _ (image : List ℕ) (start partition kind want : ℕ) (out₀ : List ℕ
   whole-few a = by (rest c₀ want .outcome) refl a
     where
       by : (o : Outcome (List ℕ)) → rest c₀ want .outcome ≡ o → isAnswered o ≡ true → length (bytesOf o) ≤ want
-      by (answered b) e h = few-bytes image start partition (left image start kind c₀) want b e
-      by (refused r) e h = never h
+      by (answered b) e h = few-bytes image m (left image m kind c₀) want b e
+      by (refused r) e h = not-both h
 
   -- what the rest will store makes, with what was stored, the whole
   pub record Stores (out : List ℕ) (c : ChainCursor) (filled : ℕ) : Type 0 where
@@ -100,23 +98,23 @@ module _ (image : List ℕ) (start partition kind want : ℕ) (out₀ : List ℕ
       let z : want - 0 ≡ want = omega arith in
       record { stores = λ a. record { same = rw z; answers = rw z a }; kept = refl; long = refl; low = omega arith; wide = g; room = k }
 
-  module _ (out : List ℕ) (c : ChainCursor) (filled : ℕ) (i : Copying out c filled) (t : Turn) (p : Turned image start partition kind c (want - filled) t) where
+  module _ (out : List ℕ) (c : ChainCursor) (filled : ℕ) (i : Copying out c filled) (t : Turn) (p : Turned image m kind c (want - filled) t) where
     ended : (Answers → sets out filled [] ≡ sets out₀ 0 whole) → Copied (rest c₀ want) want out₀ out
     ended e = record { bytes = λ a. e a ∙ sets-front whole out₀ (omega (arith, whole-few a, i .room)); kept = i .kept }
 
     pub copy-end : t ≡ End → Copied (rest c₀ want) want out₀ out
     copy-end e =
-        let q : Turned image start partition kind c (want - filled) End = rw e at p in
+        let q : Turned image m kind c (want - filled) End = rw e at p in
         ended (λ a. rw q at (i .stores a .same))
 
     pub copy-refused : {a : Refusal} {n : ℕ} → t ≡ Stopped a n → Copied (rest c₀ want) want out₀ out
     copy-refused {a} {n} e =
-        let q : Turned image start partition kind c (want - filled) (Stopped a n) = rw e at p in
-        ended (λ b. never (rw q at (i .stores b .answers)))
+        let q : Turned image m kind c (want - filled) (Stopped a n) = rw e at p in
+        ended (λ b. not-both (rw q at (i .stores b .answers)))
 
     pub copy-hop : {c′ : ChainCursor} → t ≡ Hop c′ → Copying out c′ filled
     copy-hop {c′} e =
-        let q : Turned image start partition kind c (want - filled) (Hop c′) = rw e at p in
+        let q : Turned image m kind c (want - filled) (Hop c′) = rw e at p in
         record {
           stores = λ a. record { same = (rw (q .runs) at (i .stores a .same)); answers = (rw (q .runs) at (i .stores a .answers)) };
           kept = i .kept;
@@ -128,10 +126,10 @@ module _ (image : List ℕ) (start partition kind want : ℕ) (out₀ : List ℕ
 
     pub copy-hop-less : {c′ : ChainCursor} → t ≡ Hop c′ → weight c′ < weight c
     copy-hop-less {c′} e =
-        let q : Turned image start partition kind c (want - filled) (Hop c′) = rw e at p in q .less
+        let q : Turned image m kind c (want - filled) (Hop c′) = rw e at p in q .less
 
     module _ {from n k : ℕ} {c′ : ChainCursor} (e : t ≡ Piece from n k c′) where
-      turn : PieceTurn image start partition kind c (want - filled) from n k c′
+      turn : PieceTurn image m kind c (want - filled) from n k c′
       turn = rw e at p
 
       pub copy-less : weight c′ < weight c

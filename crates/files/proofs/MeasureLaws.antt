@@ -12,6 +12,7 @@ use Rattle.disc.specs.Counts.{reported}
 use Rattle.disc.specs.Ask.{Outcome}
 use Rattle.disc.specs.Ask.Outcome.{answered, refused}
 use Rattle.disc.specs.Ran.{Ran}
+use Rattle.disc.specs.declared.places.Mount.{Mount}
 use Rattle.disc.specs.declared.refusals.Refusal.{Refusal}
 use Rattle.chains.specs.Walks.{weight}
 use Rattle.chains.specs.declared.cursors.ChainCursor.{ChainCursor}
@@ -44,44 +45,44 @@ module _ (image : List ℕ) (from n k w : ℕ) (y : Lies image from k w) (size c
 
 -- ---- the loop
 
-module _ (image : List ℕ) (start partition kind want : ℕ) (c₀ : ChainCursor) where
+module _ (image : List ℕ) (m : Mount) (kind want : ℕ) (c₀ : ChainCursor) where
   abbrev whole : Measured
-  whole = sized 0 0 (restAt image start partition kind c₀ want)
+  whole = sized 0 0 (restAt image m kind c₀ want)
 
   pub record Measuring (c : ChainCursor) (size count : ℕ) : Type 0 where
-    pub rest : sized size count (restAt image start partition kind c (want - size)) ≡ whole
+    pub rest : sized size count (restAt image m kind c (want - size)) ≡ whole
     pub low : size ≤ want
     pub fits : want < 2 ^ 64
     pub counts : count < 2 ^ 64
 
   pub measure-starts : want < 2 ^ 64 → Measuring c₀ 0 0
-  measure-starts k = record { rest = ap (λ n. sized 0 0 (restAt image start partition kind c₀ n)) (omega arith); low = omega arith; fits = k; counts = omega arith }
+  measure-starts k = record { rest = ap (λ n. sized 0 0 (restAt image m kind c₀ n)) (omega arith); low = omega arith; fits = k; counts = omega arith }
 
-  module _ (c : ChainCursor) (size count : ℕ) (i : Measuring c size count) (t : Turn) (p : Turned image start partition kind c (want - size) t) where
+  module _ (c : ChainCursor) (size count : ℕ) (i : Measuring c size count) (t : Turn) (p : Turned image m kind c (want - size) t) where
     pub measure-end : t ≡ End → Sized size count ≡ whole
     unfolding sized
     measure-end e =
-        let q : Turned image start partition kind c (want - size) End = rw e at p in
+        let q : Turned image m kind c (want - size) End = rw e at p in
         let n : reported (count + 0) ≡ count = omega (arith, i .counts) in
         (rw (q, n, add-zero) at (i .rest))
 
     pub measure-refused : {a : Refusal} {n k : ℕ} → t ≡ Stopped a n → k ≡ reported (count + n) → Refused a k ≡ whole
     unfolding sized
     measure-refused {a} {n} {k} e f =
-        let q : Turned image start partition kind c (want - size) (Stopped a n) = rw e at p in
+        let q : Turned image m kind c (want - size) (Stopped a n) = rw e at p in
         (rw (q, ← f) at (i .rest))
 
     pub measure-hop : {c′ : ChainCursor} → t ≡ Hop c′ → Measuring c′ size count
     measure-hop {c′} e =
-        let q : Turned image start partition kind c (want - size) (Hop c′) = rw e at p in
+        let q : Turned image m kind c (want - size) (Hop c′) = rw e at p in
         record { rest = (rw (q .runs) at (i .rest)); low = i .low; fits = i .fits; counts = i .counts }
 
     pub measure-hop-less : {c′ : ChainCursor} → t ≡ Hop c′ → weight c′ < weight c
     measure-hop-less {c′} e =
-        let q : Turned image start partition kind c (want - size) (Hop c′) = rw e at p in q .less
+        let q : Turned image m kind c (want - size) (Hop c′) = rw e at p in q .less
 
     module _ {from n k : ℕ} {c′ : ChainCursor} (e : t ≡ Piece from n k c′) where
-      turn : PieceTurn image start partition kind c (want - size) from n k c′
+      turn : PieceTurn image m kind c (want - size) from n k c′
       turn = rw e at p
 
       pub measure-adds : Fits w64 (size + k)
@@ -90,15 +91,15 @@ module _ (image : List ℕ) (start partition kind want : ℕ) (c₀ : ChainCurso
       pub measure-less : weight c′ < weight c
       measure-less = turn .less
 
-      module _ {m : ℕ} (f : m ≡ reported (count + n)) where
-        pub measure-enough : want ≤ size + k → Sized (size + k) m ≡ whole
-        measure-enough h = rw (f, ← sized-enough image from n k (want - size) (turn .lies) size count (restAt image start partition kind c′ (want - size - k)) (omega arith), ← turn .runs) (i .rest)
+      module _ {j : ℕ} (f : j ≡ reported (count + n)) where
+        pub measure-enough : want ≤ size + k → Sized (size + k) j ≡ whole
+        measure-enough h = rw (f, ← sized-enough image from n k (want - size) (turn .lies) size count (restAt image m kind c′ (want - size - k)) (omega arith), ← turn .runs) (i .rest)
 
-        pub measure-next : size + k < want → Measuring c′ (size + k) m
+        pub measure-next : size + k < want → Measuring c′ (size + k) j
         measure-next h =
             let g : want - (size + k) ≡ want - size - k = omega arith in
             record {
-              rest = rw (f, g, ← sized-more image from n k (want - size) (turn .lies) size count (restAt image start partition kind c′ (want - size - k)) (omega arith), ← turn .runs) (i .rest);
+              rest = rw (f, g, ← sized-more image from n k (want - size) (turn .lies) size count (restAt image m kind c′ (want - size - k)) (omega arith), ← turn .runs) (i .rest);
               low = omega arith;
               fits = i .fits;
               counts = omega arith;

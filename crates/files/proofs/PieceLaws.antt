@@ -1,7 +1,7 @@
 -- What the next piece of a file is: the laws that `sectors_read`, `weigh` and `next_piece` cite. Assumes nothing.
 use mathlib.Core.Path.{_≡_, refl, sym, _∙_}
-use mathlib.Core.Bool.{Bool, true, false}
 use mathlib.Core.List.{List, [], _∷_, _++_}
+use mathlib.Core.Option.{none, some}
 use mathlib.Core.Logic.{⊎-elim}
 use Prim.Native.Nat.{ℕ, _+_, _-_, _*_, _/_, _≤_, _<_, min}
 use native.Mathlib.Omega.{arith}
@@ -13,12 +13,13 @@ use Rattle.disc.specs.Ask.Ask.{done}
 use Rattle.disc.specs.Ask.Outcome.{answered, refused}
 use Rattle.disc.specs.Ran.{ran, after, followed}
 use Rattle.disc.specs.Images.{disc, heldFrom}
+use Rattle.disc.specs.Places.{placed}
+use Rattle.disc.specs.declared.places.Mount.{Mount}
 use Rattle.disc.specs.declared.refusals.Refusal.{Refusal}
 use Rattle.disc.specs.declared.refusals.Refusal.the-variants.{Io, Unsupported}
 use Rattle.disc.proofs.RanLaws.{ran-done, ran-refuse, ran-then}
 use Rattle.disc.proofs.ImageLaws.{split, same-answer}
 use Rattle.areas.specs.declared.AllocExtent.{AllocExtent}
-use Rattle.chains.specs.Chains.{foreign}
 use Rattle.chains.specs.Walks.{stepOf}
 use Rattle.chains.specs.declared.cursors.ChainCursor.{ChainCursor}
 use Rattle.chains.specs.declared.cursors.ChainStep.{ChainStep}
@@ -28,7 +29,7 @@ use Rattle.files.specs.declared.pieces.Piece.{Piece}
 use Rattle.files.specs.declared.pieces.Piece.the-variants.{Held, Refused}
 use Rattle.files.specs.declared.pieces.Turn.the-variants.{Piece as APiece, Hop, Refused as Stopped, End}
 use Rattle.files.specs.Reads.{joining, extentsBytes}
-use Rattle.files.specs.Pieces.{sectorsRead, inFront, joined, restOf, Lies, placed, Weighed, Turned}
+use Rattle.files.specs.Pieces.{sectorsRead, inFront, joined, restOf, Lies, weighedAt, Weighed, Turned}
 use Rattle.files.proofs.ExtentLaws.{extentRuns, extent-runs}
 
 -- ---- what an extent gives
@@ -52,59 +53,71 @@ joined-runs d b k e n want h more = rw e (⊎-elim
     (λ (t : k < want). rw (lt-leb want k t, ran-then) (front-runs d b n (ran d (more (want - k)) .outcome) (ran d (more (want - k)) .count)))
     (split want k))
 
-module _ (image : List ℕ) (start partition : ℕ) (e : AllocExtent) (want : ℕ) where
-  pub weigh-type : (e .«extent_type» ≡ 0 → ⊥) → Weighed image start partition e want (Refused Unsupported 0)
+module _ (image : List ℕ) (m : Mount) (e : AllocExtent) (want : ℕ) where
+  pub weigh-type : (e .«extent_type» ≡ 0 → ⊥) → Weighed image m e want (Refused Unsupported 0)
   unfolding extentsBytes
   weigh-type h es = rw (ne-eqb _ 0 h) (ran-refuse (disc image) Unsupported)
 
-  module _ (h : e .«extent_type» ≡ 0) {t : Bool} (f : t ≡ foreign partition (e .«partition_ref»)) where
-    pub weigh-foreign : t ≡ true → Weighed image start partition e want (Refused Unsupported 0)
+  module _ (h : e .«extent_type» ≡ 0) where
+    pub weigh-nowhere : placed m (e .«partition_ref») (e .block .0) ≡ none → Weighed image m e want (Refused Unsupported 0)
     unfolding extentsBytes
-    weigh-foreign k es = rw (eq-eqb _ 0 h, ← f, k) (ran-refuse (disc image) Unsupported)
+    weigh-nowhere k es = rw (eq-eqb _ 0 h, k) (ran-refuse (disc image) Unsupported)
 
-    module _ (g : t ≡ false) {n : ℕ} (m : n ≡ sectorsRead (e .length) want) {sector : ℕ} (w : sector ≡ start + e .block) {held : ℕ} (l : held ≡ heldFrom image sector) where
-      held-is : held ≡ heldFrom image (start + e .block)
-      held-is = rw w at l
-
-      extent-first : (es : List AllocExtent) → restOf image start partition (e ∷ es) want
-          ≡ followed (extentRuns image (start + e .block) (e .length) want) (λ b. ran (disc image) (joining want b (extentsBytes start partition es (want - length b))))
+    module _ {s : ℕ} (p : placed m (e .«partition_ref») (e .block .0) ≡ some s) where
+      extent-first : (es : List AllocExtent) → restOf image m (e ∷ es) want
+          ≡ followed (extentRuns image s (e .length) want) (λ b. ran (disc image) (joining want b (extentsBytes m es (want - length b))))
       unfolding extentsBytes
-      extent-first es = rw (eq-eqb _ 0 h, ← f, g, ran-then, extent-runs image _ (start + e .block) (e .length) want refl)
+      extent-first es = rw (eq-eqb _ 0 h, p, ran-then, extent-runs image _ s (e .length) want refl)
 
-      pub weigh-missing : held < n → Weighed image start partition e want (Refused Io (held + 1))
-      weigh-missing k es = extent-first es ∙ rw (← m, ← held-is, lt-leb n held k)
+      pub weigh-missing : heldFrom image s < sectorsRead (e .length) want → Weighed image m e want (Refused Io (heldFrom image s + 1))
+      weigh-missing k es = extent-first es ∙ rw (lt-leb (sectorsRead (e .length) want) (heldFrom image s) k)
 
-      pub weigh-held : n ≤ held → {k : ℕ} → k ≡ min (e .length) want → Weighed image start partition e want (Held n k)
-      weigh-held q {k} r =
-          let y : Lies image (placed start e) k want = record { small = omega arith; within = rw r (fits-in (length image) (start + e .block) (e .length) want n m (omega (arith, held-is))) } in
+      pub weigh-held : sectorsRead (e .length) want ≤ heldFrom image s → Weighed image m e want (Held (2048 * s) (sectorsRead (e .length) want) (min (e .length) want))
+      weigh-held k =
+          let y : Lies image (2048 * s) (min (e .length) want) want = record { small = omega arith; within = fits-in (length image) s (e .length) want (sectorsRead (e .length) want) refl k } in
           record {
-            runs = λ es. extent-first es ∙ rw (← m, ← held-is, le-leb n held q, ← r) (joined-runs (disc image) _ k (part-long image (placed start e) k want y) n want (y .small) (extentsBytes start partition es));
+            runs = λ es. extent-first es ∙ rw (le-leb (sectorsRead (e .length) want) (heldFrom image s) k) (joined-runs (disc image) _ (min (e .length) want) (part-long image (2048 * s) (min (e .length) want) want y) (sectorsRead (e .length) want) want (y .small) (extentsBytes m es));
             lies = y;
           }
 
+      pub weigh-there : {w : Piece} → w ≡ weighedAt image s (e .length) want → Weighed image m e want w
+      weigh-there f = rw f (⊎-elim
+          (λ (k : sectorsRead (e .length) want ≤ heldFrom image s). rw (le-leb (sectorsRead (e .length) want) (heldFrom image s) k) (weigh-held k))
+          (λ (k : heldFrom image s < sectorsRead (e .length) want). rw (lt-leb (sectorsRead (e .length) want) (heldFrom image s) k) (weigh-missing k))
+          (split (sectorsRead (e .length) want) (heldFrom image s)))
+
+-- ---- the returns of `weigh_at`
+
+module _ (image : List ℕ) (s size want : ℕ) {n : ℕ} (e : n ≡ sectorsRead size want) {h : ℕ} (f : h ≡ heldFrom image s) where
+  pub at-missing : h < n → Refused Io (h + 1) ≡ weighedAt image s size want
+  at-missing k = rw (← e, ← f, lt-leb n h k)
+
+  pub at-held : n ≤ h → {k : ℕ} → k ≡ min size want → Held (2048 * s) n k ≡ weighedAt image s size want
+  at-held k g = rw (← e, ← f, le-leb n h k, g)
+
 -- ---- a turn: r is what `advance` found, and w what `weigh` did
 
-module _ (image : List ℕ) (start partition kind : ℕ) (c : ChainCursor) (want : ℕ) {r : ChainStep} (p : r ≡ stepOf image start kind c) (b : Bytes image) where
+module _ (image : List ℕ) (m : Mount) (kind : ℕ) (c : ChainCursor) (want : ℕ) {r : ChainStep} (p : r ≡ stepOf image m kind c) (b : Bytes image) where
   -- what the step leaves
-  steps-to : {x : ChainStep} → r ≡ x → Stepped image start kind c x
-  steps-to e = rw (sym p ∙ e) at (steps image start kind b c)
+  steps-to : {x : ChainStep} → r ≡ x → Stepped image m kind c x
+  steps-to e = rw (sym p ∙ e) at (steps image m kind b c)
 
-  pub turn-end : r ≡ Ends → Turned image start partition kind c want End
+  pub turn-end : r ≡ Ends → Turned image m kind c want End
   unfolding extentsBytes
-  turn-end e = let q : Stepped image start kind c Ends = steps-to e in rw q (ran-done (disc image) [])
+  turn-end e = let q : Stepped image m kind c Ends = steps-to e in rw q (ran-done (disc image) [])
 
-  pub turn-hop : {c′ : ChainCursor} → r ≡ Hops c′ → Turned image start partition kind c want (Hop c′)
-  turn-hop {c′} e = let q : Stepped image start kind c (Hops c′) = steps-to e in record { runs = rw (q .list); less = q .less }
+  pub turn-hop : {c′ : ChainCursor} → r ≡ Hops c′ → Turned image m kind c want (Hop c′)
+  turn-hop {c′} e = let q : Stepped image m kind c (Hops c′) = steps-to e in record { runs = rw (q .list); less = q .less }
 
-  module _ {x : AllocExtent} {c′ : ChainCursor} (e : r ≡ Takes x c′) (w : Piece) (v : Weighed image start partition x want w) where
-    pub turn-refused : {why : Refusal} {n : ℕ} → w ≡ Refused why n → Turned image start partition kind c want (Stopped why n)
+  module _ {x : AllocExtent} {c′ : ChainCursor} (e : r ≡ Takes x c′) (w : Piece) (v : Weighed image m x want w) where
+    pub turn-refused : {why : Refusal} {n : ℕ} → w ≡ Refused why n → Turned image m kind c want (Stopped why n)
     turn-refused {why} {n} f =
-        let q : Stepped image start kind c (Takes x c′) = steps-to e in
-        let u : Weighed image start partition x want (Refused why n) = rw f at v in
+        let q : Stepped image m kind c (Takes x c′) = steps-to e in
+        let u : Weighed image m x want (Refused why n) = rw f at v in
         rw (q .list) (u _)
 
-    pub turn-piece : {n k : ℕ} → w ≡ Held n k → {sector : ℕ} → sector ≡ start + x .block → Turned image start partition kind c want (APiece (2048 * sector) n k c′)
-    turn-piece {n} {k} f s =
-        let q : Stepped image start kind c (Takes x c′) = steps-to e in
-        let u : Weighed image start partition x want (Held n k) = rw f at v in
-        record { runs = rw (q .list, s) (u .runs _); lies = rw s (u .lies); less = q .less }
+    pub turn-piece : {from n k : ℕ} → w ≡ Held from n k → Turned image m kind c want (APiece from n k c′)
+    turn-piece {from} {n} {k} f =
+        let q : Stepped image m kind c (Takes x c′) = steps-to e in
+        let u : Weighed image m x want (Held from n k) = rw f at v in
+        record { runs = rw (q .list) (u .runs _); lies = u .lies; less = q .less }

@@ -1,14 +1,12 @@
 -- A read, put together from its passes. Assumes nothing.
-use mathlib.Core.Path.{_≡_, refl, sym, _∙_}
+use mathlib.Core.Path.{_≡_, refl, ap, sym, _∙_}
 use mathlib.Core.Bool.{true}
 use mathlib.Core.List.{List, _++_}
 use Prim.Native.Nat.{ℕ, _+_, _-_, _≤_, _<_, _^_, min}
 use native.Mathlib.Omega.{arith}
 use lib.ListN.{length, take, drop, length-drop}
 use lib.Seq.{length-take-le}
-use mir.Syntax.{w64}
-use mir.Val.{Fits}
-use borrow.Author.Tests.{eq-eqb, ne-eqb, le-leb, lt-leb}
+use borrow.Author.Tests.{le-leb, lt-leb}
 use Rattle.disc.specs.Counts.{reported}
 use Rattle.disc.specs.Refusals.{number}
 use Rattle.disc.specs.Ask.{Outcome}
@@ -16,28 +14,24 @@ use Rattle.disc.specs.Ask.Outcome.{answered, refused}
 use Rattle.disc.specs.Ran.{Ran, ran, after}
 use Rattle.disc.specs.Images.{disc, bytesOf, isAnswered}
 use Rattle.disc.specs.Replies.{Replied}
+use Rattle.disc.specs.declared.places.Mount.{Mount}
 use Rattle.disc.specs.declared.refusals.Refusal.{Refusal}
 use Rattle.disc.specs.declared.replies.Reply.{Reply}
-use Rattle.disc.proofs.RanLaws.{ran-then}
+use Rattle.disc.proofs.RanLaws.{ran-done, ran-then}
 use Rattle.disc.proofs.ReplyLaws.{reply-refused}
 use Rattle.records.specs.declared.allocations.LongAd.{LongAd}
 use Rattle.chains.specs.Walks.{left}
 use Rattle.chains.specs.declared.cursors.ChainCursor.{ChainCursor}
-use Rattle.chains.specs.declared.follows.Chain.{Chain}
-use Rattle.chains.specs.declared.follows.Chain.the-variants.{Whole, Refused as BrokenOff}
-use Rattle.chains.specs.Follows.{WholeChain, BrokenChain, Followed}
 use Rattle.files.specs.declared.icbs.Place.{Place}
-use Rattle.files.specs.declared.icbs.PlaceRead.{PlaceRead}
-use Rattle.files.specs.declared.icbs.PlaceRead.the-variants.{Found, Refused as NoPlace}
 use Rattle.files.specs.declared.extents.Measured.{Measured}
 use Rattle.files.specs.declared.extents.Measured.the-variants.{Sized, Refused}
 use Rattle.files.specs.Files.{fileBytes}
 use Rattle.files.specs.Pieces.{restAt}
 use Rattle.files.specs.Passes.{sizedBy, sized, Copied}
-use Rattle.files.specs.Places.{placeOf}
-use Rattle.files.specs.Wholes.{embeddedIn, embeddedRun, frontOf, bytesFrom, FoundPlace, Locates}
+use Rattle.files.specs.Wholes.{embeddedIn, embeddedRun, frontOf, EmbeddedFile, ChainedFile, Resolves}
+use Rattle.files.specs.declared.resolves.Resolved.{Resolved}
+use Rattle.files.specs.declared.resolves.Resolved.the-variants.{Embedded, Chained, Refused as Unresolved}
 use Rattle.files.proofs.BoundLaws.{same-bytes}
-use Rattle.files.proofs.EntryLaws.{locates}
 
 -- a reply is right where what is answered is right
 pub replied-as : {full : Refusal} {r s : Ran (List ℕ)} → r ≡ s → {a b : List ℕ} {x : Reply} → Replied full s a b x → Replied full r a b x
@@ -50,14 +44,14 @@ module _ (full : Refusal) (image : List ℕ) (p : Place) (h : p .at + p .size �
   long = rw (← e) (length-take-le n (drop (p .at) image) (rw length-drop (omega arith)))
 
   pub embedded-full : length out < n → {m : ℕ} → m ≡ number full → {x : Reply} → x ≡ record { answer = m; count = 1; length = 0 }
-      → Replied full (after 1 (embeddedRun image p)) out out x
+      → Replied full (embeddedRun image p) out out x
   embedded-full k f g = record { says = rw (long, lt-leb n (length out) k, g, f); leaves = rw (long, lt-leb n (length out) k) }
 
   pub embedded-source : n ≤ length image - p .at
   embedded-source = omega arith
 
   pub embedded-done : n ≤ length out → {z : List ℕ} → z ≡ take n (drop (p .at) image) ++ drop n out
-      → Replied full (after 1 (embeddedRun image p)) out z (record { answer = 0; count = 1; length = n })
+      → Replied full (embeddedRun image p) out z (record { answer = 0; count = 1; length = n })
   embedded-done k w = record { says = rw (long, le-leb n (length out) k); leaves = rw (long, le-leb n (length out) k) (w ∙ rw e) }
 
 -- ---- the bytes of extents that were measured
@@ -130,18 +124,18 @@ module _ (full : Refusal) (rest : Ran (List ℕ)) (n : ℕ) {m : Measured} (q : 
           rw (y, d, ← counted) (too-many full (after n rest) out (t .answers) (omega (arith, t .is)))
 
 -- the copy wants as many bytes as were measured, which is all that the read answers
-module _ (image : List ℕ) (start partition kind : ℕ) (first : ChainCursor) (want : ℕ) where
+module _ (image : List ℕ) (m : Mount) (kind : ℕ) (first : ChainCursor) (want : ℕ) where
   abbrev rest : ℕ → Ran (List ℕ)
-  rest w = restAt image start partition kind first w
+  rest w = restAt image m kind first w
 
   same-outcome : {size j : ℕ} → Told (rest want) size j → rest size .outcome ≡ rest want .outcome
   same-outcome {size} {j} t = by (rest want .outcome) refl (t .answers) (t .is)
     where
       by : (o : Outcome (List ℕ)) → rest want .outcome ≡ o → isAnswered o ≡ true → size ≡ length (bytesOf o) → rest size .outcome ≡ o
-      by (answered b) e a i = rw i (same-bytes image start partition (left image start kind first) want b e)
+      by (answered b) e a i = rw i (same-bytes image m (left image m kind first) want b e)
       by (refused r) e a i = absurd (let z : _≡_ {A = ℕ} 0 1 = cc in omega arith)
 
-  pub whole-done : (full : Refusal) (n : ℕ) (out : List ℕ) {m : Measured} → m ≡ sized 0 0 (rest want) → {size j : ℕ} → m ≡ Sized size j → {k : ℕ} → k ≡ reported (n + j) → size ≤ length out → {z : List ℕ} → Copied (rest size) size out z
+  pub whole-done : (full : Refusal) (n : ℕ) (out : List ℕ) {told : Measured} → told ≡ sized 0 0 (rest want) → {size j : ℕ} → told ≡ Sized size j → {k : ℕ} → k ≡ reported (n + j) → size ≤ length out → {z : List ℕ} → Copied (rest size) size out z
       → Replied full (after n (rest want)) out z (record { answer = 0; count = k; length = size })
   whole-done full n out q {size} {j} f {k} g h {z} w =
       let t = told-yes full (rest want) n q out f in
@@ -150,62 +144,36 @@ module _ (image : List ℕ) (start partition kind : ℕ) (first : ChainCursor) (
       let b : z ≡ bytesOf (rest want .outcome) ++ drop (length (bytesOf (rest want .outcome))) out = rw (← e) (w .bytes a) in
       rw (← counted full (rest want) n q out f g, t .is) (fits full (after n (rest want)) out z (t .answers) (omega (arith, t .is)) b)
 
--- ---- the bytes of the extents of a chain: r is what `follow` found
+-- ---- a file: r is what `resolve` found
 
-module _ (image : List ℕ) (start partition : ℕ) (p : Place) (r : Chain) (y : Followed image start partition (p .kind) (frontOf p) r) where
-  module _ {why : Refusal} {n : ℕ} (e : r ≡ BrokenOff why n) where
-    broken : BrokenChain image start partition (p .kind) (frontOf p) why n
-    broken = rw e at y
+module _ (full : Refusal) (image : List ℕ) (m : Mount) (icb : LongAd) (out : List ℕ) (r : Resolved) (y : Resolves image m icb r) where
+  abbrev file : Ran (List ℕ)
+  file = ran (disc image) (fileBytes m icb)
 
-    pub cut-fits : Fits w64 (n + 1)
-    cut-fits = omega (arith, broken .few)
+  pub read-refused : {why : Refusal} {n : ℕ} → r ≡ Unresolved why n → {a : ℕ} → a ≡ number why → {x : Reply} → x ≡ record { answer = a; count = n; length = 0 } → Replied full file out out x
+  unfolding fileBytes
+  read-refused {why} {n} e g f =
+      let q : Resolves image m icb (Unresolved why n) = rw e at y in
+      rw (ran-then, q .runs) (reply-refused why n n (omega (arith, q .few)) (f ∙ rw g))
 
-    pub extents-cut : (full : Refusal) {a : ℕ} → a ≡ number why → (out : List ℕ) {x : Reply} → x ≡ record { answer = a; count = n + 1; length = 0 }
-        → Replied full (after 1 (bytesFrom image start partition p)) out out x
-    extents-cut full g out f = rw (broken .runs) (reply-refused why (1 + n) (n + 1) (omega (arith, broken .few)) (f ∙ rw g))
+  module _ {p : Place} (e : r ≡ Embedded p) where
+    in-entry : EmbeddedFile image m icb p
+    in-entry = rw e at y
 
-  module _ {n : ℕ} (e : r ≡ Whole n) where
-    whole : WholeChain image start partition (p .kind) (frontOf p) n
-    whole = rw e at y
-
-    pub whole-fits : Fits w64 (n + 1)
-    whole-fits = omega (arith, whole .few)
-
-    pub extents-read : (full : Refusal) (out : List ℕ) {z : List ℕ} {x : Reply}
-        → Replied full (after (n + 1) (restAt image start partition (p .kind) (frontOf p) (p .information))) out z x
-        → Replied full (after 1 (bytesFrom image start partition p)) out z x
-    extents-read full out q =
-        let g : (k : ℕ) → 1 + (n + k) ≡ n + 1 + k = λ k. omega arith in
-        rw (whole .runs, g) q
-
--- ---- a file: r is what `locate` found
-
-module _ (image : List ℕ) (start : ℕ) (icb : LongAd) {r : PlaceRead} (y : r ≡ placeOf image start icb) where
-  -- the entry's area, or the embedded file, lies in the image and in one sector
-  module _ {p : Place} (e : r ≡ Found p) where
-    found : FoundPlace image start icb p
-    found = locates image start icb (sym e ∙ y)
-
-    pub place-inside : p .at + p .size ≤ length image
-    place-inside = found .inside
-
-    pub place-small : p .size ≤ 2048
-    place-small = found .small
-
-  module _ (full : Refusal) (partition : ℕ) (out : List ℕ) where
-    abbrev file : Ran (List ℕ)
-    file = ran (disc image) (fileBytes start partition icb)
-
-    pub read-refused : {why : Refusal} {n : ℕ} → r ≡ NoPlace why n → n < 2 ^ 64 → {a : ℕ} → a ≡ number why → {x : Reply} → x ≡ record { answer = a; count = n; length = 0 }
-        → Replied full file out out x
+    pub read-in : {z : List ℕ} {x : Reply} → Replied full (embeddedRun image p) out z x → Replied full file out z x
     unfolding fileBytes
-    read-refused {why} {n} e k g f =
-        let q : Locates image start icb (NoPlace why n) = locates image start icb (sym e ∙ y) in
-        rw (ran-then, q) (reply-refused why n n (omega arith) (f ∙ rw g))
+    read-in q = replied-as (rw (ran-then, in-entry .runs, ran-done, in-entry .bytes)) q
 
-    module _ {p : Place} (e : r ≡ Found p) where
-      pub read-in : p .kind ≡ 3 → {z : List ℕ} {x : Reply} → Replied full (after 1 (embeddedRun image p)) out z x → Replied full file out z x
-      read-in k q = replied-as (found e .bytes partition ∙ rw (eq-eqb (p .kind) 3 k)) q
+  module _ {p : Place} {n : ℕ} (e : r ≡ Chained p n) where
+    in-chain : ChainedFile image m icb p n
+    in-chain = rw e at y
 
-      pub read-out : (p .kind ≡ 3 → ⊥) → {z : List ℕ} {x : Reply} → Replied full (after 1 (bytesFrom image start partition p)) out z x → Replied full file out z x
-      read-out k q = replied-as (found e .bytes partition ∙ rw (ne-eqb (p .kind) 3 k)) q
+    pub read-out : {front : ChainCursor} → front ≡ frontOf p → {z : List ℕ} {x : Reply} → Replied full (after n (restAt image m (p .kind) front (p .information))) out z x → Replied full file out z x
+    unfolding fileBytes
+    read-out g q =
+        let w : p .information ≡ in-chain .entry .entry .«information_length» = ap (λ (x : Place). x .information) (in-chain .is) in
+        replied-as (rw (ran-then, in-chain .runs, ← w, g)) q
+
+-- the entry's area, or the embedded file, lies in the image
+pub place-inside : (image : List ℕ) (m : Mount) (icb : LongAd) (r : Resolved) → Resolves image m icb r → {p : Place} → r ≡ Embedded p → p .at + p .size ≤ length image
+place-inside image m icb r y {p} e = let q : EmbeddedFile image m icb p = rw e at y in q .inside

@@ -1,6 +1,5 @@
 -- A file from its ICB: document 01, "Reading an entry" and "Reading a file". This is what the public calls promise.
--- Assumes nothing: these are definitions.
-use Prim.Native.Nat.{ℕ, _+_, min}
+use Prim.Native.Nat.{ℕ, _+_, _*_, min}
 use mathlib.Core.Bool.{Bool}
 use mathlib.Core.List.{List, []}
 use lib.ListN.{take, drop}
@@ -9,6 +8,8 @@ use Rattle.disc.specs.Choice.{pick}
 use Rattle.disc.specs.Ask.{Ask, Outcome, then}
 use Rattle.disc.specs.Ask.Ask.{done, refuse, ask}
 use Rattle.disc.specs.Ask.Outcome.{answered, refused}
+use Rattle.disc.specs.Places.{icbPlaced}
+use Rattle.disc.specs.declared.places.Mount.{Mount}
 use Rattle.disc.specs.declared.refusals.Refusal.the-variants.{Malformed}
 use Rattle.records.specs.declared.allocations.LongAd.{LongAd}
 use Rattle.areas.specs.declared.AllocExtent.{AllocExtent}
@@ -17,65 +18,95 @@ use Rattle.entries.specs.FileEntries.{readEntry}
 use Rattle.entries.specs.declared.«file_entries».FileEntry.{FileEntry}
 use Rattle.entries.specs.declared.«file_entries».EntryRead.{EntryRead}
 use Rattle.entries.specs.declared.«file_entries».EntryRead.the-variants.{Read, Refused}
-use Rattle.chains.specs.Chains.{chain}
+use Rattle.chains.specs.Chains.{mostContinuations, chain}
 use Rattle.files.specs.Reads.{extentsBytes, visited}
 
 -- ---- the entry
 
--- an entry with the bytes of its sector
+-- an entry with the number of its sector and its bytes
 pub record Located : Type 0 where
+  pub at : ℕ
   pub sector : List ℕ
   pub entry : FileEntry
 
-abbrev pub located : List ℕ → EntryRead → Ask Located
-located s (Refused r) = refuse r
-located s (Read e) = done (record { sector = s; entry = e })
+abbrev pub located : ℕ → List ℕ → EntryRead → Ask Located
+located at s (Refused r) = refuse r
+located at s (Read e) = done (record { at = at; sector = s; entry = e })
+
+abbrev pub entryIn : ℕ → Ask Located
+entryIn at = ask at (λ s. located at s (readEntry s))
 
 -- an ICB's length 0 is refused before any sector; its type and partition aren't looked at
-unfoldable pub entryAt : ℕ → LongAd → Ask Located
-entryAt start icb = pick (eqb (icb .length) 0) (refuse Malformed) (ask (start + icb .location .block) (λ s. located s (readEntry s)))
+unfoldable pub entryAt : Mount → LongAd → Ask Located
+entryAt m icb = pick (eqb (icb .length) 0) (refuse Malformed) (entryIn (icbPlaced m (icb .location .block)))
 
 -- kind 3: the file stands in the entry itself (ECMA-167 4/14.6.8)
+abbrev pub embeddedKind : ℕ
+embeddedKind = 3
+
 abbrev pub isEmbedded : Located → Bool
-isEmbedded x = eqb (x .entry .kind) 3
+isEmbedded x = eqb (x .entry .kind) embeddedKind
 
 abbrev pub embeddedBytes : Located → List ℕ
 embeddedBytes x = take (min (x .entry .«area_length») (x .entry .«information_length»)) (drop (x .entry .«area_at») (x .sector))
 
--- the extents of its chain, 32 continuations at most
-abbrev pub chainOf : ℕ → ℕ → Located → Ask (List AllocExtent)
-chainOf start partition x =
-    chain start partition (x .entry .kind) 32 (areaAt (x .entry .kind) (x .sector) (x .entry .«area_at») (x .entry .«area_length»))
+-- ---- the chain, which is resolved before anything is asked of the file
+
+-- its extents, through 32 continuations at most
+abbrev pub chainOf : Mount → Located → Ask (List AllocExtent)
+chainOf m x = chain m (x .entry .kind) mostContinuations (areaAt (x .entry .kind) (x .sector) (x .entry .«area_at») (x .entry .«area_length»))
+
+-- a file: embedded in its entry, or the extents of its chain
+pub data File : Type 0 where
+  embedded : Located → File
+  chained : Located → List AllocExtent → File
+
+abbrev pub resolved : Mount → Located → Ask File
+resolved m x = pick (isEmbedded x) (done (embedded x)) (then (chainOf m x) (λ es. done (chained x es)))
+
+unfoldable pub fileAt : Mount → LongAd → Ask File
+fileAt m icb = then (entryAt m icb) (resolved m)
 
 -- ---- what is asked of a file
 
--- its bytes: the chain is resolved first
-abbrev pub bytesAt : ℕ → ℕ → Located → Ask (List ℕ)
-bytesAt start partition x =
-    pick (isEmbedded x) (done (embeddedBytes x))
-    (then (chainOf start partition x) (λ es. extentsBytes start partition es (x .entry .«information_length»)))
+-- its bytes
+abbrev pub contentOf : Mount → File → Ask (List ℕ)
+contentOf m (embedded x) = done (embeddedBytes x)
+contentOf m (chained x es) = extentsBytes m es (x .entry .«information_length»)
 
-unfoldable pub fileBytes : ℕ → ℕ → LongAd → Ask (List ℕ)
-fileBytes start partition icb = then (entryAt start icb) (bytesAt start partition)
+unfoldable pub fileBytes : Mount → LongAd → Ask (List ℕ)
+fileBytes m icb = then (fileAt m icb) (contentOf m)
 
--- its part of the image: the embedded bytes, or none for any other file whose chain is read
-abbrev pub partAt : ℕ → ℕ → Located → Ask (List ℕ)
-partAt start partition x = pick (isEmbedded x) (done (embeddedBytes x)) (then (chainOf start partition x) (λ es. done []))
+-- its part of the image, by its place and its bytes: the embedded bytes, or none for any other file
+pub record Part : Type 0 where
+  pub at : ℕ
+  pub bytes : List ℕ
 
-unfoldable pub filePart : ℕ → ℕ → LongAd → Ask (List ℕ)
-filePart start partition icb = then (entryAt start icb) (partAt start partition)
+abbrev pub noPart : Part
+noPart = record { at = 0; bytes = [] }
+
+abbrev pub partOf : File → Part
+partOf (embedded x) = record { at = 2048 * x .at + x .entry .«area_at»; bytes = embeddedBytes x }
+partOf (chained x es) = noPart
+
+unfoldable pub filePart : Mount → LongAd → Ask Part
+filePart m icb = then (fileAt m icb) (λ f. done (partOf f))
 
 -- its extents, for the whole chain: an embedded file has none
-abbrev pub extentsAt : ℕ → ℕ → Located → Ask (List AllocExtent)
-extentsAt start partition x = pick (isEmbedded x) (done []) (chainOf start partition x)
+abbrev pub extentsOf : File → List AllocExtent
+extentsOf (embedded x) = []
+extentsOf (chained x es) = es
 
-unfoldable pub fileExtents : ℕ → ℕ → LongAd → Ask (List AllocExtent)
-fileExtents start partition icb = then (entryAt start icb) (extentsAt start partition)
+unfoldable pub fileExtents : Mount → LongAd → Ask (List AllocExtent)
+fileExtents m icb = then (fileAt m icb) (λ f. done (extentsOf f))
 
 -- how many extents a read visits: none of an embedded file
-unfoldable pub fileVisited : ℕ → ℕ → LongAd → Ask ℕ
-fileVisited start partition icb =
-    then (entryAt start icb) (λ x. then (extentsAt start partition x) (λ es. done (visited es (x .entry .«information_length»))))
+abbrev pub visitsOf : File → ℕ
+visitsOf (embedded x) = 0
+visitsOf (chained x es) = visited es (x .entry .«information_length»)
+
+unfoldable pub fileVisited : Mount → LongAd → Ask ℕ
+fileVisited m icb = then (fileAt m icb) (λ f. done (visitsOf f))
 
 abbrev pub visitsIn : Outcome ℕ → ℕ
 visitsIn (answered n) = n

@@ -1,14 +1,17 @@
--- A file's bytes, read from its extents: document 01, "Reading a file". Assumes nothing: these are definitions.
+-- A file's bytes, read from its extents: document 01, "Reading a file".
 use Prim.Native.Nat.{ℕ, zero, suc, _+_, _-_, _*_}
 use mathlib.Core.List.{List, [], _∷_, _++_}
+use mathlib.Core.Option.{Option, none, some}
 use lib.ListN.{length, take, drop}
 use lib.Dec.{eqb, leb}
 use Rattle.disc.specs.Choice.{pick}
 use Rattle.disc.specs.Ask.{Ask, then}
 use Rattle.disc.specs.Ask.Ask.{done, refuse, ask}
+use Rattle.disc.specs.Places.{placed, standing}
+use Rattle.disc.specs.declared.places.Mount.{Mount}
 use Rattle.disc.specs.declared.refusals.Refusal.the-variants.{Unsupported}
 use Rattle.areas.specs.declared.AllocExtent.{AllocExtent}
-use Rattle.chains.specs.Chains.{sectorsFor, foreign}
+use Rattle.chains.specs.Chains.{sectorsFor}
 
 -- the read stops if it has the `want` bytes that are missing, and what is past them is cut; else more is joined
 abbrev pub joining : ℕ → List ℕ → Ask (List ℕ) → Ask (List ℕ)
@@ -20,14 +23,14 @@ extentBytes zero at size want = done []
 extentBytes (suc n) at size want =
     ask at (λ b. joining want (take size b) (extentBytes n (at + 1) (size - 2048) (want - length (take size b))))
 
--- the bytes of extents in turn: each is recorded (type 0, ECMA-167 4/14.14.1.1) and of the volume's partition
-unfoldable pub extentsBytes : ℕ → ℕ → List AllocExtent → ℕ → Ask (List ℕ)
-extentsBytes start partition [] want = done []
-extentsBytes start partition (e ∷ es) want =
+-- the bytes of extents in turn: each is recorded (type 0, ECMA-167 4/14.14.1.1) and stands on this volume
+unfoldable pub extentsBytes : Mount → List AllocExtent → ℕ → Ask (List ℕ)
+extentsBytes m [] want = done []
+extentsBytes m (e ∷ es) want =
     pick (eqb (e .«extent_type») 0)
-    (pick (foreign partition (e .«partition_ref»)) (refuse Unsupported)
-    (then (extentBytes (sectorsFor (e .length)) (start + e .block) (e .length) want) (λ b.
-    joining want b (extentsBytes start partition es (want - length b)))))
+    (standing (placed m (e .«partition_ref») (e .block .0)) (λ at.
+    then (extentBytes (sectorsFor (e .length)) at (e .length) want) (λ b.
+    joining want b (extentsBytes m es (want - length b)))))
     (refuse Unsupported)
 
 -- how many extents a read begins: it visits the first even for no byte
@@ -36,6 +39,10 @@ visited [] want = 0
 visited (e ∷ es) want = 1 + pick (leb want (e .length)) 0 (visited es (want - e .length))
 
 -- what extents hold in an image, all of it joined: what a read is cut from
-unfoldable pub extentsHold : List ℕ → ℕ → List AllocExtent → List ℕ
-extentsHold image start [] = []
-extentsHold image start (e ∷ es) = take (e .length) (drop (2048 * (start + e .block)) image) ++ extentsHold image start es
+abbrev pub heldAt : List ℕ → ℕ → Option ℕ → List ℕ
+heldAt image n none = []
+heldAt image n (some s) = take n (drop (2048 * s) image)
+
+unfoldable pub extentsHold : List ℕ → Mount → List AllocExtent → List ℕ
+extentsHold image m [] = []
+extentsHold image m (e ∷ es) = heldAt image (e .length) (placed m (e .«partition_ref») (e .block .0)) ++ extentsHold image m es

@@ -1,26 +1,29 @@
 -- What the parts of a call come to on an image: for the contracts of private functions. There is nothing to believe here.
--- Assumes nothing: these are definitions.
-use Prim.Native.Nat.{ℕ, _+_, _≤_, min}
+use Prim.Native.Nat.{ℕ, _+_, _*_, _≤_, min}
 use mathlib.Core.Path.{_≡_}
-use mathlib.Core.List.{List, []}
+use mathlib.Core.List.{List}
 use lib.ListN.{length, take, drop}
-use lib.Dec.{eqb}
-use Rattle.disc.specs.Choice.{pick}
 use Rattle.disc.specs.Ask.Outcome.{answered, refused}
-use Rattle.disc.specs.Ran.{Ran, ran, after, followed}
+use Rattle.disc.specs.Ran.{Ran, ran}
 use Rattle.disc.specs.Images.{disc}
+use Rattle.disc.specs.declared.places.Mount.{Mount}
+use Rattle.disc.specs.declared.refusals.Refusal.{Refusal}
 use Rattle.records.specs.declared.allocations.LongAd.{LongAd}
+use Rattle.areas.specs.Areas.{areaAt}
 use Rattle.entries.specs.FileEntries.{readEntry}
 use Rattle.entries.specs.declared.«file_entries».EntryRead.{EntryRead}
 use Rattle.entries.specs.declared.«file_entries».EntryRead.the-variants.{Read, Refused as NoEntry}
+use Rattle.chains.specs.Chains.{mostContinuations}
+use Rattle.chains.specs.Walks.{left}
 use Rattle.chains.specs.declared.cursors.ChainCursor.{ChainCursor}
-use Rattle.chains.specs.Follows.{chainAt}
-use Rattle.files.specs.Pieces.{restOf}
-use Rattle.files.specs.Files.{entryAt, fileBytes, filePart, fileExtents}
+use Rattle.files.specs.Files.{Located, entryAt, embeddedBytes, fileAt}
+use Rattle.files.specs.Files.File.{embedded, chained}
 use Rattle.files.specs.Places.{placeAt}
 use Rattle.files.specs.declared.icbs.Place.{Place}
 use Rattle.files.specs.declared.icbs.PlaceRead.{PlaceRead}
 use Rattle.files.specs.declared.icbs.PlaceRead.the-variants.{Found, Refused}
+use Rattle.files.specs.declared.resolves.Resolved.{Resolved}
+use Rattle.files.specs.declared.resolves.Resolved.the-variants.{Embedded, Chained, Refused as Unresolved}
 
 -- the entry at the front of a sector that stands at `from`
 abbrev pub readBy : ℕ → EntryRead → PlaceRead
@@ -35,30 +38,46 @@ abbrev pub embeddedIn : List ℕ → Place → List ℕ
 embeddedIn image p = take (min (p .size) (p .information)) (drop (p .at) image)
 
 abbrev pub embeddedRun : List ℕ → Place → Ran (List ℕ)
-embeddedRun image p = record { outcome = answered (embeddedIn image p); count = 0 }
+embeddedRun image p = record { outcome = answered (embeddedIn image p); count = 1 }
 
--- the cursor at the front of the chain: 32 more areas may follow
+-- the cursor at the front of the chain
 abbrev pub frontOf : Place → ChainCursor
-frontOf p = record { at = p .at; left = p .size; hops = 32 }
+frontOf p = record { at = p .at; left = p .size; hops = mostContinuations }
 
--- what is left to run, behind the sector of the entry
-abbrev pub bytesFrom : List ℕ → ℕ → ℕ → Place → Ran (List ℕ)
-bytesFrom image start partition p = followed (chainAt image start partition (p .kind) (frontOf p)) (λ es. restOf image start partition es (p .information))
-
-abbrev pub partFrom : List ℕ → ℕ → ℕ → Place → Ran (List ℕ)
-partFrom image start partition p = followed (chainAt image start partition (p .kind) (frontOf p)) (λ es. record { outcome = answered []; count = 0 })
-
--- what every call comes to, where the entry was read
-pub record FoundPlace (image : List ℕ) (start : ℕ) (icb : LongAd) (p : Place) : Type 0 where
-  pub bytes : (partition : ℕ) → ran (disc image) (fileBytes start partition icb)
-      ≡ after 1 (pick (eqb (p .kind) 3) (embeddedRun image p) (bytesFrom image start partition p))
-  pub part : (partition : ℕ) → ran (disc image) (filePart start partition icb)
-      ≡ after 1 (pick (eqb (p .kind) 3) (embeddedRun image p) (partFrom image start partition p))
-  pub extents : (partition : ℕ) → ran (disc image) (fileExtents start partition icb)
-      ≡ after 1 (pick (eqb (p .kind) 3) (record { outcome = answered []; count = 0 }) (chainAt image start partition (p .kind) (frontOf p)))
+-- an entry that was read, and where what stands in its sector stands in the image
+pub record FoundPlace (image : List ℕ) (m : Mount) (icb : LongAd) (p : Place) : Type 0 where
+  pub entry : Located
+  pub runs : ran (disc image) (entryAt m icb) ≡ record { outcome = answered entry; count = 1 }
+  pub is : p ≡ placeAt (2048 * entry .at) (entry .entry)
+  pub bytes : embeddedBytes entry ≡ embeddedIn image p
+  pub area : areaAt (p .kind) (entry .sector) (entry .entry .«area_at») (p .size) ≡ areaAt (p .kind) image (p .at) (p .size)
   pub inside : p .at + p .size ≤ length image
   pub small : p .size ≤ 2048
 
-abbrev pub Locates : List ℕ → ℕ → LongAd → PlaceRead → Type 0
-Locates image start icb (Found p) = FoundPlace image start icb p
-Locates image start icb (Refused r n) = ran (disc image) (entryAt start icb) ≡ record { outcome = refused r; count = n }
+abbrev pub Locates : List ℕ → Mount → LongAd → PlaceRead → Type 0
+Locates image m icb (Found p) = FoundPlace image m icb p
+Locates image m icb (Refused r n) = ran (disc image) (entryAt m icb) ≡ record { outcome = refused r; count = n }
+
+-- a file whose entry and chain were read
+pub record EmbeddedFile (image : List ℕ) (m : Mount) (icb : LongAd) (p : Place) : Type 0 where
+  pub entry : Located
+  pub runs : ran (disc image) (fileAt m icb) ≡ record { outcome = answered (embedded entry); count = 1 }
+  pub is : p ≡ placeAt (2048 * entry .at) (entry .entry)
+  pub bytes : embeddedBytes entry ≡ embeddedIn image p
+  pub inside : p .at + p .size ≤ length image
+
+pub record ChainedFile (image : List ℕ) (m : Mount) (icb : LongAd) (p : Place) (n : ℕ) : Type 0 where
+  pub entry : Located
+  pub runs : ran (disc image) (fileAt m icb) ≡ record { outcome = answered (chained entry (left image m (p .kind) (frontOf p))); count = n }
+  pub is : p ≡ placeAt (2048 * entry .at) (entry .entry)
+  pub small : p .size ≤ 2048
+  pub few : n ≤ 16385
+
+pub record NoFile (image : List ℕ) (m : Mount) (icb : LongAd) (r : Refusal) (n : ℕ) : Type 0 where
+  pub runs : ran (disc image) (fileAt m icb) ≡ record { outcome = refused r; count = n }
+  pub few : n ≤ 16385
+
+abbrev pub Resolves : List ℕ → Mount → LongAd → Resolved → Type 0
+Resolves image m icb (Embedded p) = EmbeddedFile image m icb p
+Resolves image m icb (Chained p n) = ChainedFile image m icb p n
+Resolves image m icb (Unresolved r n) = NoFile image m icb r n

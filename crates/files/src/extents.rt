@@ -9,6 +9,7 @@ use crate::pieces::Turn;
 use crate::pieces::next_piece;
 use chains::cursors::ChainCursor;
 use disc::counts::add_counts;
+use disc::places::Mount;
 use disc::refusals::Refusal;
 
 // What the extents come to: their bytes and the sectors asked for, or a refusal and the sectors asked for.
@@ -19,19 +20,18 @@ pub enum Measured {
 
 pub(crate) fn measure(
     image: &[u8],
-    start: u32,
-    partition: u16,
+    mount: Mount,
     kind: u8,
     first: ChainCursor,
     want: u64,
 ) -> Measured
-    ensures { λ r. ⌜ r ≡ sized 0 0 (restAt (now (image .entry)) start partition kind first want) ⌝ }
+    ensures { λ r. ⌜ r ≡ sized 0 0 (restAt (now (image .entry)) mount kind first want) ⌝ }
 {
     let mut c = first;
     let mut size: u64 = 0;
     let mut count: u64 = 0;
     loop {
-        match next_piece(image, start, partition, kind, c, want - size) {
+        match next_piece(image, mount, kind, c, want - size) {
             Turn::End => return Measured::Sized(size, count),
             Turn::Refused(why, n) => return Measured::Refused(why, add_counts(count, n)),
             Turn::Hop(next) => c = next,
@@ -69,20 +69,19 @@ pub(crate) fn copy_piece(image: &[u8], from: u64, n: u64, out: &mut [u8])
 // at the image, and that look is not relied on: whatever the image holds by now, nothing behind `want` bytes is written.
 pub(crate) fn copy(
     image: &[u8],
-    start: u32,
-    partition: u16,
+    mount: Mount,
     kind: u8,
     first: ChainCursor,
     want: u64,
     out: &mut [u8],
 )
     requires { ⌜ want ≤ length (now out) ⌝ }
-    ensures { λ _. ⌜ Copied (restAt (now (image .entry)) start partition kind first want) want (now (out .entry)) (now (out .exit)) ⌝ }
+    ensures { λ _. ⌜ Copied (restAt (now (image .entry)) mount kind first want) want (now (out .entry)) (now (out .exit)) ⌝ }
 {
     let mut c = first;
     let mut filled: usize = 0;
     loop {
-        match next_piece(image, start, partition, kind, c, want - filled as u64) {
+        match next_piece(image, mount, kind, c, want - filled as u64) {
             Turn::End => return,
             Turn::Refused(_, _) => return,
             Turn::Hop(next) => c = next,

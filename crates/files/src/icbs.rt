@@ -7,7 +7,7 @@ ghost use Rattle.files.specs.Wholes.{placeIn};
 use disc::images::held_from;
 use disc::images::sector_at;
 use disc::places::Block;
-use disc::places::sector_of;
+use disc::places::Mount;
 use disc::refusals::Refusal;
 use entries::file_entries::EntryRead;
 use entries::file_entries::FileEntry;
@@ -44,13 +44,13 @@ fn place_in(s: &[u8], from: usize) -> PlaceRead
 }
 
 // The entry that an ICB names: its block is asked for and parsed. The ICB's type and partition aren't looked at.
-pub fn locate(image: &[u8], start: u32, icb: LongAd) -> PlaceRead
-    ensures { λ r. ⌜ r ≡ placeOf (now (image .entry)) start icb ⌝ }
+pub(crate) fn locate(image: &[u8], mount: Mount, icb: LongAd) -> PlaceRead
+    ensures { λ r. ⌜ r ≡ placeOf (now (image .entry)) mount icb ⌝ }
 {
     if icb.length == 0 {
         return PlaceRead::Refused(Refusal::Malformed, 0);
     }
-    let sector = sector_of(start, Block(icb.location.block));
+    let sector = mount.icb_placed(Block(icb.location.block));
     if held_from(image, sector) == 0 {
         return PlaceRead::Refused(Refusal::Io, 1);
     }

@@ -3,3 +3,4 @@ pub mod extents;
 pub mod icbs;
 pub mod pieces;
 pub mod reads;
+pub mod resolves;

@@ -1,20 +1,20 @@
 // The next piece of a file: what a cursor's next extent gives, looked for where it stands in the image.
 ghost use mathlib.Core.Path.{_≡_};
-ghost use Prim.Native.Nat.{min};
-ghost use Rattle.files.specs.Pieces.{sectorsRead, Weighed, Turned};
+ghost use Prim.Native.Nat.{_<_, _^_, min};
+ghost use Rattle.files.specs.Pieces.{sectorsRead, weighedAt, Weighed, Turned};
 use areas::AllocExtent;
 use chains::cursors::ChainCursor;
 use chains::cursors::ChainStep;
 use chains::cursors::advance;
-use chains::references::is_foreign;
 use disc::images::held_from;
-use disc::places::Block;
-use disc::places::sector_of;
+use disc::places::Mount;
+use disc::places::Placed;
+use disc::places::Sector;
 use disc::refusals::Refusal;
 
-// What an extent gives: so many sectors read and so many bytes; or a refusal and the sectors asked for.
+// What an extent gives: where it stands in the image, the sectors read and the bytes; or a refusal and the sectors asked for.
 pub enum Piece {
-    Held(u64, u64),
+    Held { from: u64, sectors: u64, bytes: u64 },
     Refused(Refusal, u64),
 }
 
@@ -48,50 +48,58 @@ fn sectors_read(size: u32, want: u64) -> u64
     (lesser(size as u64, want) + 2047) / 2048
 }
 
-// An extent measured by one division: an image is one slice, so its sectors are all there exactly when the last one is.
-fn weigh(image: &[u8], start: u32, partition: u16, e: AllocExtent, want: u64) -> Piece
-    ensures { λ r. ⌜ Weighed (now (image .entry)) start partition e want r ⌝ }
+// An extent of `size` bytes from a sector on, measured by one division: an image is one slice, so its sectors are all there exactly when the last
+// one is.
+fn weigh_at(image: &[u8], first: Sector, size: u32, want: u64) -> Piece
+    requires { ⌜ first .0 < 2 ^ 33 ⌝ }
+    ensures { λ r. ⌜ r ≡ weighedAt (now (image .entry)) (first .0) size want ⌝ }
+{
+    let n = sectors_read(size, want);
+    let held = held_from(image, first);
+    if held < n {
+        return Piece::Refused(Refusal::Io, held + 1);
+    }
+    Piece::Held {
+        from: 2048 * first.0,
+        sectors: n,
+        bytes: lesser(size as u64, want),
+    }
+}
+
+// What an extent gives: it is recorded, and stands on this volume.
+fn weigh(image: &[u8], mount: Mount, e: AllocExtent, want: u64) -> Piece
+    ensures { λ r. ⌜ Weighed (now (image .entry)) mount e want r ⌝ }
 {
     if e.extent_type != 0 {
         return Piece::Refused(Refusal::Unsupported, 0);
     }
     let reference = e.partition_ref;
-    if is_foreign(partition, reference) {
-        return Piece::Refused(Refusal::Unsupported, 0);
+    let block = e.block;
+    match mount.placed(reference, block) {
+        Placed::Nowhere => Piece::Refused(Refusal::Unsupported, 0),
+        Placed::At(first) => weigh_at(image, first, e.length, want),
     }
-    let n = sectors_read(e.length, want);
-    let held = held_from(image, sector_of(start, Block(e.block)));
-    if held < n {
-        return Piece::Refused(Refusal::Io, held + 1);
-    }
-    Piece::Held(n, lesser(e.length as u64, want))
 }
 
 // The next turn of a walk from c on, where `want` bytes are still wanted.
-pub(crate) fn next_piece(
-    image: &[u8],
-    start: u32,
-    partition: u16,
-    kind: u8,
-    c: ChainCursor,
-    want: u64,
-) -> Turn
-    ensures { λ r. ⌜ Turned (now (image .entry)) start partition kind c want r ⌝ }
+pub(crate) fn next_piece(image: &[u8], mount: Mount, kind: u8, c: ChainCursor, want: u64) -> Turn
+    ensures { λ r. ⌜ Turned (now (image .entry)) mount kind c want r ⌝ }
 {
-    match advance(image, start, kind, c) {
+    match advance(image, mount, kind, c) {
         ChainStep::Ends => Turn::End,
         ChainStep::Hops(next) => Turn::Hop(next),
-        ChainStep::Takes(e, next) => {
-            let sector = sector_of(start, Block(e.block));
-            match weigh(image, start, partition, e, want) {
-                Piece::Refused(why, count) => Turn::Refused(why, count),
-                Piece::Held(sectors, bytes) => Turn::Piece {
-                    from: 2048 * sector.0,
-                    sectors: sectors,
-                    bytes: bytes,
-                    next: next,
-                },
-            }
-        }
+        ChainStep::Takes(e, next) => match weigh(image, mount, e, want) {
+            Piece::Refused(why, count) => Turn::Refused(why, count),
+            Piece::Held {
+                from,
+                sectors,
+                bytes,
+            } => Turn::Piece {
+                from: from,
+                sectors: sectors,
+                bytes: bytes,
+                next: next,
+            },
+        },
     }
 }

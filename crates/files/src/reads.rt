@@ -6,19 +6,19 @@ ghost use Rattle.disc.specs.Images.{disc};
 ghost use Rattle.disc.specs.Replies.{Replied};
 ghost use Rattle.files.specs.Files.{fileBytes};
 ghost use Rattle.files.specs.Pieces.{restAt};
-ghost use Rattle.files.specs.Wholes.{embeddedRun, bytesFrom};
+ghost use Rattle.files.specs.Wholes.{embeddedRun};
 use crate::extents::Measured;
 use crate::extents::copy;
 use crate::extents::copy_piece;
 use crate::extents::measure;
 use crate::icbs::Place;
-use crate::icbs::PlaceRead;
-use crate::icbs::locate;
 use crate::pieces::lesser;
+use crate::resolves::Resolved;
+use crate::resolves::front_of;
+use crate::resolves::resolve;
 use chains::cursors::ChainCursor;
-use chains::follows::Chain;
-use chains::follows::follow;
 use disc::counts::add_counts;
+use disc::places::Mount;
 use disc::refusals::Refusal;
 use disc::replies::Reply;
 use disc::replies::refusal;
@@ -27,7 +27,7 @@ use records::allocations::LongAd;
 // The bytes that stand in the entry itself.
 fn read_embedded(image: &[u8], p: Place, out: &mut [u8], full: Refusal) -> Reply
     requires { ⌜ p .at + p .size ≤ length (now image) ⌝ }
-    ensures { λ r. ⌜ Replied full (after 1 (embeddedRun (now (image .entry)) p)) (now (out .entry)) (now (out .exit)) r ⌝ }
+    ensures { λ r. ⌜ Replied full (embeddedRun (now (image .entry)) p) (now (out .entry)) (now (out .exit)) r ⌝ }
 {
     let n = lesser(p.size as u64, p.information);
     if (out.len() as u64) < n {
@@ -44,8 +44,7 @@ fn read_embedded(image: &[u8], p: Place, out: &mut [u8], full: Refusal) -> Reply
 // The bytes of the extents of a chain that is whole, behind `n` sectors.
 fn read_whole(
     image: &[u8],
-    start: u32,
-    partition: u16,
+    mount: Mount,
     kind: u8,
     first: ChainCursor,
     want: u64,
@@ -53,16 +52,16 @@ fn read_whole(
     full: Refusal,
     n: u64,
 ) -> Reply
-    ensures { λ r. ⌜ Replied full (after n (restAt (now (image .entry)) start partition kind first want)) (now (out .entry)) (now (out .exit)) r ⌝ }
+    ensures { λ r. ⌜ Replied full (after n (restAt (now (image .entry)) mount kind first want)) (now (out .entry)) (now (out .exit)) r ⌝ }
 {
-    match measure(image, start, partition, kind, first, want) {
+    match measure(image, mount, kind, first, want) {
         Measured::Refused(why, m) => refusal(why.number(), add_counts(n, m)),
         Measured::Sized(size, m) => {
             let count = add_counts(n, m);
             if (out.len() as u64) < size {
                 return refusal(full.number(), count);
             }
-            copy(image, start, partition, kind, first, size, out);
+            copy(image, mount, kind, first, size, out);
             Reply {
                 answer: 0,
                 count: count,
@@ -72,56 +71,22 @@ fn read_whole(
     }
 }
 
-// The bytes of the extents of a chain, behind the sector of the entry.
-fn read_extents(
-    image: &[u8],
-    start: u32,
-    partition: u16,
-    p: Place,
-    out: &mut [u8],
-    full: Refusal,
-) -> Reply
-    ensures { λ r. ⌜ Replied full (after 1 (bytesFrom (now (image .entry)) start partition p)) (now (out .entry)) (now (out .exit)) r ⌝ }
+// The file's bytes over the front of out, where they fit: else the refusal `full`, after every other.
+pub fn read_file(image: &[u8], mount: Mount, icb: LongAd, out: &mut [u8], full: Refusal) -> Reply
+    ensures { λ r. ⌜ Replied full (ran (disc (now (image .entry))) (fileBytes mount icb)) (now (out .entry)) (now (out .exit)) r ⌝ }
 {
-    let first = ChainCursor {
-        at: p.at,
-        left: p.size,
-        hops: 32,
-    };
-    match follow(image, start, partition, p.kind, first) {
-        Chain::Refused(why, n) => refusal(why.number(), n + 1),
-        Chain::Whole(n) => read_whole(
+    match resolve(image, mount, icb) {
+        Resolved::Refused(why, n) => refusal(why.number(), n),
+        Resolved::Embedded(p) => read_embedded(image, p, out, full),
+        Resolved::Chained(p, n) => read_whole(
             image,
-            start,
-            partition,
+            mount,
             p.kind,
-            first,
+            front_of(p),
             p.information,
             out,
             full,
-            n + 1,
+            n,
         ),
-    }
-}
-
-// The file's bytes over the front of out, where they fit: else the refusal `full`, after every other.
-pub fn read_file(
-    image: &[u8],
-    start: u32,
-    partition: u16,
-    icb: LongAd,
-    out: &mut [u8],
-    full: Refusal,
-) -> Reply
-    ensures { λ r. ⌜ Replied full (ran (disc (now (image .entry))) (fileBytes start partition icb)) (now (out .entry)) (now (out .exit)) r ⌝ }
-{
-    match locate(image, start, icb) {
-        PlaceRead::Refused(why, n) => refusal(why.number(), n),
-        PlaceRead::Found(p) => {
-            if p.kind == 3 {
-                return read_embedded(image, p, out, full);
-            }
-            read_extents(image, start, partition, p, out, full)
-        }
     }
 }

@@ -25,7 +25,7 @@ fn print_cue(image: &[u8], path: &[u8], work: &mut [u8], out: &mut [u8]) {
     if opened.answer != 0 {
         return say_refused(b"open", opened.answer);
     }
-    let volume = opened.volume;
+    let volume = Volume(opened.volume);
     let cue = volume.lookup(image, path, work);
     if cue.answer != 0 {
         return say_refused(b"lookup", cue.answer);

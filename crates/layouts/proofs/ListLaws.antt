@@ -11,64 +11,61 @@ use lib.Dec.{leb}
 use lib.Seq.{sets, sets-eq}
 use mir.Syntax.{w64}
 use mir.Val.{Fits}
-use borrow.Author.Tests.{eq-eqb, ne-eqb, le-leb, lt-leb, leb-true}
+use borrow.Author.Tests.{le-leb, lt-leb, leb-true}
 use Rattle.disc.specs.Refusals.{number}
 use Rattle.disc.specs.Choice.{pick}
 use Rattle.disc.specs.Counts.{reported}
 use Rattle.disc.specs.Ask.{Outcome}
 use Rattle.disc.specs.Ask.Outcome.{answered, refused}
-use Rattle.disc.specs.Ran.{Ran, ran, after}
+use Rattle.disc.specs.Ran.{Ran, ran, eachIn}
+use Rattle.disc.specs.Replies.{replyBy, replyOf, leftBy}
 use Rattle.disc.specs.Images.{disc}
+use Rattle.disc.specs.declared.places.Mount.{Mount}
 use Rattle.disc.specs.declared.refusals.Refusal.{Refusal}
 use Rattle.disc.specs.declared.refusals.Refusal.the-variants.{NoSlot}
 use Rattle.disc.specs.declared.replies.Reply.{Reply}
-use Rattle.disc.proofs.RanLaws.{ran-then}
+use Rattle.disc.proofs.RanLaws.{ran-done, ran-then}
 use Rattle.records.specs.declared.allocations.LongAd.{LongAd}
 use Rattle.areas.specs.declared.AllocExtent.{AllocExtent}
 use Rattle.chains.specs.declared.cursors.ChainCursor.{ChainCursor}
 use Rattle.chains.specs.declared.cursors.ChainStep.{ChainStep}
 use Rattle.chains.specs.declared.cursors.ChainStep.the-variants.{Takes, Hops, Ends}
-use Rattle.chains.specs.declared.follows.Chain.{Chain}
-use Rattle.chains.specs.declared.follows.Chain.the-variants.{Whole, Refused as BrokenOff}
 use Rattle.chains.specs.Walks.{left, weight, stepOf}
-use Rattle.chains.specs.Follows.{chainAt, WholeChain, BrokenChain, Followed}
 use Rattle.chains.proofs.WalkLaws.{Bytes, Taken, Hopped, Stepped, steps}
 use Rattle.files.specs.declared.icbs.Place.{Place}
-use Rattle.files.specs.declared.icbs.PlaceRead.{PlaceRead}
-use Rattle.files.specs.declared.icbs.PlaceRead.the-variants.{Found, Refused as NoPlace}
 use Rattle.files.specs.Files.{fileExtents}
-use Rattle.files.specs.Places.{placeOf}
-use Rattle.files.specs.Wholes.{frontOf, FoundPlace, Locates}
-use Rattle.files.proofs.EntryLaws.{locates}
+use Rattle.files.specs.declared.resolves.Resolved.{Resolved}
+use Rattle.files.specs.declared.resolves.Resolved.the-variants.{Embedded, Chained, Refused as Unresolved}
+use Rattle.files.specs.Wholes.{frontOf, ChainedFile, Resolves}
 use Rattle.layouts.specs.declared.lists.Extent.{Extent}
 use Rattle.layouts.specs.declared.lists.Listing.{Listing}
-use Rattle.layouts.specs.Calls.{referenceOf, extentOf, fieldsOf, wordsOf, listReply, listLeft, Listed}
+use Rattle.layouts.specs.Calls.{referenceOf, extentOf, fieldsOf, wordsOf, Listed}
 use Rattle.layouts.specs.Lists.{storedOf, Front, Stands, Planned, listedRun}
 
 -- ---- the return of `extent_of`
 
 pub extent-is : (e : AllocExtent) {m : ℕ} → m ≡ referenceOf (e .«partition_ref»)
-    → record { length = e .length; «extent_type» = e .«extent_type»; block = e .block; partition = m } ≡ extentOf e
+    → record { length = e .length; «extent_type» = e .«extent_type»; block = e .block .0; partition = m } ≡ extentOf e
 extent-is e f = rw f
 
 -- ---- a step of the cursor
 
-module _ (image : List ℕ) (start kind : ℕ) (c : ChainCursor) {r : ChainStep} (p : r ≡ stepOf image start kind c) (b : Bytes image) where
-  stepped : {x : ChainStep} → r ≡ x → Stepped image start kind c x
-  stepped e = rw (sym p ∙ e) at (steps image start kind b c)
+module _ (image : List ℕ) (v : Mount) (kind : ℕ) (c : ChainCursor) {r : ChainStep} (p : r ≡ stepOf image v kind c) (b : Bytes image) where
+  stepped : {x : ChainStep} → r ≡ x → Stepped image v kind c x
+  stepped e = rw (sym p ∙ e) at (steps image v kind b c)
 
-  ended : r ≡ Ends → left image start kind c ≡ []
+  ended : r ≡ Ends → left image v kind c ≡ []
   ended e = stepped e
 
   module _ {c′ : ChainCursor} where
-    hopped : r ≡ Hops c′ → Hopped image start kind c c′
+    hopped : r ≡ Hops c′ → Hopped image v kind c c′
     hopped e = stepped e
 
     pub hop-less : r ≡ Hops c′ → weight c′ < weight c
     hop-less e = hopped e .less
 
     module _ {x : AllocExtent} where
-      taken : r ≡ Takes x c′ → Taken image start kind c x c′
+      taken : r ≡ Takes x c′ → Taken image v kind c x c′
       taken e = stepped e
 
       pub take-less : r ≡ Takes x c′ → weight c′ < weight c
@@ -76,32 +73,32 @@ module _ (image : List ℕ) (start kind : ℕ) (c : ChainCursor) {r : ChainStep}
 
 -- ---- the loop that counts
 
-module _ (image : List ℕ) (start kind : ℕ) (c₀ : ChainCursor) where
+module _ (image : List ℕ) (v : Mount) (kind : ℕ) (c₀ : ChainCursor) where
   pub record Counting (c : ChainCursor) (n : ℕ) : Type 0 where
-    pub total : n + length (left image start kind c) ≡ length (left image start kind c₀)
+    pub total : n + length (left image v kind c) ≡ length (left image v kind c₀)
     pub room : n + weight c ≤ weight c₀
     pub deep : weight c₀ < 2 ^ 63
 
   pub count-starts : c₀ .left ≤ 2048 → c₀ .hops < 2 ^ 8 → Counting c₀ 0
   count-starts h k = record { total = omega arith; room = omega arith; deep = omega arith }
 
-  module _ (c : ChainCursor) (n : ℕ) (i : Counting c n) {r : ChainStep} (p : r ≡ stepOf image start kind c) (b : Bytes image) where
-    pub count-ends : r ≡ Ends → n ≡ length (left image start kind c₀)
-    count-ends e = sym (add-zero n) ∙ (rw (ended image start kind c p b e) at (i .total))
+  module _ (c : ChainCursor) (n : ℕ) (i : Counting c n) {r : ChainStep} (p : r ≡ stepOf image v kind c) (b : Bytes image) where
+    pub count-ends : r ≡ Ends → n ≡ length (left image v kind c₀)
+    count-ends e = sym (add-zero n) ∙ (rw (ended image v kind c p b e) at (i .total))
 
     pub count-hop : {c′ : ChainCursor} → r ≡ Hops c′ → Counting c′ n
     count-hop {c′} e =
-        let q : Hopped image start kind c c′ = hopped image start kind c p b e in
+        let q : Hopped image v kind c c′ = hopped image v kind c p b e in
         record { total = (rw (q .list) at (i .total)); room = omega (arith, i .room, q .less); deep = i .deep }
 
     module _ {x : AllocExtent} {c′ : ChainCursor} (e : r ≡ Takes x c′) where
       pub count-adds : Fits w64 (n + 1)
-      count-adds = omega (arith, i .room, i .deep, take-less image start kind c p b e)
+      count-adds = omega (arith, i .room, i .deep, take-less image v kind c p b e)
 
       pub count-next : Counting c′ (n + 1)
       count-next =
-          let q : Taken image start kind c x c′ = taken image start kind c p b e in
-          let t : n + length (x ∷ left image start kind c′) ≡ length (left image start kind c₀) = (rw (q .list) at (i .total)) in
+          let q : Taken image v kind c x c′ = taken image v kind c p b e in
+          let t : n + length (x ∷ left image v kind c′) ≡ length (left image v kind c₀) = (rw (q .list) at (i .total)) in
           record { total = omega (arith, t); room = omega (arith, i .room, q .less); deep = i .deep }
 
 -- ---- the loop that makes a listing
@@ -110,86 +107,79 @@ module _ (image : List ℕ) (start kind : ℕ) (c₀ : ChainCursor) where
 stands-empty : (image : List ℕ) {es : List AllocExtent} → es ≡ [] → {reply : Reply} {l : Listing} → l .reply ≡ reply → Stands image es reply l
 stands-empty image h e = record { same = e; next = λ x rest k. absurd (let z : _≡_ {A = ℕ} 0 1 = cc in omega arith) }
 
-module _ (image : List ℕ) (start kind : ℕ) (c₀ : ChainCursor) where
+module _ (image : List ℕ) (v : Mount) (kind : ℕ) (c₀ : ChainCursor) where
   pub record Walking (c : ChainCursor) : Type 0 where
-    pub list : left image start kind c ≡ left image start kind c₀
+    pub list : left image v kind c ≡ left image v kind c₀
 
   pub walk-starts : Walking c₀
   walk-starts = record { list = refl }
 
-  module _ (c : ChainCursor) (w : Walking c) {r : ChainStep} (p : r ≡ stepOf image start kind c) (b : Bytes image) where
+  module _ (c : ChainCursor) (w : Walking c) {r : ChainStep} (p : r ≡ stepOf image v kind c) (b : Bytes image) where
     pub walk-hop : {c′ : ChainCursor} → r ≡ Hops c′ → Walking c′
-    walk-hop e = record { list = sym (hopped image start kind c p b e .list) ∙ w .list }
+    walk-hop e = record { list = sym (hopped image v kind c p b e .list) ∙ w .list }
 
-    pub walk-ends : r ≡ Ends → {reply : Reply} {l : Listing} → l .reply ≡ reply → Stands image (left image start kind c₀) reply l
-    walk-ends e f = stands-empty image (sym (w .list) ∙ ended image start kind c p b e) f
+    pub walk-ends : r ≡ Ends → {reply : Reply} {l : Listing} → l .reply ≡ reply → Stands image (left image v kind c₀) reply l
+    walk-ends e f = stands-empty image (sym (w .list) ∙ ended image v kind c p b e) f
 
     pub walk-takes : {x : AllocExtent} {c′ : ChainCursor} → r ≡ Takes x c′ → (reply : Reply) {e : Extent} → e ≡ extentOf x
-        → Stands image (left image start kind c₀) reply (record { reply = reply; start = start; kind = kind; front = e; behind = c′ })
+        → Stands image (left image v kind c₀) reply (record { reply = reply; mount = v; kind = kind; front = e; behind = c′ })
     walk-takes {x} {c′} e reply f = record {
       same = refl;
       next = λ y rest k.
-          let h : x ∷ left image start kind c′ ≡ y ∷ rest = sym (taken image start kind c p b e .list) ∙ w .list ∙ k in
+          let h : x ∷ left image v kind c′ ≡ y ∷ rest = sym (taken image v kind c p b e .list) ∙ w .list ∙ k in
           record { front = cc; behind = cc };
     }
 
 -- ---- the returns of `list_whole`
 
-module _ (image : List ℕ) (start kind : ℕ) (c : ChainCursor) (n : ℕ) (small : n < 2 ^ 64) {m : ℕ} (e : m ≡ length (left image start kind c)) (room : ℕ) where
+module _ (image : List ℕ) (v : Mount) (kind : ℕ) (c : ChainCursor) (n : ℕ) (small : n < 2 ^ 64) {m : ℕ} (e : m ≡ length (left image v kind c)) (room : ℕ) where
   pub list-full : room < m → {a : ℕ} → a ≡ number NoSlot → {x : Reply} → x ≡ record { answer = a; count = n; length = 0 } → {l : Listing} → l .reply ≡ x
-      → Planned image (listedRun image start kind c n) room l
+      → Planned image (listedRun image v kind c n) room l
   list-full h g k j =
-      let s : room < length (left image start kind c) = omega arith in
+      let s : room < length (left image v kind c) = omega arith in
       let z : min n 0xffff_ffff_ffff_ffff ≡ n = omega arith in
       rw (lt-leb _ _ s, z) (stands-empty image refl (j ∙ k ∙ rw g))
 
-  pub list-done : m ≤ room → {l : Listing} → Stands image (left image start kind c) (record { answer = 0; count = n; length = m }) l
-      → Planned image (listedRun image start kind c n) room l
+  pub list-done : m ≤ room → {l : Listing} → Stands image (left image v kind c) (record { answer = 0; count = n; length = m }) l
+      → Planned image (listedRun image v kind c n) room l
   list-done h g =
-      let s : length (left image start kind c) ≤ room = omega arith in
+      let s : length (left image v kind c) ≤ room = omega arith in
       let z : min n 0xffff_ffff_ffff_ffff ≡ n = omega arith in
       rw (le-leb _ _ s, z, ← e) g
 
--- ---- the returns of `list_chain`
+-- ---- the returns of `plan`: r is what `resolve` found
 
-module _ (image : List ℕ) (start partition : ℕ) (p : Place) (r : Chain) (y : Followed image start partition (p .kind) (frontOf p) r) (room : ℕ) where
-  pub list-cut : {why : Refusal} {n : ℕ} → r ≡ BrokenOff why n → {a : ℕ} → a ≡ number why → {x : Reply} → x ≡ record { answer = a; count = n + 1; length = 0 }
-      → {l : Listing} → l .reply ≡ x → Planned image (after 1 (chainAt image start partition (p .kind) (frontOf p))) room l
-  list-cut {why} {n} e f g j =
-      let b : BrokenChain image start partition (p .kind) (frontOf p) why n = rw e at y in
-      let z : min (1 + n) 0xffff_ffff_ffff_ffff ≡ n + 1 = omega (arith, b .few) in
-      rw (b .runs) (stands-empty image refl (rw z (j ∙ g ∙ rw f)))
-
-  pub list-whole : {n : ℕ} → r ≡ Whole n → {l : Listing} → Planned image (listedRun image start (p .kind) (frontOf p) (n + 1)) room l
-      → Planned image (after 1 (chainAt image start partition (p .kind) (frontOf p))) room l
-  list-whole {n} e g =
-      let w : WholeChain image start partition (p .kind) (frontOf p) n = rw e at y in
-      let z : 1 + n ≡ n + 1 = omega arith in
-      rw (w .runs, z) g
-
--- ---- the returns of `plan`
-
-module _ (image : List ℕ) (start partition : ℕ) (icb : LongAd) {r : PlaceRead} (y : r ≡ placeOf image start icb) (room : ℕ) where
+module _ (image : List ℕ) (v : Mount) (icb : LongAd) (r : Resolved) (y : Resolves image v icb r) (room : ℕ) where
   abbrev file : Ran (List AllocExtent)
-  file = ran (disc image) (fileExtents start partition icb)
+  file = ran (disc image) (fileExtents v icb)
 
-  pub list-refused : {why : Refusal} {n : ℕ} → r ≡ NoPlace why n → n < 2 ^ 64 → {a : ℕ} → a ≡ number why → {x : Reply} → x ≡ record { answer = a; count = n; length = 0 }
+  pub list-refused : {why : Refusal} {n : ℕ} → r ≡ Unresolved why n → {a : ℕ} → a ≡ number why → {x : Reply} → x ≡ record { answer = a; count = n; length = 0 }
       → {l : Listing} → l .reply ≡ x → Planned image file room l
   unfolding fileExtents
-  list-refused {why} {n} e k g f j =
-      let q : Locates image start icb (NoPlace why n) = locates image start icb (sym e ∙ y) in
-      let z : min n 0xffff_ffff_ffff_ffff ≡ n = omega arith in
-      rw (ran-then, q) (stands-empty image refl (rw z (j ∙ f ∙ rw g)))
+  list-refused {why} {n} e g f j =
+      let q : Resolves image v icb (Unresolved why n) = rw e at y in
+      let z : min n 0xffff_ffff_ffff_ffff ≡ n = omega (arith, q .few) in
+      rw (ran-then, q .runs) (stands-empty image refl (rw z (j ∙ f ∙ rw g)))
 
-  module _ {p : Place} (e : r ≡ Found p) where
-    found : FoundPlace image start icb p
-    found = locates image start icb (sym e ∙ y)
+  pub list-in : {p : Place} → r ≡ Embedded p → {l : Listing} → l .reply ≡ record { answer = 0; count = 1; length = 0 } → Planned image file room l
+  unfolding fileExtents
+  list-in {p} e j =
+      let q : Resolves image v icb (Embedded p) = rw e at y in
+      rw (ran-then, q .runs, ran-done) (stands-empty image (rw (le-leb 0 room (omega arith))) (rw (le-leb 0 room (omega arith)) j))
 
-    pub list-in : p .kind ≡ 3 → {l : Listing} → l .reply ≡ record { answer = 0; count = 1; length = 0 } → Planned image file room l
-    list-in k j = rw (found .extents partition, eq-eqb (p .kind) 3 k) (stands-empty image (rw (le-leb 0 room (omega arith))) (rw (le-leb 0 room (omega arith)) j))
+  module _ {p : Place} {n : ℕ} (e : r ≡ Chained p n) where
+    in-chain : ChainedFile image v icb p n
+    in-chain = rw e at y
 
-    pub list-out : (p .kind ≡ 3 → ⊥) → {l : Listing} → Planned image (after 1 (chainAt image start partition (p .kind) (frontOf p))) room l → Planned image file room l
-    list-out k g = rw (found .extents partition, ne-eqb (p .kind) 3 k) g
+    pub list-count : n < 2 ^ 64
+    list-count = omega (arith, in-chain .few)
+
+    pub list-small : {front : ChainCursor} → front ≡ frontOf p → front .left ≤ 2048
+    list-small g = rw g (in-chain .small)
+
+    pub list-out : {front : ChainCursor} → front ≡ frontOf p → {l : Listing} → Planned image (listedRun image v (p .kind) front n) room l → Planned image file room l
+    unfolding fileExtents
+    list-out g h = rw (ran-then, in-chain .runs, ran-done, add-zero, ← g) h
 
 -- ---- the loop that stores: what is stored and what is left to store are all there is
 
@@ -215,9 +205,14 @@ fit-by : {A : Type 0} (f : AllocExtent → A) (row : List A) (n : ℕ) (es : Lis
 fit-by f row n es true h = record { fits = h refl; counts = refl; leaves = refl }
 fit-by f row n es false h = record { fits = omega arith; counts = refl; leaves = refl }
 
-fit : {A : Type 0} (f : AllocExtent → A) (row : List A) (n : ℕ) (o : Outcome (List AllocExtent)) → Fit f row (storedOf (length row) o) (listLeft f row o) (listReply (length row) n o)
+fit : {A : Type 0} (f : AllocExtent → A) (row : List A) (n : ℕ) (o : Outcome (List AllocExtent)) → Fit f row (storedOf (length row) o) (leftBy row (eachIn f o)) (replyBy NoSlot (length row) n o)
 fit f row n (refused r) = record { fits = omega arith; counts = refl; leaves = refl }
-fit f row n (answered es) = fit-by f row n es (leb (length es) (length row)) (leb-true (length es) (length row))
+fit f row n (answered es) = rw length-map (fit-by f row n es (leb (length es) (length row)) (leb-true (length es) (length row)))
+
+-- the reply counts slots, whatever they hold
+reply-each : {A : Type 0} (f : AllocExtent → A) (room n : ℕ) (o : Outcome (List AllocExtent)) → replyBy NoSlot room n (eachIn f o) ≡ replyBy NoSlot room n o
+reply-each f room n (refused r) = refl
+reply-each f room n (answered es) = rw length-map
 
 -- the extents of a run that a row has slots for
 abbrev stored : {A : Type 0} → Ran (List AllocExtent) → List A → List AllocExtent
@@ -225,13 +220,13 @@ stored r row = storedOf (length row) (r .outcome)
 
 -- f is what a slot holds of an extent, by its record
 pub record Storing {A : Type 0} (f : Extent → A) (image : List ℕ) (r : Ran (List AllocExtent)) (d₀ d : List A) (l : Listing) (n i : ℕ) : Type 0 where
-  pub stands : Stands image (drop i (stored r d₀)) (listReply (length d₀) (reported (r .count)) (r .outcome)) l
+  pub stands : Stands image (drop i (stored r d₀)) (replyOf NoSlot (length d₀) r) l
   pub rest : sets d i (map (λ e. f (extentOf e)) (drop i (stored r d₀))) ≡ sets d₀ 0 (map (λ e. f (extentOf e)) (stored r d₀))
   pub long : length d ≡ length d₀
   pub many : n ≡ length (stored r d₀)
 
 module _ {A : Type 0} (f : Extent → A) (image : List ℕ) (r : Ran (List AllocExtent)) (d₀ : List A) where
-  abbrev fitted : Fit (λ e. f (extentOf e)) d₀ (stored r d₀) (listLeft (λ e. f (extentOf e)) d₀ (r .outcome)) (listReply (length d₀) (reported (r .count)) (r .outcome))
+  abbrev fitted : Fit (λ e. f (extentOf e)) d₀ (stored r d₀) (leftBy d₀ (eachIn (λ e. f (extentOf e)) (r .outcome))) (replyOf NoSlot (length d₀) r)
   fitted = fit (λ e. f (extentOf e)) d₀ (reported (r .count)) (r .outcome)
 
   pub store-starts : {l : Listing} → Planned image r (length d₀) l → Storing f image r d₀ d₀ l (l .reply .length) 0
@@ -247,7 +242,7 @@ module _ {A : Type 0} (f : Extent → A) (image : List ℕ) (r : Ran (List Alloc
         let all : d ≡ sets d₀ 0 (map (λ e. f (extentOf e)) (stored r d₀)) = rw past at (s .rest) in
         let room : 0 + length (map (λ e. f (extentOf e)) (stored r d₀)) ≤ length d₀ = rw (zero-add, length-map) (fitted .fits) in
         record {
-          says = s .stands .same;
+          says = s .stands .same ∙ sym (reply-each (λ e. f (extentOf e)) (length d₀) (reported (r .count)) (r .outcome));
           leaves = all ∙ sets-eq (map (λ e. f (extentOf e)) (stored r d₀)) d₀ 0 room ∙ rw (zero-add, length-map) (sym (fitted .leaves));
         }
 
@@ -261,7 +256,7 @@ module _ {A : Type 0} (f : Extent → A) (image : List ℕ) (r : Ran (List Alloc
       pub store-slot : i < length d
       store-slot = omega (arith, s .many, s .long, fitted .fits)
 
-      pub store-next : {v : A} → v ≡ f (l .front) → {l′ : Listing} → Stands image (left image (l .start) (l .kind) (l .behind)) (l .reply) l′
+      pub store-next : {v : A} → v ≡ f (l .front) → {l′ : Listing} → Stands image (left image (l .mount) (l .kind) (l .behind)) (l .reply) l′
           → Storing f image r d₀ (set d i v) l′ n (i + 1)
       store-next e t = rw (add-one, e, front .front) (record {
         stands = rw (s .stands .same, front .behind) at t;
@@ -293,7 +288,7 @@ module _ {A : Type 0} (f : Extent → A) (image : List ℕ) (r : Ran (List Alloc
   stores-adds h k = omega (arith, stores-below h)
 
 pub stores-next : {A : Type 0} (f : Extent → A) (image : List ℕ) (l₀ : Listing) (d₀ : List A) {d : List A} {l : Listing} {n i : ℕ} → Stores f image l₀ d₀ d l n i → i < n
-    → {v : A} → v ≡ f (l .front) → {l′ : Listing} → Stands image (left image (l .start) (l .kind) (l .behind)) (l .reply) l′ → Stores f image l₀ d₀ (set d i v) l′ n (i + 1)
+    → {v : A} → v ≡ f (l .front) → {l′ : Listing} → Stands image (left image (l .mount) (l .kind) (l .behind)) (l .reply) l′ → Stores f image l₀ d₀ (set d i v) l′ n (i + 1)
 stores-next f image l₀ d₀ s h e t = record { whole = λ r p. store-next f image r d₀ (s .whole r p) h e t }
 
 pub words-end : (image : List ℕ) (r : Ran (List AllocExtent)) (l₀ : Listing) (d₀ : List (List ℕ)) → Planned image r (length d₀) l₀

@@ -1,7 +1,7 @@
 -- The uncopied part of a file, by its place and its length. Assumes nothing.
 use mathlib.Core.Path.{_≡_, refl, ap, sym, _∙_}
 use mathlib.Core.Bool.{Bool, true, false}
-use mathlib.Core.List.{List, []}
+use mathlib.Core.List.{List}
 use Prim.Native.Nat.{ℕ, _+_, _-_, _*_, _≤_, _<_, _^_, min}
 use native.Mathlib.Omega.{arith}
 use lib.ListN.{length, take, drop, length-drop}
@@ -9,141 +9,144 @@ use lib.Seq.{length-take-le}
 use lib.Dec.{eqb}
 use mir.Syntax.{w64}
 use mir.Val.{Fits}
-use borrow.Author.Tests.{eq-eqb, ne-eqb}
-use Rattle.disc.specs.Choice.{pick}
+use borrow.Author.Tests.{ne-eqb, eqb-true, eqb-false}
 use Rattle.disc.specs.Refusals.{number}
-use Rattle.disc.specs.Ask.{Outcome}
+use Rattle.disc.specs.Ask.{Disc, Outcome}
+use Rattle.disc.specs.Ask.Ask.{done}
 use Rattle.disc.specs.Ask.Outcome.{answered, refused}
-use Rattle.disc.specs.Ran.{Ran, ran, after, onward}
-use Rattle.disc.specs.Images.{disc, bytesOf}
+use Rattle.disc.specs.Ran.{Ran, ran, after, onward, followed}
+use Rattle.disc.specs.Replies.{answerOf}
+use Rattle.disc.specs.Images.{disc}
+use Rattle.disc.specs.declared.places.Mount.{Mount}
 use Rattle.disc.specs.declared.refusals.Refusal.{Refusal}
 use Rattle.disc.specs.declared.replies.Reply.{Reply}
-use Rattle.disc.proofs.RanLaws.{ran-then}
+use Rattle.disc.proofs.RanLaws.{ran-done, ran-then}
 use Rattle.disc.proofs.PartLaws.{PartAt, part-none, part-slice}
 use Rattle.records.specs.declared.allocations.LongAd.{LongAd}
 use Rattle.areas.specs.declared.AllocExtent.{AllocExtent}
-use Rattle.chains.specs.declared.follows.Chain.{Chain}
-use Rattle.chains.specs.declared.follows.Chain.the-variants.{Whole, Refused as BrokenOff}
-use Rattle.chains.specs.Follows.{WholeChain, BrokenChain, Followed, chainAt}
 use Rattle.files.specs.declared.icbs.Place.{Place}
+use Rattle.files.specs.declared.resolves.Resolved.{Resolved}
+use Rattle.files.specs.declared.resolves.Resolved.the-variants.{Embedded, Chained, Refused as Unresolved}
 use Rattle.files.specs.declared.icbs.PlaceRead.{PlaceRead}
 use Rattle.files.specs.declared.icbs.PlaceRead.the-variants.{Found, Refused as NoPlace}
-use Rattle.files.specs.Files.{Located, entryAt, filePart}
-use Rattle.files.specs.Places.{placeBy, placeOf}
-use Rattle.files.specs.Wholes.{embeddedIn, frontOf, partFrom, FoundPlace, Locates}
-use Rattle.files.proofs.EntryLaws.{locates}
-use Rattle.layouts.specs.Calls.{answerOf, PartReplied}
-use Rattle.layouts.specs.Places.{partReply, embeddedAt, partPlace}
-
--- the returns of `chain_part`
-module _ (image : List ℕ) (start partition : ℕ) (p : Place) (r : Chain) (y : Followed image start partition (p .kind) (frontOf p) r) where
-  pub part-cut : {why : Refusal} {n : ℕ} → r ≡ BrokenOff why n → {m : ℕ} → m ≡ number why → {reply : Reply} → reply ≡ record { answer = m; count = n + 1; length = 0 }
-      → reply ≡ partReply (after 1 (partFrom image start partition p))
-  part-cut {why} {n} e f g =
-      let b : BrokenChain image start partition (p .kind) (frontOf p) why n = rw e at y in
-      rw (b .runs, g, f) (ap (λ k. record { answer = number why; count = k; length = 0 }) (omega (arith, b .few)))
-
-  pub part-whole : {n : ℕ} → r ≡ Whole n → record { answer = 0; count = n + 1; length = 0 } ≡ partReply (after 1 (partFrom image start partition p))
-  part-whole {n} e =
-      let w : WholeChain image start partition (p .kind) (frontOf p) n = rw e at y in
-      rw (w .runs) (ap (λ k. record { answer = 0; count = k; length = 0 }) (omega (arith, w .few)))
-
--- the place, by what `locate` says
-atOf : PlaceRead → ℕ
-atOf (Found p) = pick (eqb (p .kind) 3) (p .at) 0
-atOf (NoPlace r n) = 0
-
-place-is : (image : List ℕ) (start : ℕ) (icb : LongAd) {r : PlaceRead} → r ≡ placeOf image start icb → atOf r ≡ partPlace (disc image) start icb
-unfolding placeOf partPlace atOf ran
-place-is image start icb y = rw y (by (2048 * (start + icb .location .block)) (ran (disc image) (entryAt start icb) .outcome) (ran (disc image) (entryAt start icb) .count))
-  where
-    by : (from : ℕ) (o : Outcome Located) (n : ℕ) → atOf (placeBy from (record { outcome = o; count = n })) ≡ embeddedAt from o
-    by from (answered x) n = refl
-    by from (refused why) n = refl
+use Rattle.files.specs.Files.{Located, entryAt, isEmbedded, chainOf, fileAt, Part, noPart, partOf, filePart}
+use Rattle.files.specs.Files.File.{chained}
+use Rattle.files.specs.Places.{placeOf}
+use Rattle.files.specs.Wholes.{embeddedIn, FoundPlace, Locates, EmbeddedFile, ChainedFile, NoFile, Resolves}
+use Rattle.files.proofs.EntryLaws.{found-kind, found-goes, found-embedded, locates}
+use Rattle.layouts.specs.Calls.{partIn, partReply, PartReplied}
 
 embedded-size : (image : List ℕ) (p : Place) → p .at + p .size ≤ length image → length (embeddedIn image p) ≡ min (p .size) (p .information)
 embedded-size image p h = length-take-le (min (p .size) (p .information)) (drop (p .at) image) (rw length-drop (omega arith))
 
--- the returns of `part_at`
-module _ (image : List ℕ) (start partition : ℕ) (icb : LongAd) {r : PlaceRead} (y : r ≡ placeOf image start icb) where
-  abbrev file : Ran (List ℕ)
-  file = ran (disc image) (filePart start partition icb)
+-- ---- what the call comes to, by what `resolve` found
 
-  module _ {why : Refusal} {n : ℕ} (e : r ≡ NoPlace why n) where
-    refused-runs : file ≡ record { outcome = refused why; count = n }
-    unfolding filePart
-    refused-runs =
-        let q : Locates image start icb (NoPlace why n) = locates image start icb (sym e ∙ y) in
-        rw (ran-then, q)
+module _ (image : List ℕ) (m : Mount) (icb : LongAd) where
+  abbrev file : Ran Part
+  file = ran (disc image) (filePart m icb)
 
-    pub part-refused : n < 2 ^ 64 → {m : ℕ} → m ≡ number why → {reply : Reply} → reply ≡ record { answer = m; count = n; length = 0 } → reply ≡ partReply file
-    part-refused l f g = rw (refused-runs, g, f) (ap (λ k. record { answer = number why; count = k; length = 0 }) (omega arith))
+  refused-runs : {why : Refusal} {n : ℕ} → NoFile image m icb why n → file ≡ record { outcome = refused why; count = n }
+  unfolding filePart
+  refused-runs q = rw (ran-then, q .runs)
 
-    pub place-refused : 0 ≡ partPlace (disc image) start icb
-    unfolding atOf
-    place-refused = (rw e at (place-is image start icb y))
+  chained-runs : {p : Place} {n : ℕ} → ChainedFile image m icb p n → file ≡ record { outcome = answered noPart; count = n }
+  unfolding filePart
+  chained-runs {p} {n} q = rw (ran-then, q .runs, ran-done) (ap (λ k. record { outcome = answered noPart; count = k }) (omega arith))
 
-  module _ {p : Place} (e : r ≡ Found p) where
-    found : FoundPlace image start icb p
-    found = locates image start icb (sym e ∙ y)
+  embedded-runs : {p : Place} → EmbeddedFile image m icb p → file ≡ record { outcome = answered (record { at = p .at; bytes = embeddedIn image p }); count = 1 }
+  unfolding filePart
+  embedded-runs {p} q =
+      let w : p .at ≡ 2048 * q .entry .at + q .entry .entry .«area_at» = ap (λ (x : Place). x .at) (q .is) in
+      rw (ran-then, q .runs, ran-done, ← w, q .bytes)
 
-    place-found : pick (eqb (p .kind) 3) (p .at) 0 ≡ partPlace (disc image) start icb
-    unfolding atOf
-    place-found = rw e at (place-is image start icb y)
+-- ---- the returns of `part_at`
 
-    pub part-in : p .kind ≡ 3 → {n : ℕ} → n ≡ min (p .size) (p .information) → record { answer = 0; count = 1; length = n } ≡ partReply file
-    part-in z q = rw (found .part partition, eq-eqb (p .kind) 3 z) (ap (λ k. record { answer = 0; count = 1; length = k }) (q ∙ sym (embedded-size image p (found .inside))))
+module _ (image : List ℕ) (m : Mount) (icb : LongAd) (r : Resolved) (y : Resolves image m icb r) where
+  module _ {why : Refusal} {n : ℕ} (e : r ≡ Unresolved why n) where
+    none : NoFile image m icb why n
+    none = rw e at y
 
-    pub place-in : p .kind ≡ 3 → p .at ≡ partPlace (disc image) start icb
-    place-in z = rw (eq-eqb (p .kind) 3 z) at place-found
+    pub part-refused : {a : ℕ} → a ≡ number why → {reply : Reply} → reply ≡ record { answer = a; count = n; length = 0 } → reply ≡ partReply (file image m icb)
+    part-refused f g = rw (refused-runs image m icb none, g, f) (ap (λ k. record { answer = number why; count = k; length = 0 }) (omega (arith, none .few)))
 
-    pub part-out : (p .kind ≡ 3 → ⊥) → {reply : Reply} → reply ≡ partReply (after 1 (partFrom image start partition p)) → reply ≡ partReply file
-    part-out z g = rw (found .part partition, ne-eqb (p .kind) 3 z) g
+    pub place-refused : 0 ≡ partIn (file image m icb .outcome) .at
+    place-refused = rw (refused-runs image m icb none)
 
-    pub place-out : (p .kind ≡ 3 → ⊥) → 0 ≡ partPlace (disc image) start icb
-    place-out z = rw (ne-eqb (p .kind) 3 z) at place-found
+  module _ {p : Place} {n : ℕ} (e : r ≡ Chained p n) where
+    in-chain : ChainedFile image m icb p n
+    in-chain = rw e at y
 
--- the part of the image at the place is the embedded bytes
-pub part-stands : (image : List ℕ) (start partition : ℕ) (icb : LongAd) → PartAt image (bytesOf (ran (disc image) (filePart start partition icb) .outcome)) (partPlace (disc image) start icb)
-part-stands image start partition icb = by (placeOf image start icb) refl
-  where
-    Stands : Type 0
-    Stands = PartAt image (bytesOf (ran (disc image) (filePart start partition icb) .outcome)) (partPlace (disc image) start icb)
+    pub part-out : record { answer = 0; count = n; length = 0 } ≡ partReply (file image m icb)
+    part-out = rw (chained-runs image m icb in-chain) (ap (λ k. record { answer = 0; count = k; length = 0 }) (omega (arith, in-chain .few)))
 
-    chained : (o : Outcome (List AllocExtent)) (n : ℕ) → PartAt image (bytesOf (onward o n (λ es. record { outcome = answered []; count = 0 }) .outcome)) 0
-    chained (answered es) n = part-none image
-    chained (refused why) n = part-none image
+    pub place-out : 0 ≡ partIn (file image m icb .outcome) .at
+    place-out = rw (chained-runs image m icb in-chain)
 
-    kept : (p : Place) → p .at + p .size ≤ length image → (t : Bool)
-        → PartAt image (bytesOf (after 1 (pick t (record { outcome = answered (embeddedIn image p); count = 0 }) (partFrom image start partition p)) .outcome)) (pick t (p .at) 0)
-    kept p h true = record { bytes = ap (λ n. take n (drop (p .at) image)) (embedded-size image p h); inside = omega (arith, h, embedded-size image p h) }
-    kept p h false = chained (chainAt image start partition (p .kind) (frontOf p) .outcome) (chainAt image start partition (p .kind) (frontOf p) .count)
+  module _ {p : Place} (e : r ≡ Embedded p) where
+    in-entry : EmbeddedFile image m icb p
+    in-entry = rw e at y
 
-    by : (r : PlaceRead) → r ≡ placeOf image start icb → Stands
-    by (NoPlace why n) y = rw (refused-runs image start partition icb y refl, ← place-refused image start partition icb y refl) (part-none image)
-    by (Found p) y = rw (found image start partition icb y refl .part partition, ← place-found image start partition icb y refl) (kept p (found image start partition icb y refl .inside) (eqb (p .kind) 3))
+    pub part-in : {n : ℕ} → n ≡ min (p .size) (p .information) → record { answer = 0; count = 1; length = n } ≡ partReply (file image m icb)
+    part-in q = rw (embedded-runs image m icb in-entry) (ap (λ k. record { answer = 0; count = 1; length = k }) (q ∙ sym (embedded-size image p (in-entry .inside))))
 
--- a refusal has no place
-pub place-none : (image : List ℕ) (start partition : ℕ) (icb : LongAd) → (answerOf (ran (disc image) (filePart start partition icb) .outcome) ≡ 0 → ⊥) → partPlace (disc image) start icb ≡ 0
-place-none image start partition icb = by (placeOf image start icb) refl
-  where
-    kept : (p : Place) (t : Bool)
-        → (answerOf (after 1 (pick t (record { outcome = answered (embeddedIn image p); count = 0 }) (partFrom image start partition p)) .outcome) ≡ 0 → ⊥) → pick t (p .at) 0 ≡ 0
-    kept p true h = absurd (h refl)
-    kept p false h = refl
+    pub place-in : p .at ≡ partIn (file image m icb .outcome) .at
+    place-in = rw (embedded-runs image m icb in-entry)
 
-    by : (r : PlaceRead) → r ≡ placeOf image start icb → (answerOf (ran (disc image) (filePart start partition icb) .outcome) ≡ 0 → ⊥) → partPlace (disc image) start icb ≡ 0
-    by (NoPlace why n) y h = sym (place-refused image start partition icb y refl)
-    by (Found p) y h = sym (place-found image start partition icb y refl) ∙ kept p (eqb (p .kind) 3) (rw (found image start partition icb y refl .part partition) at h)
+-- ---- the part of the image at the place is the embedded bytes
 
--- the returns of `file_part`
-module _ (image : List ℕ) (start partition : ℕ) (icb : LongAd) {reply : Reply} (e : reply ≡ partReply (ran (disc image) (filePart start partition icb)))
-    {at : ℕ} (h : at ≡ partPlace (disc image) start icb) where
-  pub file-part-gives : PartReplied (ran (disc image) (filePart start partition icb)) (take (at + reply .length - at) (drop at image)) (reply .answer) (reply .count)
-  file-part-gives = rw (e, h) (record { gives = part-slice (part-stands image start partition icb); says = refl; counts = refl })
+-- a file that isn't embedded has no part, whatever its chain comes to
+no-part : (d : Disc) (x : Located) (o : Outcome (List AllocExtent)) (n : ℕ)
+    → partIn (followed (after 1 (onward o n (λ es. ran d (done (chained x es))))) (λ f. ran d (done (partOf f))) .outcome) ≡ noPart
+no-part d x (answered es) n = rw (ran-done, ran-done)
+no-part d x (refused r) n = refl
+
+module _ (image : List ℕ) (m : Mount) (icb : LongAd) where
+  chain-part : {p : Place} → FoundPlace image m icb p → (p .kind ≡ 3 → ⊥) → partIn (file image m icb .outcome) ≡ noPart
+  unfolding filePart
+  chain-part {p} q k =
+      let n : isEmbedded (q .entry) ≡ false = rw (← found-kind image m icb q) (ne-eqb (p .kind) 3 k) in
+      rw (ran-then (disc image) (fileAt m icb), found-goes image m icb q, n, ran-then (disc image) (chainOf m (q .entry)))
+      (no-part (disc image) (q .entry) (ran (disc image) (chainOf m (q .entry)) .outcome) (ran (disc image) (chainOf m (q .entry)) .count))
+
+  no-entry : {why : Refusal} {n : ℕ} → ran (disc image) (entryAt m icb) ≡ record { outcome = refused why; count = n } → file image m icb ≡ record { outcome = refused why; count = n }
+  unfolding filePart fileAt
+  no-entry y = ran-then (disc image) (fileAt m icb) _ ∙ rw (ran-then (disc image) (entryAt m icb), y)
+
+  pub part-stands : PartAt image (partIn (file image m icb .outcome) .bytes) (partIn (file image m icb .outcome) .at)
+  part-stands = by (placeOf image m icb) (locates image m icb refl)
+    where
+      Stands : Type 0
+      Stands = PartAt image (partIn (file image m icb .outcome) .bytes) (partIn (file image m icb .outcome) .at)
+
+      kept : (p : Place) → FoundPlace image m icb p → (b : Bool) → eqb (p .kind) 3 ≡ b → Stands
+      kept p q true e =
+          let y : EmbeddedFile image m icb p = found-embedded image m icb q (eqb-true _ _ e) in
+          rw (embedded-runs image m icb y) (record {
+            bytes = ap (λ n. take n (drop (p .at) image)) (embedded-size image p (y .inside));
+            inside = omega (arith, y .inside, embedded-size image p (y .inside));
+          })
+      kept p q false e = rw (chain-part q (eqb-false _ _ e)) (part-none image)
+
+      by : (r : PlaceRead) → Locates image m icb r → Stands
+      by (NoPlace why n) y = rw (no-entry y) (part-none image)
+      by (Found p) y = kept p y (eqb (p .kind) 3) refl
+
+  -- a refusal has no place
+  pub place-none : (answerOf (file image m icb .outcome) ≡ 0 → ⊥) → partIn (file image m icb .outcome) .at ≡ 0
+  place-none = by (file image m icb .outcome)
+    where
+      by : (o : Outcome Part) → (answerOf o ≡ 0 → ⊥) → partIn o .at ≡ 0
+      by (answered p) h = absurd (h refl)
+      by (refused r) h = refl
+
+-- ---- the returns of `file_part`
+
+module _ (image : List ℕ) (m : Mount) (icb : LongAd) {reply : Reply} (e : reply ≡ partReply (file image m icb)) {at : ℕ} (h : at ≡ partIn (file image m icb .outcome) .at) where
+  pub file-part-gives : PartReplied (file image m icb) (take (at + reply .length - at) (drop at image)) (reply .answer) (reply .count)
+  file-part-gives = rw (e, h) (record { gives = part-slice (part-stands image m icb); says = refl; counts = refl })
 
   pub file-part-room : at + reply .length ≤ length image
-  file-part-room = rw (e, h) (part-stands image start partition icb .inside)
+  file-part-room = rw (e, h) (part-stands image m icb .inside)
 
   pub file-part-fits : length image < 2 ^ 64 → Fits w64 (at + reply .length)
   file-part-fits l = omega (arith, file-part-room)

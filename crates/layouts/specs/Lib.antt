@@ -1,4 +1,3 @@
 -- What the contracts cite, lowest first.
 pub mod Calls
-pub mod Places
 pub mod Lists

@@ -1,20 +1,21 @@
 -- What the passes over a list of extents say: for the contracts of private functions. There is nothing to believe here.
--- Assumes nothing: these are definitions.
 use Prim.Native.Nat.{ℕ}
 use mathlib.Core.Path.{_≡_}
 use mathlib.Core.List.{List, [], _∷_}
 use lib.ListN.{length}
 use lib.Dec.{leb}
 use Rattle.disc.specs.Choice.{pick}
-use Rattle.disc.specs.Counts.{reported}
 use Rattle.disc.specs.Ask.{Outcome}
 use Rattle.disc.specs.Ask.Outcome.{answered, refused}
 use Rattle.disc.specs.Ran.{Ran}
+use Rattle.disc.specs.Replies.{replyOf}
+use Rattle.disc.specs.declared.places.Mount.{Mount}
+use Rattle.disc.specs.declared.refusals.Refusal.the-variants.{NoSlot}
 use Rattle.disc.specs.declared.replies.Reply.{Reply}
 use Rattle.areas.specs.declared.AllocExtent.{AllocExtent}
 use Rattle.chains.specs.Walks.{left}
 use Rattle.chains.specs.declared.cursors.ChainCursor.{ChainCursor}
-use Rattle.layouts.specs.Calls.{extentOf, listReply}
+use Rattle.layouts.specs.Calls.{extentOf}
 use Rattle.layouts.specs.declared.lists.Listing.{Listing}
 
 -- the extents that are stored: none where the call is refused
@@ -25,7 +26,7 @@ storedOf room (answered es) = pick (leb (length es) room) es []
 -- a listing has the front of the extents that are left at hand, and a cursor at those behind it
 pub record Front (image : List ℕ) (e : AllocExtent) (es : List AllocExtent) (l : Listing) : Type 0 where
   pub front : l .front ≡ extentOf e
-  pub behind : left image (l .start) (l .kind) (l .behind) ≡ es
+  pub behind : left image (l .mount) (l .kind) (l .behind) ≡ es
 
 -- a listing where es are left, if any
 pub record Stands (image : List ℕ) (es : List AllocExtent) (reply : Reply) (l : Listing) : Type 0 where
@@ -34,8 +35,8 @@ pub record Stands (image : List ℕ) (es : List AllocExtent) (reply : Reply) (l 
 
 -- the listing of a call whose run is r, before any extent is stored
 abbrev pub Planned : List ℕ → Ran (List AllocExtent) → ℕ → Listing → Type 0
-Planned image r room l = Stands image (storedOf room (r .outcome)) (listReply room (reported (r .count)) (r .outcome)) l
+Planned image r room l = Stands image (storedOf room (r .outcome)) (replyOf NoSlot room r) l
 
 -- what a chain that is whole comes to, after n sectors
-abbrev pub listedRun : List ℕ → ℕ → ℕ → ChainCursor → ℕ → Ran (List AllocExtent)
-listedRun image start kind c n = record { outcome = answered (left image start kind c); count = n }
+abbrev pub listedRun : List ℕ → Mount → ℕ → ChainCursor → ℕ → Ran (List AllocExtent)
+listedRun image m kind c n = record { outcome = answered (left image m kind c); count = n }

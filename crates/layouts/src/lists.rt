@@ -3,27 +3,24 @@
 ghost use mathlib.Core.Path.{_≡_};
 ghost use Prim.Native.Nat.{_≤_};
 ghost use lib.ListN.{length};
-ghost use Rattle.disc.specs.Ran.{ran, after};
+ghost use Rattle.disc.specs.Ran.{ran};
 ghost use Rattle.disc.specs.Images.{disc};
-ghost use Rattle.chains.specs.Follows.{chainAt};
 ghost use Rattle.chains.specs.Walks.{left};
 ghost use Rattle.files.specs.Files.{fileExtents};
-ghost use Rattle.files.specs.Wholes.{frontOf};
 ghost use Rattle.layouts.specs.Calls.{referenceOf, extentOf, fieldsOf, wordsOf, Listed};
 ghost use Rattle.layouts.specs.Lists.{Stands, Planned, listedRun};
 use areas::AllocExtent;
-use areas::PartitionRef;
 use chains::cursors::ChainCursor;
 use chains::cursors::ChainStep;
 use chains::cursors::advance;
-use chains::follows::Chain;
-use chains::follows::follow;
+use disc::places::Mount;
+use disc::places::PartitionRef;
 use disc::refusals::Refusal;
 use disc::replies::Reply;
 use disc::replies::refusal;
-use files::icbs::Place;
-use files::icbs::PlaceRead;
-use files::icbs::locate;
+use files::resolves::Resolved;
+use files::resolves::front_of;
+use files::resolves::resolve;
 use records::allocations::LongAd;
 
 // What a slot says of an extent: its effective length, type, block and partition reference, 65,536 where it names none.
@@ -38,7 +35,7 @@ pub struct Extent {
 // A list under way: the reply of the whole call, the next extent to store, and the cursor at those behind it.
 struct Listing {
     reply: Reply,
-    start: u32,
+    mount: Mount,
     kind: u8,
     front: Extent,
     behind: ChainCursor,
@@ -62,7 +59,7 @@ fn extent_of(e: AllocExtent) -> Extent
     Extent {
         length: e.length,
         extent_type: e.extent_type as u32,
-        block: e.block,
+        block: e.block.0,
         partition: reference_number(reference),
     }
 }
@@ -82,7 +79,10 @@ fn empty(reply: Reply) -> Listing
 {
     Listing {
         reply,
-        start: 0,
+        mount: Mount {
+            start: 0,
+            partition: 0,
+        },
         kind: 0,
         front: Extent {
             length: 0,
@@ -99,18 +99,18 @@ fn empty(reply: Reply) -> Listing
 }
 
 // The listing of the extents that are left at a cursor.
-fn listing_at(image: &[u8], start: u32, kind: u8, first: ChainCursor, reply: Reply) -> Listing
-    ensures { λ r. ⌜ Stands (now (image .entry)) (left (now (image .entry)) start kind first) reply r ⌝ }
+fn listing_at(image: &[u8], mount: Mount, kind: u8, first: ChainCursor, reply: Reply) -> Listing
+    ensures { λ r. ⌜ Stands (now (image .entry)) (left (now (image .entry)) mount kind first) reply r ⌝ }
 {
     let mut c = first;
     loop {
-        match advance(image, start, kind, c) {
+        match advance(image, mount, kind, c) {
             ChainStep::Ends => return empty(reply),
             ChainStep::Hops(next) => c = next,
             ChainStep::Takes(e, next) => {
                 return Listing {
                     reply,
-                    start,
+                    mount,
                     kind,
                     front: extent_of(e),
                     behind: next,
@@ -122,22 +122,23 @@ fn listing_at(image: &[u8], start: u32, kind: u8, first: ChainCursor, reply: Rep
 
 // The listing without its front.
 fn further(image: &[u8], l: Listing) -> Listing
-    ensures { λ r. ⌜ Stands (now (image .entry)) (left (now (image .entry)) (l .start) (l .kind) (l .behind)) (l .reply) r ⌝ }
+    ensures { λ r. ⌜ Stands (now (image .entry)) (left (now (image .entry)) (l .mount) (l .kind) (l .behind)) (l .reply) r ⌝ }
 {
     let behind = l.behind;
     let reply = l.reply;
-    listing_at(image, l.start, l.kind, behind, reply)
+    let mount = l.mount;
+    listing_at(image, mount, l.kind, behind, reply)
 }
 
 // How many extents are left at a cursor.
-fn count_extents(image: &[u8], start: u32, kind: u8, first: ChainCursor) -> u64
+fn count_extents(image: &[u8], mount: Mount, kind: u8, first: ChainCursor) -> u64
     requires { ⌜ first .left ≤ 2048 ⌝ }
-    ensures { λ r. ⌜ r ≡ length (left (now (image .entry)) start kind first) ⌝ }
+    ensures { λ r. ⌜ r ≡ length (left (now (image .entry)) mount kind first) ⌝ }
 {
     let mut c = first;
     let mut n: u64 = 0;
     loop {
-        match advance(image, start, kind, c) {
+        match advance(image, mount, kind, c) {
             ChainStep::Ends => return n,
             ChainStep::Hops(next) => c = next,
             ChainStep::Takes(_, next) => {
@@ -151,22 +152,22 @@ fn count_extents(image: &[u8], start: u32, kind: u8, first: ChainCursor) -> u64
 // The extents of a chain that is whole, after n sectors.
 fn list_whole(
     image: &[u8],
-    start: u32,
+    mount: Mount,
     kind: u8,
     first: ChainCursor,
     n: u64,
     room: usize,
 ) -> Listing
     requires { ⌜ first .left ≤ 2048 ⌝ }
-    ensures { λ r. ⌜ Planned (now (image .entry)) (listedRun (now (image .entry)) start kind first n) room r ⌝ }
+    ensures { λ r. ⌜ Planned (now (image .entry)) (listedRun (now (image .entry)) mount kind first n) room r ⌝ }
 {
-    let m = count_extents(image, start, kind, first);
+    let m = count_extents(image, mount, kind, first);
     if (room as u64) < m {
         return empty(refusal(Refusal::NoSlot.number(), n));
     }
     listing_at(
         image,
-        start,
+        mount,
         kind,
         first,
         Reply {
@@ -177,54 +178,28 @@ fn list_whole(
     )
 }
 
-// The extents of a chain, behind the sector of the entry.
-fn list_chain(image: &[u8], start: u32, partition: u16, p: Place, room: usize) -> Listing
-    requires { ⌜ p .size ≤ 2048 ⌝ }
-    ensures { λ r. ⌜ Planned (now (image .entry)) (after 1 (chainAt (now (image .entry)) start partition (p .kind) (frontOf p))) room r ⌝ }
-{
-    let first = ChainCursor {
-        at: p.at,
-        left: p.size,
-        hops: 32,
-    };
-    match follow(image, start, partition, p.kind, first) {
-        Chain::Refused(why, n) => empty(refusal(why.number(), n + 1)),
-        Chain::Whole(n) => list_whole(image, start, p.kind, first, n + 1, room),
-    }
-}
-
 // The listing of a file for so many slots: every refusal is known, and the extents that are left fit.
-fn plan(image: &[u8], start: u32, partition: u16, icb: LongAd, room: usize) -> Listing
-    ensures { λ r. ⌜ Planned (now (image .entry)) (ran (disc (now (image .entry))) (fileExtents start partition icb)) room r ⌝ }
+fn plan(image: &[u8], mount: Mount, icb: LongAd, room: usize) -> Listing
+    ensures { λ r. ⌜ Planned (now (image .entry)) (ran (disc (now (image .entry))) (fileExtents mount icb)) room r ⌝ }
 {
-    match locate(image, start, icb) {
-        PlaceRead::Refused(why, n) => empty(refusal(why.number(), n)),
-        PlaceRead::Found(p) => {
-            if p.kind == 3 {
-                return empty(Reply {
-                    answer: 0,
-                    count: 1,
-                    length: 0,
-                });
-            }
-            list_chain(image, start, partition, p, room)
-        }
+    match resolve(image, mount, icb) {
+        Resolved::Refused(why, n) => empty(refusal(why.number(), n)),
+        Resolved::Embedded(_) => empty(Reply {
+            answer: 0,
+            count: 1,
+            length: 0,
+        }),
+        Resolved::Chained(p, n) => list_whole(image, mount, p.kind, front_of(p), n, room),
     }
 }
 
 // ---- the two forms of a row
 
 // Effective length, type, block and partition of every extent of the file's chain, four numbers in a slot; an embedded file has none.
-pub fn file_words(
-    image: &[u8],
-    start: u32,
-    partition: u16,
-    icb: LongAd,
-    row: &mut [[u32; 4]],
-) -> Reply
-    ensures { λ r. ⌜ Listed wordsOf (ran (disc (now (image .entry))) (fileExtents start partition icb)) (now (row .entry)) (now (row .exit)) r ⌝ }
+pub fn file_words(image: &[u8], mount: Mount, icb: LongAd, row: &mut [[u32; 4]]) -> Reply
+    ensures { λ r. ⌜ Listed wordsOf (ran (disc (now (image .entry))) (fileExtents mount icb)) (now (row .entry)) (now (row .exit)) r ⌝ }
 {
-    let mut l = plan(image, start, partition, icb, row.len());
+    let mut l = plan(image, mount, icb, row.len());
     let n = l.reply.length as usize;
     let mut i = 0;
     while i < n {
@@ -237,10 +212,10 @@ pub fn file_words(
 }
 
 // The same in a row of records. The borrow checker doesn't cover a lent slice of structs: this one function is proved by a walk of its MIR.
-pub fn file_rows(image: &[u8], start: u32, partition: u16, icb: LongAd, row: &mut [Extent]) -> Reply
-    ensures { λ r. ⌜ Listed extentOf (ran (disc (now (image .entry))) (fileExtents start partition icb)) (now (row .entry)) (now (row .exit)) r ⌝ }
+pub fn file_rows(image: &[u8], mount: Mount, icb: LongAd, row: &mut [Extent]) -> Reply
+    ensures { λ r. ⌜ Listed extentOf (ran (disc (now (image .entry))) (fileExtents mount icb)) (now (row .entry)) (now (row .exit)) r ⌝ }
 {
-    let mut l = plan(image, start, partition, icb, row.len());
+    let mut l = plan(image, mount, icb, row.len());
     let n = l.reply.length as usize;
     let mut i: usize = 0;
     while i < n {

@@ -10,13 +10,10 @@ use lib.ListN.{length, getD, take, drop, length-drop, drop-of-length-le}
 use lib.Seq.{drop-cons, drop-drop}
 use lib.Dec.{eqb}
 use borrow.Author.Tests.{eq-eqb, ne-eqb}
+use Rattle.disc.proofs.PickLaws.{pick-both}
 use Rattle.disc.specs.Choice.{pick}
 use Rattle.disc.proofs.PartLaws.{PartAt}
 use Rattle.listings.specs.Paths.{Component, front, behind, componentsFrom, components, slashes, unlessEmpty}
-
-pick-both : {A : Type 0} (P : A → Type 0) (b : Bool) {x y : A} → P x → P y → P (pick b x y)
-pick-both P true h k = h
-pick-both P false h k = k
 
 -- ---- the loop over slashes has come to i
 

@@ -8,6 +8,7 @@ use Prim.Native.Nat.{ℕ}
 use native.Mathlib.Omega.{arith}
 use lib.ListN.{length}
 use lib.Dec.{ltb}
+use Rattle.disc.specs.Ran.{told}
 use Rattle.disc.specs.Choice.{pick}
 use Rattle.disc.specs.Ask.Outcome.{answered, refused}
 use Rattle.disc.specs.Replies.{Replied}
@@ -19,7 +20,7 @@ use Rattle.names.proofs.Promises.{same-folded}
 use Rattle.identifiers.specs.Identifiers.{nameAt, nameEnd, recordedName, nextAt, identifierOf, identifierSized, identifierNamed, identifierAfter, readIdentifier}
 use Rattle.listings.specs.Entries.{Entry, Entries, entryOf, isGood, isSkipped, nameIn, entriesFrom, entries, sound}
 use Rattle.listings.specs.Entries.Entries.{end, entry}
-use Rattle.listings.specs.Listings.{recordHead, shown, records, isLong, anyLong, listing, told, answersTo, firstNamed, findIn, namedOf}
+use Rattle.listings.specs.Listings.{recordHead, shown, records, isLong, anyLong, listing, answersTo, firstNamed, findIn, namedOf}
 use Rattle.listings.specs.Paths.{front, behind, componentsFrom, components}
 use Rattle.listings.specs.declared.finds.Named.{Named}
 

@@ -13,6 +13,7 @@ use borrow.Author.Tests.{lt-ltb, le-ltb}
 use borrow.Rule.Slice.PartMut.{midOf, putMid, same-len-mid}
 use mir.Syntax.{w64}
 use mir.Val.{Fits}
+use Rattle.disc.specs.Ran.{told}
 use Rattle.disc.specs.Choice.{pick}
 use Rattle.disc.specs.Refusals.{number}
 use Rattle.disc.specs.Ask.Outcome.{answered}
@@ -26,7 +27,7 @@ use Rattle.identifiers.specs.Identifiers.{nameAt, nameEnd, nextAt}
 use Rattle.identifiers.specs.Wholes.{Whole}
 use Rattle.listings.specs.Entries.{Entry, entryOf, isGood, isSkipped, entriesFrom, entries, sound}
 use Rattle.listings.specs.Entries.Entries.{end, bad, entry}
-use Rattle.listings.specs.Listings.{shown, records, isLong, anyLong, listing, told, answersTo, firstNamed, findIn, unnamed, namedTo, namedOf}
+use Rattle.listings.specs.Listings.{shown, records, isLong, anyLong, listing, answersTo, firstNamed, findIn, unnamed, namedTo, namedOf}
 use Rattle.listings.specs.inner.Passes.{Good, Parsed, Puts, sizeOfListing, earlierOf}
 use Rattle.listings.specs.declared.directory_entries.Put.{Put}
 use Rattle.listings.specs.declared.finds.Named.{Named}

@@ -9,7 +9,6 @@ use Rattle.disc.specs.Choice.{pick}
 use Rattle.disc.specs.Refusals.{number}
 use Rattle.disc.specs.Ask.{Outcome}
 use Rattle.disc.specs.Ask.Outcome.{answered, refused}
-use Rattle.disc.specs.Ran.{Ran}
 use Rattle.disc.specs.declared.refusals.Refusal.the-variants.{Malformed, LongName}
 use Rattle.records.specs.Bytes.{le16}
 use Rattle.records.specs.Allocations.{encodeLong, noLong}
@@ -52,10 +51,6 @@ listing s =
     pick (sound (entries s))
     (pick (anyLong (entries s)) (refused LongName) (answered (records (entries s))))
     (refused Malformed)
-
--- what is known of bytes at hand asks for no sector
-abbrev pub told : {A : Type 0} → Outcome A → Ran A
-told o = record { outcome = o; count = 0 }
 
 -- ---- the first entry of a name
 

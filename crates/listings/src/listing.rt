@@ -2,10 +2,11 @@
 ghost use mathlib.Core.Path.{_≡_};
 ghost use mathlib.Core.Bool.{true};
 ghost use lib.ListN.{length};
+ghost use Rattle.disc.specs.Ran.{told};
 ghost use Rattle.disc.specs.Replies.{Replied};
 ghost use Rattle.disc.specs.declared.refusals.Refusal.the-variants.{NoRoom};
 ghost use Rattle.listings.specs.Entries.{entries, sound};
-ghost use Rattle.listings.specs.Listings.{records, listing, told};
+ghost use Rattle.listings.specs.Listings.{records, listing};
 ghost use Rattle.listings.specs.inner.Passes.{sizeOfListing};
 use crate::directory_entries::entry_at;
 use crate::directory_entries::is_long;

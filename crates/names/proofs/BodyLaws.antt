@@ -11,16 +11,12 @@ use lib.Dec.{eqb, ltb, lit≤}
 use mir.Syntax.{w8, w64}
 use mir.Val.{Fits}
 use borrow.Author.Tests.{ne-eqb, lt-ltb}
+use Rattle.disc.proofs.PickLaws.{pick-both}
 use Rattle.disc.specs.Choice.{pick}
 use Rattle.disc.proofs.MoveLaws.{sets-append}
 use Rattle.names.specs.Names.{Wrote, pairs, untilZero, surrogate, dropSurrogates, encode, utf8}
 use Rattle.names.specs.Units.{WroteAt, Body, units, textOf, unitAt, unitBytes}
 use Rattle.names.proofs.UnitLaws.{sets-over}
-
--- What holds both ways holds of a choice.
-pub pick-both : {A : Type 0} (P : A → Type 0) (b : Bool) {x y : A} → P x → P y → P (pick b x y)
-pick-both P true h k = h
-pick-both P false h k = k
 
 -- The UTF-8 of units.
 abbrev pub textFrom : List ℕ → List ℕ

@@ -10,11 +10,12 @@ use native.Mathlib.Omega.{arith}
 use lib.ListN.{length}
 use lib.Dec.{eqb}
 use borrow.Author.Tests.{eqb-true, eq-eqb, lt-ltb, le-ltb}
+use Rattle.disc.proofs.PickLaws.{pick-both}
 use Rattle.disc.specs.Choice.{pick}
 use Rattle.names.specs.declared.dstrings.NameSize.{NameSize}
 use Rattle.names.specs.declared.dstrings.NameSize.the-variants.{Size}
 use Rattle.names.specs.Names.{Wrote, pairs, untilZero, surrogate, dropSurrogates, encode, utf8, nameOf, written, sizeOf, lower, sameName}
-use Rattle.names.proofs.BodyLaws.{Bytes, pick-both, short-bytes, short-pairs}
+use Rattle.names.proofs.BodyLaws.{Bytes, short-bytes, short-pairs}
 
 -- ---- d-strings
 

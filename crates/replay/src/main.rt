@@ -11,6 +11,7 @@
 ghost use mathlib.Core.Path.{_≡_};
 ghost use Prim.Native.Nat.{_≤_, _<_, _^_};
 ghost use lib.ListN.{length};
+use disc::places::Mount;
 use disc::replies::Reply;
 use libc::STDOUT_FILENO;
 use records::allocations::LongAd;
@@ -22,6 +23,7 @@ use sparse::expand;
 use vault::volume::Volume;
 use vault::volume::label;
 use vault::volume::probe;
+use volumes::openings::VolumeRecord;
 
 fn say(text: &[u8]) {
     io::write_all(STDOUT_FILENO, text);
@@ -125,7 +127,8 @@ fn ask_open(image: &[u8]) {
     let v = o.volume;
     let root = v.root;
     let name = v.label;
-    let place = v.start as u64 * 65536 + v.partition as u64;
+    let mount = v.mount;
+    let place = mount.start as u64 * 65536 + mount.partition as u64;
     say_line(
         b"open",
         reply(o.answer, o.count, place),
@@ -251,12 +254,14 @@ fn queries(v: Volume, image: &[u8], all: &[u8], out: &mut [u8], work: &mut [u8])
 }
 
 fn volume_in(head: &[u8]) -> Volume {
-    Volume {
-        start: le32(head, 0),
-        partition: le16(head, 4),
+    Volume(VolumeRecord {
+        mount: Mount {
+            start: le32(head, 0),
+            partition: le16(head, 4),
+        },
         root: long_at(head, 6),
         label: [0; 32],
-    }
+    })
 }
 
 // The image at i and its queries; where the next one stands.

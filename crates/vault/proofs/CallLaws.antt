@@ -10,16 +10,12 @@ use Rattle.disc.specs.Replies.{Replied}
 use Rattle.disc.specs.declared.refusals.Refusal.the-variants.{NoRoom}
 use Rattle.disc.specs.declared.replies.Reply.{Reply}
 use Rattle.records.specs.declared.allocations.LongAd.{LongAd}
-use Rattle.volumes.specs.Openings.{openedOf}
-use Rattle.volumes.specs.declared.openings.VolumeRecord.{VolumeRecord}
-use Rattle.volumes.specs.declared.openings.Opened.{Opened as OpenedBelow}
 use Rattle.areas.specs.declared.AllocExtent.{AllocExtent}
-use Rattle.layouts.specs.Calls.{PartReplied, Listed}
+use Rattle.files.specs.Files.{Part}
+use Rattle.layouts.specs.Calls.{partIn, partReply, PartReplied, Listed}
 use Rattle.directories.specs.Lookups.{Sought, foundOf, failedOf, failedReply}
 use Rattle.directories.specs.declared.lookups.Found.{Found}
-use Rattle.vault.specs.Calls.{volumeOf, openedTo, openedBy, Written, written, cleared, Worked, worked, Looked, looked, Lost, lost, Parted, parted, Rowed, rowed, LostPlace, lostPlace, PartedPlace, partedPlace}
-use Rattle.layouts.specs.Places.{partReply}
-use Rattle.vault.specs.declared.volume.Opened.{Opened}
+use Rattle.vault.specs.Calls.{Written, written, cleared, Worked, worked, Looked, looked, Lost, lost, Parted, parted, Rowed, rowed, LostPlace, lostPlace, PartedPlace, partedPlace}
 
 pub written-is : {r : Ran (List ℕ)} {out out′ : List ℕ} {reply : Reply} → Replied NoRoom r out out′ reply → _≡_ {A = Written} (record { reply = reply; out = out′ }) (written out r)
 written-is h = rw (h .says, h .leaves)
@@ -41,23 +37,12 @@ pub lost-place-is : (r : Ran Sought) (work : List ℕ) {work′ : List ℕ} {rep
     → _≡_ {A = LostPlace} (record { reply = reply; at = at; work = work′ }) (lostPlace work r)
 lost-place-is r work p q z = rw (p, q, z)
 
-pub parted-is : (r : Ran (List ℕ)) {part : List ℕ} {answer count : ℕ} → PartReplied r part answer count → _≡_ {A = Parted} (record { part = part; answer = answer; count = count }) (parted r)
+pub parted-is : (r : Ran Part) {part : List ℕ} {answer count : ℕ} → PartReplied r part answer count → _≡_ {A = Parted} (record { part = part; answer = answer; count = count }) (parted r)
 parted-is r h = rw (h .gives, h .says, h .counts)
 
-pub rowed-is : {A : Type 0} {f : AllocExtent → A} (r : Ran (List AllocExtent)) {row row′ : List A} {reply : Reply} → Listed f r row row′ reply → _≡_ {A = Rowed A} (record { reply = reply; row = row′ }) (rowed f row r)
-rowed-is r h = rw (h .says, h .leaves)
+pub rowed-is : {A : Type 0} (f : AllocExtent → A) (r : Ran (List AllocExtent)) {row row′ : List A} {reply : Reply} → Listed f r row row′ reply → _≡_ {A = Rowed A} (record { reply = reply; row = row′ }) (rowed f row r)
+rowed-is f r h = rw (h .says, h .leaves)
 
-pub parted-place-is : (r : Ran (List ℕ)) {a : ℕ} {reply : Reply} {at : ℕ} → reply ≡ partReply r → at ≡ a
-    → _≡_ {A = PartedPlace} (record { reply = reply; at = at }) (partedPlace r a)
+pub parted-place-is : (r : Ran Part) {reply : Reply} {at : ℕ} → reply ≡ partReply r → at ≡ partIn (r .outcome) .at
+    → _≡_ {A = PartedPlace} (record { reply = reply; at = at }) (partedPlace r)
 parted-place-is r p q = rw (p, q)
-
--- an opened volume, field by field
-pub opened-is : (r : Ran VolumeRecord) {o : OpenedBelow} → o ≡ openedOf r
-    → _≡_ {A = Opened} (record { answer = o .answer; count = o .count; volume = volumeOf (o .volume) }) (openedBy r)
-opened-is r e = rw e (by (r .outcome) (reported (r .count)))
-  where
-    by : (w : Outcome VolumeRecord) (n : ℕ)
-        → _≡_ {A = Opened} (record { answer = Rattle.volumes.specs.Openings.openedBy n w .answer; count = Rattle.volumes.specs.Openings.openedBy n w .count; volume = volumeOf (Rattle.volumes.specs.Openings.openedBy n w .volume) })
-        (openedTo w n)
-    by (answered v) n = refl
-    by (refused why) n = refl

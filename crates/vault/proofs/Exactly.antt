@@ -26,7 +26,7 @@ use Rattle.volumes.specs.Labels.{labelling}
 use Rattle.listings.specs.Entries.{entries, sound}
 use Rattle.listings.specs.Listings.{records, anyLong}
 use Rattle.vault.specs.Calls.{reading, parting, extentListing, listing, finding, pathReading, labels, reads, lists, readsPath, extents}
-use Rattle.vault.specs.declared.volume.Volume.{Volume}
+use Rattle.volumes.specs.declared.openings.VolumeRecord.{VolumeRecord}
 use Rattle.vault.proofs.Orders.{listingAnswer, slotted, extents-order, list-order}
 use Rattle.vault.proofs.Refusing.{Within, refuses-within, bytes-only, part-only, list-only, opening-only, label-only, lookup-only, path-only, listing-only}
 
@@ -43,24 +43,24 @@ module _ (d : Disc) where
   pub label-original : Within Original (outcome d labelling)
   label-original = refuses-within Original (omega arith) d (label-only Original (omega arith) (omega arith) (omega arith))
 
-  pub read-original : (v : Volume) (icb : LongAd) → Within Original (outcome d (reading v icb))
-  read-original v icb = refuses-within Original (omega arith) d (bytes-only Original (omega arith) (omega arith) (v .start) (v .partition) icb)
+  pub read-original : (v : VolumeRecord) (icb : LongAd) → Within Original (outcome d (reading v icb))
+  read-original v icb = refuses-within Original (omega arith) d (bytes-only Original (omega arith) (omega arith) (v .mount) icb)
 
-  pub part-original : (v : Volume) (icb : LongAd) → Within Original (outcome d (parting v icb))
-  part-original v icb = refuses-within Original (omega arith) d (part-only Original (omega arith) (omega arith) (v .start) (v .partition) icb)
+  pub part-original : (v : VolumeRecord) (icb : LongAd) → Within Original (outcome d (parting v icb))
+  part-original v icb = refuses-within Original (omega arith) d (part-only Original (omega arith) (omega arith) (v .mount) icb)
 
-  pub extents-original : (v : Volume) (icb : LongAd) → Within Original (outcome d (extentListing v icb))
-  extents-original v icb = refuses-within Original (omega arith) d (list-only Original (omega arith) (omega arith) (v .start) (v .partition) icb)
+  pub extents-original : (v : VolumeRecord) (icb : LongAd) → Within Original (outcome d (extentListing v icb))
+  extents-original v icb = refuses-within Original (omega arith) d (list-only Original (omega arith) (omega arith) (v .mount) icb)
 
 -- a lookup is refused by 6 besides
 abbrev pub OfALookup : Refusal → Type 0
 OfALookup why = number why ≤ 6 × (number why ≡ 5 → ⊥)
 
-pub lookup-original : (d : Disc) (v : Volume) (work : ℕ) (path : List ℕ) → Within OfALookup (outcome d (finding v work path))
+pub lookup-original : (d : Disc) (v : VolumeRecord) (work : ℕ) (path : List ℕ) → Within OfALookup (outcome d (finding v work path))
 lookup-original d v work path =
     refuses-within OfALookup (low Io (omega arith)) d
     (lookup-only OfALookup (low Malformed (omega arith)) (low NotBluray (omega arith)) (low Unsupported (omega arith)) (omega arith, λ e. omega arith)
-    (v .start) (v .partition) work (v .root) path)
+    (v .mount) work (v .root) path)
   where
     low : (why : Refusal) → Original why → OfALookup why
     low why h = (omega arith, λ e. omega arith)
@@ -89,22 +89,22 @@ pub label-5 : (image out : List ℕ) → eqb (labels image out .reply .answer) 5
 unfolding ran
 label-5 image out = five (length out) _ (outcome (disc image) labelling) (refuses-within ButRoom (λ e. omega arith) (disc image) (label-only ButRoom (λ e. omega arith) (λ e. omega arith) (λ e. omega arith)))
 
-module _ (image : List ℕ) (v : Volume) where
+module _ (image : List ℕ) (v : VolumeRecord) where
   pub read-5 : (icb : LongAd) (out : List ℕ) → eqb (reads image v icb out .reply .answer) 5 ≡ overfull (length out) (ran (disc image) (reading v icb) .outcome)
   unfolding ran
-  read-5 icb out = five (length out) _ (outcome (disc image) (reading v icb)) (refuses-within ButRoom (λ e. omega arith) (disc image) (bytes-only ButRoom (λ e. omega arith) (λ e. omega arith) (v .start) (v .partition) icb))
+  read-5 icb out = five (length out) _ (outcome (disc image) (reading v icb)) (refuses-within ButRoom (λ e. omega arith) (disc image) (bytes-only ButRoom (λ e. omega arith) (λ e. omega arith) (v .mount) icb))
 
   pub list-5 : (icb : LongAd) (out work : List ℕ) → eqb (lists image v icb out work .reply .answer) 5 ≡ overfull (length out) (ran (disc image) (listing v (length work) icb) .outcome)
   unfolding ran
   list-5 icb out work =
       five (length out) _ (outcome (disc image) (listing v (length work) icb))
-      (refuses-within ButRoom (λ e. omega arith) (disc image) (listing-only ButRoom (λ e. omega arith) (λ e. omega arith) (λ e. omega arith) (λ e. omega arith) (v .start) (v .partition) (length work) (λ e. omega arith) icb))
+      (refuses-within ButRoom (λ e. omega arith) (disc image) (listing-only ButRoom (λ e. omega arith) (λ e. omega arith) (λ e. omega arith) (λ e. omega arith) (v .mount) (length work) (λ e. omega arith) icb))
 
   pub read-path-5 : (path out work : List ℕ) → eqb (readsPath image v path out work .reply .answer) 5 ≡ overfull (length out) (ran (disc image) (pathReading v (length work) path) .outcome)
   unfolding ran
   read-path-5 path out work =
       five (length out) _ (outcome (disc image) (pathReading v (length work) path))
-      (refuses-within ButRoom (λ e. omega arith) (disc image) (path-only ButRoom (λ e. omega arith) (λ e. omega arith) (λ e. omega arith) (λ e. omega arith) (v .start) (v .partition) (length work) (v .root) path))
+      (refuses-within ButRoom (λ e. omega arith) (disc image) (path-only ButRoom (λ e. omega arith) (λ e. omega arith) (λ e. omega arith) (λ e. omega arith) (v .mount) (length work) (v .root) path))
 
 -- ---- 6, of a listing, exactly when the directory's bytes exceed the work space
 
@@ -120,7 +120,7 @@ six work room (answered b) p = by (leb (length b) work) (sound (entries b)) (any
     by true false u w = refl
     by false t u w = refl
 
-pub list-6 : (image : List ℕ) (v : Volume) (icb : LongAd) (out work : List ℕ)
+pub list-6 : (image : List ℕ) (v : VolumeRecord) (icb : LongAd) (out work : List ℕ)
     → eqb (lists image v icb out work .reply .answer) 6 ≡ overfull (length work) (ran (disc image) (reading v icb) .outcome)
 unfolding ran
 list-6 image v icb out work =
@@ -142,7 +142,7 @@ seven slots (answered es) p = by (leb (length es) slots)
     by true = refl
     by false = refl
 
-pub extents-7 : {A : Type 0} (f : AllocExtent → A) (image : List ℕ) (v : Volume) (icb : LongAd) (row : List A)
+pub extents-7 : {A : Type 0} (f : AllocExtent → A) (image : List ℕ) (v : VolumeRecord) (icb : LongAd) (row : List A)
     → eqb (extents f image v icb row .reply .answer) 7 ≡ overslotted (length row) (ran (disc image) (extentListing v icb) .outcome)
 unfolding ran
 extents-7 f image v icb row =

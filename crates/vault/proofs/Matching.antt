@@ -7,9 +7,10 @@ use Prim.Native.Nat.{ℕ, _+_}
 use native.Mathlib.Omega.{arith}
 use lib.ListN.{length}
 use lib.Dec.{ltb}
+use Rattle.disc.specs.declared.places.Mount.{Mount}
 use Rattle.disc.specs.Choice.{pick}
 use Rattle.disc.specs.Counts.{reported}
-use Rattle.disc.specs.Ask.{Disc, Outcome}
+use Rattle.disc.specs.Ask.{Disc, Outcome, andThen}
 use Rattle.disc.specs.Ask.Outcome.{answered, refused}
 use Rattle.disc.specs.Images.{disc}
 use Rattle.disc.specs.Ran.{Ran, ran, after, onward}
@@ -26,14 +27,14 @@ use Rattle.listings.specs.Listings.{answersTo, firstNamed, findIn}
 use Rattle.listings.specs.Paths.{Component, front, behind, componentsFrom, components}
 use Rattle.listings.proofs.Promises.{inFront, NoneAnswers, answers-folded}
 use Rattle.directories.specs.Directories.{directoryBytes}
-use Rattle.directories.specs.Lookups.{Sought, entering, orLost, seeking, seekPath, icbOf, andThen, foundOf}
+use Rattle.directories.specs.Lookups.{Sought, entering, orLost, seeking, seekPath, icbOf, foundOf}
 use Rattle.directories.specs.Lookups.Sought.{reached, lost}
 use Rattle.directories.specs.declared.lookups.Found.{Found}
 use Rattle.directories.proofs.SpaceLaws.{ran-known}
 use Rattle.directories.proofs.LookupLaws.{look-is}
 use Rattle.directories.proofs.Promises.{enters-first}
 use Rattle.vault.specs.Calls.{finding, finds, looked}
-use Rattle.vault.specs.declared.volume.Volume.{Volume}
+use Rattle.volumes.specs.declared.openings.VolumeRecord.{VolumeRecord}
 
 -- ---- ASCII case is ignored: paths whose components are equal once folded are looked up alike
 
@@ -59,12 +60,12 @@ same-first c c′ h end = refl
 same-first c c′ h bad = refl
 same-first c c′ h (entry e es) = rw (same-answers c c′ h e, same-first c c′ h es)
 
-same-entering : (d : Disc) (start partition work : ℕ) (icb : LongAd) (c c′ : List ℕ) → map lower c ≡ map lower c′ → ran d (entering start partition work icb c) ≡ ran d (entering start partition work icb c′)
+same-entering : (d : Disc) (v : Mount) (work : ℕ) (icb : LongAd) (c c′ : List ℕ) → map lower c ≡ map lower c′ → ran d (entering v work icb c) ≡ ran d (entering v work icb c′)
 unfolding entering findIn
-same-entering d start partition work icb c c′ h =
-    ran-known d (directoryBytes start partition work icb) (findIn c)
-    ∙ ap (λ o. record { outcome = o; count = ran d (directoryBytes start partition work icb) .count }) (by (ran d (directoryBytes start partition work icb) .outcome))
-    ∙ sym (ran-known d (directoryBytes start partition work icb) (findIn c′))
+same-entering d v work icb c c′ h =
+    ran-known d (directoryBytes v work icb) (findIn c)
+    ∙ ap (λ o. record { outcome = o; count = ran d (directoryBytes v work icb) .count }) (by (ran d (directoryBytes v work icb) .outcome))
+    ∙ sym (ran-known d (directoryBytes v work icb) (findIn c′))
   where
     by : (o : Outcome (List ℕ)) → andThen o (findIn c) ≡ andThen o (findIn c′)
     by (answered b) = rw (same-first c c′ h (entries b))
@@ -87,12 +88,12 @@ alike-onward (refused why) n f f′ h = record { to = refl; sectors = refl }
 abbrev pub folded : Component → List ℕ
 folded c = map lower (c .bytes)
 
-module _ (d : Disc) (start partition work : ℕ) where
+module _ (d : Disc) (v : Mount) (work : ℕ) where
   walk : List Component → LongAd → Bool → Ran Sought
-  walk cs icb directory = ran d (seeking start partition work cs icb directory)
+  walk cs icb directory = ran d (seeking v work cs icb directory)
 
   on : List Component → Component → Option Entry → Ran Sought
-  on cs c o = ran d (orLost c o (λ e. seeking start partition work cs (e .identifier .icb) (isDirectory (e .identifier))))
+  on cs c o = ran d (orLost c o (λ e. seeking v work cs (e .identifier .icb) (isDirectory (e .identifier))))
 
   alike-on : (cs cs′ : List Component) (c c′ : Component) → ((icb : LongAd) (directory : Bool) → Alike (walk cs icb directory) (walk cs′ icb directory)) → (o : Option Entry) → Alike (on cs c o) (on cs′ c′ o)
   unfolding walk on
@@ -109,28 +110,28 @@ module _ (d : Disc) (start partition work : ℕ) where
       let p : folded c ≡ folded c′ = cc in
       let q : map folded cs ≡ map folded cs′ = cc in
       rw (
-        ran-then d (entering start partition work icb (c .bytes)) (λ o. orLost c o (λ e. seeking start partition work cs (e .identifier .icb) (isDirectory (e .identifier)))),
-        ran-then d (entering start partition work icb (c′ .bytes)) (λ o. orLost c′ o (λ e. seeking start partition work cs′ (e .identifier .icb) (isDirectory (e .identifier)))),
-        same-entering d start partition work icb (c .bytes) (c′ .bytes) p,
+        ran-then d (entering v work icb (c .bytes)) (λ o. orLost c o (λ e. seeking v work cs (e .identifier .icb) (isDirectory (e .identifier)))),
+        ran-then d (entering v work icb (c′ .bytes)) (λ o. orLost c′ o (λ e. seeking v work cs′ (e .identifier .icb) (isDirectory (e .identifier)))),
+        same-entering d v work icb (c .bytes) (c′ .bytes) p,
       )
-      (alike-onward (ran d (entering start partition work icb (c′ .bytes)) .outcome) (ran d (entering start partition work icb (c′ .bytes)) .count) (on cs c) (on cs′ c′)
+      (alike-onward (ran d (entering v work icb (c′ .bytes)) .outcome) (ran d (entering v work icb (c′ .bytes)) .count) (on cs c) (on cs′ c′)
       (alike-on cs cs′ c c′ (λ i t. alike cs cs′ q i t)))
 
 -- paths whose components are equal with ASCII case ignored have the same lookup
-pub lookup-case : (image : List ℕ) (v : Volume) (path path′ work : List ℕ) → map folded (components path) ≡ map folded (components path′)
+pub lookup-case : (image : List ℕ) (v : VolumeRecord) (path path′ work : List ℕ) → map folded (components path) ≡ map folded (components path′)
     → finds image v path work ≡ finds image v path′ work
 unfolding walk seekPath
 lookup-case image v path path′ work h =
     ap (looked work)
-    (look-is (disc image) (v .start) (v .partition) (length work) (v .root) path
+    (look-is (disc image) (v .mount) (length work) (v .root) path
     ∙ alike-is
-    (ran (disc image) (seekPath (v .start) (v .partition) (length work) (v .root) path))
-    (ran (disc image) (seekPath (v .start) (v .partition) (length work) (v .root) path′))
-    (alike (disc image) (v .start) (v .partition) (length work) (components path) (components path′) h (v .root) true)
-    ∙ sym (look-is (disc image) (v .start) (v .partition) (length work) (v .root) path′))
+    (ran (disc image) (seekPath (v .mount) (length work) (v .root) path))
+    (ran (disc image) (seekPath (v .mount) (length work) (v .root) path′))
+    (alike (disc image) (v .mount) (length work) (components path) (components path′) h (v .root) true)
+    ∙ sym (look-is (disc image) (v .mount) (length work) (v .root) path′))
 
 -- cue 10.1A and cue 10.1a are one name: whichever stands first in its directory is taken for both
-pub one-cue : (image : List ℕ) (v : Volume) (work : List ℕ)
+pub one-cue : (image : List ℕ) (v : VolumeRecord) (work : List ℕ)
     → finds image v (0x31 ∷ 0x30 ∷ 0x2e ∷ 0x31 ∷ 0x41 ∷ []) work ≡ finds image v (0x31 ∷ 0x30 ∷ 0x2e ∷ 0x31 ∷ 0x61 ∷ []) work
 unfolding components componentsFrom front behind lower
 one-cue image v work = lookup-case image v (0x31 ∷ 0x30 ∷ 0x2e ∷ 0x31 ∷ 0x41 ∷ []) (0x31 ∷ 0x30 ∷ 0x2e ∷ 0x31 ∷ 0x61 ∷ []) work refl
@@ -138,29 +139,29 @@ one-cue image v work = lookup-case image v (0x31 ∷ 0x30 ∷ 0x2e ∷ 0x31 ∷ 
 -- ---- the first entry of a name wins
 
 -- one step of a walk: the directory at icb is b, and e its first entry that answers to the component
-module _ (d : Disc) (start partition work : ℕ) (icb : LongAd) (c : Component) {b : List ℕ} (r : ran d (directoryBytes start partition work icb) .outcome ≡ answered b)
+module _ (d : Disc) (v : Mount) (work : ℕ) (icb : LongAd) (c : Component) {b : List ℕ} (r : ran d (directoryBytes v work icb) .outcome ≡ answered b)
     (before : List Entry) (e : Entry) (rest : Entries) (k : entries b ≡ inFront before (entry e rest)) (s : sound (entries b) ≡ true)
     (n : NoneAnswers (c .bytes) before) (h : answersTo (c .bytes) e ≡ true) where
-  pub seek-first : (cs : List Component) → ran d (seeking start partition work (c ∷ cs) icb true)
-      ≡ after (ran d (directoryBytes start partition work icb) .count) (ran d (seeking start partition work cs (e .identifier .icb) (isDirectory (e .identifier))))
+  pub seek-first : (cs : List Component) → ran d (seeking v work (c ∷ cs) icb true)
+      ≡ after (ran d (directoryBytes v work icb) .count) (ran d (seeking v work cs (e .identifier .icb) (isDirectory (e .identifier))))
   unfolding seeking
   seek-first cs =
-      ran-then d (entering start partition work icb (c .bytes)) (λ o. orLost c o (λ x. seeking start partition work cs (x .identifier .icb) (isDirectory (x .identifier))))
-      ∙ rw (enters-first d start partition work icb (c .bytes) r before e rest k s n h)
+      ran-then d (entering v work icb (c .bytes)) (λ o. orLost c o (λ x. seeking v work cs (x .identifier .icb) (isDirectory (x .identifier))))
+      ∙ rw (enters-first d v work icb (c .bytes) r before e rest k s n h)
 
 -- of the lookup itself: a path of one component is answered with the ICB of the first entry of that name, after the sectors of the root directory
-pub lookup-first : (image : List ℕ) (v : Volume) (path work : List ℕ) (c : Component) → components path ≡ c ∷ [] → {b : List ℕ}
-    → ran (disc image) (directoryBytes (v .start) (v .partition) (length work) (v .root)) .outcome ≡ answered b
+pub lookup-first : (image : List ℕ) (v : VolumeRecord) (path work : List ℕ) (c : Component) → components path ≡ c ∷ [] → {b : List ℕ}
+    → ran (disc image) (directoryBytes (v .mount) (length work) (v .root)) .outcome ≡ answered b
     → (before : List Entry) (e : Entry) (rest : Entries) → entries b ≡ inFront before (entry e rest) → sound (entries b) ≡ true → NoneAnswers (c .bytes) before → answersTo (c .bytes) e ≡ true
     → finds image v path work .found
-    ≡ record { answer = 0; count = reported (ran (disc image) (directoryBytes (v .start) (v .partition) (length work) (v .root)) .count); icb = e .identifier .icb }
+    ≡ record { answer = 0; count = reported (ran (disc image) (directoryBytes (v .mount) (length work) (v .root)) .count); icb = e .identifier .icb }
 unfolding seekPath seeking
 lookup-first image v path work c p r before e rest k s n h =
-    let m = ran (disc image) (directoryBytes (v .start) (v .partition) (length work) (v .root)) .count in
-    let w : ran (disc image) (seekPath (v .start) (v .partition) (length work) (v .root) path) ≡ record { outcome = answered (reached (e .identifier .icb)); count = m + 0 } =
-    rw (p, seek-first (disc image) (v .start) (v .partition) (length work) (v .root) c r before e rest k s n h [], ran-done (disc image) (reached (e .identifier .icb))) in
+    let m = ran (disc image) (directoryBytes (v .mount) (length work) (v .root)) .count in
+    let w : ran (disc image) (seekPath (v .mount) (length work) (v .root) path) ≡ record { outcome = answered (reached (e .identifier .icb)); count = m + 0 } =
+    rw (p, seek-first (disc image) (v .mount) (length work) (v .root) c r before e rest k s n h [], ran-done (disc image) (reached (e .identifier .icb))) in
     let l : ran (disc image) (finding v (length work) path) ≡ record { outcome = answered (e .identifier .icb); count = m + 0 } =
-    look-is (disc image) (v .start) (v .partition) (length work) (v .root) path ∙ rw w in
+    look-is (disc image) (v .mount) (length work) (v .root) path ∙ rw w in
     rw l (ap (λ x. record { answer = 0; count = reported x; icb = e .identifier .icb }) (let z : m + 0 ≡ m = omega arith in z))
 
 -- ---- and nothing else matches: what a path of one component is answered with is an entry that is listed and has that name, ASCII case ignored
@@ -193,32 +194,32 @@ record Got (r : Ran Sought) (c : List ℕ) : Type 0 where
   its : looks r .icb ≡ got .identifier .icb
   answers : answersTo c got ≡ true
 
-module _ (d : Disc) (start partition work : ℕ) (c : Component) where
-  got-by : (o : Outcome (Option Entry)) (n : ℕ) → ((e : Entry) → o ≡ answered (some e) → answersTo (c .bytes) e ≡ true) → looks (onward o n (on d start partition work [] c)) .answer ≡ 0
-      → Got (onward o n (on d start partition work [] c)) (c .bytes)
+module _ (d : Disc) (v : Mount) (work : ℕ) (c : Component) where
+  got-by : (o : Outcome (Option Entry)) (n : ℕ) → ((e : Entry) → o ≡ answered (some e) → answersTo (c .bytes) e ≡ true) → looks (onward o n (on d v work [] c)) .answer ≡ 0
+      → Got (onward o n (on d v work [] c)) (c .bytes)
   unfolding looks on seeking
   got-by (refused why) n h q = absurd (refusal-numbered why q)
   got-by (answered none) n h q = absurd (let z : looks (after n (record { outcome = answered (lost c); count = 0 })) .answer ≡ 0 = rw (ran-done d (lost c)) at q in omega arith)
   got-by (answered (some e)) n h q = record { got = e; its = rw (ran-done d (reached (e .identifier .icb))); answers = h e refl }
 
-pub record Taken (image : List ℕ) (v : Volume) (path work c : List ℕ) : Type 0 where
+pub record Taken (image : List ℕ) (v : VolumeRecord) (path work c : List ℕ) : Type 0 where
   pub taken : Entry
   pub icb : finds image v path work .found .icb ≡ taken .identifier .icb
   pub listed : isSkipped (taken .identifier) ≡ false
   pub named : map lower (nameIn taken) ≡ map lower c
 
-pub lookup-named : (image : List ℕ) (v : Volume) (path work : List ℕ) (c : Component) → components path ≡ c ∷ [] → finds image v path work .found .answer ≡ 0 → Taken image v path work (c .bytes)
+pub lookup-named : (image : List ℕ) (v : VolumeRecord) (path work : List ℕ) (c : Component) → components path ≡ c ∷ [] → finds image v path work .found .answer ≡ 0 → Taken image v path work (c .bytes)
 unfolding looks on seekPath seeking entering
 lookup-named image v path work c p q =
     let d = disc image in
-    let w : ran d (seekPath (v .start) (v .partition) (length work) (v .root) path)
-    ≡ onward (ran d (entering (v .start) (v .partition) (length work) (v .root) (c .bytes)) .outcome) (ran d (entering (v .start) (v .partition) (length work) (v .root) (c .bytes)) .count) (on d (v .start) (v .partition) (length work) [] c) =
-    rw p (ran-then d (entering (v .start) (v .partition) (length work) (v .root) (c .bytes)) (λ o. orLost c o (λ e. seeking (v .start) (v .partition) (length work) [] (e .identifier .icb) (isDirectory (e .identifier))))) in
-    let l : finds image v path work .found ≡ looks (ran d (seekPath (v .start) (v .partition) (length work) (v .root) path)) =
-    ap foundOf (look-is d (v .start) (v .partition) (length work) (v .root) path) in
-    let g = got-by d (v .start) (v .partition) (length work) c
-    (ran d (entering (v .start) (v .partition) (length work) (v .root) (c .bytes)) .outcome) (ran d (entering (v .start) (v .partition) (length work) (v .root) (c .bytes)) .count)
-    (λ e k. enters (ran d (directoryBytes (v .start) (v .partition) (length work) (v .root)) .outcome) (sym (ap (λ (r : Ran (Option Entry)). r .outcome) (ran-known d (directoryBytes (v .start) (v .partition) (length work) (v .root)) (findIn (c .bytes)))) ∙ k))
+    let w : ran d (seekPath (v .mount) (length work) (v .root) path)
+    ≡ onward (ran d (entering (v .mount) (length work) (v .root) (c .bytes)) .outcome) (ran d (entering (v .mount) (length work) (v .root) (c .bytes)) .count) (on d (v .mount) (length work) [] c) =
+    rw p (ran-then d (entering (v .mount) (length work) (v .root) (c .bytes)) (λ o. orLost c o (λ e. seeking (v .mount) (length work) [] (e .identifier .icb) (isDirectory (e .identifier))))) in
+    let l : finds image v path work .found ≡ looks (ran d (seekPath (v .mount) (length work) (v .root) path)) =
+    ap foundOf (look-is d (v .mount) (length work) (v .root) path) in
+    let g = got-by d (v .mount) (length work) c
+    (ran d (entering (v .mount) (length work) (v .root) (c .bytes)) .outcome) (ran d (entering (v .mount) (length work) (v .root) (c .bytes)) .count)
+    (λ e k. enters (ran d (directoryBytes (v .mount) (length work) (v .root)) .outcome) (sym (ap (λ (r : Ran (Option Entry)). r .outcome) (ran-known d (directoryBytes (v .mount) (length work) (v .root)) (findIn (c .bytes)))) ∙ k))
     (sym (ap (λ (f : Found). f .answer) (l ∙ ap looks w)) ∙ q) in
     record {
       taken = g .got;

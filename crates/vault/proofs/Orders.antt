@@ -4,15 +4,16 @@ use mathlib.Core.Path.{_≡_, refl, ap, _∙_}
 use mathlib.Core.Bool.{Bool, true, false}
 use mathlib.Core.List.{List}
 use Prim.Native.Nat.{ℕ}
-use lib.ListN.{length}
+use lib.ListN.{length, length-map}
 use lib.Dec.{leb}
+use Rattle.disc.specs.declared.places.Mount.{Mount}
 use Rattle.disc.specs.Choice.{pick}
 use Rattle.disc.specs.Refusals.{number}
 use Rattle.disc.specs.Counts.{reported}
-use Rattle.disc.specs.Ask.{Disc, Outcome}
+use Rattle.disc.specs.Ask.{Disc, Outcome, andThen}
 use Rattle.disc.specs.Ask.Outcome.{answered, refused}
 use Rattle.disc.specs.Images.{disc}
-use Rattle.disc.specs.Ran.{Ran, ran, onward}
+use Rattle.disc.specs.Ran.{Ran, ran, onward, eachIn}
 use Rattle.disc.specs.Replies.{replyBy}
 use Rattle.disc.specs.declared.refusals.Refusal.the-variants.{Malformed, NoRoom, NoWork, NoSlot, LongName}
 use Rattle.disc.specs.declared.replies.Reply.{Reply}
@@ -20,16 +21,14 @@ use Rattle.disc.proofs.RanLaws.{ran-then}
 use Rattle.records.specs.declared.allocations.LongAd.{LongAd}
 use Rattle.volumes.specs.Labels.{labelling}
 use Rattle.areas.specs.declared.AllocExtent.{AllocExtent}
-use Rattle.layouts.specs.Calls.{listReply}
 use Rattle.files.specs.Files.{fileBytes}
 use Rattle.listings.specs.Entries.{entries, sound}
 use Rattle.listings.specs.Listings.{records, anyLong, listing as listingOf}
 use Rattle.directories.specs.Directories.{within, directoryBytes, listingAt}
 use Rattle.directories.specs.Lookups.{readPathOf}
-use Rattle.directories.specs.Lookups.{andThen}
 use Rattle.directories.proofs.SpaceLaws.{ran-known}
 use Rattle.vault.specs.Calls.{reading, extentListing, listing, finding, pathReading, labels, reads, lists, readsPath, extents}
-use Rattle.vault.specs.declared.volume.Volume.{Volume}
+use Rattle.volumes.specs.declared.openings.VolumeRecord.{VolumeRecord}
 
 -- ---- 5 comes after every other refusal
 
@@ -49,7 +48,7 @@ room-last room n (answered b) = by (leb (length b) room)
 pub label-order : (image out : List ℕ) → labels image out .reply .answer ≡ roomed (length out) (ran (disc image) labelling .outcome)
 label-order image out = room-last (length out) _ (ran (disc image) labelling .outcome)
 
-pub read-order : (image : List ℕ) (v : Volume) (icb : LongAd) (out : List ℕ) → reads image v icb out .reply .answer ≡ roomed (length out) (ran (disc image) (reading v icb) .outcome)
+pub read-order : (image : List ℕ) (v : VolumeRecord) (icb : LongAd) (out : List ℕ) → reads image v icb out .reply .answer ≡ roomed (length out) (ran (disc image) (reading v icb) .outcome)
 read-order image v icb out = room-last (length out) _ (ran (disc image) (reading v icb) .outcome)
 
 -- ---- 7 comes after every other refusal
@@ -59,7 +58,7 @@ abbrev pub slotted : ℕ → Outcome (List AllocExtent) → ℕ
 slotted slots (refused why) = number why
 slotted slots (answered es) = pick (leb (length es) slots) 0 7
 
-pub extents-order : {A : Type 0} (f : AllocExtent → A) (image : List ℕ) (v : Volume) (icb : LongAd) (row : List A)
+pub extents-order : {A : Type 0} (f : AllocExtent → A) (image : List ℕ) (v : VolumeRecord) (icb : LongAd) (row : List A)
     → extents f image v icb row .reply .answer ≡ slotted (length row) (ran (disc image) (extentListing v icb) .outcome)
 extents-order f image v icb row = by (ran (disc image) (extentListing v icb) .outcome) (reported (ran (disc image) (extentListing v icb) .count))
   where
@@ -68,9 +67,9 @@ extents-order f image v icb row = by (ran (disc image) (extentListing v icb) .ou
     fits es n true = refl
     fits es n false = refl
 
-    by : (o : Outcome (List AllocExtent)) (n : ℕ) → listReply (length row) n o .answer ≡ slotted (length row) o
+    by : (o : Outcome (List AllocExtent)) (n : ℕ) → replyBy NoSlot (length row) n (eachIn f o) .answer ≡ slotted (length row) o
     by (refused why) n = refl
-    by (answered es) n = fits es n (leb (length es) (length row))
+    by (answered es) n = rw length-map (fits es n (leb (length es) (length row)))
 
 -- ---- a listing: the refusals of reading the directory, 6, a bad entry, 8, and then 5
 
@@ -85,12 +84,12 @@ listingAnswer work room (answered b) =
     6
 
 -- what a listing comes to, by what reading the directory comes to
-listing-is : (d : Disc) (start partition work : ℕ) (icb : LongAd)
-    → ran d (listingAt start partition work icb) .outcome ≡ andThen (andThen (ran d (fileBytes start partition icb) .outcome) (within work)) listingOf
+listing-is : (d : Disc) (v : Mount) (work : ℕ) (icb : LongAd)
+    → ran d (listingAt v work icb) .outcome ≡ andThen (andThen (ran d (fileBytes v icb) .outcome) (within work)) listingOf
 unfolding listingAt directoryBytes
-listing-is d start partition work icb =
-    ap (λ (r : Ran (List ℕ)). r .outcome) (ran-known d (directoryBytes start partition work icb) listingOf)
-    ∙ ap (λ (r : Ran (List ℕ)). andThen (r .outcome) listingOf) (ran-known d (fileBytes start partition icb) (within work))
+listing-is d v work icb =
+    ap (λ (r : Ran (List ℕ)). r .outcome) (ran-known d (directoryBytes v work icb) listingOf)
+    ∙ ap (λ (r : Ran (List ℕ)). andThen (r .outcome) listingOf) (ran-known d (fileBytes v icb) (within work))
 
 entries-ordered : (room : ℕ) (b : List ℕ) → roomed room (listingOf b) ≡ pick (sound (entries b)) (pick (anyLong (entries b)) 8 (pick (leb (length (records (entries b))) room) 0 5)) 2
 unfolding listingOf
@@ -111,11 +110,11 @@ ordered work room (answered b) = by (leb (length b) work)
     by false = refl
     by true = entries-ordered room b
 
-pub list-order : (image : List ℕ) (v : Volume) (icb : LongAd) (out work : List ℕ)
+pub list-order : (image : List ℕ) (v : VolumeRecord) (icb : LongAd) (out work : List ℕ)
     → lists image v icb out work .reply .answer ≡ listingAnswer (length work) (length out) (ran (disc image) (reading v icb) .outcome)
 list-order image v icb out work =
     room-last (length out) _ (ran (disc image) (listing v (length work) icb) .outcome)
-    ∙ ap (roomed (length out)) (listing-is (disc image) (v .start) (v .partition) (length work) icb)
+    ∙ ap (roomed (length out)) (listing-is (disc image) (v .mount) (length work) icb)
     ∙ ordered (length work) (length out) (ran (disc image) (reading v icb) .outcome)
 
 -- ---- a read by path: the lookup's refusals, and then those of the read
@@ -124,7 +123,7 @@ abbrev pub pathAnswer : ℕ → Outcome LongAd → (LongAd → Outcome (List ℕ
 pathAnswer room (refused why) f = number why
 pathAnswer room (answered icb) f = roomed room (f icb)
 
-pub read-path-order : (image : List ℕ) (v : Volume) (path out work : List ℕ)
+pub read-path-order : (image : List ℕ) (v : VolumeRecord) (path out work : List ℕ)
     → readsPath image v path out work .reply .answer
     ≡ pathAnswer (length out) (ran (disc image) (finding v (length work) path) .outcome) (λ icb. ran (disc image) (reading v icb) .outcome)
 unfolding readPathOf

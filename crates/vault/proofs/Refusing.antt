@@ -5,8 +5,12 @@ use mathlib.Core.Bool.{Bool, true, false, _&&_}
 use mathlib.Core.List.{List, [], _∷_}
 use mathlib.Core.Option.{Option, none, some}
 use Prim.Native.Nat.{ℕ, zero, suc, _+_, _-_}
+use native.Mathlib.Omega.{arith}
 use lib.ListN.{length, take}
 use lib.Dec.{eqb, ltb, leb}
+use Rattle.files.specs.Files.File.{embedded, chained}
+use Rattle.disc.specs.declared.places.Mount.{Mount}
+use Rattle.disc.specs.Places.{placed, icbPlaced, standing}
 use Rattle.disc.specs.Choice.{pick}
 use Rattle.disc.specs.Ask.{Disc, Held, Ask, Outcome, outcome, then, given, ended}
 use Rattle.disc.specs.Ask.Held.{holds, lacks}
@@ -39,13 +43,13 @@ use Rattle.entries.specs.declared.«file_entries».EntryRead.the-variants.{Read
 use Rattle.entries.proofs.EntryLaws.{read-entry-refused}
 use Rattle.volumes.specs.declared.sequences.Kept.{Kept}
 use Rattle.volumes.specs.declared.openings.VolumeRecord.{VolumeRecord}
-use Rattle.volumes.specs.Sequences.{nothing, primaryIn, partitionIn, logicalIn, saysIn, goOn, scan}
-use Rattle.volumes.specs.Sequences.Says.{on, over, fails}
-use Rattle.volumes.specs.Openings.{fileSetHere, mounting, anchored, opening}
+use Rattle.volumes.specs.Sequences.{nothing, Parsed, keptOf, Says, primaryIn, partitionIn, logicalIn, saysIn, goOn, scan}
+use Rattle.volumes.specs.Sequences.Says.{found, passed, over, fails}
+use Rattle.volumes.specs.Openings.{fileSetIn, mounting, anchored, opening}
 use Rattle.volumes.specs.Labels.{labelling}
-use Rattle.chains.specs.Chains.{sectorsFor, foreign, areaIn, nextArea, continued}
+use Rattle.chains.specs.Chains.{sectorsFor, areaIn, nextArea, continued, areaFrom}
 use Rattle.files.specs.Reads.{joining, extentBytes, extentsBytes}
-use Rattle.files.specs.Files.{Located, located, entryAt, isEmbedded, chainOf, fileBytes, filePart, fileExtents}
+use Rattle.files.specs.Files.{Located, located, entryAt, isEmbedded, chainOf, fileBytes, filePart, fileExtents, File, resolved, fileAt, contentOf}
 use Rattle.listings.specs.Entries.{Entry, entries, sound}
 use Rattle.listings.specs.Listings.{anyLong, listing, findIn}
 use Rattle.listings.specs.Paths.{Component, components}
@@ -152,23 +156,30 @@ module _ (P : Refusal → Type 0) (malformed : P Malformed) (unsupported : P Uns
       by true false = refuse-only malformed
       by true true = headed (eqb (tagOf s .id) 258)
 
-  next-only : (start partition kind : ℕ) (a : AdContinuation) → Refuses P (λ (x : Area). Ends P (x .ending)) (nextArea start partition kind a)
-  unfolding nextArea
-  next-only start partition kind a =
-      pick-only (foreign partition (a .«partition_ref»)) (refuse-only unsupported)
-      (pick-only (ltb (a .length) 24) (refuse-only malformed)
-      (pick-only (ltb 1048576 (a .length)) (refuse-only unsupported)
-      (then-only (sectors-only (sectorsFor (a .length)) (start + a .block)) (λ s q. area-only kind (a .length) s))))
+  standing-only : {A : Type 0} {Q : A → Type 0} (o : Option ℕ) {f : ℕ → Ask A} → ((s : ℕ) → Refuses P Q (f s)) → Refuses P Q (standing o f)
+  standing-only none h = refuse-only unsupported
+  standing-only (some s) h = h s
 
-  continued-only : (start partition kind n : ℕ) (e : AdEnding) → Ends P e → Refuses P Any (continued start partition kind n e)
+  from-only : (kind length at : ℕ) → Refuses P (λ (x : Area). Ends P (x .ending)) (areaFrom kind length at)
+  unfolding areaFrom
+  from-only kind length at =
+      pick-only (ltb length 24) (refuse-only malformed)
+      (pick-only (ltb 1048576 length) (refuse-only unsupported)
+      (then-only (sectors-only (sectorsFor length) at) (λ s q. area-only kind length s)))
+
+  next-only : (m : Mount) (kind : ℕ) (a : AdContinuation) → Refuses P (λ (x : Area). Ends P (x .ending)) (nextArea m kind a)
+  unfolding nextArea
+  next-only m kind a = standing-only (placed m (a .«partition_ref») (a .block .0)) (from-only kind (a .length))
+
+  continued-only : (m : Mount) (kind n : ℕ) (e : AdEnding) → Ends P e → Refuses P Any (continued m kind n e)
   unfolding continued EndsBy
-  continued-only start partition kind zero End p = done-only tt
-  continued-only start partition kind zero (Refused r) p = refuse-only (p .by)
-  continued-only start partition kind zero (Continuation a) p = refuse-only malformed
-  continued-only start partition kind (suc n) End p = done-only tt
-  continued-only start partition kind (suc n) (Refused r) p = refuse-only (p .by)
-  continued-only start partition kind (suc n) (Continuation a) p =
-      then-only (next-only start partition kind a) (λ x q. then-only (continued-only start partition kind n (x .ending) q) (λ more u. done-only tt))
+  continued-only m kind zero End p = done-only tt
+  continued-only m kind zero (Refused r) p = refuse-only (p .by)
+  continued-only m kind zero (Continuation a) p = refuse-only malformed
+  continued-only m kind (suc n) End p = done-only tt
+  continued-only m kind (suc n) (Refused r) p = refuse-only (p .by)
+  continued-only m kind (suc n) (Continuation a) p =
+      then-only (next-only m kind a) (λ x q. then-only (continued-only m kind n (x .ending) q) (λ more u. done-only tt))
 
   joining-only : (want : ℕ) (b : List ℕ) {more : Ask (List ℕ)} → Refuses P Any more → Refuses P Any (joining want b more)
   joining-only want b p = pick-only (leb want (length b)) (done-only tt) (then-only p (λ rest q. done-only tt))
@@ -178,69 +189,83 @@ module _ (P : Refusal → Type 0) (malformed : P Malformed) (unsupported : P Uns
   extent-only zero at size want = done-only tt
   extent-only (suc n) at size want = ask-only (λ b. joining-only want (take size b) (extent-only n (at + 1) (size - 2048) (want - length (take size b))))
 
-  extents-only : (start partition : ℕ) (es : List AllocExtent) (want : ℕ) → Refuses P Any (extentsBytes start partition es want)
+  extents-only : (m : Mount) (es : List AllocExtent) (want : ℕ) → Refuses P Any (extentsBytes m es want)
   unfolding extentsBytes
-  extents-only start partition [] want = done-only tt
-  extents-only start partition (e ∷ es) want =
+  extents-only m [] want = done-only tt
+  extents-only m (e ∷ es) want =
       pick-only (eqb (e .«extent_type») 0)
-      (pick-only (foreign partition (e .«partition_ref»)) (refuse-only unsupported)
-      (then-only (extent-only (sectorsFor (e .length)) (start + e .block) (e .length) want) (λ b q.
-      joining-only want b (extents-only start partition es (want - length b)))))
+      (standing-only (placed m (e .«partition_ref») (e .block .0)) (λ at.
+      then-only (extent-only (sectorsFor (e .length)) at (e .length) want) (λ b q.
+      joining-only want b (extents-only m es (want - length b)))))
       (refuse-only unsupported)
 
-  entry-only : (start : ℕ) (icb : LongAd) → Refuses P Any (entryAt start icb)
+  entry-only : (m : Mount) (icb : LongAd) → Refuses P Any (entryAt m icb)
   unfolding entryAt
-  entry-only start icb = pick-only (eqb (icb .length) 0) (refuse-only malformed) (ask-only (λ s. by s (readEntry s) refl))
+  entry-only m icb = pick-only (eqb (icb .length) 0) (refuse-only malformed) (ask-only (λ s. by s (readEntry s) refl))
     where
-      by : (s : List ℕ) (x : EntryRead) → x ≡ readEntry s → Refuses P Any (located s x)
+      by : (s : List ℕ) (x : EntryRead) → x ≡ readEntry s → Refuses P Any (located (icbPlaced m (icb .location .block)) s x)
       by s (Read e) h = done-only tt
       by s (NoEntry r) h = refuse-only (subst P (sym (read-entry-refused s h refl)) malformed)
 
-  chain-only : (start partition : ℕ) (x : Located) → Refuses P Any (chainOf start partition x)
-  chain-only start partition x =
-      then-only (continued-only start partition (x .entry .kind) 32 _ (area-ends (x .entry .kind) (x .sector) (x .entry .«area_at») (x .entry .«area_length»))) (λ more q. done-only tt)
+  chain-only : (m : Mount) (x : Located) → Refuses P Any (chainOf m x)
+  chain-only m x =
+      then-only (continued-only m (x .entry .kind) 32 _ (area-ends (x .entry .kind) (x .sector) (x .entry .«area_at») (x .entry .«area_length»))) (λ more q. done-only tt)
 
-  pub bytes-only : (start partition : ℕ) (icb : LongAd) → Refuses P Any (fileBytes start partition icb)
+  file-only : (m : Mount) (icb : LongAd) → Refuses P Any (fileAt m icb)
+  unfolding fileAt
+  file-only m icb = then-only (entry-only m icb) (λ x q. pick-only (isEmbedded x) (done-only tt) (then-only (chain-only m x) (λ es u. done-only tt)))
+
+  pub bytes-only : (m : Mount) (icb : LongAd) → Refuses P Any (fileBytes m icb)
   unfolding fileBytes
-  bytes-only start partition icb =
-      then-only (entry-only start icb) (λ x q.
-      pick-only (isEmbedded x) (done-only tt) (then-only (chain-only start partition x) (λ es u. extents-only start partition es (x .entry .«information_length»))))
+  bytes-only m icb = then-only (file-only m icb) (λ f q. by f)
+    where
+      by : (f : File) → Refuses P Any (contentOf m f)
+      by (embedded x) = done-only tt
+      by (chained x es) = extents-only m es (x .entry .«information_length»)
 
-  pub part-only : (start partition : ℕ) (icb : LongAd) → Refuses P Any (filePart start partition icb)
+  pub part-only : (m : Mount) (icb : LongAd) → Refuses P Any (filePart m icb)
   unfolding filePart
-  part-only start partition icb =
-      then-only (entry-only start icb) (λ x q. pick-only (isEmbedded x) (done-only tt) (then-only (chain-only start partition x) (λ es u. done-only tt)))
+  part-only m icb = then-only (file-only m icb) (λ f q. done-only tt)
 
-  pub list-only : (start partition : ℕ) (icb : LongAd) → Refuses P Any (fileExtents start partition icb)
+  pub list-only : (m : Mount) (icb : LongAd) → Refuses P Any (fileExtents m icb)
   unfolding fileExtents
-  list-only start partition icb = then-only (entry-only start icb) (λ x q. pick-only (isEmbedded x) (done-only tt) (chain-only start partition x))
+  list-only m icb = then-only (file-only m icb) (λ f q. done-only tt)
 
 -- ---- opening, for any P that has 2, 3 and 4
 
 module _ (P : Refusal → Type 0) (malformed : P Malformed) (missing : P NotBluray) (unsupported : P Unsupported) where
-  goes-on : (k : Kept) (b : List ℕ) (f : Kept → Ask Kept) → ((k′ : Kept) → Refuses P Any (f k′)) → Refuses P Any (goOn (saysIn k b) f)
+  found-only : (x : Says) (rest : Ask (List Parsed)) → Refuses P Any rest → ((r : Refusal) → x ≡ fails r → P r) → Refuses P Any (goOn x rest)
+  found-only (found p) rest h f = then-only h (λ ps q. done-only tt)
+  found-only passed rest h f = h
+  found-only over rest h f = done-only tt
+  found-only (fails r) rest h f = refuse-only (f r refl)
+
+  says-only : (b : List ℕ) (r : Refusal) → saysIn b ≡ fails r → P r
   unfolding saysIn
-  goes-on k b f h = by (eqb (u16at b 0) 1) (eqb (u16at b 0) 5) (eqb (u16at b 0) 6) (eqb (u16at b 0) 8)
+  says-only b r = by (eqb (u16at b 0) 1) (eqb (u16at b 0) 5) (eqb (u16at b 0) 6) (eqb (u16at b 0) 8)
     where
-      read : (t : Bool) (k′ : Kept) → Refuses P Any (goOn (pick t (on k′) (fails Malformed)) f)
-      read true k′ = h k′
-      read false k′ = refuse-only malformed
+      fails-by : {q : Refusal} → _≡_ {A = Says} (fails q) (fails r) → P q → P r
+      fails-by e p = subst P (let z : _ ≡ r = cc in z) p
 
-      parted : (x : PartitionRead) → x ≡ readPartition b → Refuses P Any (goOn (partitionIn k x) f)
-      parted (APartition d) e = h _
-      parted (NoPartition r) e = refuse-only (subst P (sym (partition-refused b e refl)) malformed)
+      read : (t : Bool) (d : Parsed) → pick t (found d) (fails Malformed) ≡ fails r → P r
+      read true d e = absurd (let z : _≡_ {A = ℕ} 0 1 = cc in omega arith)
+      read false d e = fails-by e malformed
 
-      by : (t u v w : Bool) → Refuses P Any (goOn (pick t (primaryIn k (readPrimary b)) (pick u (partitionIn k (readPartition b)) (pick v (logicalIn k (readLogical b)) (pick w (over k) (on k))))) f)
-      by true u v w = read (eqb (readPrimary b .answer) 0) _
-      by false true v w = parted (readPartition b) refl
-      by false false true w = read (eqb (readLogical b .answer) 0) _
-      by false false false true = done-only tt
-      by false false false false = h k
+      parted : (x : PartitionRead) → x ≡ readPartition b → partitionIn x ≡ fails r → P r
+      parted (APartition d) h e = absurd (let z : _≡_ {A = ℕ} 0 1 = cc in omega arith)
+      parted (NoPartition q) h e = fails-by e (subst P (sym (partition-refused b h refl)) malformed)
 
-  scan-only : (n at : ℕ) (k : Kept) → Refuses P Any (scan n at k)
+      by : (t u v w : Bool) → pick t (primaryIn (readPrimary b)) (pick u (partitionIn (readPartition b)) (pick v (logicalIn (readLogical b)) (pick w over passed))) ≡ fails r → P r
+      by true u v w e = read (eqb (readPrimary b .answer) 0) _ e
+      by false true v w e = parted (readPartition b) refl e
+      by false false true w e = read (eqb (readLogical b .answer) 0) _ e
+      by false false false true e = absurd (let z : _≡_ {A = ℕ} 0 1 = cc in omega arith)
+      by false false false false e = absurd (let z : _≡_ {A = ℕ} 0 1 = cc in omega arith)
+
+  scan-only : (n at : ℕ) → Refuses P Any (scan n at)
   unfolding scan
-  scan-only zero at k = done-only tt
-  scan-only (suc n) at k = ask-only (λ b. goes-on k b _ (λ k′. scan-only n (at + 1) k′))
+  scan-only zero at = done-only tt
+  scan-only (suc n) at = ask-only (λ b. found-only (saysIn b) _ (scan-only n (at + 1)) (says-only b))
 
   mounting-only : (k : Kept) → Refuses P Any (mounting k)
   unfolding mounting
@@ -249,9 +274,7 @@ module _ (P : Refusal → Type 0) (malformed : P Malformed) (missing : P NotBlur
       (pick-only (k .«has_partition»)
       (pick-only (k .«has_logical»)
       (pick-only (eqb (k .«block_size») 2048)
-      (pick-only (fileSetHere k)
-      (ask-only (λ b. by (eqb (readFileSet b .answer) 0) _))
-      (refuse-only unsupported))
+      (standing-only P malformed unsupported (fileSetIn k) (λ s. ask-only (λ b. by (eqb (readFileSet b .answer) 0) _)))
       (refuse-only unsupported))
       (refuse-only missing))
       (refuse-only missing))
@@ -267,7 +290,7 @@ module _ (P : Refusal → Type 0) (malformed : P Malformed) (missing : P NotBlur
     where
       by : (b : List ℕ) (x : AnchorRead) → x ≡ readAnchor b → Refuses P Any (anchored x)
       by b (NoAnchor r) e = refuse-only (subst P (sym (anchor-refused b e refl)) malformed)
-      by b (AnAnchor a) e = then-only (scan-only _ _ nothing) (λ k q. mounting-only k)
+      by b (AnAnchor a) e = then-only (scan-only _ _) (λ ps q. mounting-only (keptOf nothing ps))
 
   pub label-only : Refuses P Any labelling
   unfolding labelling
@@ -275,16 +298,16 @@ module _ (P : Refusal → Type 0) (malformed : P Malformed) (missing : P NotBlur
 
 -- ---- directories, for any P that has 6 too
 
-module _ (P : Refusal → Type 0) (malformed : P Malformed) (missing : P NotBluray) (unsupported : P Unsupported) (full : P NoWork) (start partition work : ℕ) where
-  directory-only : (icb : LongAd) → Refuses P Any (directoryBytes start partition work icb)
+module _ (P : Refusal → Type 0) (malformed : P Malformed) (missing : P NotBluray) (unsupported : P Unsupported) (full : P NoWork) (m : Mount) (work : ℕ) where
+  directory-only : (icb : LongAd) → Refuses P Any (directoryBytes m work icb)
   unfolding directoryBytes within
-  directory-only icb = then-only (bytes-only P malformed unsupported start partition icb) (λ b q. by b (leb (length b) work))
+  directory-only icb = then-only (bytes-only P malformed unsupported m icb) (λ b q. by b (leb (length b) work))
     where
       by : (b : List ℕ) (t : Bool) → Refuses P Any (ended (pick t (answered b) (refused NoWork)))
       by b true = done-only tt
       by b false = refuse-only full
 
-  entering-only : (icb : LongAd) (component : List ℕ) → Refuses P Any (entering start partition work icb component)
+  entering-only : (icb : LongAd) (component : List ℕ) → Refuses P Any (entering m work icb component)
   unfolding entering findIn
   entering-only icb component = then-only (directory-only icb) (λ b q. by (sound (entries b)) _)
     where
@@ -292,7 +315,7 @@ module _ (P : Refusal → Type 0) (malformed : P Malformed) (missing : P NotBlur
       by true o = done-only tt
       by false o = refuse-only malformed
 
-  seeking-only : (cs : List Component) (icb : LongAd) (directory : Bool) → Refuses P Any (seeking start partition work cs icb directory)
+  seeking-only : (cs : List Component) (icb : LongAd) (directory : Bool) → Refuses P Any (seeking m work cs icb directory)
   unfolding seeking
   seeking-only [] icb directory = done-only tt
   seeking-only (c ∷ cs) icb false = done-only tt
@@ -302,7 +325,7 @@ module _ (P : Refusal → Type 0) (malformed : P Malformed) (missing : P NotBlur
       by none f h = done-only tt
       by (some e) f h = h e
 
-  pub lookup-only : (root : LongAd) (path : List ℕ) → Refuses P Any (lookupOf start partition work root path)
+  pub lookup-only : (root : LongAd) (path : List ℕ) → Refuses P Any (lookupOf m work root path)
   unfolding lookupOf seekPath
   lookup-only root path = then-only (seeking-only (components path) root true) (λ s q. by s)
     where
@@ -310,11 +333,11 @@ module _ (P : Refusal → Type 0) (malformed : P Malformed) (missing : P NotBlur
       by (reached icb) = done-only tt
       by (lost c) = refuse-only missing
 
-  pub path-only : (root : LongAd) (path : List ℕ) → Refuses P Any (readPathOf start partition work root path)
+  pub path-only : (root : LongAd) (path : List ℕ) → Refuses P Any (readPathOf m work root path)
   unfolding readPathOf
-  path-only root path = then-only (lookup-only root path) (λ icb q. bytes-only P malformed unsupported start partition icb)
+  path-only root path = then-only (lookup-only root path) (λ icb q. bytes-only P malformed unsupported m icb)
 
-  pub listing-only : P LongName → (icb : LongAd) → Refuses P Any (listingAt start partition work icb)
+  pub listing-only : P LongName → (icb : LongAd) → Refuses P Any (listingAt m work icb)
   unfolding listingAt listing
   listing-only long icb = then-only (directory-only icb) (λ b q. by (sound (entries b)) (anyLong (entries b)) _)
     where

@@ -7,31 +7,29 @@ use Prim.Native.Nat.{ℕ, _+_, _/_, _≤_, min}
 use native.Mathlib.Omega.{arith}
 use lib.ListN.{length}
 use lib.Dec.{leb}
+use Rattle.disc.proofs.ReplyLaws.{reply-counts}
 use Rattle.disc.specs.Choice.{pick}
 use Rattle.disc.specs.Refusals.{number}
 use Rattle.disc.specs.Counts.{reported}
 use Rattle.disc.specs.Ask.{Ask, Outcome, outcome, asked, Agree}
 use Rattle.disc.specs.Ask.Outcome.{answered, refused}
 use Rattle.disc.specs.Images.{disc}
-use Rattle.disc.specs.Ran.{Ran, ran}
+use Rattle.disc.specs.Ran.{Ran, ran, eachIn}
 use Rattle.disc.specs.Replies.{replyBy}
 use Rattle.disc.specs.declared.refusals.Refusal.the-variants.{NoRoom, NoSlot}
 use Rattle.disc.specs.declared.replies.Reply.{Reply}
 use Rattle.disc.proofs.RanLaws.{same-ran}
 use Rattle.disc.proofs.RefusalLaws.{refusal-numbered}
 use Rattle.records.specs.declared.allocations.LongAd.{LongAd}
-use Rattle.volumes.specs.Openings.{opening}
+use Rattle.volumes.specs.Openings.{opening, openedBy, openedOf}
 use Rattle.volumes.specs.Labels.{labelling}
 use Rattle.volumes.specs.declared.openings.VolumeRecord.{VolumeRecord}
 use Rattle.files.specs.Files.{fileVisited, visitsIn}
 use Rattle.files.proofs.Promises.{read-bound}
 use Rattle.areas.specs.declared.AllocExtent.{AllocExtent}
-use Rattle.layouts.specs.Calls.{listReply}
 use Rattle.directories.proofs.Promises.{failed-asks}
-use Rattle.vault.specs.Calls.{reading, parting, extentListing, listing, seeking, finding, pathReading, openedTo, openedBy, opens, written, labels, reads, worked, lists, readsPath, looked, finds, lost, fails, parted, parts, rowed, extents, lostPlace, failsAt, partedPlace, partsAt}
-use Rattle.layouts.specs.Places.{partPlace}
+use Rattle.vault.specs.Calls.{reading, parting, extentListing, listing, seeking, finding, pathReading, opens, written, labels, reads, worked, lists, readsPath, looked, finds, lost, fails, parted, parts, rowed, extents, lostPlace, failsAt, partedPlace, partsAt}
 use Rattle.layouts.proofs.Promises
-use Rattle.vault.specs.declared.volume.Volume.{Volume}
 
 -- ---- images that agree on a call's list
 
@@ -42,12 +40,12 @@ same told call image other h = ap told (same-ran call (disc image) (disc other) 
 
 module _ (image other : List ℕ) where
   pub open-same : Agree (disc image) (disc other) (asked (disc image) opening) → opens image ≡ opens other
-  open-same h = same openedBy opening image other h
+  open-same h = same openedOf opening image other h
 
   pub label-same : (out : List ℕ) → Agree (disc image) (disc other) (asked (disc image) labelling) → labels image out ≡ labels other out
   label-same out h = same (written out) labelling image other h
 
-  module _ (v : Volume) where
+  module _ (v : VolumeRecord) where
     pub read-same : (icb : LongAd) (out : List ℕ) → Agree (disc image) (disc other) (asked (disc image) (reading v icb)) → reads image v icb out ≡ reads other v icb out
     read-same icb out h = same (written out) (reading v icb) image other h
 
@@ -55,9 +53,7 @@ module _ (image other : List ℕ) where
     part-same icb h = same parted (parting v icb) image other h
 
     pub part-at-same : (icb : LongAd) → Agree (disc image) (disc other) (asked (disc image) (parting v icb)) → partsAt image v icb ≡ partsAt other v icb
-    part-at-same icb h =
-        ap (λ r. partedPlace r (partPlace (disc image) (v .start) icb)) (same-ran (parting v icb) (disc image) (disc other) h)
-        ∙ ap (λ at. partedPlace (ran (disc other) (parting v icb)) at) (Rattle.layouts.proofs.Promises.part-at-same image other (v .start) (v .partition) icb h)
+    part-at-same icb h = same partedPlace (parting v icb) image other h
 
     pub extents-same : {A : Type 0} (f : AllocExtent → A) (icb : LongAd) (row : List A) → Agree (disc image) (disc other) (asked (disc image) (extentListing v icb)) → extents f image v icb row ≡ extents f other v icb row
     extents-same f icb row h = same (rowed f row) (extentListing v icb) image other h
@@ -74,7 +70,7 @@ module _ (image other : List ℕ) where
     -- the component that failed and its place have the lookup's list
     module _ (path work : List ℕ) (h : Agree (disc image) (disc other) (asked (disc image) (finding v (length work) path))) where
       seeks : Agree (disc image) (disc other) (asked (disc image) (seeking v (length work) path))
-      seeks = rw (failed-asks (disc image) (v .start) (v .partition) (length work) (v .root) path) at h
+      seeks = rw (failed-asks (disc image) (v .mount) (length work) (v .root) path) at h
 
       pub failed-same : fails image v path work ≡ fails other v path work
       failed-same = same (lost work) (seeking v (length work) path) image other seeks
@@ -87,27 +83,11 @@ module _ (image other : List ℕ) where
 abbrev pub listed : {A : Type 0} → List ℕ → Ask A → ℕ
 listed image call = min (length (asked (disc image) call)) 0xffff_ffff_ffff_ffff
 
-reply-counts : (room n : ℕ) (o : Outcome (List ℕ)) → replyBy NoRoom room n o .count ≡ n
-reply-counts room n (refused why) = refl
-reply-counts room n (answered b) = by (leb (length b) room)
-  where
-    by : (t : Bool) → pick {A = Reply} t (record { answer = 0; count = n; length = length b }) (record { answer = number NoRoom; count = n; length = 0 }) .count ≡ n
-    by true = refl
-    by false = refl
-
-slots-count : (room n : ℕ) (o : Outcome (List AllocExtent)) → listReply room n o .count ≡ n
-slots-count room n (refused why) = refl
-slots-count room n (answered es) = by (leb (length es) room)
-  where
-    by : (t : Bool) → pick {A = Reply} t (record { answer = 0; count = n; length = length es }) (record { answer = number NoSlot; count = n; length = 0 }) .count ≡ n
-    by true = refl
-    by false = refl
-
 written-counts : (image out : List ℕ) (call : Ask (List ℕ)) → written out (ran (disc image) call) .reply .count ≡ listed image call
 unfolding ran
-written-counts image out call = reply-counts (length out) (listed image call) (outcome (disc image) call)
+written-counts image out call = reply-counts NoRoom (length out) (listed image call) (outcome (disc image) call)
 
-opened-counts : (o : Outcome VolumeRecord) (n : ℕ) → openedTo o n .count ≡ n
+opened-counts : (o : Outcome VolumeRecord) (n : ℕ) → openedBy n o .count ≡ n
 opened-counts (answered v) n = refl
 opened-counts (refused why) n = refl
 
@@ -119,7 +99,7 @@ module _ (image : List ℕ) where
   pub label-counts : (out : List ℕ) → labels image out .reply .count ≡ listed image labelling
   label-counts out = written-counts image out labelling
 
-  module _ (v : Volume) where
+  module _ (v : VolumeRecord) where
     pub read-counts : (icb : LongAd) (out : List ℕ) → reads image v icb out .reply .count ≡ listed image (reading v icb)
     read-counts icb out = written-counts image out (reading v icb)
 
@@ -132,7 +112,7 @@ module _ (image : List ℕ) where
 
     pub extents-counts : {A : Type 0} (f : AllocExtent → A) (icb : LongAd) (row : List A) → extents f image v icb row .reply .count ≡ listed image (extentListing v icb)
     unfolding ran
-    extents-counts f icb row = slots-count (length row) (listed image (extentListing v icb)) (outcome (disc image) (extentListing v icb))
+    extents-counts f icb row = reply-counts NoSlot (length row) (listed image (extentListing v icb)) (eachIn f (outcome (disc image) (extentListing v icb)))
 
     pub list-counts : (icb : LongAd) (out work : List ℕ) → lists image v icb out work .reply .count ≡ listed image (listing v (length work) icb)
     list-counts icb out work = written-counts image out (listing v (length work) icb)
@@ -143,7 +123,7 @@ module _ (image : List ℕ) where
 
     pub failed-counts : (path work : List ℕ) → fails image v path work .count ≡ listed image (finding v (length work) path)
     unfolding ran
-    failed-counts path work = rw (failed-asks (disc image) (v .start) (v .partition) (length work) (v .root) path)
+    failed-counts path work = rw (failed-asks (disc image) (v .mount) (length work) (v .root) path)
 
     pub failed-at-counts : (path work : List ℕ) → failsAt image v path work .reply .count ≡ listed image (finding v (length work) path)
     failed-at-counts path work = failed-counts path work
@@ -153,12 +133,12 @@ module _ (image : List ℕ) where
 
 -- ---- the bound: a read by ICB that answers L bytes after E extents asked for at most 16,385 + L div 2,048 + E sectors
 
-abbrev pub visits : List ℕ → Volume → LongAd → ℕ
-visits image v icb = visitsIn (ran (disc image) (fileVisited (v .start) (v .partition) icb) .outcome)
+abbrev pub visits : List ℕ → VolumeRecord → LongAd → ℕ
+visits image v icb = visitsIn (ran (disc image) (fileVisited (v .mount) icb) .outcome)
 
-pub reads-within : (image : List ℕ) (v : Volume) (icb : LongAd) (out : List ℕ) → reads image v icb out .reply .answer ≡ 0
+pub reads-within : (image : List ℕ) (v : VolumeRecord) (icb : LongAd) (out : List ℕ) → reads image v icb out .reply .answer ≡ 0
     → reads image v icb out .reply .count ≤ 16385 + reads image v icb out .reply .length / 2048 + visits image v icb
-reads-within image v icb out e = by (ran (disc image) (reading v icb) .outcome) (ran (disc image) (reading v icb) .count) (visits image v icb) (read-bound image (v .start) (v .partition) icb) e
+reads-within image v icb out e = by (ran (disc image) (reading v icb) .outcome) (ran (disc image) (reading v icb) .count) (visits image v icb) (read-bound image (v .mount) icb) e
   where
     fits : (n e : ℕ) (b : List ℕ) → n ≤ 16385 + length b / 2048 + e → (t : Bool)
         → pick {A = Reply} t (record { answer = 0; count = reported n; length = length b }) (record { answer = number NoRoom; count = reported n; length = 0 }) .answer ≡ 0

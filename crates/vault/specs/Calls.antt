@@ -1,5 +1,5 @@
 -- What each call leaves, as a function of what it was lent: its answer, its count, and the memory. The trees of questions are those of the crates below:
--- document 01, from "Answer numbers" on. Assumes nothing: these are definitions.
+-- document 01, from "Answer numbers" on.
 use Prim.Native.Nat.{ℕ}
 use mathlib.Core.List.{List}
 use lib.ListN.{length, replicate}
@@ -7,66 +7,50 @@ use Rattle.disc.specs.Refusals.{number}
 use Rattle.disc.specs.Counts.{reported}
 use Rattle.disc.specs.Ask.{Ask, Outcome}
 use Rattle.disc.specs.Ask.Outcome.{answered, refused}
-use Rattle.disc.specs.Images.{disc, bytesOf}
-use Rattle.disc.specs.Ran.{Ran, ran}
-use Rattle.disc.specs.Replies.{replyOf, leftBy}
-use Rattle.disc.specs.declared.refusals.Refusal.the-variants.{NoRoom}
+use Rattle.disc.specs.Images.{disc}
+use Rattle.disc.specs.Ran.{Ran, ran, eachIn, each}
+use Rattle.disc.specs.Replies.{answerOf, replyOf, leftBy}
+use Rattle.disc.specs.declared.refusals.Refusal.the-variants.{NoRoom, NoSlot}
 use Rattle.disc.specs.declared.replies.Reply.{Reply}
-use Rattle.records.specs.Allocations.{noLong}
 use Rattle.records.specs.declared.allocations.LongAd.{LongAd}
-use Rattle.volumes.specs.Openings.{opening}
+use Rattle.volumes.specs.Openings.{opening, openedOf}
 use Rattle.volumes.specs.Labels.{labelling}
 use Rattle.volumes.specs.declared.openings.VolumeRecord.{VolumeRecord}
+use Rattle.volumes.specs.declared.openings.Opened.{Opened}
 use Rattle.areas.specs.declared.AllocExtent.{AllocExtent}
-use Rattle.files.specs.Files.{fileBytes, filePart, fileExtents}
-use Rattle.layouts.specs.Calls.{answerOf, listReply, listLeft}
-use Rattle.layouts.specs.Places.{partReply, partPlace}
+use Rattle.files.specs.Files.{fileBytes, Part, filePart, fileExtents}
+use Rattle.layouts.specs.Calls.{partIn, partReply}
 use Rattle.directories.specs.Directories.{listingAt}
 use Rattle.directories.specs.Lookups.{Sought, seekPath, lookupOf, readPathOf, foundOf, failedOf, failedReply}
 use Rattle.directories.specs.declared.lookups.Found.{Found}
-use Rattle.vault.specs.declared.volume.Volume.{Volume}
-use Rattle.vault.specs.declared.volume.Opened.{Opened}
 
 -- ---- the tree of questions of each call; `work` is how many bytes of work space there are
 
-abbrev pub reading : Volume → LongAd → Ask (List ℕ)
-reading v icb = fileBytes (v .start) (v .partition) icb
+abbrev pub reading : VolumeRecord → LongAd → Ask (List ℕ)
+reading v icb = fileBytes (v .mount) icb
 
-abbrev pub parting : Volume → LongAd → Ask (List ℕ)
-parting v icb = filePart (v .start) (v .partition) icb
+abbrev pub parting : VolumeRecord → LongAd → Ask Part
+parting v icb = filePart (v .mount) icb
 
-abbrev pub extentListing : Volume → LongAd → Ask (List AllocExtent)
-extentListing v icb = fileExtents (v .start) (v .partition) icb
+abbrev pub extentListing : VolumeRecord → LongAd → Ask (List AllocExtent)
+extentListing v icb = fileExtents (v .mount) icb
 
-abbrev pub listing : Volume → ℕ → LongAd → Ask (List ℕ)
-listing v work icb = listingAt (v .start) (v .partition) work icb
+abbrev pub listing : VolumeRecord → ℕ → LongAd → Ask (List ℕ)
+listing v work icb = listingAt (v .mount) work icb
 
-abbrev pub seeking : Volume → ℕ → List ℕ → Ask Sought
-seeking v work path = seekPath (v .start) (v .partition) work (v .root) path
+abbrev pub seeking : VolumeRecord → ℕ → List ℕ → Ask Sought
+seeking v work path = seekPath (v .mount) work (v .root) path
 
-abbrev pub finding : Volume → ℕ → List ℕ → Ask LongAd
-finding v work path = lookupOf (v .start) (v .partition) work (v .root) path
+abbrev pub finding : VolumeRecord → ℕ → List ℕ → Ask LongAd
+finding v work path = lookupOf (v .mount) work (v .root) path
 
-abbrev pub pathReading : Volume → ℕ → List ℕ → Ask (List ℕ)
-pathReading v work path = readPathOf (v .start) (v .partition) work (v .root) path
+abbrev pub pathReading : VolumeRecord → ℕ → List ℕ → Ask (List ℕ)
+pathReading v work path = readPathOf (v .mount) work (v .root) path
 
 -- ---- opening
 
-abbrev pub volumeOf : VolumeRecord → Volume
-volumeOf v = record { start = v .start; partition = v .«partition_number»; root = v .root; label = v .label }
-
-abbrev pub noVolume : Volume
-noVolume = record { start = 0; partition = 0; root = noLong; label = replicate 32 0 }
-
-abbrev pub openedTo : Outcome VolumeRecord → ℕ → Opened
-openedTo (answered v) n = record { answer = 0; count = n; volume = volumeOf v }
-openedTo (refused r) n = record { answer = number r; count = n; volume = noVolume }
-
-abbrev pub openedBy : Ran VolumeRecord → Opened
-openedBy r = openedTo (r .outcome) (reported (r .count))
-
 abbrev pub opens : List ℕ → Opened
-opens image = openedBy (ran (disc image) opening)
+opens image = openedOf (ran (disc image) opening)
 
 -- ---- calls that write bytes over the front of the output: more than it holds are refused by 5, after every other refusal
 
@@ -80,7 +64,7 @@ written out r = record { reply = replyOf NoRoom (length out) r; out = leftBy out
 abbrev pub labels : List ℕ → List ℕ → Written
 labels image out = written out (ran (disc image) labelling)
 
-abbrev pub reads : List ℕ → Volume → LongAd → List ℕ → Written
+abbrev pub reads : List ℕ → VolumeRecord → LongAd → List ℕ → Written
 reads image v icb out = written out (ran (disc image) (reading v icb))
 
 -- the same with a work space, which comes back all zero
@@ -96,10 +80,10 @@ pub record Worked : Type 0 where
 abbrev pub worked : List ℕ → List ℕ → Ran (List ℕ) → Worked
 worked out work r = record { reply = replyOf NoRoom (length out) r; out = leftBy out (r .outcome); work = cleared work }
 
-abbrev pub lists : List ℕ → Volume → LongAd → List ℕ → List ℕ → Worked
+abbrev pub lists : List ℕ → VolumeRecord → LongAd → List ℕ → List ℕ → Worked
 lists image v icb out work = worked out work (ran (disc image) (listing v (length work) icb))
 
-abbrev pub readsPath : List ℕ → Volume → List ℕ → List ℕ → List ℕ → Worked
+abbrev pub readsPath : List ℕ → VolumeRecord → List ℕ → List ℕ → List ℕ → Worked
 readsPath image v path out work = worked out work (ran (disc image) (pathReading v (length work) path))
 
 -- ---- paths
@@ -111,7 +95,7 @@ pub record Looked : Type 0 where
 abbrev pub looked : List ℕ → Ran LongAd → Looked
 looked work r = record { found = foundOf r; work = cleared work }
 
-abbrev pub finds : List ℕ → Volume → List ℕ → List ℕ → Looked
+abbrev pub finds : List ℕ → VolumeRecord → List ℕ → List ℕ → Looked
 finds image v path work = looked work (ran (disc image) (finding v (length work) path))
 
 -- the component that failed; the number and the count are the lookup's
@@ -124,7 +108,7 @@ pub record Lost : Type 0 where
 abbrev pub lost : List ℕ → Ran Sought → Lost
 lost work r = record { component = failedOf r .component .bytes; answer = failedOf r .answer; count = failedOf r .count; work = cleared work }
 
-abbrev pub fails : List ℕ → Volume → List ℕ → List ℕ → Lost
+abbrev pub fails : List ℕ → VolumeRecord → List ℕ → List ℕ → Lost
 fails image v path work = lost work (ran (disc image) (seeking v (length work) path))
 
 -- the same by its place in the path: the reply has its length
@@ -136,7 +120,7 @@ pub record LostPlace : Type 0 where
 abbrev pub lostPlace : List ℕ → Ran Sought → LostPlace
 lostPlace work r = record { reply = failedReply (failedOf r); at = failedOf r .component .at; work = cleared work }
 
-abbrev pub failsAt : List ℕ → Volume → List ℕ → List ℕ → LostPlace
+abbrev pub failsAt : List ℕ → VolumeRecord → List ℕ → List ℕ → LostPlace
 failsAt image v path work = lostPlace work (ran (disc image) (seeking v (length work) path))
 
 -- ---- the uncopied part of an embedded file
@@ -146,10 +130,10 @@ pub record Parted : Type 0 where
   pub answer : ℕ
   pub count : ℕ
 
-abbrev pub parted : Ran (List ℕ) → Parted
-parted r = record { part = bytesOf (r .outcome); answer = answerOf (r .outcome); count = reported (r .count) }
+abbrev pub parted : Ran Part → Parted
+parted r = record { part = partIn (r .outcome) .bytes; answer = answerOf (r .outcome); count = reported (r .count) }
 
-abbrev pub parts : List ℕ → Volume → LongAd → Parted
+abbrev pub parts : List ℕ → VolumeRecord → LongAd → Parted
 parts image v icb = parted (ran (disc image) (parting v icb))
 
 -- the same by its place in the image: the reply has its length
@@ -157,11 +141,11 @@ pub record PartedPlace : Type 0 where
   pub reply : Reply
   pub at : ℕ
 
-abbrev pub partedPlace : Ran (List ℕ) → ℕ → PartedPlace
-partedPlace r at = record { reply = partReply r; at = at }
+abbrev pub partedPlace : Ran Part → PartedPlace
+partedPlace r = record { reply = partReply r; at = partIn (r .outcome) .at }
 
-abbrev pub partsAt : List ℕ → Volume → LongAd → PartedPlace
-partsAt image v icb = partedPlace (ran (disc image) (parting v icb)) (partPlace (disc image) (v .start) icb)
+abbrev pub partsAt : List ℕ → VolumeRecord → LongAd → PartedPlace
+partsAt image v icb = partedPlace (ran (disc image) (parting v icb))
 
 -- ---- the extents of a file in a row; f is what a slot holds of an extent. More extents than slots are refused by 7, after every other refusal
 
@@ -170,7 +154,7 @@ pub record Rowed (A : Type 0) : Type 0 where
   pub row : List A
 
 abbrev pub rowed : {A : Type 0} → (AllocExtent → A) → List A → Ran (List AllocExtent) → Rowed A
-rowed f row r = record { reply = listReply (length row) (reported (r .count)) (r .outcome); row = listLeft f row (r .outcome) }
+rowed f row r = record { reply = replyOf NoSlot (length row) (each f r); row = leftBy row (eachIn f (r .outcome)) }
 
-abbrev pub extents : {A : Type 0} → (AllocExtent → A) → List ℕ → Volume → LongAd → List A → Rowed A
+abbrev pub extents : {A : Type 0} → (AllocExtent → A) → List ℕ → VolumeRecord → LongAd → List A → Rowed A
 extents f image v icb row = rowed f row (ran (disc image) (extentListing v icb))

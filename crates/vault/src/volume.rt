@@ -13,52 +13,30 @@ use layouts::lists::file_rows;
 use layouts::lists::file_words;
 use layouts::parts::file_part;
 use records::allocations::LongAd;
+use volumes::openings::Opened;
+use volumes::openings::VolumeRecord;
 use volumes::openings::open_volume;
 
-// An opened volume: where its partition starts, the partition's number, its root directory and its label as recorded.
+// An opened volume: what opening found, with the calls on it.
 #[repr(C)]
-pub struct Volume {
-    pub start: u32,
-    pub partition: u16,
-    pub root: LongAd,
-    pub label: [u8; 32],
-}
-
-// The answer number, the count of sectors, and the volume: zeros where it was refused.
-#[repr(C)]
-pub struct Opened {
-    pub answer: u64,
-    pub count: u64,
-    pub volume: Volume,
-}
+pub struct Volume(pub VolumeRecord);
 
 impl Volume {
     // Opens the volume that an image holds.
     pub fn open(image: &[u8]) -> Opened
         ensures { λ r. ⌜ r ≡ opens (now (image .entry)) ⌝ }
     {
-        let o = open_volume(image);
-        let v = o.volume;
-        let root = v.root;
-        let label = v.label;
-        Opened {
-            answer: o.answer,
-            count: o.count,
-            volume: Volume {
-                start: v.start,
-                partition: v.partition_number,
-                root,
-                label,
-            },
-        }
+        open_volume(image)
     }
 
     // The ICB that a path names. The work space holds one directory at a time, and is all zero on return.
     pub fn lookup(self, image: &[u8], path: &[u8], work: &mut [u8]) -> Found
-        ensures { λ r. ⌜ record { found = r; work = now (work .exit) } ≡ finds (now (image .entry)) self (now (path .entry)) (now (work .entry)) ⌝ }
+        ensures { λ r. ⌜ record { found = r; work = now (work .exit) } ≡ finds (now (image .entry)) (self .0) (now (path .entry)) (now (work .entry)) ⌝ }
     {
-        let root = self.root;
-        directories::lookups::lookup(image, self.start, self.partition, root, path, work)
+        let v = self.0;
+        let mount = v.mount;
+        let root = v.root;
+        directories::lookups::lookup(image, mount, root, path, work)
     }
 
     // The component at which a lookup is refused by 3, as a part of the path; empty if it isn't.
@@ -70,41 +48,38 @@ impl Volume {
         answer: &mut u64,
         count: &mut u64,
     ) -> &'p [u8]
-        ensures { λ r. ⌜ record { component = now r; answer = now (answer .exit); count = now (count .exit); work = now (work .exit) } ≡ fails (now (image .entry)) self (now (path .entry)) (now (work .entry)) ⌝ }
+        ensures { λ r. ⌜ record { component = now r; answer = now (answer .exit); count = now (count .exit); work = now (work .exit) } ≡ fails (now (image .entry)) (self .0) (now (path .entry)) (now (work .entry)) ⌝ }
     {
-        let root = self.root;
-        directories::lookups::failed(
-            image,
-            self.start,
-            self.partition,
-            root,
-            path,
-            work,
-            answer,
-            count,
-        )
+        let v = self.0;
+        let mount = v.mount;
+        let root = v.root;
+        directories::lookups::failed(image, mount, root, path, work, answer, count)
     }
 
     // The length of that component, and in `at` its place in the path; zeros if there is none.
     pub fn failed_at(self, image: &[u8], path: &[u8], work: &mut [u8], at: &mut usize) -> Reply
-        ensures { λ r. ⌜ record { reply = r; at = now (at .exit); work = now (work .exit) } ≡ failsAt (now (image .entry)) self (now (path .entry)) (now (work .entry)) ⌝ }
+        ensures { λ r. ⌜ record { reply = r; at = now (at .exit); work = now (work .exit) } ≡ failsAt (now (image .entry)) (self .0) (now (path .entry)) (now (work .entry)) ⌝ }
     {
-        let root = self.root;
-        directories::lookups::failed_at(image, self.start, self.partition, root, path, work, at)
+        let v = self.0;
+        let mount = v.mount;
+        let root = v.root;
+        directories::lookups::failed_at(image, mount, root, path, work, at)
     }
 
     // The listing of the directory at icb, over the front of out.
     pub fn list(self, image: &[u8], icb: LongAd, out: &mut [u8], work: &mut [u8]) -> Reply
-        ensures { λ r. ⌜ record { reply = r; out = now (out .exit); work = now (work .exit) } ≡ lists (now (image .entry)) self icb (now (out .entry)) (now (work .entry)) ⌝ }
+        ensures { λ r. ⌜ record { reply = r; out = now (out .exit); work = now (work .exit) } ≡ lists (now (image .entry)) (self .0) icb (now (out .entry)) (now (work .entry)) ⌝ }
     {
-        list_directory(image, self.start, self.partition, icb, out, work)
+        let mount = self.0.mount;
+        list_directory(image, mount, icb, out, work)
     }
 
     // The bytes of the file at icb, over the front of out.
     pub fn read(self, image: &[u8], icb: LongAd, out: &mut [u8]) -> Reply
-        ensures { λ r. ⌜ record { reply = r; out = now (out .exit) } ≡ reads (now (image .entry)) self icb (now (out .entry)) ⌝ }
+        ensures { λ r. ⌜ record { reply = r; out = now (out .exit) } ≡ reads (now (image .entry)) (self .0) icb (now (out .entry)) ⌝ }
     {
-        read_file(image, self.start, self.partition, icb, out, Refusal::NoRoom)
+        let mount = self.0.mount;
+        read_file(image, mount, icb, out, Refusal::NoRoom)
     }
 
     // The bytes of an embedded file without a copy; an empty part for any other file, or where the call is refused.
@@ -115,38 +90,43 @@ impl Volume {
         answer: &mut u64,
         count: &mut u64,
     ) -> &'i [u8]
-        ensures { λ r. ⌜ record { part = now r; answer = now (answer .exit); count = now (count .exit) } ≡ parts (now (image .entry)) self icb ⌝ }
+        ensures { λ r. ⌜ record { part = now r; answer = now (answer .exit); count = now (count .exit) } ≡ parts (now (image .entry)) (self .0) icb ⌝ }
     {
-        file_part(image, self.start, self.partition, icb, answer, count)
+        let mount = self.0.mount;
+        file_part(image, mount, icb, answer, count)
     }
 
     // The length of that part, and in `at` its place in the image; zeros if there is none.
     pub fn part_at(self, image: &[u8], icb: LongAd, at: &mut usize) -> Reply
-        ensures { λ r. ⌜ record { reply = r; at = now (at .exit) } ≡ partsAt (now (image .entry)) self icb ⌝ }
+        ensures { λ r. ⌜ record { reply = r; at = now (at .exit) } ≡ partsAt (now (image .entry)) (self .0) icb ⌝ }
     {
-        layouts::parts::part_at(image, self.start, self.partition, icb, at)
+        let mount = self.0.mount;
+        layouts::parts::part_at(image, mount, icb, at)
     }
 
     // Effective length, type, block and partition of every extent of the file at icb, four numbers to a slot; an embedded file has none.
     pub fn extent_words(self, image: &[u8], icb: LongAd, row: &mut [[u32; 4]]) -> Reply
-        ensures { λ r. ⌜ record { reply = r; row = now (row .exit) } ≡ extents wordsOf (now (image .entry)) self icb (now (row .entry)) ⌝ }
+        ensures { λ r. ⌜ record { reply = r; row = now (row .exit) } ≡ extents wordsOf (now (image .entry)) (self .0) icb (now (row .entry)) ⌝ }
     {
-        file_words(image, self.start, self.partition, icb, row)
+        let mount = self.0.mount;
+        file_words(image, mount, icb, row)
     }
 
     // The same in a row of records: proved by a walk of its MIR, since the borrow checker doesn't cover a lent slice of structs.
     pub fn extents(self, image: &[u8], icb: LongAd, row: &mut [Extent]) -> Reply
-        ensures { λ r. ⌜ record { reply = r; row = now (row .exit) } ≡ extents extentOf (now (image .entry)) self icb (now (row .entry)) ⌝ }
+        ensures { λ r. ⌜ record { reply = r; row = now (row .exit) } ≡ extents extentOf (now (image .entry)) (self .0) icb (now (row .entry)) ⌝ }
     {
-        file_rows(image, self.start, self.partition, icb, row)
+        file_rows(image, self.0.mount, icb, row)
     }
 
     // The bytes of the file that a path names: a lookup, then a read, counts added.
     pub fn read_path(self, image: &[u8], path: &[u8], out: &mut [u8], work: &mut [u8]) -> Reply
-        ensures { λ r. ⌜ record { reply = r; out = now (out .exit); work = now (work .exit) } ≡ readsPath (now (image .entry)) self (now (path .entry)) (now (out .entry)) (now (work .entry)) ⌝ }
+        ensures { λ r. ⌜ record { reply = r; out = now (out .exit); work = now (work .exit) } ≡ readsPath (now (image .entry)) (self .0) (now (path .entry)) (now (out .entry)) (now (work .entry)) ⌝ }
     {
-        let root = self.root;
-        directories::lookups::read_path(image, self.start, self.partition, root, path, out, work)
+        let v = self.0;
+        let mount = v.mount;
+        let root = v.root;
+        directories::lookups::read_path(image, mount, root, path, out, work)
     }
 }
 

@@ -6,10 +6,10 @@ ghost use Rattle.vault.specs.Calls.{opens, labels, reads, lists, readsPath, fin
 use directories::lookups::Found;
 use disc::replies::Reply;
 use records::allocations::LongAd;
-use vault::volume::Opened;
 use vault::volume::Volume;
 use vault::volume::label;
 use vault::volume::probe;
+use volumes::openings::Opened;
 
 // Whether the image has a volume recognition sequence.
 #[no_mangle]
@@ -38,7 +38,7 @@ pub extern "C" fn vault_label(image: &[u8], out: &mut [u8]) -> Reply
 // The ICB that a path names.
 #[no_mangle]
 pub extern "C" fn vault_lookup(volume: Volume, image: &[u8], path: &[u8], work: &mut [u8]) -> Found
-    ensures { λ r. ⌜ record { found = r; work = now (work .exit) } ≡ finds (now (image .entry)) volume (now (path .entry)) (now (work .entry)) ⌝ }
+    ensures { λ r. ⌜ record { found = r; work = now (work .exit) } ≡ finds (now (image .entry)) (volume .0) (now (path .entry)) (now (work .entry)) ⌝ }
 {
     volume.lookup(image, path, work)
 }
@@ -52,7 +52,7 @@ pub extern "C" fn vault_failed(
     work: &mut [u8],
     component_at: &mut usize,
 ) -> Reply
-    ensures { λ r. ⌜ record { reply = r; at = now («component_at» .exit); work = now (work .exit) } ≡ failsAt (now (image .entry)) volume (now (path .entry)) (now (work .entry)) ⌝ }
+    ensures { λ r. ⌜ record { reply = r; at = now («component_at» .exit); work = now (work .exit) } ≡ failsAt (now (image .entry)) (volume .0) (now (path .entry)) (now (work .entry)) ⌝ }
 {
     volume.failed_at(image, path, work, component_at)
 }
@@ -66,7 +66,7 @@ pub extern "C" fn vault_list(
     out: &mut [u8],
     work: &mut [u8],
 ) -> Reply
-    ensures { λ r. ⌜ record { reply = r; out = now (out .exit); work = now (work .exit) } ≡ lists (now (image .entry)) volume icb (now (out .entry)) (now (work .entry)) ⌝ }
+    ensures { λ r. ⌜ record { reply = r; out = now (out .exit); work = now (work .exit) } ≡ lists (now (image .entry)) (volume .0) icb (now (out .entry)) (now (work .entry)) ⌝ }
 {
     volume.list(image, icb, out, work)
 }
@@ -74,7 +74,7 @@ pub extern "C" fn vault_list(
 // The bytes of the file at icb.
 #[no_mangle]
 pub extern "C" fn vault_read(volume: Volume, image: &[u8], icb: LongAd, out: &mut [u8]) -> Reply
-    ensures { λ r. ⌜ record { reply = r; out = now (out .exit) } ≡ reads (now (image .entry)) volume icb (now (out .entry)) ⌝ }
+    ensures { λ r. ⌜ record { reply = r; out = now (out .exit) } ≡ reads (now (image .entry)) (volume .0) icb (now (out .entry)) ⌝ }
 {
     volume.read(image, icb, out)
 }
@@ -87,7 +87,7 @@ pub extern "C" fn vault_part(
     icb: LongAd,
     part_at: &mut usize,
 ) -> Reply
-    ensures { λ r. ⌜ record { reply = r; at = now («part_at» .exit) } ≡ partsAt (now (image .entry)) volume icb ⌝ }
+    ensures { λ r. ⌜ record { reply = r; at = now («part_at» .exit) } ≡ partsAt (now (image .entry)) (volume .0) icb ⌝ }
 {
     volume.part_at(image, icb, part_at)
 }
@@ -100,7 +100,7 @@ pub extern "C" fn vault_extents(
     icb: LongAd,
     row: &mut [[u32; 4]],
 ) -> Reply
-    ensures { λ r. ⌜ record { reply = r; row = now (row .exit) } ≡ extents wordsOf (now (image .entry)) volume icb (now (row .entry)) ⌝ }
+    ensures { λ r. ⌜ record { reply = r; row = now (row .exit) } ≡ extents wordsOf (now (image .entry)) (volume .0) icb (now (row .entry)) ⌝ }
 {
     volume.extent_words(image, icb, row)
 }
@@ -114,7 +114,7 @@ pub extern "C" fn vault_read_path(
     out: &mut [u8],
     work: &mut [u8],
 ) -> Reply
-    ensures { λ r. ⌜ record { reply = r; out = now (out .exit); work = now (work .exit) } ≡ readsPath (now (image .entry)) volume (now (path .entry)) (now (out .entry)) (now (work .entry)) ⌝ }
+    ensures { λ r. ⌜ record { reply = r; out = now (out .exit); work = now (work .exit) } ≡ readsPath (now (image .entry)) (volume .0) (now (path .entry)) (now (out .entry)) (now (work .entry)) ⌝ }
 {
     volume.read_path(image, path, out, work)
 }

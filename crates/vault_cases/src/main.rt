@@ -239,13 +239,14 @@ fn ask_all(image: &[u8], all: &[u8], out: &mut [u8], work: &mut [u8]) {
     let opened = Volume::open(image);
     let v = opened.volume;
     say_answer(b"open ", opened.answer, opened.count);
-    say_number(b" start ", v.start as u64);
-    say_number(b" partition ", v.partition as u64);
+    let mount = v.mount;
+    say_number(b" start ", mount.start as u64);
+    say_number(b" partition ", mount.partition as u64);
     let root = v.root;
     let recorded = root.encode();
     say_text(b" root ", &recorded);
     say(b"\n");
-    queries(v, image, all, out, work);
+    queries(Volume(v), image, all, out, work);
 }
 
 // The image at i and its queries; where the next one stands.

@@ -55,8 +55,9 @@ fn say_root(root: LongAd) {
 }
 
 fn say_volume(v: VolumeRecord) {
-    say_number(b"start ", v.start as u64);
-    say_number(b" partition ", v.partition_number as u64);
+    let mount = v.mount;
+    say_number(b"start ", mount.start as u64);
+    say_number(b" partition ", mount.partition as u64);
     say(b"\n");
     let root = v.root;
     say_root(root);

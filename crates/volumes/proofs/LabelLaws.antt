@@ -6,6 +6,7 @@ use Prim.Native.Nat.{ℕ, _<_, _≤_}
 use native.Mathlib.Nat.{add-zero}
 use lib.ListN.{length}
 use borrow.Author.Tests.{le-leb, lt-leb}
+use Rattle.disc.proofs.RefusalLaws.{refusal-numbered}
 use Rattle.disc.specs.Refusals.{number}
 use Rattle.disc.specs.Counts.{reported}
 use Rattle.disc.specs.Ask.{Disc, Outcome}
@@ -26,7 +27,6 @@ use Rattle.volumes.specs.Labels.{labelOf, labelling}
 use Rattle.volumes.specs.Steps.{sizeIn, Labels}
 use Rattle.volumes.specs.declared.openings.VolumeRecord.{VolumeRecord}
 use Rattle.volumes.specs.declared.openings.Opened.{Opened}
-use Rattle.volumes.proofs.OpeningLaws.{number-some}
 
 -- ---- writing
 
@@ -77,7 +77,7 @@ module _ (d : Disc) {o : Opened} {lent : List ℕ} {p : Reply} where
           let a : o .volume ≡ v = ap (λ (z : Opened). z .volume) e in
           let c : o .count ≡ reported n = ap (λ (z : Opened). z .count) e in
           rw (ran-done d (labelOf v), add-zero, ← a) (record { says = q .says ∙ rw c; leaves = q .leaves })
-      by (refused w) n e h q = absurd (number-some w (sym (ap (λ (z : Opened). z .answer) e) ∙ h))
+      by (refused w) n e h q = absurd (refusal-numbered w (sym (ap (λ (z : Opened). z .answer) e) ∙ h))
 
 module _ (image : List ℕ) {o : Opened} (e : o ≡ openedOf (ran (disc image) opening)) {lent : List ℕ} {p : Reply} where
   pub label-refused : (o .answer ≡ 0 → ⊥) → p ≡ record { answer = o .answer; count = o .count; length = 0 }

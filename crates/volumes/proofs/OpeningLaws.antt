@@ -2,7 +2,8 @@
 -- Assumes nothing.
 use mathlib.Core.Path.{_≡_, refl, ap, sym, _∙_}
 use mathlib.Core.Bool.{Bool, true, false}
-use mathlib.Core.List.{List}
+use mathlib.Core.List.{List, [], _∷_}
+use mathlib.Core.Option.{Option, none, some}
 use Prim.Native.Nat.{ℕ, zero, suc, _+_, _-_, _*_, _/_, _<_, _≤_, _^_}
 use native.Mathlib.Omega.{arith}
 use lib.ListN.{length, replicate}
@@ -12,14 +13,22 @@ use Rattle.disc.specs.Choice.{pick}
 use Rattle.disc.specs.Refusals.{number}
 use Rattle.disc.specs.Counts.{reported}
 use Rattle.disc.specs.Ask.{Held, Disc, Ask, Outcome, bytesIn, then, ended}
-use Rattle.disc.specs.Ask.Ask.{refuse, ask}
+use Rattle.disc.specs.Ask.Ask.{done, refuse, ask}
 use Rattle.disc.specs.Ask.Held.{holds, lacks}
 use Rattle.disc.specs.Ask.Outcome.{answered, refused}
 use Rattle.disc.specs.Ran.{Ran, ran, after, onward}
 use Rattle.disc.specs.Images.{disc, heldFrom}
+use Rattle.disc.specs.Places.{standing, Stands}
+use Rattle.disc.specs.declared.places.Mount.{Mount}
+use Rattle.disc.specs.declared.places.Sector.{Sector}
+use Rattle.disc.specs.declared.places.PartitionRef.the-variants.{Named}
+use Rattle.disc.specs.declared.places.Placed.{Placed}
+use Rattle.disc.specs.declared.places.Placed.the-variants.{At, Nowhere}
 use Rattle.disc.specs.declared.refusals.Refusal.{Refusal}
-use Rattle.disc.specs.declared.refusals.Refusal.the-variants.{Io, Malformed, NotBluray, Unsupported, NoRoom, NoWork, NoSlot, LongName}
-use Rattle.disc.proofs.RanLaws.{ran-done, ran-refuse, ran-there, ran-missing, ran-then}
+use Rattle.disc.specs.declared.refusals.Refusal.the-variants.{NotBluray, Unsupported}
+use Rattle.disc.proofs.RefusalLaws.{refusal-numbered}
+use Rattle.disc.proofs.PlaceLaws.{stands-nowhere, stands-at}
+use Rattle.disc.proofs.RanLaws.{ran-done, ran-refuse, ran-there, ran-missing, ran-then, ran-ended}
 use Rattle.disc.proofs.ImageLaws.{held, missing}
 use Rattle.records.specs.Allocations.{noLong}
 use Rattle.records.specs.declared.allocations.LongAd.{LongAd}
@@ -29,29 +38,18 @@ use Rattle.descriptors.specs.declared.anchors.AnchorVolumeDescriptorPointer.{An
 use Rattle.descriptors.specs.declared.anchors.AnchorRead.{AnchorRead}
 use Rattle.descriptors.specs.declared.anchors.AnchorRead.the-variants.{Read as AnAnchor, Refused as NoAnchor}
 use Rattle.descriptors.specs.declared.file_sets.FileSetRead.{FileSetRead}
-use Rattle.volumes.specs.Sequences.{nothing, Says, saysIn, goOn, scan, scannedBy, scannedOf}
-use Rattle.volumes.specs.Sequences.Says.{on, over, fails}
-use Rattle.volumes.specs.Openings.{noVolume, fileSetHere, volumeIn, mounting, anchored, opening, openedBy, openedOf}
-use Rattle.volumes.specs.Steps.{mountable}
+use Rattle.volumes.specs.Sequences.{nothing, Parsed, keptOf, Says, saysIn, goOn, scan, scannedBy, scannedOf}
+use Rattle.volumes.specs.Sequences.Says.{found, passed, over, fails}
+use Rattle.volumes.specs.Openings.{noVolume, mountIn, fileSetIn, volumeIn, mounting, anchored, opening, openedBy, openedOf}
+use Rattle.volumes.specs.Steps.{mountable, fileSetAt}
 use Rattle.volumes.specs.declared.sequences.Kept.{Kept}
 use Rattle.volumes.specs.declared.sequences.Scanned.{Scanned}
 use Rattle.volumes.specs.declared.openings.VolumeRecord.{VolumeRecord}
 use Rattle.volumes.specs.declared.openings.Opened.{Opened}
 
 -- the return of `no_volume`
-pub volume-none : {root : LongAd} → root ≡ noLong → record { start = 0; «partition_number» = 0; root = root; label = replicate 32 0 } ≡ noVolume
+pub volume-none : {root : LongAd} → root ≡ noLong → record { mount = record { start = 0; partition = 0 }; root = root; label = replicate 32 0 } ≡ noVolume
 volume-none e = rw e
-
--- no refusal has number 0
-pub number-some : (r : Refusal) → number r ≡ 0 → ⊥
-number-some Io e = omega arith
-number-some Malformed e = omega arith
-number-some NotBluray e = omega arith
-number-some Unsupported e = omega arith
-number-some NoRoom e = omega arith
-number-some NoWork e = omega arith
-number-some NoSlot e = omega arith
-number-some LongName e = omega arith
 
 -- ---- the sector of the file set descriptor
 
@@ -60,18 +58,14 @@ module _ (k : Kept) (b : List ℕ) (n : ℕ) {r : FileSetRead} (e : r ≡ readFi
   volume-not h q = rw (← e, ne-eqb (r .answer) 0 h) q
 
   pub volume-is : {o : Opened} → r .answer ≡ 0
+      → {m : Mount} → m ≡ mountIn k
       → o ≡ record {
         answer = 0;
         count = n;
-        volume = record { start = k .«partition_start»; «partition_number» = k .«partition_number»; root = r .descriptor .«root_directory_icb»; label = k .label };
+        volume = record { mount = m; root = r .descriptor .«root_directory_icb»; label = k .label };
       }
       → o ≡ openedBy n (volumeIn k (readFileSet b))
-  volume-is h q = rw (← e, eq-eqb (r .answer) 0 h) q
-
--- what an outcome comes to, a sector having been given
-ran-ended : {A : Type 0} (d : Disc) (o : Outcome A) → ran d (ended o) ≡ record { outcome = o; count = 0 }
-ran-ended d (answered a) = ran-done d a
-ran-ended d (refused r) = ran-refuse d r
+  volume-is h {m} g q = rw (← e, eq-eqb (r .answer) 0 h, ← g) q
 
 -- ---- what was kept, and what follows it
 
@@ -80,28 +74,27 @@ data Mounts (m x : Ask VolumeRecord) (n : ℕ) : Type 0 where
   goes : x ≡ m → n ≡ 0 → Mounts m x n
   stops : (r : Refusal) → x ≡ refuse r → n ≡ number r → Mounts m x n
 
--- the file set descriptor's sector, and its parse
+-- where the file set descriptor stands, its sector, and its parse
 abbrev fileSetOn : Kept → Ask VolumeRecord
-fileSetOn k = ask (k .«partition_start» + k .«file_set» .location .block) (λ b. ended (volumeIn k (readFileSet b)))
+fileSetOn k = standing (fileSetIn k) (fileSetAt k)
 
 mounts : (k : Kept) → Mounts (fileSetOn k) (mounting k) (mountable k)
 unfolding mounting mountable
-mounts k = by (k .«has_primary») (k .«has_partition») (k .«has_logical») (eqb (k .«block_size») 2048) (fileSetHere k) (fileSetOn k)
+mounts k = by (k .«has_primary») (k .«has_partition») (k .«has_logical») (eqb (k .«block_size») 2048) (fileSetOn k)
   where
-    by : (a b c e f : Bool) (m : Ask VolumeRecord)
+    by : (a b c e : Bool) (m : Ask VolumeRecord)
         → Mounts m
-        (pick a (pick b (pick c (pick e (pick f m (refuse Unsupported)) (refuse Unsupported)) (refuse NotBluray)) (refuse NotBluray)) (refuse NotBluray))
-        (pick a (pick b (pick c (pick e (pick f 0 4) 4) 3) 3) 3)
-    by false b c e f m = stops NotBluray refl refl
-    by true false c e f m = stops NotBluray refl refl
-    by true true false e f m = stops NotBluray refl refl
-    by true true true false f m = stops Unsupported refl refl
-    by true true true true false m = stops Unsupported refl refl
-    by true true true true true m = goes refl refl
+        (pick a (pick b (pick c (pick e m (refuse Unsupported)) (refuse NotBluray)) (refuse NotBluray)) (refuse NotBluray))
+        (pick a (pick b (pick c (pick e 0 4) 3) 3) 3)
+    by false b c e m = stops NotBluray refl refl
+    by true false c e m = stops NotBluray refl refl
+    by true true false e m = stops NotBluray refl refl
+    by true true true false m = stops Unsupported refl refl
+    by true true true true m = goes refl refl
 
 goes-on : {m x : Ask VolumeRecord} {n : ℕ} → Mounts m x n → n ≡ 0 → x ≡ m
 goes-on (goes e z) h = e
-goes-on (stops r e z) h = absurd (number-some r (sym z ∙ h))
+goes-on (stops r e z) h = absurd (refusal-numbered r (sym z ∙ h))
 
 -- a call that is refused after n sectors
 refused-after : (d : Disc) {x : Ask VolumeRecord} (r : Refusal) (n : ℕ) {a : ℕ} {o : Opened}
@@ -122,31 +115,44 @@ module _ (image : List ℕ) (k : Kept) (n : ℕ) (few : n < 2 ^ 32) {a : ℕ} (e
       by (goes f z) = absurd (h (e ∙ z))
       by (stops r f z) = refused-after (disc image) r n f (e ∙ z) few q
 
-  module _ (y : a ≡ 0) (s : ℕ) (f : s ≡ k .«partition_start» + k .«file_set» .location .block) {m : ℕ} (g : m ≡ heldFrom image s) where
-    asks : mounting k ≡ ask s (λ b. ended (volumeIn k (readFileSet b)))
-    asks = goes-on (mounts k) (sym e ∙ y) ∙ rw (← f)
+  module _ (y : a ≡ 0) where
+    goes-there : mounting k ≡ fileSetOn k
+    goes-there = goes-on (mounts k) (sym e ∙ y)
 
-    pub mount-gone : {o : Opened} → m ≡ 0 → o ≡ record { answer = 1; count = n + 1; volume = noVolume } → o ≡ openedOf (after n (ran (disc image) (mounting k)))
-    mount-gone z q =
-        let c : reported (n + 1) ≡ n + 1 = omega arith in
-        rw (asks, ran-missing (disc image) s _ (missing image s (gone (length image) s g z)), c) q
-      where
-        gone : (l a : ℕ) → m ≡ l / 2048 - a → m ≡ 0 → l < 2048 * a + 2048
-        gone l a u v = omega arith
+    module _ {m : Mount} (c : m ≡ mountIn k) {p : Placed} (q : Stands m (Named (k .«file_set» .location .«partition_ref»)) (k .«file_set» .location .block) p) where
+      pub mount-nowhere : p ≡ Nowhere → {o : Opened} → o ≡ record { answer = 4; count = n; volume = noVolume } → o ≡ openedOf (after n (ran (disc image) (mounting k)))
+      mount-nowhere z g =
+          let w : fileSetIn k ≡ none = rw c at (stands-nowhere m _ _ q z) in
+          refused-after (disc image) Unsupported n (goes-there ∙ rw w) refl few g
 
-    pub mount-there : {b : List ℕ} {o : Opened}
-        → (m ≡ 0 → ⊥)
-        → b ≡ bytesIn (disc image s)
-        → o ≡ openedBy (n + 1) (volumeIn k (readFileSet b))
-        → o ≡ openedOf (after n (ran (disc image) (mounting k)))
-    mount-there {b} z u q =
-        let p = held image s (there (length image) s g) in
-        let v : disc image s ≡ holds b = p ∙ ap holds (sym (u ∙ rw p)) in
-        let c : reported (n + (1 + 0)) ≡ n + 1 = omega arith in
-        rw (asks, ran-there (disc image) s _ b v, ran-ended (disc image) (volumeIn k (readFileSet b)), c) q
-      where
-        there : (l a : ℕ) → m ≡ l / 2048 - a → 2048 * a + 2048 ≤ l
-        there l a u = omega (arith, z)
+      pub mount-there : {s : Sector} → p ≡ At s → {o : Opened} → o ≡ openedOf (after n (ran (disc image) (fileSetAt k (s .0)))) → o ≡ openedOf (after n (ran (disc image) (mounting k)))
+      mount-there {s} z g =
+          let w : fileSetIn k ≡ some (s .0) = rw c at (stands-at m _ _ q z) in
+          g ∙ rw (goes-there, w)
+
+-- the file set descriptor in a sector
+module _ (image : List ℕ) (k : Kept) (n : ℕ) (few : n < 2 ^ 32) (s : ℕ) {m : ℕ} (g : m ≡ heldFrom image s) where
+  pub set-gone : {o : Opened} → m ≡ 0 → o ≡ record { answer = 1; count = n + 1; volume = noVolume } → o ≡ openedOf (after n (ran (disc image) (fileSetAt k s)))
+  set-gone z q =
+      let c : reported (n + 1) ≡ n + 1 = omega arith in
+      rw (ran-missing (disc image) s _ (missing image s (gone (length image) s g z)), c) q
+    where
+      gone : (l a : ℕ) → m ≡ l / 2048 - a → m ≡ 0 → l < 2048 * a + 2048
+      gone l a u v = omega arith
+
+  pub set-there : {b : List ℕ} {o : Opened}
+      → (m ≡ 0 → ⊥)
+      → b ≡ bytesIn (disc image s)
+      → o ≡ openedBy (n + 1) (volumeIn k (readFileSet b))
+      → o ≡ openedOf (after n (ran (disc image) (fileSetAt k s)))
+  set-there {b} z u q =
+      let p = held image s (there (length image) s g) in
+      let v : disc image s ≡ holds b = p ∙ ap holds (sym (u ∙ rw p)) in
+      let c : reported (n + (1 + 0)) ≡ n + 1 = omega arith in
+      rw (ran-there (disc image) s _ b v, ran-ended (disc image) (volumeIn k (readFileSet b)), c) q
+    where
+      there : (l a : ℕ) → m ≡ l / 2048 - a → 2048 * a + 2048 ≤ l
+      there l a u = omega (arith, z)
 
 -- ---- a scan asks for no more sectors than it was given
 
@@ -158,46 +164,61 @@ ask-count d s k n h = by (d s) refl
     by (holds b) e = let m = h b e in rw (ran-there d s k b e) (omega arith)
     by lacks e = rw (ran-missing d s k e) (omega arith)
 
-scan-turn : (d : Disc) (n : ℕ) (x : Says) (rest : Kept → Ask Kept) → ((k : Kept) → ran d (rest k) .count ≤ n) → ran d (goOn x rest) .count ≤ n
-scan-turn d n (on k) rest h = h k
-scan-turn d n (over k) rest h = rw (ran-done d k) (omega arith)
-scan-turn d n (fails r) rest h = rw (ran-refuse {A = Kept} d r) (omega arith)
+scan-turn : (d : Disc) (n : ℕ) (x : Says) (rest : Ask (List Parsed)) → ran d rest .count ≤ n → ran d (goOn x rest) .count ≤ n
+scan-turn d n (found p) rest h = rw ran-then (by (ran d rest .outcome) (ran d rest .count) h)
+  where
+    by : (o : Outcome (List Parsed)) (c : ℕ) → c ≤ n → onward o c (λ ps. ran d (done (p ∷ ps))) .count ≤ n
+    by (answered ps) c l = rw ran-done (omega arith)
+    by (refused r) c l = l
+scan-turn d n passed rest h = h
+scan-turn d n over rest h = rw ran-done (omega arith)
+scan-turn d n (fails r) rest h = rw ran-refuse (omega arith)
 
-pub scan-count : (d : Disc) (n at : ℕ) (k : Kept) → ran d (scan n at k) .count ≤ n
+pub scan-count : (d : Disc) (n at : ℕ) → ran d (scan n at) .count ≤ n
 unfolding scan
-scan-count d zero at k = rw (ran-done d k) (omega arith)
-scan-count d (suc n) at k =
-    ask-count d at _ n (λ b e. scan-turn d n (saysIn k b) (λ k′. scan n (at + 1) k′) (λ k′. scan-count d n (at + 1) k′))
+scan-count d zero at = rw ran-done (omega arith)
+scan-count d (suc n) at = ask-count d at _ n (λ b e. scan-turn d n (saysIn b) (scan n (at + 1)) (scan-count d n (at + 1)))
+
+-- what the descriptors of a sequence lead to
+abbrev leads : List Parsed → Ask VolumeRecord
+leads ps = mounting (keptOf nothing ps)
 
 -- one call behind another
-then-count : (d : Disc) (m : Ask Kept) (n : ℕ) → ran d m .count ≤ n → ((k : Kept) → ran d (mounting k) .count ≤ 1) → ran d (then m mounting) .count ≤ 1 + n
-then-count d m n h g = rw (ran-then d m mounting) (by (ran d m .outcome) (ran d m .count) h)
+then-count : (d : Disc) (m : Ask (List Parsed)) (n : ℕ) → ran d m .count ≤ n → ((k : Kept) → ran d (mounting k) .count ≤ 1) → ran d (then m leads) .count ≤ 1 + n
+then-count d m n h g = rw (ran-then d m leads) (by (ran d m .outcome) (ran d m .count) h)
   where
-    by : (o : Outcome Kept) (c : ℕ) → c ≤ n → onward o c (λ k. ran d (mounting k)) .count ≤ 1 + n
-    by (answered k) c h = let z = g k in omega arith
+    by : (o : Outcome (List Parsed)) (c : ℕ) → c ≤ n → onward o c (λ ps. ran d (leads ps)) .count ≤ 1 + n
+    by (answered ps) c h = let z = g (keptOf nothing ps) in omega arith
     by (refused r) c h = omega arith
 
 mount-count : (d : Disc) (k : Kept) → ran d (mounting k) .count ≤ 1
 mount-count d k = by (mounts k)
   where
+    set : (s : ℕ) → ran d (fileSetAt k s) .count ≤ 1
+    set s = ask-count d _ (λ b. ended (volumeIn k (readFileSet b))) 0 (λ b u. rw (ran-ended d (volumeIn k (readFileSet b))) (omega arith))
+
+    on : (o : Option ℕ) → ran d (standing o (fileSetAt k)) .count ≤ 1
+    on none = rw (ran-refuse {A = VolumeRecord} d Unsupported) (omega arith)
+    on (some s) = set s
+
     by : {n : ℕ} → Mounts (fileSetOn k) (mounting k) n → ran d (mounting k) .count ≤ 1
-    by (goes e z) = rw e (ask-count d _ (λ b. ended (volumeIn k (readFileSet b))) 0 (λ b u. rw (ran-ended d (volumeIn k (readFileSet b))) (omega arith)))
+    by (goes e z) = rw e (on (fileSetIn k))
     by (stops r e z) = rw (e, ran-refuse {A = VolumeRecord} d r) (omega arith)
 
 -- as the code reports it
-scanned-count : (r : Ran Kept) → scannedOf r .count ≡ r .count
+scanned-count : (r : Ran (List Parsed)) → scannedOf nothing r .count ≡ r .count
 scanned-count r = by (r .outcome)
   where
-    by : (o : Outcome Kept) → scannedBy o (r .count) .count ≡ r .count
+    by : (o : Outcome (List Parsed)) → scannedBy nothing o (r .count) .count ≡ r .count
     by (answered k) = refl
     by (refused w) = refl
 
 -- the main sequence has a length of 32 bits, so a count has room for the anchor's sector and the file set descriptor's
-module _ (d : Disc) (l at : ℕ) {s : Scanned} (h : l < 2 ^ 32) (e : s ≡ scannedOf (ran d (scan (l / 2048) at nothing))) where
+module _ (d : Disc) (l at : ℕ) {s : Scanned} (h : l < 2 ^ 32) (e : s ≡ scannedOf nothing (ran d (scan (l / 2048) at))) where
   scan-within : s .count ≤ l / 2048
   scan-within =
-      let c : s .count ≡ ran d (scan (l / 2048) at nothing) .count = rw e (scanned-count (ran d (scan (l / 2048) at nothing))) in
-      rw c (scan-count d (l / 2048) at nothing)
+      let c : s .count ≡ ran d (scan (l / 2048) at) .count = rw e (scanned-count (ran d (scan (l / 2048) at))) in
+      rw c (scan-count d (l / 2048) at)
 
   pub scan-few : s .count + 1 < 2 ^ 32
   scan-few = let m = scan-within in omega arith
@@ -216,14 +237,14 @@ anchor-not image {x} {why} e q k = refused-after (disc image) why 1 (rw e) q (om
 
 -- a scan, and what follows it, after one sector
 module _ (d : Disc) {s : Scanned} {o : Opened} where
-  scan-refuses : (r : Ran Kept) → s ≡ scannedOf r → (s .answer ≡ 0 → ⊥) → s .count + 1 < 2 ^ 32
+  scan-refuses : (r : Ran (List Parsed)) → s ≡ scannedOf nothing r → (s .answer ≡ 0 → ⊥) → s .count + 1 < 2 ^ 32
       → o ≡ record { answer = s .answer; count = s .count + 1; volume = noVolume }
-      → o ≡ openedOf (after 1 (onward (r .outcome) (r .count) (λ k. ran d (mounting k))))
+      → o ≡ openedOf (after 1 (onward (r .outcome) (r .count) (λ ps. ran d (leads ps))))
   scan-refuses r = by (r .outcome) (r .count)
     where
-      by : (x : Outcome Kept) (n : ℕ) → s ≡ scannedBy x n → (s .answer ≡ 0 → ⊥) → s .count + 1 < 2 ^ 32
+      by : (x : Outcome (List Parsed)) (n : ℕ) → s ≡ scannedBy nothing x n → (s .answer ≡ 0 → ⊥) → s .count + 1 < 2 ^ 32
           → o ≡ record { answer = s .answer; count = s .count + 1; volume = noVolume }
-          → o ≡ openedOf (after 1 (onward x n (λ k. ran d (mounting k))))
+          → o ≡ openedOf (after 1 (onward x n (λ ps. ran d (leads ps))))
       by (answered k) n e h m q = absurd (h (ap (λ (z : Scanned). z .answer) e))
       by (refused w) n e h m q =
           let a : s .answer ≡ number w = ap (λ (z : Scanned). z .answer) e in
@@ -231,38 +252,38 @@ module _ (d : Disc) {s : Scanned} {o : Opened} where
           let c : reported (1 + n) ≡ s .count + 1 = omega arith in
           rw (c, ← a) q
 
-  scan-mounts : (r : Ran Kept) → s ≡ scannedOf r → s .answer ≡ 0
+  scan-mounts : (r : Ran (List Parsed)) → s ≡ scannedOf nothing r → s .answer ≡ 0
       → o ≡ openedOf (after (s .count + 1) (ran d (mounting (s .kept))))
-      → o ≡ openedOf (after 1 (onward (r .outcome) (r .count) (λ k. ran d (mounting k))))
+      → o ≡ openedOf (after 1 (onward (r .outcome) (r .count) (λ ps. ran d (leads ps))))
   scan-mounts r = by (r .outcome) (r .count)
     where
-      by : (x : Outcome Kept) (n : ℕ) → s ≡ scannedBy x n → s .answer ≡ 0
+      by : (x : Outcome (List Parsed)) (n : ℕ) → s ≡ scannedBy nothing x n → s .answer ≡ 0
           → o ≡ openedOf (after (s .count + 1) (ran d (mounting (s .kept))))
-          → o ≡ openedOf (after 1 (onward x n (λ k. ran d (mounting k))))
-      by (answered k) n e h q =
-          let a : s .kept ≡ k = ap (λ (z : Scanned). z .kept) e in
+          → o ≡ openedOf (after 1 (onward x n (λ ps. ran d (leads ps))))
+      by (answered ps) n e h q =
+          let a : s .kept ≡ keptOf nothing ps = ap (λ (z : Scanned). z .kept) e in
           let b : s .count ≡ n = ap (λ (z : Scanned). z .count) e in
-          let c : 1 + (n + ran d (mounting k) .count) ≡ s .count + 1 + ran d (mounting k) .count = omega arith in
+          let c : 1 + (n + ran d (leads ps) .count) ≡ s .count + 1 + ran d (leads ps) .count = omega arith in
           rw c (rw a at q)
-      by (refused w) n e h q = absurd (number-some w (sym (ap (λ (z : Scanned). z .answer) e) ∙ h))
+      by (refused w) n e h q = absurd (refusal-numbered w (sym (ap (λ (z : Scanned). z .answer) e) ∙ h))
 
 -- the main sequence
-abbrev mainScan : AnchorVolumeDescriptorPointer → Ask Kept
-mainScan a = scan (a .«main_volume_descriptor_sequence» .length / 2048) (a .«main_volume_descriptor_sequence» .location) nothing
+abbrev mainScan : AnchorVolumeDescriptorPointer → Ask (List Parsed)
+mainScan a = scan (a .«main_volume_descriptor_sequence» .length / 2048) (a .«main_volume_descriptor_sequence» .location)
 
-module _ (image : List ℕ) {x : AnchorRead} {a : AnchorVolumeDescriptorPointer} (e : x ≡ AnAnchor a) {s : Scanned} (f : s ≡ scannedOf (ran (disc image) (mainScan a))) {o : Opened} where
+module _ (image : List ℕ) {x : AnchorRead} {a : AnchorVolumeDescriptorPointer} (e : x ≡ AnAnchor a) {s : Scanned} (f : s ≡ scannedOf nothing (ran (disc image) (mainScan a))) {o : Opened} where
   pub anchor-stops : a .«main_volume_descriptor_sequence» .length < 2 ^ 32
       → (s .answer ≡ 0 → ⊥)
       → o ≡ record { answer = s .answer; count = s .count + 1; volume = noVolume }
       → o ≡ openedOf (after 1 (ran (disc image) (anchored x)))
   anchor-stops few h q =
       let m = scan-few (disc image) (a .«main_volume_descriptor_sequence» .length) (a .«main_volume_descriptor_sequence» .location) few f in
-      rw (e, ran-then (disc image) (mainScan a) mounting) (scan-refuses (disc image) (ran (disc image) (mainScan a)) f h m q)
+      rw (e, ran-then (disc image) (mainScan a) leads) (scan-refuses (disc image) (ran (disc image) (mainScan a)) f h m q)
 
   pub anchor-leads : s .answer ≡ 0
       → o ≡ openedOf (after (s .count + 1) (ran (disc image) (mounting (s .kept))))
       → o ≡ openedOf (after 1 (ran (disc image) (anchored x)))
-  anchor-leads h q = rw (e, ran-then (disc image) (mainScan a) mounting) (scan-mounts (disc image) (ran (disc image) (mainScan a)) f h q)
+  anchor-leads h q = rw (e, ran-then (disc image) (mainScan a) leads) (scan-mounts (disc image) (ran (disc image) (mainScan a)) f h q)
 
 -- ---- the whole call
 
@@ -298,5 +319,5 @@ mainLengthIn (NoAnchor r) = 0
 
 pub anchored-count : (d : Disc) (x : AnchorRead) → ran d (anchored x) .count ≤ 1 + mainLengthIn x / 2048
 anchored-count d (AnAnchor a) =
-    then-count d (mainScan a) (a .«main_volume_descriptor_sequence» .length / 2048) (scan-count d _ _ nothing) (mount-count d)
+    then-count d (mainScan a) (a .«main_volume_descriptor_sequence» .length / 2048) (scan-count d _ _) (mount-count d)
 anchored-count d (NoAnchor r) = rw (ran-refuse {A = VolumeRecord} d r) (omega arith)

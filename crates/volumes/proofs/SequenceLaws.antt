@@ -1,20 +1,22 @@
 -- Laws of the scan of a volume descriptor sequence, as the code's loop asks for them. Assumes nothing.
 use mathlib.Core.Path.{_≡_, refl, ap, sym, _∙_}
 use mathlib.Core.Bool.{true, false}
-use mathlib.Core.List.{List}
+use mathlib.Core.List.{List, [], _∷_}
 use Prim.Native.Nat.{ℕ, suc, _+_, _-_, _*_, _/_, _<_, _≤_, _^_}
-use native.Mathlib.Nat.{add-zero, sub-zero}
+use native.Mathlib.Nat.{add-zero, zero-add, sub-zero}
 use native.Mathlib.Omega.{arith}
 use lib.ListN.{length, take, drop, replicate}
-use Rattle.disc.specs.Ask.{Disc, Ask, bytesIn}
-use Rattle.disc.specs.Ran.{ran, after}
+use Rattle.disc.specs.Ask.{Disc, Ask, Outcome, bytesIn, then}
+use Rattle.disc.specs.Ask.Ask.{done}
+use Rattle.disc.specs.Ask.Outcome.{answered, refused}
+use Rattle.disc.specs.Ran.{Ran, ran, after, onward}
 use Rattle.disc.specs.Images.{disc, heldFrom}
-use Rattle.disc.proofs.RanLaws.{ran-done, ran-refuse, ran-there, ran-missing, after-none, after-twice}
+use Rattle.disc.proofs.RanLaws.{ran-done, ran-refuse, ran-there, ran-missing, ran-then}
 use Rattle.disc.proofs.ImageLaws.{held, missing}
 use Rattle.records.specs.Allocations.{noLong}
 use Rattle.records.specs.declared.allocations.LongAd.{LongAd}
-use Rattle.volumes.specs.Sequences.{nothing, Says, saysIn, goOn, scan, turnOf, scannedOf}
-use Rattle.volumes.specs.Sequences.Says.{on, over, fails}
+use Rattle.volumes.specs.Sequences.{nothing, Parsed, prevailing, keptOf, Says, saysIn, goOn, scan, turnOf, scannedBy, scannedOf}
+use Rattle.volumes.specs.Sequences.Says.{found, passed, over, fails}
 use Rattle.volumes.specs.declared.sequences.Kept.{Kept}
 use Rattle.volumes.specs.declared.sequences.Turn.{Turn}
 use Rattle.volumes.specs.declared.sequences.Scanned.{Scanned}
@@ -26,16 +28,36 @@ kept-none e = rw e
 
 -- ---- one sector
 
-going-on : (x : Says) → turnOf x .going ≡ true → x ≡ on (turnOf x .kept)
-going-on (on k) e = refl
-going-on (over k) e = let z : false ≡ true = e in cc
-going-on (fails r) e = let z : false ≡ true = e in cc
+-- what was found is kept, and what is found behind it is kept after it
+found-keeps : (d : Disc) (k : Kept) (p : Parsed) (n : ℕ) (rest : Ask (List Parsed)) → scannedOf k (after n (ran d (then rest (λ ps. done (p ∷ ps))))) ≡ scannedOf (prevailing k p) (after n (ran d rest))
+unfolding keptOf
+found-keeps d k p n rest = rw ran-then (by (ran d rest .outcome) (ran d rest .count))
+  where
+    by : (o : Outcome (List Parsed)) (c : ℕ) → scannedOf k (after n (onward o c (λ ps. ran d (done (p ∷ ps))))) ≡ scannedOf (prevailing k p) (after n (record { outcome = o; count = c }))
+    by (answered ps) c = rw ran-done (ap (λ j. record { answer = 0; count = n + j; kept = keptOf (prevailing k p) ps }) (add-zero c))
+    by (refused r) c = refl
 
-not-going : (d : Disc) (x : Says) (rest : Kept → Ask Kept) (n : ℕ) → turnOf x .going ≡ false
-    → scannedOf (after n (ran d (goOn x rest))) ≡ record { answer = turnOf x .answer; count = n; kept = turnOf x .kept }
-not-going d (on k) rest n e = let z : true ≡ false = e in cc
-not-going d (over k) rest n e = rw (ran-done d k, add-zero)
-not-going d (fails r) rest n e = rw (ran-refuse d r, add-zero)
+going-on : (d : Disc) (k : Kept) (x : Says) (rest : Ask (List Parsed)) (n : ℕ) → turnOf k x .going ≡ true
+    → scannedOf k (after n (ran d (goOn x rest))) ≡ scannedOf (turnOf k x .kept) (after n (ran d rest))
+going-on d k (found p) rest n e = found-keeps d k p n rest
+going-on d k passed rest n e = refl
+going-on d k over rest n e = absurd (let z : _≡_ {A = ℕ} 0 1 = cc in omega arith)
+going-on d k (fails r) rest n e = absurd (let z : _≡_ {A = ℕ} 0 1 = cc in omega arith)
+
+not-going : (d : Disc) (k : Kept) (x : Says) (rest : Ask (List Parsed)) (n : ℕ) → turnOf k x .going ≡ false
+    → scannedOf k (after n (ran d (goOn x rest))) ≡ record { answer = turnOf k x .answer; count = n; kept = turnOf k x .kept }
+unfolding keptOf
+not-going d k (found p) rest n e = absurd (let z : _≡_ {A = ℕ} 0 1 = cc in omega arith)
+not-going d k passed rest n e = absurd (let z : _≡_ {A = ℕ} 0 1 = cc in omega arith)
+not-going d k over rest n e = rw (ran-done, add-zero)
+not-going d k (fails r) rest n e = rw (ran-refuse, add-zero)
+
+-- sectors that were asked for before
+scanned-none : (k : Kept) (r : Ran (List Parsed)) → scannedOf k (after 0 r) ≡ scannedOf k r
+scanned-none k r = ap (scannedBy k (r .outcome)) (zero-add (r .count))
+
+scanned-twice : (k : Kept) (i : ℕ) (r : Ran (List Parsed)) → scannedOf k (after i (after 1 r)) ≡ scannedOf k (after (i + 1) r)
+scanned-twice k i r = ap (scannedBy k (r .outcome)) (omega arith)
 
 -- ---- the loop has come to i of n sectors
 
@@ -43,10 +65,10 @@ pub record Scanning (image : List ℕ) (first n : ℕ) (kept : Kept) (i : ℕ) :
   pub within : i ≤ n
   pub few : n < 2 ^ 32
   pub near : first < 2 ^ 32
-  pub rest : ran (disc image) (scan n first nothing) ≡ after i (ran (disc image) (scan (n - i) (first + i) kept))
+  pub rest : scannedOf nothing (ran (disc image) (scan n first)) ≡ scannedOf kept (after i (ran (disc image) (scan (n - i) (first + i))))
 
 pub scan-starts : (image : List ℕ) (first n : ℕ) {k : Kept} → first < 2 ^ 32 → n < 2 ^ 32 → k ≡ nothing → Scanning image first n k 0
-scan-starts image first n f m e = record { within = omega arith; few = m; near = f; rest = rw (e, sub-zero, add-zero) (sym (after-none _)) }
+scan-starts image first n f m e = record { within = omega arith; few = m; near = f; rest = rw (e, sub-zero, add-zero) (sym (scanned-none nothing (ran (disc image) (scan n first)))) }
 
 module _ {image : List ℕ} {first n i : ℕ} {kept : Kept} (p : Scanning image first n kept i) (h : i < n) where
   one-more : n - i ≡ suc (n - (i + 1))
@@ -66,27 +88,34 @@ module _ {image : List ℕ} {first n i : ℕ} {kept : Kept} (p : Scanning image 
     sector-is : bytesIn (disc image (first + i)) ≡ sector
     sector-is = rw (held image (first + i) there)
 
-    turn-rest : ran (disc image) (scan n first nothing) ≡ after (i + 1) (ran (disc image) (goOn (saysIn kept sector) (λ k. scan (n - (i + 1)) (first + i + 1) k)))
-    unfolding scan
-    turn-rest = p .rest ∙ rw (one-more, ran-there (disc image) (first + i) _ sector (held image (first + i) there)) (after-twice i 1 _)
+    abbrev behind : Ask (List Parsed)
+    behind = scan (n - (i + 1)) (first + i + 1)
 
-    module _ {b : List ℕ} {t : Turn} (g : b ≡ bytesIn (disc image (first + i))) (e : t ≡ turnOf (saysIn kept b)) where
+    turn-rest : scannedOf nothing (ran (disc image) (scan n first)) ≡ scannedOf kept (after (i + 1) (ran (disc image) (goOn (saysIn sector) behind)))
+    unfolding scan
+    turn-rest = p .rest ∙ rw (one-more, ran-there (disc image) (first + i) _ sector (held image (first + i) there)) (scanned-twice kept i (ran (disc image) (goOn (saysIn sector) behind)))
+
+    module _ {b : List ℕ} {t : Turn} (g : b ≡ bytesIn (disc image (first + i))) (e : t ≡ turnOf kept (saysIn b)) where
+      same : b ≡ sector
+      same = g ∙ sector-is
+
       pub scan-next : t .going ≡ true → Scanning image first n (t .kept) (i + 1)
       scan-next y =
-          let q : b ≡ sector = g ∙ sector-is in
-          let x : saysIn kept sector ≡ on (t .kept) = rw (← q, e) (going-on (saysIn kept b) (rw e at y)) in
           let a : first + i + 1 ≡ first + (i + 1) = omega arith in
-          record { within = omega arith; few = p .few; near = p .near; rest = turn-rest ∙ rw (x, a) }
+          record {
+            within = omega arith;
+            few = p .few;
+            near = p .near;
+            rest = rw (← a, e, same) (turn-rest ∙ going-on (disc image) kept (saysIn sector) behind (i + 1) (rw (← same, ← e) y));
+          }
 
       pub scan-stops : (c : ℕ) → c ≡ i + 1 → t .going ≡ false
-          → record { answer = t .answer; count = c; kept = t .kept } ≡ scannedOf (ran (disc image) (scan n first nothing))
-      scan-stops c m y =
-          let q : b ≡ sector = g ∙ sector-is in
-          sym (ap scannedOf turn-rest ∙ rw (← q, m, e) (not-going (disc image) (saysIn kept b) (λ k. scan (n - (i + 1)) (first + i + 1) k) (i + 1) (rw e at y)))
+          → record { answer = t .answer; count = c; kept = t .kept } ≡ scannedOf nothing (ran (disc image) (scan n first))
+      scan-stops c m y = sym (turn-rest ∙ rw (m, e, same) (not-going (disc image) kept (saysIn sector) behind (i + 1) (rw (← same, ← e) y)))
 
   -- it isn't
   pub scan-gone : {m : ℕ} → m ≡ heldFrom image (first + i) → m ≡ 0 → {r : Scanned} → r ≡ record { answer = 1; count = i + 1; kept = nothing }
-      → r ≡ scannedOf (ran (disc image) (scan n first nothing))
+      → r ≡ scannedOf nothing (ran (disc image) (scan n first))
   unfolding scan
   scan-gone {m} s z {r} e = rw (e, p .rest, one-more, ran-missing (disc image) (first + i) _ (missing image (first + i) (gone (length image) (first + i) s)))
     where
@@ -94,9 +123,9 @@ module _ {image : List ℕ} {first n i : ℕ} {kept : Kept} (p : Scanning image 
       gone l a e = omega arith
 
 pub scan-ends : {image : List ℕ} {first n i : ℕ} {kept : Kept} → Scanning image first n kept i → n ≤ i
-    → record { answer = 0; count = n; kept = kept } ≡ scannedOf (ran (disc image) (scan n first nothing))
-unfolding scan
+    → record { answer = 0; count = n; kept = kept } ≡ scannedOf nothing (ran (disc image) (scan n first))
+unfolding scan keptOf
 scan-ends {image} {first} {n} {i} {kept} p h =
     let z : n - i ≡ 0 = omega arith in
     let e : i + 0 ≡ n = omega arith in
-    rw (p .rest, z, ran-done (disc image) kept, e)
+    rw (p .rest, z, ran-done, e)

@@ -13,56 +13,56 @@ use Rattle.descriptors.specs.declared.partitions.PartitionDescriptor.{Partition
 use Rattle.descriptors.specs.declared.partitions.PartitionRead.{PartitionRead}
 use Rattle.descriptors.specs.declared.partitions.PartitionRead.the-variants.{Read as APartition, Refused as NoPartition}
 use Rattle.descriptors.specs.declared.logicals.LogicalRead.{LogicalRead}
-use Rattle.volumes.specs.Sequences.{nothing, prevailing, primaryIn, partitionIn, logicalIn, saysIn, turnOf}
+use Rattle.volumes.specs.Sequences.{nothing, primaryIn, partitionIn, logicalIn, saysIn, turnOf}
 use Rattle.volumes.specs.Sequences.Parsed.{primary, partition, logical}
-use Rattle.volumes.specs.Sequences.Says.{on, over}
+use Rattle.volumes.specs.Sequences.Says.{found, passed, over}
 use Rattle.volumes.specs.declared.sequences.Kept.{Kept}
 use Rattle.volumes.specs.declared.sequences.Turn.{Turn}
 
 -- ---- a descriptor that was parsed
 
 module _ (k : Kept) {t : Turn} where
-  pub primary-fails : (r : PrimaryRead) → (r .answer ≡ 0 → ⊥) → t ≡ record { going = false; answer = 2; kept = nothing } → t ≡ turnOf (primaryIn k r)
+  pub primary-fails : (r : PrimaryRead) → (r .answer ≡ 0 → ⊥) → t ≡ record { going = false; answer = 2; kept = nothing } → t ≡ turnOf k (primaryIn r)
   primary-fails r h e = rw (ne-eqb (r .answer) 0 h) e
 
-  pub primary-taken : (r : PrimaryRead) → r .answer ≡ 0 → t ≡ turnOf (on (prevailing k (primary (r .descriptor)))) → t ≡ turnOf (primaryIn k r)
+  pub primary-taken : (r : PrimaryRead) → r .answer ≡ 0 → t ≡ turnOf k (found (primary (r .descriptor))) → t ≡ turnOf k (primaryIn r)
   primary-taken r h e = rw (eq-eqb (r .answer) 0 h) e
 
   pub partition-fails : {r : PartitionRead} {why : Refusal} {n : ℕ}
       → r ≡ NoPartition why
       → n ≡ number why
       → t ≡ record { going = false; answer = n; kept = nothing }
-      → t ≡ turnOf (partitionIn k r)
+      → t ≡ turnOf k (partitionIn r)
   partition-fails h m e = rw (h, ← m) e
 
-  pub partition-taken : {r : PartitionRead} {d : PartitionDescriptor} → r ≡ APartition d → t ≡ turnOf (on (prevailing k (partition d))) → t ≡ turnOf (partitionIn k r)
+  pub partition-taken : {r : PartitionRead} {d : PartitionDescriptor} → r ≡ APartition d → t ≡ turnOf k (found (partition d)) → t ≡ turnOf k (partitionIn r)
   partition-taken h e = rw h e
 
-  pub logical-fails : (r : LogicalRead) → (r .answer ≡ 0 → ⊥) → t ≡ record { going = false; answer = 2; kept = nothing } → t ≡ turnOf (logicalIn k r)
+  pub logical-fails : (r : LogicalRead) → (r .answer ≡ 0 → ⊥) → t ≡ record { going = false; answer = 2; kept = nothing } → t ≡ turnOf k (logicalIn r)
   logical-fails r h e = rw (ne-eqb (r .answer) 0 h) e
 
-  pub logical-taken : (r : LogicalRead) → r .answer ≡ 0 → t ≡ turnOf (on (prevailing k (logical (r .descriptor)))) → t ≡ turnOf (logicalIn k r)
+  pub logical-taken : (r : LogicalRead) → r .answer ≡ 0 → t ≡ turnOf k (found (logical (r .descriptor))) → t ≡ turnOf k (logicalIn r)
   logical-taken r h e = rw (eq-eqb (r .answer) 0 h) e
 
 -- ---- a sector, by its id
 
 module _ (k : Kept) (b : List ℕ) {id : ℕ} (i : id ≡ u16at b 0) where
-  pub id-primary : {r : PrimaryRead} {t : Turn} → id ≡ 1 → r ≡ readPrimary b → t ≡ turnOf (primaryIn k r) → t ≡ turnOf (saysIn k b)
+  pub id-primary : {r : PrimaryRead} {t : Turn} → id ≡ 1 → r ≡ readPrimary b → t ≡ turnOf k (primaryIn r) → t ≡ turnOf k (saysIn b)
   unfolding saysIn
   id-primary h q e = rw (← i, h, ← q) e
 
-  pub id-partition : {r : PartitionRead} {t : Turn} → id ≡ 5 → r ≡ readPartition b → t ≡ turnOf (partitionIn k r) → t ≡ turnOf (saysIn k b)
+  pub id-partition : {r : PartitionRead} {t : Turn} → id ≡ 5 → r ≡ readPartition b → t ≡ turnOf k (partitionIn r) → t ≡ turnOf k (saysIn b)
   unfolding saysIn
   id-partition h q e = rw (← i, h, ← q) e
 
-  pub id-logical : {r : LogicalRead} {t : Turn} → id ≡ 6 → r ≡ readLogical b → t ≡ turnOf (logicalIn k r) → t ≡ turnOf (saysIn k b)
+  pub id-logical : {r : LogicalRead} {t : Turn} → id ≡ 6 → r ≡ readLogical b → t ≡ turnOf k (logicalIn r) → t ≡ turnOf k (saysIn b)
   unfolding saysIn
   id-logical h q e = rw (← i, h, ← q) e
 
-  pub id-terminating : {t : Turn} → id ≡ 8 → t ≡ turnOf (over k) → t ≡ turnOf (saysIn k b)
+  pub id-terminating : {t : Turn} → id ≡ 8 → t ≡ turnOf k over → t ≡ turnOf k (saysIn b)
   unfolding saysIn
   id-terminating h e = rw (← i, h) e
 
-  pub id-other : {t : Turn} → (id ≡ 1 → ⊥) → (id ≡ 5 → ⊥) → (id ≡ 6 → ⊥) → (id ≡ 8 → ⊥) → t ≡ turnOf (on k) → t ≡ turnOf (saysIn k b)
+  pub id-other : {t : Turn} → (id ≡ 1 → ⊥) → (id ≡ 5 → ⊥) → (id ≡ 6 → ⊥) → (id ≡ 8 → ⊥) → t ≡ turnOf k passed → t ≡ turnOf k (saysIn b)
   unfolding saysIn
   id-other p q r s e = rw (← i, ne-eqb id 1 p, ne-eqb id 5 q, ne-eqb id 6 r, ne-eqb id 8 s) e

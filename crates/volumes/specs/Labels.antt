@@ -1,4 +1,4 @@
--- The label of a volume: document 01, "Directories and paths", the last paragraph. Assumes nothing: these are definitions.
+-- The label of a volume: document 01, "Directories and paths", the last paragraph.
 use Prim.Native.Nat.{ℕ}
 use mathlib.Core.List.{List}
 use Rattle.disc.specs.Ask.{Ask, then}

@@ -1,6 +1,6 @@
--- Opening a volume: document 01, "Opening a volume". Assumes nothing: these are definitions.
-use Prim.Native.Nat.{ℕ, _+_, _/_}
-use mathlib.Core.Bool.{Bool}
+-- Opening a volume: document 01, "Opening a volume".
+use Prim.Native.Nat.{ℕ, _/_}
+use mathlib.Core.Option.{Option}
 use lib.ListN.{replicate}
 use lib.Dec.{eqb}
 use Rattle.disc.specs.Choice.{pick}
@@ -10,6 +10,9 @@ use Rattle.disc.specs.Ask.{Ask, Outcome, then, ended}
 use Rattle.disc.specs.Ask.Ask.{refuse, ask}
 use Rattle.disc.specs.Ask.Outcome.{answered, refused}
 use Rattle.disc.specs.Ran.{Ran}
+use Rattle.disc.specs.Places.{placed, standing}
+use Rattle.disc.specs.declared.places.Mount.{Mount}
+use Rattle.disc.specs.declared.places.PartitionRef.the-variants.{Named}
 use Rattle.disc.specs.declared.refusals.Refusal.the-variants.{Malformed, NotBluray, Unsupported}
 use Rattle.records.specs.Allocations.{noLong}
 use Rattle.descriptors.specs.Volumes.{readAnchor}
@@ -20,24 +23,23 @@ use Rattle.descriptors.specs.declared.file_sets.FileSetRead.{FileSetRead}
 use Rattle.volumes.specs.declared.sequences.Kept.{Kept}
 use Rattle.volumes.specs.declared.openings.VolumeRecord.{VolumeRecord}
 use Rattle.volumes.specs.declared.openings.Opened.{Opened}
-use Rattle.volumes.specs.Sequences.{nothing, scan}
+use Rattle.volumes.specs.Sequences.{nothing, keptOf, scan}
 
 -- ---- behind the sequence
 
--- the partition that the file set descriptor's place names is the one that was found (the original's rule; 3/10.7 has an index into the maps)
-abbrev pub fileSetHere : Kept → Bool
-fileSetHere k = eqb (k .«file_set» .location .«partition_ref») (k .«partition_number»)
+-- how the volume is read: where the partition that was kept starts, and its number
+abbrev pub mountIn : Kept → Mount
+mountIn k = record { start = k .«partition_start»; partition = k .«partition_number» }
+
+-- the file set descriptor's place: the partition that it names is the one that was found (the original's rule; 3/10.7 has an index into the maps)
+abbrev pub fileSetIn : Kept → Option ℕ
+fileSetIn k = placed (mountIn k) (Named (k .«file_set» .location .«partition_ref»)) (k .«file_set» .location .block)
 
 -- the volume, once its file set descriptor is read
 abbrev pub volumeIn : Kept → FileSetRead → Outcome VolumeRecord
 volumeIn k r =
     pick (eqb (r .answer) 0)
-    (answered (record {
-      start = k .«partition_start»;
-      «partition_number» = k .«partition_number»;
-      root = r .descriptor .«root_directory_icb»;
-      label = k .label;
-    }))
+    (answered (record { mount = mountIn k; root = r .descriptor .«root_directory_icb»; label = k .label }))
     (refused Malformed)
 
 -- no PVD, no PD, no LVD; the block size; the file set descriptor's partition; its sector; its parse
@@ -47,9 +49,7 @@ mounting k =
     (pick (k .«has_partition»)
     (pick (k .«has_logical»)
     (pick (eqb (k .«block_size») 2048)
-    (pick (fileSetHere k)
-    (ask (k .«partition_start» + k .«file_set» .location .block) (λ b. ended (volumeIn k (readFileSet b))))
-    (refuse Unsupported))
+    (standing (fileSetIn k) (λ s. ask s (λ b. ended (volumeIn k (readFileSet b)))))
     (refuse Unsupported))
     (refuse NotBluray))
     (refuse NotBluray))
@@ -61,7 +61,7 @@ mounting k =
 abbrev pub anchored : AnchorRead → Ask VolumeRecord
 anchored (NoAnchor r) = refuse r
 anchored (AnAnchor a) =
-    then (scan (a .«main_volume_descriptor_sequence» .length / 2048) (a .«main_volume_descriptor_sequence» .location) nothing) mounting
+    then (scan (a .«main_volume_descriptor_sequence» .length / 2048) (a .«main_volume_descriptor_sequence» .location)) (λ ps. mounting (keptOf nothing ps))
 
 -- the anchor stands in sector 256 (3/8.4.2.1)
 unfoldable pub opening : Ask VolumeRecord
@@ -70,7 +70,7 @@ opening = ask 256 (λ b. anchored (readAnchor b))
 -- ---- as the code reports it
 
 abbrev pub noVolume : VolumeRecord
-noVolume = record { start = 0; «partition_number» = 0; root = noLong; label = replicate 32 0 }
+noVolume = record { mount = record { start = 0; partition = 0 }; root = noLong; label = replicate 32 0 }
 
 abbrev pub openedBy : ℕ → Outcome VolumeRecord → Opened
 openedBy n (answered v) = record { answer = 0; count = n; volume = v }

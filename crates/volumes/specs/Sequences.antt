@@ -1,12 +1,12 @@
--- The volume descriptor sequence (ECMA-167 3/8.4.2): document 01, "Opening a volume". Assumes nothing: these are definitions.
+-- The volume descriptor sequence (ECMA-167 3/8.4.2): document 01, "Opening a volume".
 use Prim.Native.Nat.{ℕ, zero, suc, _+_}
 use mathlib.Core.Bool.{true, false}
-use mathlib.Core.List.{List}
+use mathlib.Core.List.{List, [], _∷_}
 use lib.ListN.{replicate}
 use lib.Dec.{eqb}
 use Rattle.disc.specs.Choice.{pick}
 use Rattle.disc.specs.Refusals.{number}
-use Rattle.disc.specs.Ask.{Ask, Outcome}
+use Rattle.disc.specs.Ask.{Ask, Outcome, then}
 use Rattle.disc.specs.Ask.Ask.{done, refuse, ask}
 use Rattle.disc.specs.Ask.Outcome.{answered, refused}
 use Rattle.disc.specs.Ran.{Ran}
@@ -79,55 +79,62 @@ prevailing k (logical d) = record {
   «file_set» = d .«file_set_descriptor_location»;
 }
 
+-- what is kept of the descriptors of a sequence, in their order
+unfoldable pub keptOf : Kept → List Parsed → Kept
+keptOf k [] = k
+keptOf k (p ∷ ps) = keptOf (prevailing k p) ps
+
 -- ---- one sector
 
--- the scan goes on, is over, or is refused
+-- it holds a descriptor that is parsed, or one that is passed over; it ends the sequence; or the scan is refused
 pub data Says : Type 0 where
-  on : Kept → Says
-  over : Kept → Says
+  found : Parsed → Says
+  passed : Says
+  over : Says
   fails : Refusal → Says
 
--- a descriptor that was read replaces an earlier one; one that was refused refuses the scan
-abbrev pub primaryIn : Kept → PrimaryRead → Says
-primaryIn k r = pick (eqb (r .answer) 0) (on (prevailing k (primary (r .descriptor)))) (fails Malformed)
+abbrev pub primaryIn : PrimaryRead → Says
+primaryIn r = pick (eqb (r .answer) 0) (found (primary (r .descriptor))) (fails Malformed)
 
-abbrev pub partitionIn : Kept → PartitionRead → Says
-partitionIn k (APartition d) = on (prevailing k (partition d))
-partitionIn k (NoPartition r) = fails r
+abbrev pub partitionIn : PartitionRead → Says
+partitionIn (APartition d) = found (partition d)
+partitionIn (NoPartition r) = fails r
 
-abbrev pub logicalIn : Kept → LogicalRead → Says
-logicalIn k r = pick (eqb (r .answer) 0) (on (prevailing k (logical (r .descriptor)))) (fails Malformed)
+abbrev pub logicalIn : LogicalRead → Says
+logicalIn r = pick (eqb (r .answer) 0) (found (logical (r .descriptor))) (fails Malformed)
 
 -- by the id alone, of a sector's bytes b: 1, 5 and 6 are parsed, 8 ends the scan with no check of its tag, and all others are skipped unparsed
-unfoldable pub saysIn : Kept → List ℕ → Says
-saysIn k b =
-    pick (eqb (u16at b 0) 1) (primaryIn k (readPrimary b))
-    (pick (eqb (u16at b 0) 5) (partitionIn k (readPartition b))
-    (pick (eqb (u16at b 0) 6) (logicalIn k (readLogical b))
-    (pick (eqb (u16at b 0) 8) (over k)
-    (on k))))
+unfoldable pub saysIn : List ℕ → Says
+saysIn b =
+    pick (eqb (u16at b 0) 1) (primaryIn (readPrimary b))
+    (pick (eqb (u16at b 0) 5) (partitionIn (readPartition b))
+    (pick (eqb (u16at b 0) 6) (logicalIn (readLogical b))
+    (pick (eqb (u16at b 0) 8) over
+    passed)))
 
--- ---- n sectors from `at` on
+-- ---- n sectors from `at` on: the descriptors that are parsed, in order
 
-abbrev pub goOn : Says → (Kept → Ask Kept) → Ask Kept
-goOn (on k) rest = rest k
-goOn (over k) rest = done k
+abbrev pub goOn : Says → Ask (List Parsed) → Ask (List Parsed)
+goOn (found p) rest = then rest (λ ps. done (p ∷ ps))
+goOn passed rest = rest
+goOn over rest = done []
 goOn (fails r) rest = refuse r
 
-unfoldable pub scan : ℕ → ℕ → Kept → Ask Kept
-scan zero at k = done k
-scan (suc n) at k = ask at (λ b. goOn (saysIn k b) (λ k′. scan n (at + 1) k′))
+unfoldable pub scan : ℕ → ℕ → Ask (List Parsed)
+scan zero at = done []
+scan (suc n) at = ask at (λ b. goOn (saysIn b) (scan n (at + 1)))
 
--- ---- as the code reports it
+-- ---- as the code reports it, where k was kept before
 
-abbrev pub turnOf : Says → Turn
-turnOf (on k) = record { going = true; answer = 0; kept = k }
-turnOf (over k) = record { going = false; answer = 0; kept = k }
-turnOf (fails r) = record { going = false; answer = number r; kept = nothing }
+abbrev pub turnOf : Kept → Says → Turn
+turnOf k (found p) = record { going = true; answer = 0; kept = prevailing k p }
+turnOf k passed = record { going = true; answer = 0; kept = k }
+turnOf k over = record { going = false; answer = 0; kept = k }
+turnOf k (fails r) = record { going = false; answer = number r; kept = nothing }
 
-abbrev pub scannedBy : Outcome Kept → ℕ → Scanned
-scannedBy (answered k) n = record { answer = 0; count = n; kept = k }
-scannedBy (refused r) n = record { answer = number r; count = n; kept = nothing }
+abbrev pub scannedBy : Kept → Outcome (List Parsed) → ℕ → Scanned
+scannedBy k (answered ps) n = record { answer = 0; count = n; kept = keptOf k ps }
+scannedBy k (refused r) n = record { answer = number r; count = n; kept = nothing }
 
-abbrev pub scannedOf : Ran Kept → Scanned
-scannedOf r = scannedBy (r .outcome) (r .count)
+abbrev pub scannedOf : Kept → Ran (List Parsed) → Scanned
+scannedOf k r = scannedBy k (r .outcome) (r .count)

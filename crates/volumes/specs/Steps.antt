@@ -1,19 +1,23 @@
--- What the contracts of private functions cite: nothing to believe. Assumes nothing: these are definitions.
+-- What the contracts of private functions cite: nothing to believe.
 use Prim.Native.Nat.{ℕ}
 use mathlib.Core.List.{List}
 use mathlib.Core.Path.{_≡_}
 use lib.Dec.{eqb}
 use lib.ListN.{length}
 use Rattle.disc.specs.Choice.{pick}
+use Rattle.disc.specs.Ask.{Ask, ended}
+use Rattle.disc.specs.Ask.Ask.{ask}
 use Rattle.disc.specs.Ask.Outcome.{answered}
 use Rattle.disc.specs.Replies.{replyBy, leftBy}
 use Rattle.disc.specs.declared.refusals.Refusal.the-variants.{NoRoom}
 use Rattle.disc.specs.declared.replies.Reply.{Reply}
+use Rattle.descriptors.specs.FileSets.{readFileSet}
 use Rattle.names.specs.declared.dstrings.NameSize.{NameSize}
 use Rattle.names.specs.declared.dstrings.NameSize.the-variants.{Size, Refused}
 use Rattle.volumes.specs.declared.sequences.Kept.{Kept}
 use Rattle.volumes.specs.declared.openings.Opened.{Opened}
-use Rattle.volumes.specs.Openings.{fileSetHere}
+use Rattle.volumes.specs.declared.openings.VolumeRecord.{VolumeRecord}
+use Rattle.volumes.specs.Openings.{volumeIn}
 use Rattle.volumes.specs.Labels.{labelOf}
 
 -- a size as a number
@@ -32,9 +36,12 @@ mountable k =
     pick (k .«has_primary»)
     (pick (k .«has_partition»)
     (pick (k .«has_logical»)
-    (pick (eqb (k .«block_size») 2048)
-    (pick (fileSetHere k) 0 4)
+    (pick (eqb (k .«block_size») 2048) 0
     4)
     3)
     3)
     3
+
+-- the file set descriptor's sector, and its parse
+abbrev pub fileSetAt : Kept → ℕ → Ask VolumeRecord
+fileSetAt k s = ask s (λ b. ended (volumeIn k (readFileSet b)))

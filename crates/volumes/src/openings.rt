@@ -4,8 +4,8 @@ ghost use Prim.Native.Nat.{_<_, _^_};
 ghost use Rattle.disc.specs.Ran.{ran, after};
 ghost use Rattle.disc.specs.Images.{disc};
 ghost use Rattle.descriptors.specs.FileSets.{readFileSet};
-ghost use Rattle.volumes.specs.Openings.{noVolume, volumeIn, mounting, anchored, opening, openedBy, openedOf};
-ghost use Rattle.volumes.specs.Steps.{mountable};
+ghost use Rattle.volumes.specs.Openings.{noVolume, mountIn, volumeIn, mounting, anchored, opening, openedBy, openedOf};
+ghost use Rattle.volumes.specs.Steps.{mountable, fileSetAt};
 use crate::sequences::Kept;
 use crate::sequences::scan_sequence;
 use descriptors::anchors::AnchorRead;
@@ -14,20 +14,23 @@ use descriptors::file_sets::FileSetDescriptor;
 use disc::images::held_from;
 use disc::images::sector_at;
 use disc::places::Block;
+use disc::places::Mount;
+use disc::places::PartitionRef;
+use disc::places::Placed;
 use disc::places::Sector;
-use disc::places::sector_of;
 use records::allocations::LongAd;
 use records::allocations::no_long;
 
-// What is known of an opened volume: where its partition starts, the partition's number, its root directory and its label as recorded.
+// What is known of an opened volume: how it is read, its root directory and its label as recorded.
+#[repr(C)]
 pub struct VolumeRecord {
-    pub start: u32,
-    pub partition_number: u16,
+    pub mount: Mount,
     pub root: LongAd,
     pub label: [u8; 32],
 }
 
 // The answer number, the count of sectors, and the volume: zeros where it was refused.
+#[repr(C)]
 pub struct Opened {
     pub answer: u64,
     pub count: u64,
@@ -38,8 +41,10 @@ fn no_volume() -> VolumeRecord
     ensures { λ r. ⌜ r ≡ noVolume ⌝ }
 {
     VolumeRecord {
-        start: 0,
-        partition_number: 0,
+        mount: Mount {
+            start: 0,
+            partition: 0,
+        },
         root: no_long(),
         label: [0; 32],
     }
@@ -52,6 +57,16 @@ fn refused(answer: u64, count: u64) -> Opened
         answer,
         count,
         volume: no_volume(),
+    }
+}
+
+// How the volume is read, by the partition that was kept.
+fn mount_in(kept: Kept) -> Mount
+    ensures { λ r. ⌜ r ≡ mountIn kept ⌝ }
+{
+    Mount {
+        start: kept.partition_start,
+        partition: kept.partition_number,
     }
 }
 
@@ -70,8 +85,7 @@ fn volume_in(kept: Kept, b: &[u8], count: u64) -> Opened
         answer: 0,
         count,
         volume: VolumeRecord {
-            start: kept.partition_start,
-            partition_number: kept.partition_number,
+            mount: mount_in(kept),
             root,
             label,
         },
@@ -94,10 +108,18 @@ fn kept_answer(kept: Kept) -> u64
     if kept.block_size != 2048 {
         return 4;
     }
-    if kept.file_set.location.partition_ref != kept.partition_number {
-        return 4;
-    }
     0
+}
+
+// The file set descriptor in a sector, `count` sectors having been asked for.
+fn mount_at(image: &[u8], kept: Kept, sector: Sector, count: u64) -> Opened
+    requires { ⌜ count < 2 ^ 32 ⌝ }
+    ensures { λ r. ⌜ r ≡ openedOf (after count (ran (disc (now (image .entry))) (fileSetAt kept (sector .0)))) ⌝ }
+{
+    if held_from(image, sector) == 0 {
+        return refused(1, count + 1);
+    }
+    volume_in(kept, sector_at(image, sector), count + 1)
 }
 
 // What the descriptors that were kept lead to, `count` sectors having been asked for.
@@ -109,11 +131,12 @@ fn mount(image: &[u8], kept: Kept, count: u64) -> Opened
     if answer != 0 {
         return refused(answer, count);
     }
-    let sector = sector_of(kept.partition_start, Block(kept.file_set.location.block));
-    if held_from(image, sector) == 0 {
-        return refused(1, count + 1);
+    let place = kept.file_set.location;
+    let m = mount_in(kept);
+    match m.placed(PartitionRef::Named(place.partition_ref), Block(place.block)) {
+        Placed::Nowhere => refused(4, count),
+        Placed::At(sector) => mount_at(image, kept, sector, count),
     }
-    volume_in(kept, sector_at(image, sector), count + 1)
 }
 
 // What the anchor leads to.

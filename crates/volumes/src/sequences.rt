@@ -1,10 +1,9 @@
 // The volume descriptor sequence: one pass over its sectors, each looked at where it stands in the image.
 ghost use mathlib.Core.Path.{_≡_};
-ghost use mathlib.Core.Bool.{false};
+ghost use mathlib.Core.Bool.{true, false};
 ghost use Rattle.disc.specs.Ran.{ran};
 ghost use Rattle.disc.specs.Images.{disc};
 ghost use Rattle.volumes.specs.Sequences.{nothing, primaryIn, partitionIn, logicalIn, saysIn, turnOf, scan, scannedOf};
-ghost use Rattle.volumes.specs.Sequences.Says.{on};
 use descriptors::logicals::LogicalRead;
 use descriptors::logicals::LogicalVolumeDescriptor;
 use descriptors::partitions::PartitionDescriptor;
@@ -61,7 +60,7 @@ pub fn nothing_kept() -> Kept
 }
 
 fn goes_on(k: Kept) -> Turn
-    ensures { λ r. ⌜ r ≡ turnOf (on k) ⌝ }
+    ensures { λ r. ⌜ r ≡ record { going = true; answer = 0; kept = k } ⌝ }
 {
     Turn {
         going: true,
@@ -81,7 +80,7 @@ fn fails(answer: u64) -> Turn
 }
 
 fn take_primary(k: Kept, r: PrimaryRead) -> Turn
-    ensures { λ t. ⌜ t ≡ turnOf (primaryIn k r) ⌝ }
+    ensures { λ t. ⌜ t ≡ turnOf k (primaryIn r) ⌝ }
 {
     if r.answer != 0 {
         return fails(2);
@@ -102,7 +101,7 @@ fn take_primary(k: Kept, r: PrimaryRead) -> Turn
 }
 
 fn take_partition(k: Kept, r: PartitionRead) -> Turn
-    ensures { λ t. ⌜ t ≡ turnOf (partitionIn k r) ⌝ }
+    ensures { λ t. ⌜ t ≡ turnOf k (partitionIn r) ⌝ }
 {
     match r {
         PartitionRead::Refused(why) => fails(why.number()),
@@ -117,7 +116,7 @@ fn take_partition(k: Kept, r: PartitionRead) -> Turn
 }
 
 fn take_logical(k: Kept, r: LogicalRead) -> Turn
-    ensures { λ t. ⌜ t ≡ turnOf (logicalIn k r) ⌝ }
+    ensures { λ t. ⌜ t ≡ turnOf k (logicalIn r) ⌝ }
 {
     if r.answer != 0 {
         return fails(2);
@@ -139,7 +138,7 @@ fn take_logical(k: Kept, r: LogicalRead) -> Turn
 
 // One sector of the sequence, by its id.
 fn take_sector(k: Kept, b: &[u8]) -> Turn
-    ensures { λ t. ⌜ t ≡ turnOf (saysIn k (now (b .entry))) ⌝ }
+    ensures { λ t. ⌜ t ≡ turnOf k (saysIn (now (b .entry))) ⌝ }
 {
     let id = le16(b, 0);
     if id == 1 {
@@ -173,7 +172,7 @@ fn scan_refused(answer: u64, count: u64) -> Scanned
 
 // n sectors of the sequence, from `first` on.
 pub fn scan_sequence(image: &[u8], first: u32, n: u32) -> Scanned
-    ensures { λ r. ⌜ r ≡ scannedOf (ran (disc (now (image .entry))) (scan n first nothing)) ⌝ }
+    ensures { λ r. ⌜ r ≡ scannedOf nothing (ran (disc (now (image .entry))) (scan n first)) ⌝ }
 {
     let mut kept = nothing_kept();
     let mut i: u32 = 0;

@@ -6,10 +6,11 @@ use mathlib.Core.List.{List}
 use mathlib.Core.Option.{Option, none, some}
 use lib.ListN.{length, take, drop}
 use lib.Dec.{eqb}
+use Rattle.disc.specs.declared.places.Mount.{Mount}
 use Rattle.disc.specs.Choice.{pick}
 use Rattle.disc.specs.Refusals.{number}
 use Rattle.disc.specs.Counts.{reported}
-use Rattle.disc.specs.Ask.{Disc, Outcome}
+use Rattle.disc.specs.Ask.{Disc, Outcome, andThen}
 use Rattle.disc.specs.Ask.Outcome.{answered, refused}
 use Rattle.disc.specs.Ran.{Ran, ran, after}
 use Rattle.records.specs.Allocations.{noLong}
@@ -17,7 +18,7 @@ use Rattle.records.specs.declared.allocations.LongAd.{LongAd}
 use Rattle.identifiers.specs.Identifiers.{isDirectory}
 use Rattle.listings.specs.Entries.{Entry}
 use Rattle.listings.specs.Paths.{Component, componentsFrom, slashes}
-use Rattle.directories.specs.Lookups.{Sought, seeking, seekPath, icbOf, andThen, foundTo, lostOf}
+use Rattle.directories.specs.Lookups.{Sought, seeking, seekPath, icbOf, foundTo, lostOf}
 use Rattle.directories.specs.declared.lookups.Found.{Found}
 use Rattle.directories.specs.declared.walks.Entered.{Entered}
 use Rattle.directories.specs.declared.walks.PathPlace.{PathPlace}
@@ -47,10 +48,10 @@ abbrev pub endOf : Ran Sought → End
 endOf r = record { found = foundTo (andThen (r .outcome) icbOf) (reported (r .count)); lost = lostOf (r .outcome) }
 
 -- the end that a place leads to: it is there already, or the rest of the path is yet to be walked
-unfoldable pub leadsTo : Disc → ℕ → ℕ → ℕ → List ℕ → PathPlace → End
-leadsTo d start partition work path p =
+unfoldable pub leadsTo : Disc → Mount → ℕ → List ℕ → PathPlace → End
+leadsTo d v work path p =
     pick (p .going)
-    (endOf (after (p .count) (ran d (seeking start partition work (componentsFrom (p .from) (drop (p .from) path)) (p .icb) (p .directory)))))
+    (endOf (after (p .count) (ran d (seeking v work (componentsFrom (p .from) (drop (p .from) path)) (p .icb) (p .directory)))))
     (record {
       found = record { answer = p .answer; count = p .count; icb = p .icb };
       lost = record { bytes = take (p .end - p .from) (drop (p .from) path); at = p .from };
@@ -68,14 +69,14 @@ abbrev pub stepsLeft : List ℕ → PathPlace → ℕ
 stepsLeft path p = pick (p .going) (1 + (length path - p .from)) 0
 
 -- one step: to a place on the path, nearer the end, that leads to the same end
-pub record Steps (d : Disc) (start partition work : ℕ) (path : List ℕ) (p q : PathPlace) : Type 0 where
-  pub same : leadsTo d start partition work path q ≡ leadsTo d start partition work path p
+pub record Steps (d : Disc) (v : Mount) (work : ℕ) (path : List ℕ) (p q : PathPlace) : Type 0 where
+  pub same : leadsTo d v work path q ≡ leadsTo d v work path p
   pub on : On path q
   pub less : stepsLeft path q < stepsLeft path p
 
 -- a whole walk
-pub record Walks (d : Disc) (start partition work : ℕ) (root : LongAd) (path : List ℕ) (q : PathPlace) : Type 0 where
-  pub found : record { answer = q .answer; count = q .count; icb = q .icb } ≡ endOf (ran d (seekPath start partition work root path)) .found
-  pub lost : record { bytes = take (q .end - q .from) (drop (q .from) path); at = q .from } ≡ endOf (ran d (seekPath start partition work root path)) .lost
+pub record Walks (d : Disc) (v : Mount) (work : ℕ) (root : LongAd) (path : List ℕ) (q : PathPlace) : Type 0 where
+  pub found : record { answer = q .answer; count = q .count; icb = q .icb } ≡ endOf (ran d (seekPath v work root path)) .found
+  pub lost : record { bytes = take (q .end - q .from) (drop (q .from) path); at = q .from } ≡ endOf (ran d (seekPath v work root path)) .lost
   pub ordered : q .from ≤ q .end
   pub within : q .end ≤ length path

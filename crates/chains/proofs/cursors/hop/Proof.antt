@@ -1,10 +1,11 @@
--- `chains::cursors::hop` meets its contract: the area behind a continuation, where one may follow. Assumes nothing.
+-- `chains::cursors::hop` meets its contract: to the next area, where one may follow and it stands on this volume. Assumes nothing.
 use borrow.Author.Needs.{needs}
-use Rattle.chains.proofs.WalkLaws.{hop-in, hop-out}
+use Rattle.disc.proofs.PlaceLaws.{stands-low}
+use Rattle.chains.proofs.WalkLaws.{hop-out, hop-some, hop-nowhere, hop-in}
 use Rattle.chains.proofs.cursors.hop.Statement.{statement}
 use Rattle.chains.proofs.cursors.hop.Tie as tie
 
-ruleset hops = (hop-in, hop-out, needs)
+ruleset hops = (hop-out, hop-some, hop-nowhere, hop-in, stands-low, needs)
 
 pub hop-spec : {M : Type 1} → statement M
 hop-spec =
@@ -14,7 +15,5 @@ hop-spec =
     (λ c. search hops)
     (λ c. search hops)
     (λ c κs. search hops)
-    (λ c. search hops)
-    (λ c. search hops)
     (λ c. search hops)
     (λ c. search hops))

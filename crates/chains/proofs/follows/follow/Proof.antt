@@ -7,10 +7,10 @@ use Rattle.chains.proofs.follows.follow.Tie as tie
 ruleset follows = (follow-starts, follow-end, follow-broken, follow-cut, follow-none, follow-none-fits, follow-adds, follow-next, needs)
 
 abbrev Inv-loop : tie.InvT-loop
-Inv-loop image start partition kind c₀ count₀ c count = Following image start partition kind c₀ c count
+Inv-loop image mount kind c₀ count₀ c count = Following image mount kind c₀ c count
 
 abbrev μ-loop : tie.MeasureT-loop
-μ-loop image start partition kind c₀ count₀ c count = c .hops
+μ-loop image mount kind c₀ count₀ c count = c .hops
 
 pub follow-spec : {M : Type 1} → statement M
 follow-spec =

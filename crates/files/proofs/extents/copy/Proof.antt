@@ -8,10 +8,10 @@ use Rattle.files.proofs.extents.copy.Tie as tie
 ruleset copies = (copy-starts, copy-end, copy-refused, copy-hop, copy-hop-less, copy-less, copy-room, copy-adds, copy-source, copy-target, copy-enough, copy-next, needs)
 
 abbrev Inv-loop : tie.InvT-loop
-Inv-loop image start partition kind want out₀ c₀ filled₀ out c filled = Copying image start partition kind want out₀ c₀ out c filled
+Inv-loop image mount kind want out₀ c₀ filled₀ out c filled = Copying image mount kind want out₀ c₀ out c filled
 
 abbrev μ-loop : tie.MeasureT-loop
-μ-loop image start partition kind want out₀ c₀ filled₀ out c filled = weight c
+μ-loop image mount kind want out₀ c₀ filled₀ out c filled = weight c
 
 pub copy-spec : {M : Type 1} → statement M
 copy-spec =

@@ -8,10 +8,10 @@ use Rattle.files.proofs.extents.measure.Tie as tie
 ruleset measures = (measure-starts, measure-end, measure-refused, measure-hop, measure-hop-less, measure-adds, measure-less, measure-enough, measure-next, needs)
 
 abbrev Inv-loop : tie.InvT-loop
-Inv-loop image start partition kind want c₀ size₀ count₀ c size count = Measuring image start partition kind want c₀ c size count
+Inv-loop image mount kind want c₀ size₀ count₀ c size count = Measuring image mount kind want c₀ c size count
 
 abbrev μ-loop : tie.MeasureT-loop
-μ-loop image start partition kind want c₀ size₀ count₀ c size count = weight c
+μ-loop image mount kind want c₀ size₀ count₀ c size count = weight c
 
 pub measure-spec : {M : Type 1} → statement M
 measure-spec =

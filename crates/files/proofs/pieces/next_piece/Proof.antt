@@ -14,8 +14,6 @@ next-piece-spec =
     (λ c. search turns)
     (λ c. search turns)
     (λ c κs. search turns)
-    (λ c κs. search turns)
-    (λ c. search turns)
     (λ c. search turns)
     (λ c. search turns)
     (λ c. search turns)

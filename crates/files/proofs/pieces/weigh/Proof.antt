@@ -1,10 +1,11 @@
--- `files::pieces::weigh` meets its contract: type, partition, the first missing sector by a division, the bytes. Assumes nothing.
+-- `files::pieces::weigh` meets its contract: type, place, and what is there. Assumes nothing.
 use borrow.Author.Needs.{needs}
-use Rattle.files.proofs.PieceLaws.{weigh-type, weigh-foreign, weigh-missing, weigh-held}
+use Rattle.disc.proofs.PlaceLaws.{stands-nowhere, stands-at, stands-low}
+use Rattle.files.proofs.PieceLaws.{weigh-type, weigh-nowhere, weigh-there}
 use Rattle.files.proofs.pieces.weigh.Statement.{statement}
 use Rattle.files.proofs.pieces.weigh.Tie as tie
 
-ruleset weighs = (weigh-type, weigh-foreign, weigh-missing, weigh-held, needs)
+ruleset weighs = (weigh-type, weigh-nowhere, weigh-there, stands-nowhere, stands-at, stands-low, needs)
 
 pub weigh-spec : {M : Type 1} → statement M
 weigh-spec =
@@ -12,11 +13,7 @@ weigh-spec =
     (λ c. search weighs)
     (λ c κs. search weighs)
     (λ c. search weighs)
-    (λ c κs. search weighs)
-    (λ c κs. search weighs)
-    (λ c κs. search weighs)
-    (λ c. search weighs)
-    (λ c. search weighs)
     (λ c. search weighs)
     (λ c κs. search weighs)
+    (λ c. search weighs)
     (λ c. search weighs))

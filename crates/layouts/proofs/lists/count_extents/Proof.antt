@@ -8,10 +8,10 @@ use Rattle.layouts.proofs.lists.count_extents.Tie as tie
 ruleset counts = (count-starts, count-ends, count-hop, hop-less, take-less, count-adds, count-next, needs)
 
 abbrev Inv-loop : tie.InvT-loop
-Inv-loop image start kind c₀ n₀ c n = Counting image start kind c₀ c n
+Inv-loop image mount kind c₀ n₀ c n = Counting image mount kind c₀ c n
 
 abbrev μ-loop : tie.MeasureT-loop
-μ-loop image start kind c₀ n₀ c n = weight c
+μ-loop image mount kind c₀ n₀ c n = weight c
 
 pub count-extents-spec : {M : Type 1} → statement M
 count-extents-spec =

@@ -9,10 +9,10 @@ use Rattle.layouts.proofs.lists.file_words.Tie as tie
 ruleset stores = (stores-start, words-end, stores-slot, stores-long, stores-below, stores-adds, stores-next, needs)
 
 abbrev Inv-loop : tie.InvT-loop
-Inv-loop image start partition row₀ l₀ n i₀ row l i = Stores fieldsOf image l₀ row₀ row l n i
+Inv-loop image row₀ l₀ n i₀ row l i = Stores fieldsOf image l₀ row₀ row l n i
 
 abbrev μ-loop : tie.MeasureT-loop
-μ-loop image start partition row₀ l₀ n i₀ row l i = n - i
+μ-loop image row₀ l₀ n i₀ row l i = n - i
 
 pub file-words-spec : {M : Type 1} → statement M
 file-words-spec =

@@ -8,10 +8,10 @@ use Rattle.layouts.proofs.lists.listing_at.Tie as tie
 ruleset walks = (walk-starts, walk-hop, hop-less, walk-ends, walk-takes, needs)
 
 abbrev Inv-loop : tie.InvT-loop
-Inv-loop image start kind reply c₀ c = Walking image start kind c₀ c
+Inv-loop image mount kind reply c₀ c = Walking image mount kind c₀ c
 
 abbrev μ-loop : tie.MeasureT-loop
-μ-loop image start kind reply c₀ c = weight c
+μ-loop image mount kind reply c₀ c = weight c
 
 pub listing-at-spec : {M : Type 1} → statement M
 listing-at-spec =

@@ -17,5 +17,4 @@ kept-answer-spec =
     (λ c. search picks)
     (λ c. search picks)
     (λ c. search picks)
-    (λ c. search picks)
     (λ c. search picks))

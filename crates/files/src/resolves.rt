@@ -1,0 +1,54 @@
+// A file's entry and its chain: what is read before anything is asked of the file.
+ghost use mathlib.Core.Path.{_≡_};
+ghost use Rattle.files.specs.Wholes.{frontOf, Resolves};
+use crate::icbs::Place;
+use crate::icbs::PlaceRead;
+use crate::icbs::locate;
+use chains::cursors::ChainCursor;
+use chains::follows::Chain;
+use chains::follows::follow;
+use disc::places::Mount;
+use disc::refusals::Refusal;
+use records::allocations::LongAd;
+
+// Embedded in its entry; or in the extents of its chain, which was followed to its end, with the number of sectors asked for; or a refusal
+// with that number.
+pub enum Resolved {
+    Embedded(Place),
+    Chained(Place, u64),
+    Refused(Refusal, u64),
+}
+
+// The kind of an entry in which the file itself stands.
+const EMBEDDED: u8 = 3;
+
+// No more continuations than these are followed.
+const MOST_CONTINUATIONS: u8 = 32;
+
+// The cursor at the front of a file's chain.
+pub fn front_of(p: Place) -> ChainCursor
+    ensures { λ r. ⌜ r ≡ frontOf p ⌝ }
+{
+    ChainCursor {
+        at: p.at,
+        left: p.size,
+        hops: MOST_CONTINUATIONS,
+    }
+}
+
+pub fn resolve(image: &[u8], mount: Mount, icb: LongAd) -> Resolved
+    ensures { λ r. ⌜ Resolves (now (image .entry)) mount icb r ⌝ }
+{
+    match locate(image, mount, icb) {
+        PlaceRead::Refused(why, n) => Resolved::Refused(why, n),
+        PlaceRead::Found(p) => {
+            if p.kind == EMBEDDED {
+                return Resolved::Embedded(p);
+            }
+            match follow(image, mount, p.kind, front_of(p)) {
+                Chain::Refused(why, n) => Resolved::Refused(why, n + 1),
+                Chain::Whole(n) => Resolved::Chained(p, n + 1),
+            }
+        }
+    }
+}
