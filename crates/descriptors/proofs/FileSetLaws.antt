@@ -6,11 +6,11 @@ use Rattle.disc.specs.Refusals.{number}
 use Rattle.disc.specs.declared.refusals.Refusal.{Refusal}
 use Rattle.records.specs.Allocations.{longOf, noLong}
 use Rattle.records.specs.declared.allocations.LongAd.{LongAd}
+use Rattle.tags.specs.Tags.{readHead}
 use Rattle.tags.specs.Answers.{noTag}
 use Rattle.tags.specs.declared.DescriptorTag.{DescriptorTag}
 use Rattle.tags.specs.declared.TagRead.{TagRead}
 use Rattle.tags.specs.declared.TagRead.the-variants.{Read, Refused}
-use Rattle.descriptors.specs.Heads.{readHead}
 use Rattle.descriptors.specs.FileSets.{noFileSet, readFileSet}
 use Rattle.descriptors.specs.declared.file_sets.FileSetRead.{FileSetRead}
 

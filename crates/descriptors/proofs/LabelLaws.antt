@@ -12,7 +12,7 @@ use Rattle.disc.proofs.MoveLaws.{over-fits}
 use Rattle.names.specs.Names.{nameOfField, sizeOf}
 use Rattle.names.specs.declared.dstrings.NameSize.{NameSize}
 use Rattle.names.specs.declared.dstrings.NameSize.the-variants.{Size, Refused}
-use Rattle.descriptors.specs.Heads.{given, decodes}
+use Rattle.descriptors.specs.Labels.{given, decodes}
 
 sized : (o : Option (List ℕ)) {x : NameSize} {n : ℕ} → x ≡ sizeOf o → x ≡ Size n → true ≡ given o
 sized (some name) e h = refl

@@ -11,11 +11,12 @@ use Rattle.records.specs.Bytes.{u16at, u32at}
 use Rattle.records.specs.Allocations.{extentOf, longOf, noLong}
 use Rattle.records.specs.declared.allocations.ExtentAd.{ExtentAd}
 use Rattle.records.specs.declared.allocations.LongAd.{LongAd}
+use Rattle.tags.specs.Tags.{readHead}
 use Rattle.tags.specs.Answers.{noTag}
 use Rattle.tags.specs.declared.DescriptorTag.{DescriptorTag}
 use Rattle.tags.specs.declared.TagRead.{TagRead}
 use Rattle.tags.specs.declared.TagRead.the-variants.{Read as ATag, Refused as NoTag}
-use Rattle.descriptors.specs.Heads.{readHead, decodes}
+use Rattle.descriptors.specs.Labels.{decodes}
 use Rattle.descriptors.specs.Volumes.{readAnchor, noPrimary, primaryBehind, readPrimary, readPartition, noLogical, logicalBehind, readLogical}
 use Rattle.descriptors.specs.declared.anchors.AnchorRead.the-variants.{Read as AnAnchor, Refused as NoAnchor}
 use Rattle.descriptors.specs.declared.primaries.PrimaryRead.{PrimaryRead}

@@ -4,11 +4,11 @@ use mathlib.Core.List.{List}
 use Rattle.disc.specs.Refusals.{number}
 use Rattle.disc.specs.declared.refusals.Refusal.{Refusal}
 use Rattle.records.specs.Allocations.{longOf, noLong}
+use Rattle.tags.specs.Tags.{readHead}
 use Rattle.tags.specs.Answers.{noTag}
 use Rattle.tags.specs.declared.DescriptorTag.{DescriptorTag}
 use Rattle.tags.specs.declared.TagRead.{TagRead}
 use Rattle.tags.specs.declared.TagRead.the-variants.{Read, Refused}
-use Rattle.descriptors.specs.Heads.{readHead}
 use Rattle.descriptors.specs.declared.file_sets.FileSetDescriptor.{FileSetDescriptor}
 use Rattle.descriptors.specs.declared.file_sets.FileSetRead.{FileSetRead}
 
@@ -20,7 +20,7 @@ fileSetOf s t = record { tag = t; «root_directory_icb» = longOf s 400 }
 abbrev pub noFileSet : Refusal → FileSetRead
 noFileSet r = record { answer = number r; descriptor = record { tag = noTag; «root_directory_icb» = noLong } }
 
--- Behind the head: its refusal, or what it leads to.
+-- Behind the gate: its refusal, or what it leads to.
 abbrev pub fileSetAfter : List ℕ → TagRead → FileSetRead
 fileSetAfter s (Refused r) = noFileSet r
 fileSetAfter s (Read t) = record { answer = 0; descriptor = fileSetOf s t }

@@ -1,5 +1,5 @@
 -- What the contracts cite, lowest first.
-pub mod Heads
+pub mod Labels
 pub mod Volumes
 pub mod FileSets
 pub mod Answers

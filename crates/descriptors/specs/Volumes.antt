@@ -9,11 +9,12 @@ use Rattle.disc.specs.declared.refusals.Refusal.{Refusal}
 use Rattle.disc.specs.declared.refusals.Refusal.the-variants.{Malformed}
 use Rattle.records.specs.Bytes.{u16at, u32at}
 use Rattle.records.specs.Allocations.{extentOf, longOf, noLong}
+use Rattle.tags.specs.Tags.{readHead}
 use Rattle.tags.specs.Answers.{noTag}
 use Rattle.tags.specs.declared.DescriptorTag.{DescriptorTag}
 use Rattle.tags.specs.declared.TagRead.{TagRead}
 use Rattle.tags.specs.declared.TagRead.the-variants.{Read as ATag, Refused as NoTag}
-use Rattle.descriptors.specs.Heads.{readHead, decodes}
+use Rattle.descriptors.specs.Labels.{decodes}
 use Rattle.descriptors.specs.declared.anchors.AnchorVolumeDescriptorPointer.{AnchorVolumeDescriptorPointer}
 use Rattle.descriptors.specs.declared.anchors.AnchorRead.{AnchorRead}
 use Rattle.descriptors.specs.declared.anchors.AnchorRead.the-variants.{Read as AnAnchor, Refused as NoAnchor}
@@ -35,7 +36,7 @@ anchorOf s t = record {
   «reserve_volume_descriptor_sequence» = extentOf s 24;
 }
 
--- Behind the head: its refusal, or what it leads to.
+-- Behind the gate: its refusal, or what it leads to.
 abbrev pub anchorAfter : List ℕ → TagRead → AnchorRead
 anchorAfter s (NoTag r) = NoAnchor r
 anchorAfter s (ATag t) = AnAnchor (anchorOf s t)
@@ -71,7 +72,7 @@ noPrimary r = record {
 unfoldable pub primaryBehind : List ℕ → DescriptorTag → PrimaryRead
 primaryBehind s t = pick (decodes (take 32 (drop 24 s))) (record { answer = 0; descriptor = primaryOf s t }) (noPrimary Malformed)
 
--- Behind the head: its refusal, or the label's check.
+-- Behind the gate: its refusal, or the label's check.
 abbrev pub primaryAfter : List ℕ → TagRead → PrimaryRead
 primaryAfter s (NoTag r) = noPrimary r
 primaryAfter s (ATag t) = primaryBehind s t
@@ -93,7 +94,7 @@ partitionOf s t = record {
   «partition_length» = u32at s 192;
 }
 
--- Behind the head: its refusal, or what it leads to.
+-- Behind the gate: its refusal, or what it leads to.
 abbrev pub partitionAfter : List ℕ → TagRead → PartitionRead
 partitionAfter s (NoTag r) = NoPartition r
 partitionAfter s (ATag t) = APartition (partitionOf s t)
@@ -132,7 +133,7 @@ noLogical r = record {
 unfoldable pub logicalBehind : List ℕ → DescriptorTag → LogicalRead
 logicalBehind s t = pick (decodes (take 128 (drop 84 s))) (record { answer = 0; descriptor = logicalOf s t }) (noLogical Malformed)
 
--- Behind the head: its refusal, or the label's check.
+-- Behind the gate: its refusal, or the label's check.
 abbrev pub logicalAfter : List ℕ → TagRead → LogicalRead
 logicalAfter s (NoTag r) = noLogical r
 logicalAfter s (ATag t) = logicalBehind s t

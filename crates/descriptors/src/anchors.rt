@@ -1,12 +1,17 @@
 // The anchor volume descriptor pointer: where the volume descriptor sequences are.
 ghost use mathlib.Core.Path.{_≡_};
 ghost use Rattle.descriptors.specs.Volumes.{readAnchor};
-use crate::heads::read_head;
 use disc::refusals::Refusal;
 use records::allocations::ExtentAd;
 use records::allocations::extent_at;
 use tags::DescriptorTag;
 use tags::TagRead;
+use tags::heads::read_head;
+
+// ECMA-167 3/10.2.
+const ID: u16 = 2;
+
+const SIZE: usize = 32;
 
 #[repr(C)]
 pub struct AnchorVolumeDescriptorPointer {
@@ -24,7 +29,7 @@ impl AnchorVolumeDescriptorPointer {
     pub fn parse(s: &[u8]) -> AnchorRead
         ensures { λ r. ⌜ r ≡ readAnchor (now (s .entry)) ⌝ }
     {
-        match read_head(s, 2, 32) {
+        match read_head(s, ID, SIZE) {
             TagRead::Refused(why) => AnchorRead::Refused(why),
             TagRead::Read(t) => AnchorRead::Read(AnchorVolumeDescriptorPointer {
                 tag: t,

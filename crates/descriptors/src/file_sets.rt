@@ -1,14 +1,19 @@
 // The file set descriptor: where the root directory is.
 ghost use mathlib.Core.Path.{_≡_};
 ghost use Rattle.descriptors.specs.FileSets.{readFileSet, noFileSet};
-use crate::heads::read_head;
 use disc::refusals::Refusal;
 use records::allocations::LongAd;
 use records::allocations::long_at;
 use records::allocations::no_long;
 use tags::DescriptorTag;
 use tags::TagRead;
+use tags::heads::read_head;
 use tags::no_tag;
+
+// ECMA-167 4/14.1.
+const ID: u16 = 256;
+
+const SIZE: usize = 416;
 
 #[repr(C)]
 pub struct FileSetDescriptor {
@@ -39,7 +44,7 @@ impl FileSetDescriptor {
     pub fn parse(s: &[u8]) -> FileSetRead
         ensures { λ r. ⌜ r ≡ readFileSet (now (s .entry)) ⌝ }
     {
-        match read_head(s, 256, 416) {
+        match read_head(s, ID, SIZE) {
             TagRead::Refused(why) => no_file_set(why),
             TagRead::Read(t) => FileSetRead {
                 answer: 0,

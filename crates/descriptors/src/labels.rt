@@ -2,7 +2,7 @@
 ghost use mathlib.Core.Path.{_≡_};
 ghost use Prim.Native.Nat.{_≤_};
 ghost use lib.ListN.{length, take, drop};
-ghost use Rattle.descriptors.specs.Heads.{decodes};
+ghost use Rattle.descriptors.specs.Labels.{decodes};
 use disc::moves::copy;
 use names::dstrings::NameSize;
 use names::fields::field_size;

@@ -2,7 +2,6 @@
 // from bytes; and the recognition of a volume structure descriptor.
 pub mod anchors;
 pub mod file_sets;
-mod heads;
 mod labels;
 pub mod logicals;
 pub mod partitions;

@@ -3,7 +3,6 @@ ghost use mathlib.Core.Path.{_≡_};
 ghost use Prim.Native.Nat.{_≤_};
 ghost use lib.ListN.{length};
 ghost use Rattle.descriptors.specs.Volumes.{readLogical, logicalBehind, noLogical};
-use crate::heads::read_head;
 use crate::labels::is_label;
 use crate::labels::logical_label;
 use disc::refusals::Refusal;
@@ -13,7 +12,13 @@ use records::allocations::no_long;
 use records::bytes::le32;
 use tags::DescriptorTag;
 use tags::TagRead;
+use tags::heads::read_head;
 use tags::no_tag;
+
+// ECMA-167 3/10.6.
+const ID: u16 = 6;
+
+const SIZE: usize = 440;
 
 // The identifier is the label's field as recorded. The block size is in bytes.
 #[repr(C)]
@@ -72,7 +77,7 @@ impl LogicalVolumeDescriptor {
     pub fn parse(s: &[u8]) -> LogicalRead
         ensures { λ r. ⌜ r ≡ readLogical (now (s .entry)) ⌝ }
     {
-        match read_head(s, 6, 440) {
+        match read_head(s, ID, SIZE) {
             TagRead::Refused(why) => no_logical(why),
             TagRead::Read(t) => logical_behind(s, t),
         }

@@ -1,12 +1,17 @@
 // The partition descriptor: where the partition's blocks begin on the disc.
 ghost use mathlib.Core.Path.{_≡_};
 ghost use Rattle.descriptors.specs.Volumes.{readPartition};
-use crate::heads::read_head;
 use disc::refusals::Refusal;
 use records::bytes::le16;
 use records::bytes::le32;
 use tags::DescriptorTag;
 use tags::TagRead;
+use tags::heads::read_head;
+
+// ECMA-167 3/10.5.
+const ID: u16 = 5;
+
+const SIZE: usize = 196;
 
 // The start and the length are in logical sectors.
 #[repr(C)]
@@ -28,7 +33,7 @@ impl PartitionDescriptor {
     pub fn parse(s: &[u8]) -> PartitionRead
         ensures { λ r. ⌜ r ≡ readPartition (now (s .entry)) ⌝ }
     {
-        match read_head(s, 5, 196) {
+        match read_head(s, ID, SIZE) {
             TagRead::Refused(why) => PartitionRead::Refused(why),
             TagRead::Read(t) => PartitionRead::Read(PartitionDescriptor {
                 tag: t,

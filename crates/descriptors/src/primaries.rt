@@ -3,14 +3,19 @@ ghost use mathlib.Core.Path.{_≡_};
 ghost use Prim.Native.Nat.{_≤_};
 ghost use lib.ListN.{length};
 ghost use Rattle.descriptors.specs.Volumes.{readPrimary, primaryBehind, noPrimary};
-use crate::heads::read_head;
 use crate::labels::is_label;
 use crate::labels::volume_label;
 use disc::refusals::Refusal;
 use records::bytes::le32;
 use tags::DescriptorTag;
 use tags::TagRead;
+use tags::heads::read_head;
 use tags::no_tag;
+
+// ECMA-167 3/10.1.
+const ID: u16 = 1;
+
+const SIZE: usize = 56;
 
 // The volume identifier is the label's field as recorded.
 #[repr(C)]
@@ -66,7 +71,7 @@ impl PrimaryVolumeDescriptor {
     pub fn parse(s: &[u8]) -> PrimaryRead
         ensures { λ r. ⌜ r ≡ readPrimary (now (s .entry)) ⌝ }
     {
-        match read_head(s, 1, 56) {
+        match read_head(s, ID, SIZE) {
             TagRead::Refused(why) => no_primary(why),
             TagRead::Read(t) => primary_behind(s, t),
         }

@@ -10,8 +10,8 @@ use borrow.Author.Tests.{eq-eqb, ne-eqb, lt-ltb, le-ltb, ltb-false}
 use Rattle.disc.specs.Choice.{pick}
 use Rattle.disc.specs.declared.refusals.Refusal.{Refusal}
 use Rattle.disc.specs.declared.refusals.Refusal.the-variants.{Malformed}
-use Rattle.records.specs.Bytes.{u32at}
-use Rattle.tags.specs.Tags.{readTag}
+use Rattle.records.specs.Bytes.{u16at, u32at}
+use Rattle.tags.specs.Tags.{readHead}
 use Rattle.tags.specs.declared.DescriptorTag.{DescriptorTag}
 use Rattle.tags.specs.declared.TagRead.{TagRead}
 use Rattle.tags.specs.declared.TagRead.the-variants.{Read as ATag, Refused as NoTag}
@@ -23,9 +23,8 @@ use Rattle.entries.specs.declared.«file_entries».EntryRead.{EntryRead}
 use Rattle.entries.specs.declared.«file_entries».EntryRead.the-variants.{Read, Refused}
 use Rattle.entries.specs.Bytes.{u64at}
 use Rattle.entries.specs.IcbTags.{icbTagOf}
-use Rattle.entries.specs.FileEntries.{plainTail, extendedTail, kindOf, entryOf, entryWith, entryAfter, readEntry}
-use Rattle.entries.specs.Wholes.{tailOf, WholeEntry}
-use Rattle.tags.proofs.RoundTrips.{tag-refused}
+use Rattle.entries.specs.FileEntries.{plainTail, extendedTail, kindOf, entryOf, entryWith, entryId, entryBehind, entryAfter, readEntry}
+use Rattle.tags.proofs.HeadLaws.{Passed, head-read, head-refused}
 
 -- ---- the returns of `plain_tail` and `extended_tail`
 
@@ -56,7 +55,7 @@ module _ (s : List ℕ) (t : DescriptorTag) (i : IcbTag) (d : EntryTail) where
     unfolding entryWith
     with-read f k g = simp (le-ltb 3 (i .flags % 8) h, le-ltb _ _ (rw f at k), g)
 
--- ---- the returns of `entry_after`
+-- ---- the returns of `entry_id` and `entry_behind`
 
 module _ (s : List ℕ) {d : EntryTail} where
   pub plain-prefix : d ≡ plainTail s → d .prefix ≤ 216
@@ -67,46 +66,55 @@ module _ (s : List ℕ) {d : EntryTail} where
   unfolding extendedTail
   extended-prefix e = rw e (omega arith)
 
-module _ (s : List ℕ) {r : TagRead} where
-  pub after-refused : {why : Refusal} → r ≡ NoTag why → Refused why ≡ entryAfter s r
-  unfolding entryAfter
-  after-refused e = rw e
+module _ (s : List ℕ) {id : ℕ} (e : id ≡ u16at s 0) where
+  pub id-extended : id ≡ 266 → 266 ≡ entryId s
+  id-extended h = rw (← e, eq-eqb id 266 h)
 
-  module _ (t : DescriptorTag) (e : r ≡ ATag t) where
-    pub after-plain : t .id ≡ 261 → {i : IcbTag} {d : EntryTail} → i ≡ icbTagOf s 16 → d ≡ plainTail s → {x : EntryRead} → x ≡ entryWith s t i d → x ≡ entryAfter s r
-    unfolding entryAfter
-    after-plain h g f k = rw (e, eq-eqb (t .id) 261 h, ← g, ← f) k
+  pub id-plain : (id ≡ 266 → ⊥) → 261 ≡ entryId s
+  id-plain h = rw (← e, ne-eqb id 266 h)
 
-    module _ (n : t .id ≡ 261 → ⊥) where
-      pub after-short : t .id ≡ 266 → length s < 216 → Refused Malformed ≡ entryAfter s r
-      unfolding entryAfter
-      after-short h l = rw (e, ne-eqb (t .id) 261 n, eq-eqb (t .id) 266 h, lt-ltb (length s) 216 l)
+module _ (s : List ℕ) (t : DescriptorTag) where
+  pub behind-short : t .id ≡ 266 → length s < 216 → Refused Malformed ≡ entryBehind s t
+  unfolding entryBehind
+  behind-short h l = rw (eq-eqb (t .id) 266 h, lt-ltb (length s) 216 l)
 
-      pub after-extended : t .id ≡ 266 → 216 ≤ length s → {i : IcbTag} {d : EntryTail} → i ≡ icbTagOf s 16 → d ≡ extendedTail s → {x : EntryRead} → x ≡ entryWith s t i d → x ≡ entryAfter s r
-      unfolding entryAfter
-      after-extended h l g f k = rw (e, ne-eqb (t .id) 261 n, eq-eqb (t .id) 266 h, le-ltb (length s) 216 l, ← g, ← f) k
+  module _ {i : IcbTag} (g : i ≡ icbTagOf s 16) {d : EntryTail} {x : EntryRead} (k : x ≡ entryWith s t i d) where
+    pub behind-extended : t .id ≡ 266 → 216 ≤ length s → d ≡ extendedTail s → x ≡ entryBehind s t
+    unfolding entryBehind
+    behind-extended h l f = rw (eq-eqb (t .id) 266 h, le-ltb (length s) 216 l, ← g, ← f) k
 
-      pub after-other : (t .id ≡ 266 → ⊥) → Refused Malformed ≡ entryAfter s r
-      unfolding entryAfter
-      after-other h = rw (e, ne-eqb (t .id) 261 n, ne-eqb (t .id) 266 h)
+    pub behind-plain : (t .id ≡ 266 → ⊥) → d ≡ plainTail s → x ≡ entryBehind s t
+    unfolding entryBehind
+    behind-plain h f = rw (ne-eqb (t .id) 266 h, ← g, ← f) k
 
--- ---- the returns of `parse`
+-- ---- the returns of `parse`: `x` is what the gate gave
 
-module _ (s : List ℕ) where
-  pub read-short : length s < 176 → Refused Malformed ≡ readEntry s
+module _ (s : List ℕ) {id : ℕ} (i : id ≡ entryId s) {x : TagRead} (e : x ≡ readHead s id 176) where
+  pub entry-no : {why : Refusal} → x ≡ NoTag why → Refused why ≡ readEntry s
   unfolding readEntry
-  read-short h = rw (lt-ltb (length s) 176 h)
+  entry-no h = rw (← i, ← e, h)
 
-  pub read-after : 176 ≤ length s → {t : TagRead} → t ≡ readTag s → {x : EntryRead} → x ≡ entryAfter s t → x ≡ readEntry s
+  pub entry-yes : {t : DescriptorTag} → x ≡ ATag t → {r : EntryRead} → r ≡ entryBehind s t → r ≡ readEntry s
   unfolding readEntry
-  read-after h e k = rw (le-ltb (length s) 176 h, ← e) k
+  entry-yes h k = rw (← i, ← e, h) k
 
 -- ---- what was read
 
-module _ (s : List ℕ) {e : FileEntry} where
-  with-says : (t : DescriptorTag) (d : EntryTail) → readTag s ≡ ATag t → 176 ≤ d .prefix → d ≡ tailOf s t → entryWith s t (icbTagOf s 16) d ≡ Read e → WholeEntry s e
+-- the fields from 64 on, by the tag's id
+abbrev pub tailOf : List ℕ → DescriptorTag → EntryTail
+tailOf s t = pick (eqb (t .id) 266) (extendedTail s) (plainTail s)
+
+-- e is the entry at the front of s: it passed the gate, its fields are those of the bytes, its kind is known, and its area lies within s
+pub record WholeEntry (s : List ℕ) (e : FileEntry) : Type 0 where
+  pub head : Passed s (entryId s) 176 (e .tag)
+  pub fields : e ≡ entryOf s (e .tag) (icbTagOf s 16) (tailOf s (e .tag))
+  pub known : e .kind ≤ 3
+  pub inside : e .«area_at» + e .«area_length» ≤ length s
+
+module _ (s : List ℕ) {e : FileEntry} (t : DescriptorTag) (p : Passed s (entryId s) 176 t) where
+  with-says : (d : EntryTail) → d ≡ tailOf s t → entryWith s t (icbTagOf s 16) d ≡ Read e → WholeEntry s e
   unfolding entryWith entryOf
-  with-says t d g p f q = told (ltb 3 (kindOf (icbTagOf s 16))) (ltb (length s) (d .prefix + d .attributes + d .descriptors)) refl refl q
+  with-says d f q = told (ltb 3 (kindOf (icbTagOf s 16))) (ltb (length s) (d .prefix + d .attributes + d .descriptors)) refl refl q
     where
       told : (a b : Bool) → ltb 3 (kindOf (icbTagOf s 16)) ≡ a → ltb (length s) (d .prefix + d .attributes + d .descriptors) ≡ b
           → pick a (Refused Malformed) (pick b (Refused Malformed) (Read (entryOf s t (icbTagOf s 16) d))) ≡ Read e → WholeEntry s e
@@ -114,60 +122,51 @@ module _ (s : List ℕ) {e : FileEntry} where
       told false true x y q = absurd (let z : _≡_ {A = ℕ} 0 1 = cc in omega arith)
       told false false x y q =
           let i : e ≡ entryOf s t (icbTagOf s 16) d = cc in
-          record {
-            tag = rw i g;
-            fields = rw i (ap (entryOf s t (icbTagOf s 16)) f);
-            information = rw i;
-            kind = rw i;
-            known = rw i (ltb-false _ _ x);
-            behind = rw i (omega arith);
-            inside = rw i (ltb-false _ _ y);
-          }
+          record { head = rw i p; fields = rw i (ap (entryOf s t (icbTagOf s 16)) f); known = rw i (ltb-false _ _ x); inside = rw i (ltb-false _ _ y) }
 
-  after-says : (q : TagRead) → readTag s ≡ q → entryAfter s q ≡ Read e → WholeEntry s e
-  unfolding entryAfter plainTail extendedTail
-  after-says (NoTag why) g q = absurd (let z : _≡_ {A = ℕ} 0 1 = cc in omega arith)
-  after-says (ATag t) g q = told (eqb (t .id) 261) (eqb (t .id) 266) (ltb (length s) 216) refl q
+  behind-says : entryBehind s t ≡ Read e → WholeEntry s e
+  unfolding entryBehind
+  behind-says q = told (eqb (t .id) 266) (ltb (length s) 216) refl q
     where
-      told : (a b c : Bool) → eqb (t .id) 261 ≡ a
-          → pick a (entryWith s t (icbTagOf s 16) (plainTail s)) (pick b (pick c (Refused Malformed) (entryWith s t (icbTagOf s 16) (extendedTail s))) (Refused Malformed)) ≡ Read e
+      told : (a b : Bool) → eqb (t .id) 266 ≡ a
+          → pick a (pick b (Refused Malformed) (entryWith s t (icbTagOf s 16) (extendedTail s))) (entryWith s t (icbTagOf s 16) (plainTail s)) ≡ Read e
           → WholeEntry s e
-      told true b c x q = with-says t (plainTail s) g (omega arith) (rw x) q
-      told false true true x q = absurd (let z : _≡_ {A = ℕ} 0 1 = cc in omega arith)
-      told false true false x q = with-says t (extendedTail s) g (omega arith) (rw x) q
-      told false false c x q = absurd (let z : _≡_ {A = ℕ} 0 1 = cc in omega arith)
+      told true true x q = absurd (let z : _≡_ {A = ℕ} 0 1 = cc in omega arith)
+      told true false x q = with-says (extendedTail s) (rw x) q
+      told false b x q = with-says (plainTail s) (rw x) q
 
-  -- an entry that was read
-  pub read-entry : {r : EntryRead} → r ≡ readEntry s → r ≡ Read e → WholeEntry s e
-  unfolding readEntry
-  read-entry p q = told (ltb (length s) 176) (sym p ∙ q)
-    where
-      told : (a : Bool) → pick a (Refused Malformed) (entryAfter s (readTag s)) ≡ Read e → WholeEntry s e
-      told true q = absurd (let z : _≡_ {A = ℕ} 0 1 = cc in omega arith)
-      told false q = after-says (readTag s) refl q
+-- an entry that was read
+pub read-entry : (s : List ℕ) {e : FileEntry} {r : EntryRead} → r ≡ readEntry s → r ≡ Read e → WholeEntry s e
+unfolding readEntry
+read-entry s {e} p q = told (readHead s (entryId s) 176) refl (sym p ∙ q)
+  where
+    told : (h : TagRead) → readHead s (entryId s) 176 ≡ h → entryAfter s h ≡ Read e → WholeEntry s e
+    told (NoTag why) g q = absurd (let z : _≡_ {A = ℕ} 0 1 = cc in omega arith)
+    told (ATag t) g q = behind-says s t (head-read s (entryId s) 176 g) q
 
 -- and an entry that was refused is malformed
-pub read-entry-refused : (s : List ℕ) {r : EntryRead} {why : Refusal} → r ≡ readEntry s → r ≡ Refused why → why ≡ Malformed
-unfolding readEntry entryAfter entryWith
-read-entry-refused s {r} {why} p q = told (ltb (length s) 176) (readTag s) refl (sym p ∙ q)
-  where
-    fitted : (t : DescriptorTag) (d : EntryTail) (a b : Bool) → pick a (Refused Malformed) (pick b (Refused Malformed) (Read (entryOf s t (icbTagOf s 16) d))) ≡ Refused why → why ≡ Malformed
-    fitted t d true b q = cc
-    fitted t d false true q = cc
-    fitted t d false false q = absurd (let z : _≡_ {A = ℕ} 0 1 = cc in omega arith)
+module _ (s : List ℕ) {why : Refusal} where
+  with-refused : (t : DescriptorTag) (d : EntryTail) → entryWith s t (icbTagOf s 16) d ≡ Refused why → why ≡ Malformed
+  unfolding entryWith
+  with-refused t d q = told (ltb 3 (kindOf (icbTagOf s 16))) (ltb (length s) (d .prefix + d .attributes + d .descriptors)) q
+    where
+      told : (a b : Bool) → pick a (Refused Malformed) (pick b (Refused Malformed) (Read (entryOf s t (icbTagOf s 16) d))) ≡ Refused why → why ≡ Malformed
+      told true b q = cc
+      told false true q = cc
+      told false false q = absurd (let z : _≡_ {A = ℕ} 0 1 = cc in omega arith)
 
-    tailed : (t : DescriptorTag) (d : EntryTail) → entryWith s t (icbTagOf s 16) d ≡ Refused why → why ≡ Malformed
-    tailed t d q = fitted t d (ltb 3 (kindOf (icbTagOf s 16))) (ltb (length s) (d .prefix + d .attributes + d .descriptors)) q
+  after-refused : (q : TagRead) → readHead s (entryId s) 176 ≡ q → entryAfter s q ≡ Refused why → why ≡ Malformed
+  unfolding entryBehind
+  after-refused (NoTag w) g q = let p : w ≡ why = cc in head-refused s (entryId s) 176 (rw p at g)
+  after-refused (ATag t) g q = told (eqb (t .id) 266) (ltb (length s) 216) q
+    where
+      told : (a b : Bool)
+          → pick a (pick b (Refused Malformed) (entryWith s t (icbTagOf s 16) (extendedTail s))) (entryWith s t (icbTagOf s 16) (plainTail s)) ≡ Refused why
+          → why ≡ Malformed
+      told true true q = cc
+      told true false q = with-refused t (extendedTail s) q
+      told false b q = with-refused t (plainTail s) q
 
-    tagged : (t : DescriptorTag) (a b c : Bool)
-        → pick a (entryWith s t (icbTagOf s 16) (plainTail s)) (pick b (pick c (Refused Malformed) (entryWith s t (icbTagOf s 16) (extendedTail s))) (Refused Malformed)) ≡ Refused why
-        → why ≡ Malformed
-    tagged t true b c q = tailed t (plainTail s) q
-    tagged t false true true q = cc
-    tagged t false true false q = tailed t (extendedTail s) q
-    tagged t false false c q = cc
-
-    told : (a : Bool) (k : TagRead) → readTag s ≡ k → pick a (Refused Malformed) (entryAfter s k) ≡ Refused why → why ≡ Malformed
-    told true k g q = cc
-    told false (NoTag x) g q = let z : x ≡ why = cc in tag-refused s (rw z at g)
-    told false (ATag t) g q = tagged t (eqb (t .id) 261) (eqb (t .id) 266) (ltb (length s) 216) q
+  pub read-entry-refused : {r : EntryRead} → r ≡ readEntry s → r ≡ Refused why → why ≡ Malformed
+  unfolding readEntry
+  read-entry-refused p q = after-refused (readHead s (entryId s) 176) refl (sym p ∙ q)

@@ -7,7 +7,7 @@ use lib.Dec.{eqb, ltb}
 use Rattle.disc.specs.Choice.{pick}
 use Rattle.disc.specs.declared.refusals.Refusal.the-variants.{Malformed}
 use Rattle.records.specs.Bytes.{byte, u16at, u32at}
-use Rattle.tags.specs.Tags.{readTag}
+use Rattle.tags.specs.Tags.{readHead}
 use Rattle.tags.specs.declared.DescriptorTag.{DescriptorTag}
 use Rattle.tags.specs.declared.TagRead.{TagRead}
 use Rattle.tags.specs.declared.TagRead.the-variants.{Read as ATag, Refused as NoTag}
@@ -72,17 +72,25 @@ entryWith s t i d =
     (pick (ltb (length s) (d .prefix + d .attributes + d .descriptors)) (Refused Malformed)
     (Read (entryOf s t i d)))
 
--- behind a tag with id 261 or 266
-unfoldable pub entryAfter : List ℕ → TagRead → EntryRead
-entryAfter s (NoTag r) = Refused r
-entryAfter s (ATag t) =
-    pick (eqb (t .id) 261) (entryWith s t (icbTagOf s 16) (plainTail s))
-    (pick (eqb (t .id) 266) (pick (ltb (length s) 216) (Refused Malformed) (entryWith s t (icbTagOf s 16) (extendedTail s)))
-    (Refused Malformed))
+-- the id that an entry has to have: 266, that of an extended one, where it is recorded, and else 261, that of a plain one
+abbrev pub entryId : List ℕ → ℕ
+entryId s = pick (eqb (u16at s 0) 266) 266 261
 
--- reading an entry at the front of s
+-- an extended entry has 216 bytes at least
+unfoldable pub entryBehind : List ℕ → DescriptorTag → EntryRead
+entryBehind s t =
+    pick (eqb (t .id) 266)
+    (pick (ltb (length s) 216) (Refused Malformed) (entryWith s t (icbTagOf s 16) (extendedTail s)))
+    (entryWith s t (icbTagOf s 16) (plainTail s))
+
+-- behind the gate: its refusal, or what it leads to
+abbrev pub entryAfter : List ℕ → TagRead → EntryRead
+entryAfter s (NoTag r) = Refused r
+entryAfter s (ATag t) = entryBehind s t
+
+-- reading an entry at the front of s: 176 bytes at least
 unfoldable pub readEntry : List ℕ → EntryRead
-readEntry s = pick (ltb (length s) 176) (Refused Malformed) (entryAfter s (readTag s))
+readEntry s = entryAfter s (readHead s (entryId s) 176)
 
 -- file type 4 is a directory (4/14.6.6)
 abbrev pub isDirectory : FileEntry → Bool

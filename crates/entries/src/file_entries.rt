@@ -2,7 +2,7 @@
 ghost use mathlib.Core.Path.{_≡_};
 ghost use Prim.Native.Nat.{_+_, _≤_, _<_};
 ghost use lib.ListN.{length};
-ghost use Rattle.entries.specs.FileEntries.{plainTail, extendedTail, entryOf, entryWith, entryAfter, readEntry, isDirectory, isExtended};
+ghost use Rattle.entries.specs.FileEntries.{plainTail, extendedTail, entryOf, entryWith, entryId, entryBehind, readEntry, isDirectory, isExtended};
 use crate::bytes::le64;
 use crate::icb_tags::IcbTag;
 use crate::icb_tags::icb_tag_at;
@@ -12,6 +12,16 @@ use records::bytes::le16;
 use records::bytes::le32;
 use tags::DescriptorTag;
 use tags::TagRead;
+use tags::heads::read_head;
+
+// A plain entry, ECMA-167 4/14.9, and an extended one, 4/14.17: the size is that of what stands before the attributes.
+const PLAIN_ID: u16 = 261;
+
+const PLAIN_SIZE: usize = 176;
+
+const EXTENDED_ID: u16 = 266;
+
+const EXTENDED_SIZE: usize = 216;
 
 // The object size: a plain entry has none.
 pub enum ObjectSize {
@@ -58,7 +68,7 @@ fn plain_tail(s: &[u8]) -> EntryTail
     ensures { λ r. ⌜ r ≡ plainTail (now (s .entry)) ⌝ }
 {
     EntryTail {
-        prefix: 176,
+        prefix: PLAIN_SIZE,
         logical_blocks_recorded: le64(s, 64),
         object_size: ObjectSize::Absent,
         attributes: le32(s, 168),
@@ -70,7 +80,7 @@ fn extended_tail(s: &[u8]) -> EntryTail
     ensures { λ r. ⌜ r ≡ extendedTail (now (s .entry)) ⌝ }
 {
     EntryTail {
-        prefix: 216,
+        prefix: EXTENDED_SIZE,
         logical_blocks_recorded: le64(s, 72),
         object_size: ObjectSize::Recorded(le64(s, 64)),
         attributes: le32(s, 208),
@@ -127,36 +137,39 @@ fn entry_with(s: &[u8], t: DescriptorTag, icb: IcbTag, d: EntryTail) -> EntryRea
     EntryRead::Read(entry_of(s, t, icb, d))
 }
 
-// The entry behind the tag that was read at the front of `s`.
-fn entry_after(s: &[u8], r: TagRead) -> EntryRead
-    requires { ⌜ 176 ≤ length (now s) ⌝ }
-    ensures { λ e. ⌜ e ≡ entryAfter (now (s .entry)) r ⌝ }
+// The id that the entry at the front of `s` has to have: that of an extended one where it is recorded.
+fn entry_id(s: &[u8]) -> u16
+    ensures { λ r. ⌜ r ≡ entryId (now (s .entry)) ⌝ }
 {
-    match r {
-        TagRead::Refused(why) => EntryRead::Refused(why),
-        TagRead::Read(t) => {
-            if t.id == 261 {
-                return entry_with(s, t, icb_tag_at(s, 16), plain_tail(s));
-            }
-            if t.id == 266 {
-                if s.len() < 216 {
-                    return EntryRead::Refused(Refusal::Malformed);
-                }
-                return entry_with(s, t, icb_tag_at(s, 16), extended_tail(s));
-            }
-            EntryRead::Refused(Refusal::Malformed)
-        }
+    if le16(s, 0) == EXTENDED_ID {
+        return EXTENDED_ID;
     }
+    PLAIN_ID
+}
+
+// The entry in `s` behind its tag `t`.
+fn entry_behind(s: &[u8], t: DescriptorTag) -> EntryRead
+    requires { ⌜ 176 ≤ length (now s) ⌝ }
+    ensures { λ r. ⌜ r ≡ entryBehind (now (s .entry)) t ⌝ }
+{
+    let icb = icb_tag_at(s, 16);
+    if t.id == EXTENDED_ID {
+        if s.len() < EXTENDED_SIZE {
+            return EntryRead::Refused(Refusal::Malformed);
+        }
+        return entry_with(s, t, icb, extended_tail(s));
+    }
+    entry_with(s, t, icb, plain_tail(s))
 }
 
 impl FileEntry {
     pub fn parse(s: &[u8]) -> EntryRead
         ensures { λ r. ⌜ r ≡ readEntry (now (s .entry)) ⌝ }
     {
-        if s.len() < 176 {
-            return EntryRead::Refused(Refusal::Malformed);
+        match read_head(s, entry_id(s), PLAIN_SIZE) {
+            TagRead::Refused(why) => EntryRead::Refused(why),
+            TagRead::Read(t) => entry_behind(s, t),
         }
-        entry_after(s, DescriptorTag::parse(s))
     }
 
     pub fn is_directory(self) -> bool
@@ -168,6 +181,6 @@ impl FileEntry {
     pub fn is_extended(self) -> bool
         ensures { λ r. ⌜ r ≡ isExtended self ⌝ }
     {
-        self.tag.id == 266
+        self.tag.id == EXTENDED_ID
     }
 }

@@ -7,16 +7,16 @@ use Prim.Native.Nat.{ℕ, _+_, _-_, _*_, _/_, _≤_, _<_}
 use native.Mathlib.Omega.{arith}
 use lib.ListN.{length, getD, take, drop, length-take, List·getD-eq-default}
 use lib.Seq.{getD-take, getD-drop}
-use lib.Dec.{eqb, ltb}
+use lib.Dec.{ltb}
 use mir.Syntax.{w8}
 use mir.Val.{Fits}
 use mir.Facts.{fits-lit}
-use borrow.Author.Tests.{eq-eqb, ne-eqb, lt-ltb, le-ltb, eqb-true, ltb-true, ltb-false}
+use borrow.Author.Tests.{lt-ltb, le-ltb, ltb-true, ltb-false}
 use Rattle.disc.specs.Choice.{pick}
 use Rattle.disc.specs.declared.refusals.Refusal.{Refusal}
 use Rattle.disc.specs.declared.refusals.Refusal.the-variants.{Malformed}
 use Rattle.records.specs.Bytes.{byte, u16at}
-use Rattle.tags.specs.Tags.{readTag}
+use Rattle.tags.specs.Tags.{readTag, readHead}
 use Rattle.records.specs.Allocations.{longOf}
 use Rattle.records.specs.declared.allocations.LongAd.{LongAd}
 use Rattle.tags.specs.declared.DescriptorTag.{DescriptorTag}
@@ -32,7 +32,7 @@ use Rattle.identifiers.specs.declared.IdentifierRead.{IdentifierRead}
 use Rattle.identifiers.specs.Identifiers.{nameAt, nameEnd, recordedName, nextAt, identifierOf, refusedBy, identifierSized, identifierNamed, identifierAfter, readIdentifier}
 use Rattle.identifiers.specs.Wholes.{Whole}
 use Rattle.disc.proofs.RefusalLaws.{refusal-numbered}
-use Rattle.tags.proofs.RoundTrips.{tag-refused}
+use Rattle.tags.proofs.HeadLaws.{head-read, head-refused}
 
 -- ---- the returns of the functions
 
@@ -71,28 +71,15 @@ module _ (s : List ℕ) where
           let g : a + n - a ≡ n = omega arith in
           simp (le-ltb (length s) (nameEnd s) (rw end-is at h)) (rw (← e, ← f) (k ∙ ap (identifierSized s t a n) (z ∙ rw g)))
 
-  module _ {q : TagRead} {r : IdentifierRead} where
-    pub after-refused : {why : Refusal} → q ≡ NoTag why → r ≡ refusedBy why → r ≡ identifierAfter s q
-    unfolding identifierAfter
-    after-refused e k = rw e k
-
-    module _ (t : DescriptorTag) (e : q ≡ ATag t) where
-      pub after-named : t .id ≡ 257 → r ≡ identifierNamed s t → r ≡ identifierAfter s q
-      unfolding identifierAfter
-      after-named h k = rw (e, eq-eqb (t .id) 257 h) k
-
-      pub after-other : (t .id ≡ 257 → ⊥) → r ≡ refusedBy Malformed → r ≡ identifierAfter s q
-      unfolding identifierAfter
-      after-other h k = rw (e, ne-eqb (t .id) 257 h) k
-
-  module _ {r : IdentifierRead} where
-    pub read-short : length s < 38 → r ≡ refusedBy Malformed → r ≡ readIdentifier s
+  -- `x` is what the gate gave
+  module _ {x : TagRead} (e : x ≡ readHead s 257 38) {r : IdentifierRead} where
+    pub identifier-no : {why : Refusal} → x ≡ NoTag why → r ≡ refusedBy why → r ≡ readIdentifier s
     unfolding readIdentifier
-    read-short h k = rw (lt-ltb (length s) 38 h) k
+    identifier-no h k = rw (← e, h) k
 
-    pub read-after : 38 ≤ length s → {q : TagRead} → q ≡ readTag s → r ≡ identifierAfter s q → r ≡ readIdentifier s
+    pub identifier-yes : {t : DescriptorTag} → x ≡ ATag t → r ≡ identifierNamed s t → r ≡ readIdentifier s
     unfolding readIdentifier
-    read-after h e k = rw (le-ltb (length s) 38 h, ← e) k
+    identifier-yes h k = rw (← e, h) k
 
 -- ---- what was read
 
@@ -141,43 +128,37 @@ module _ (s : List ℕ) (b : Bytes s) where
         near = omega arith;
       }
 
-  after-says : (q : TagRead) → readTag s ≡ q → identifierAfter s q .answer ≡ 0 → Whole s (identifierAfter s q .descriptor)
-  unfolding identifierAfter identifierNamed
+  after-says : (q : TagRead) → readHead s 257 38 ≡ q → identifierAfter s q .answer ≡ 0 → Whole s (identifierAfter s q .descriptor)
+  unfolding identifierNamed
   after-says (NoTag why) g z = absurd (refusal-numbered why z)
-  after-says (ATag t) g z = told (eqb (t .id) 257) (ltb (length s) (nameEnd s)) refl refl z
+  after-says (ATag t) g z = told (ltb (length s) (nameEnd s)) refl z
     where
-      told : (x y : Bool) → eqb (t .id) 257 ≡ x → ltb (length s) (nameEnd s) ≡ y
-          → pick x (pick y (refusedBy Malformed) (identifierSized s t (nameAt s) (byte s 19) (sizeOf (nameOf (recordedName s))))) (refusedBy Malformed) .answer ≡ 0
-          → Whole s (pick x (pick y (refusedBy Malformed) (identifierSized s t (nameAt s) (byte s 19) (sizeOf (nameOf (recordedName s))))) (refusedBy Malformed) .descriptor)
-      told false y e f z = absurd (omega arith)
-      told true true e f z = absurd (omega arith)
-      told true false e f z = sized-says t g (eqb-true _ _ e) (ltb-false _ _ f) (sizeOf (nameOf (recordedName s))) refl z
+      name : NameSize
+      name = sizeOf (nameOf (recordedName s))
+
+      told : (y : Bool) → ltb (length s) (nameEnd s) ≡ y
+          → pick y (refusedBy Malformed) (identifierSized s t (nameAt s) (byte s 19) name) .answer ≡ 0
+          → Whole s (pick y (refusedBy Malformed) (identifierSized s t (nameAt s) (byte s 19) name) .descriptor)
+      told true f z = absurd (omega arith)
+      told false f z = let p = head-read s 257 38 g in sized-says t (p .tag) (p .is) (ltb-false _ _ f) name refl z
 
   -- an answer of 0 says it all
   pub read-identifier : {r : IdentifierRead} → r ≡ readIdentifier s → r .answer ≡ 0 → Whole s (r .descriptor)
   unfolding readIdentifier
-  read-identifier e z = rw e (told (ltb (length s) 38) (rw e at z))
-    where
-      told : (x : Bool) → pick x (refusedBy Malformed) (identifierAfter s (readTag s)) .answer ≡ 0
-          → Whole s (pick x (refusedBy Malformed) (identifierAfter s (readTag s)) .descriptor)
-      told true z = absurd (omega arith)
-      told false z = after-says (readTag s) refl z
+  read-identifier e z = rw e (after-says (readHead s 257 38) refl (rw e at z))
 
 -- and any other answer is 2, with zeros
 pub read-identifier-refused : (s : List ℕ) {r : IdentifierRead} → r ≡ readIdentifier s → (r .answer ≡ 0 → ⊥) → r ≡ refusedBy Malformed
-unfolding readIdentifier identifierAfter identifierNamed identifierSized
-read-identifier-refused s e n = e ∙ told (ltb (length s) 38) (readTag s) refl (λ z. n (rw e z))
+unfolding readIdentifier identifierNamed identifierSized
+read-identifier-refused s e n = e ∙ told (readHead s 257 38) refl (λ z. n (rw e z))
   where
-    tagged : (t : DescriptorTag) (x y : Bool) (z : NameSize)
-        → (pick x (pick y (refusedBy Malformed) (identifierSized s t (nameAt s) (byte s 19) z)) (refusedBy Malformed) .answer ≡ 0 → ⊥)
-        → pick x (pick y (refusedBy Malformed) (identifierSized s t (nameAt s) (byte s 19) z)) (refusedBy Malformed) ≡ refusedBy Malformed
-    tagged t false y z n = refl
-    tagged t true true z n = refl
-    tagged t true false NoName n = refl
-    tagged t true false (Size k) n = absurd (n refl)
+    tagged : (t : DescriptorTag) (y : Bool) (z : NameSize)
+        → (pick y (refusedBy Malformed) (identifierSized s t (nameAt s) (byte s 19) z) .answer ≡ 0 → ⊥)
+        → pick y (refusedBy Malformed) (identifierSized s t (nameAt s) (byte s 19) z) ≡ refusedBy Malformed
+    tagged t true z n = refl
+    tagged t false NoName n = refl
+    tagged t false (Size k) n = absurd (n refl)
 
-    told : (x : Bool) (q : TagRead) → readTag s ≡ q → (pick x (refusedBy Malformed) (identifierAfter s q) .answer ≡ 0 → ⊥)
-        → pick x (refusedBy Malformed) (identifierAfter s q) ≡ refusedBy Malformed
-    told true q g n = refl
-    told false (NoTag why) g n = ap refusedBy (tag-refused s g)
-    told false (ATag t) g n = tagged t (eqb (t .id) 257) (ltb (length s) (nameEnd s)) (sizeOf (nameOf (recordedName s))) n
+    told : (q : TagRead) → readHead s 257 38 ≡ q → (identifierAfter s q .answer ≡ 0 → ⊥) → identifierAfter s q ≡ refusedBy Malformed
+    told (NoTag why) g n = ap refusedBy (head-refused s 257 38 g)
+    told (ATag t) g n = tagged t (ltb (length s) (nameEnd s)) (sizeOf (nameOf (recordedName s))) n

@@ -9,7 +9,7 @@ use Rattle.disc.specs.Refusals.{number}
 use Rattle.disc.specs.declared.refusals.Refusal.{Refusal}
 use Rattle.disc.specs.declared.refusals.Refusal.the-variants.{Malformed}
 use Rattle.records.specs.Bytes.{byte, u16at}
-use Rattle.tags.specs.Tags.{readTag}
+use Rattle.tags.specs.Tags.{readHead}
 use Rattle.records.specs.Allocations.{longOf, noLong}
 use Rattle.tags.specs.Answers.{noTag}
 use Rattle.tags.specs.declared.DescriptorTag.{DescriptorTag}
@@ -82,14 +82,14 @@ identifierNamed s t =
     pick (ltb (length s) (nameEnd s)) (refusedBy Malformed)
     (identifierSized s t (nameAt s) (byte s 19) (sizeOf (nameOf (recordedName s))))
 
--- behind a tag with id 257
-unfoldable pub identifierAfter : List ℕ → TagRead → IdentifierRead
+-- behind the gate: its refusal, or what it leads to
+abbrev pub identifierAfter : List ℕ → TagRead → IdentifierRead
 identifierAfter s (NoTag why) = refusedBy why
-identifierAfter s (ATag t) = pick (eqb (t .id) 257) (identifierNamed s t) (refusedBy Malformed)
+identifierAfter s (ATag t) = identifierNamed s t
 
--- reading an identifier at the front of s
+-- reading an identifier at the front of s: id 257, 38 bytes at least
 unfoldable pub readIdentifier : List ℕ → IdentifierRead
-readIdentifier s = pick (ltb (length s) 38) (refusedBy Malformed) (identifierAfter s (readTag s))
+readIdentifier s = identifierAfter s (readHead s 257 38)
 
 -- ---- the characteristics (4/14.4.3)
 

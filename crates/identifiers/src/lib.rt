@@ -1,7 +1,7 @@
 // File identifiers: one entry of a directory.
 ghost use mathlib.Core.Path.{_≡_};
 ghost use Prim.Native.Nat.{_+_, _<_};
-ghost use Rattle.identifiers.specs.Identifiers.{nameAt, refusedBy, identifierOf, identifierSized, identifierNamed, identifierAfter, readIdentifier, isDeleted, isDirectory, isParent};
+ghost use Rattle.identifiers.specs.Identifiers.{nameAt, refusedBy, identifierOf, identifierSized, identifierNamed, readIdentifier, isDeleted, isDirectory, isParent};
 use disc::refusals::Refusal;
 use names::dstrings::NameSize;
 use names::dstrings::name_size;
@@ -12,7 +12,13 @@ use records::bytes::byte_at;
 use records::bytes::le16;
 use tags::DescriptorTag;
 use tags::TagRead;
+use tags::heads::read_head;
 use tags::no_tag;
+
+// ECMA-167 4/14.4. The size is that of what stands before the implementation use.
+const ID: u16 = 257;
+
+const SIZE: usize = 38;
 
 // The recorded name, a d-string of `name_length` bytes, stands at `name_at`; as UTF-8 it has `name_size` bytes. The next identifier
 // starts `total_size` bytes on.
@@ -57,7 +63,7 @@ fn refused_by(why: Refusal) -> IdentifierRead
 pub fn name_at(s: &[u8]) -> usize
     ensures { λ r. ⌜ (r ≡ nameAt (now (s .entry))) × (r < 65574) ⌝ }
 {
-    38 + le16(s, 36) as usize
+    SIZE + le16(s, 36) as usize
 }
 
 // Every field at its offset; the name's `n` bytes stand at `at`, and it has `size` bytes of UTF-8.
@@ -116,30 +122,14 @@ fn identifier_named(s: &[u8], t: DescriptorTag) -> IdentifierRead
     identifier_sized(s, t, at, n, name_size(&s[at..end]))
 }
 
-// The identifier behind the tag that was read at the front of `s`.
-fn identifier_after(s: &[u8], r: TagRead) -> IdentifierRead
-    ensures { λ a. ⌜ a ≡ identifierAfter (now (s .entry)) r ⌝ }
-{
-    match r {
-        TagRead::Refused(why) => refused_by(why),
-        TagRead::Read(t) => {
-            if t.id == 257 {
-                identifier_named(s, t)
-            } else {
-                refused_by(Refusal::Malformed)
-            }
-        }
-    }
-}
-
 impl FileIdentifierDescriptor {
     pub fn parse(s: &[u8]) -> IdentifierRead
         ensures { λ r. ⌜ r ≡ readIdentifier (now (s .entry)) ⌝ }
     {
-        if s.len() < 38 {
-            return refused_by(Refusal::Malformed);
+        match read_head(s, ID, SIZE) {
+            TagRead::Refused(why) => refused_by(why),
+            TagRead::Read(t) => identifier_named(s, t),
         }
-        identifier_after(s, DescriptorTag::parse(s))
     }
 
     pub fn is_directory(self) -> bool

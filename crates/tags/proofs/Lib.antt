@@ -1,4 +1,5 @@
 -- Laws of tags, and what is promised of them.
 pub mod FieldLaws
+pub mod HeadLaws
 pub mod RoundTrips
 pub mod Table

@@ -9,18 +9,17 @@ use native.Mathlib.Omega.{arith}
 use borrow.Author.Tests.{le-leb, leb-true, eqb-true, eq-eqb, ne-eqb}
 use lib.Dec.{leb, eqb}
 use lib.ListN.{length, take}
-use Rattle.disc.proofs.PickLaws.{picked, picked-size}
-use Rattle.disc.specs.Choice.{pick}
-use Rattle.disc.specs.declared.refusals.Refusal.{Refusal}
+use Rattle.disc.proofs.PickLaws.{picked}
 use Rattle.disc.specs.declared.refusals.Refusal.the-variants.{Malformed}
-use Rattle.records.specs.Bytes.{byte, u16at, u32at, le32}
-use Rattle.tags.specs.Tags.{listed, checksum, accepted, tagOf, readTag, tagBytes, encodeTag, aedAfter, readAed, encodeAed}
+use Rattle.records.specs.Bytes.{byte, u16at, le32}
+use Rattle.tags.specs.Tags.{listed, checksum, accepted, tagOf, readTag, tagBytes, encodeTag, withId, readHead, aedAfter, readAed, encodeAed}
 use Rattle.tags.specs.Values.{TagValue, AedValue}
 use Rattle.tags.specs.declared.DescriptorTag.{DescriptorTag}
 use Rattle.tags.specs.declared.TagRead.{TagRead}
 use Rattle.tags.specs.declared.TagRead.the-variants.{Read, Refused}
 use Rattle.tags.specs.declared.AllocationExtentDescriptor.{AllocationExtentDescriptor}
 use Rattle.tags.specs.declared.AedRead.the-variants.{Header, NoHeader}
+use Rattle.tags.proofs.HeadLaws.{head-read, aed-read}
 use Rattle.records.proofs.Numbers.{Bytes, u16-le16, u32-le32, le16-u16, le32-u32, from, from-take}
 
 -- ---- tag
@@ -32,14 +31,6 @@ read-only s t e =
     let q = and-eq-true-iff (leb 16 (length s)) (accepted s) .0 (p .0) in
     let r : tagOf s ≡ t = cc in
     (leb-true 16 (length s) (q .0), q .1, r)
-
--- a tag that is refused is malformed
-pub tag-refused : (s : List ℕ) {why : Refusal} → readTag s ≡ Refused why → why ≡ Malformed
-tag-refused s {why} e = told (leb 16 (length s) && accepted s) e
-  where
-    told : (b : Bool) → pick b (Read (tagOf s)) (Refused Malformed) ≡ Refused why → why ≡ Malformed
-    told true q = absurd (let z : _≡_ {A = ℕ} 0 1 = cc in omega arith)
-    told false q = cc
 
 -- what follows a tag's bytes is not looked at
 module _ (t : DescriptorTag) (rest : List ℕ) (h : TagValue t) where
@@ -100,40 +91,38 @@ tag-back s h t e =
 
 -- ---- the header of an allocation extent: one encoded with another id isn't read back
 
-pub aed-again : (a : AllocationExtentDescriptor) → AedValue a → a .tag .id ≡ 258 → readAed (encodeAed a) ≡ Header a
-aed-again a h e =
-    ap (aedAfter (encodeAed a)) (tag-again (a .tag) (le32 (a .«previous_allocation_extent_location») ++ le32 (a .«length_of_allocation_descriptors»)) (h .tag) (ap listed e))
-    ∙ simp (eq-eqb _ _ e) (λ i.
-    Header (record {
-      tag = a .tag;
-      «previous_allocation_extent_location» = u32-le32 (a .«previous_allocation_extent_location») (h .previous) i;
-      «length_of_allocation_descriptors» = u32-le32 (a .«length_of_allocation_descriptors») (h .area) i;
-    }))
+module _ (a : AllocationExtentDescriptor) (h : AedValue a) where
+  abbrev numbers : List ℕ
+  numbers = le32 (a .«previous_allocation_extent_location») ++ le32 (a .«length_of_allocation_descriptors»)
 
-pub aed-other : (a : AllocationExtentDescriptor) → AedValue a → (a .tag .id ≡ 258 → ⊥) → readAed (encodeAed a) ≡ NoHeader Malformed
-aed-other a h n = by (listed (a .tag .id)) refl
-  where
-    rest : List ℕ
-    rest = le32 (a .«previous_allocation_extent_location») ++ le32 (a .«length_of_allocation_descriptors»)
+  -- by what its tag is read as
+  by-tag : {r : TagRead} → readTag (encodeAed a) ≡ r → readAed (encodeAed a) ≡ aedAfter (encodeAed a) (withId 258 r)
+  unfolding readAed readHead
+  by-tag e = ap (λ (r : TagRead). aedAfter (encodeAed a) (withId 258 r)) e
 
-    by : (b : Bool) → listed (a .tag .id) ≡ b → readAed (encodeAed a) ≡ NoHeader Malformed
-    by true l = ap (aedAfter (encodeAed a)) (tag-again (a .tag) rest (h .tag) l) ∙ simp (ne-eqb _ _ n)
-    by false l = ap (aedAfter (encodeAed a)) (tag-unlisted (a .tag) rest (h .tag) l)
+  pub aed-again : a .tag .id ≡ 258 → readAed (encodeAed a) ≡ Header a
+  unfolding aedAfter withId
+  aed-again e =
+      by-tag (tag-again (a .tag) numbers (h .tag) (ap listed e)) ∙ simp (eq-eqb (a .tag .id) 258 e) (λ i.
+      Header (record {
+        tag = a .tag;
+        «previous_allocation_extent_location» = u32-le32 (a .«previous_allocation_extent_location») (h .previous) i;
+        «length_of_allocation_descriptors» = u32-le32 (a .«length_of_allocation_descriptors») (h .area) i;
+      }))
 
--- a header that was read: there were 24 bytes, and they are its tag's and its own
-header-after : (s : List ℕ) (r : TagRead) (a : AllocationExtentDescriptor) → aedAfter s r ≡ Header a
-    → (r ≡ Read (a .tag)) × (a .«previous_allocation_extent_location» ≡ u32at s 16) × (a .«length_of_allocation_descriptors» ≡ u32at s 20)
-header-after s (Refused x) a e = let z : _≡_ {A = ℕ} 0 1 = cc in absurd (omega arith)
-header-after s (Read t) a e =
-    let p = picked (λ x. x ≡ Header a) (eqb (t .id) 258) _ _ e (λ f. let z : _≡_ {A = ℕ} 0 1 = cc in omega arith) in
-    let q : record { tag = t; «previous_allocation_extent_location» = u32at s 16; «length_of_allocation_descriptors» = u32at s 20 } ≡ a = cc in
-    (ap (λ (x : AllocationExtentDescriptor). Read (x .tag)) q, sym (ap (λ (x : AllocationExtentDescriptor). x .«previous_allocation_extent_location») q), sym (ap (λ (x : AllocationExtentDescriptor). x .«length_of_allocation_descriptors») q))
+  pub aed-other : (a .tag .id ≡ 258 → ⊥) → readAed (encodeAed a) ≡ NoHeader Malformed
+  unfolding aedAfter withId
+  aed-other n = by (listed (a .tag .id)) refl
+    where
+      by : (b : Bool) → listed (a .tag .id) ≡ b → readAed (encodeAed a) ≡ NoHeader Malformed
+      by true l = by-tag (tag-again (a .tag) numbers (h .tag) l) ∙ simp (ne-eqb (a .tag .id) 258 n)
+      by false l = by-tag (tag-unlisted (a .tag) numbers (h .tag) l)
 
 pub aed-back : (s : List ℕ) → Bytes s → (a : AllocationExtentDescriptor) → readAed s ≡ Header a → encodeAed a ≡ take 24 s
 aed-back s h a e =
-    let p = picked-size 24 s (aedAfter s (readTag s)) (NoHeader Malformed) (Header a) e (λ f. let z : _≡_ {A = ℕ} 0 1 = cc in omega arith) in
-    let q = header-after s (readTag s) a (p .1) in
-    let r = read-only s (a .tag) (q .0) in
-    (λ i. (ap encodeTag (sym (r .2)) ∙ tag-bytes-back s h (r .1)) i ++ le32 (q .1 i) ++ le32 (q .2 i))
+    let q = aed-read s refl e in
+    let p = head-read s 258 24 (q .head) in
+    let r = read-only s (a .tag) (p .tag) in
+    (λ i. (ap encodeTag (sym (r .2)) ∙ tag-bytes-back s h (r .1)) i ++ le32 (q .previous i) ++ le32 (q .area i))
     ∙ (λ i. from s 0 16 ++ le32-u32 s h 16 i ++ le32-u32 s h 20 i)
-    ∙ from-take s 24 (p .0)
+    ∙ from-take s 24 (p .long)

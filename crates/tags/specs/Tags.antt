@@ -59,18 +59,26 @@ encodeTag t = tagBytes t (checksum (tagBytes t 0))
 abbrev pub inPlace : DescriptorTag → ℕ → Bool
 inPlace t sector = eqb (t .location) sector
 
--- ---- the header of an allocation extent
+-- ---- the gate that every descriptor goes through
 
--- behind a tag with id 258
-abbrev pub aedAfter : List ℕ → TagRead → AedRead
+-- a tag that was read, unless it has another id than the descriptor's (3/7.2.1, 4/7.2.1)
+unfoldable pub withId : ℕ → TagRead → TagRead
+withId id (Refused r) = Refused r
+withId id (Read t) = pick (eqb (t .id) id) (Read t) (Refused Malformed)
+
+-- the tag of the descriptor at the front of s, which has this id and at least this many bytes: too few bytes, the tag's own refusals, another id
+unfoldable pub readHead : List ℕ → ℕ → ℕ → TagRead
+readHead s id size = pick (leb size (length s)) (withId id (readTag s)) (Refused Malformed)
+
+-- ---- the header of an allocation extent: id 258, 24 bytes
+
+-- behind the gate
+unfoldable pub aedAfter : List ℕ → TagRead → AedRead
 aedAfter s (Refused r) = NoHeader r
-aedAfter s (Read t) =
-    pick (eqb (t .id) 258)
-    (Header (record { tag = t; «previous_allocation_extent_location» = u32at s 16; «length_of_allocation_descriptors» = u32at s 20 }))
-    (NoHeader Malformed)
+aedAfter s (Read t) = Header (record { tag = t; «previous_allocation_extent_location» = u32at s 16; «length_of_allocation_descriptors» = u32at s 20 })
 
-abbrev pub readAed : List ℕ → AedRead
-readAed s = pick (leb 24 (length s)) (aedAfter s (readTag s)) (NoHeader Malformed)
+unfoldable pub readAed : List ℕ → AedRead
+readAed s = aedAfter s (readHead s 258 24)
 
 abbrev pub encodeAed : AllocationExtentDescriptor → List ℕ
 encodeAed a = encodeTag (a .tag) ++ le32 (a .«previous_allocation_extent_location») ++ le32 (a .«length_of_allocation_descriptors»)

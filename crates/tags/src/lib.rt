@@ -1,11 +1,14 @@
-// Descriptor tags, the place check, and the header of an allocation extent.
+// Descriptor tags, the place check, the gate that every descriptor goes through, and the header of an allocation extent.
+pub mod heads;
+
 ghost use mathlib.Core.Path.{_≡_};
 ghost use mathlib.Core.List.{_++_};
 ghost use Prim.Native.Nat.{_+_, _%_, _≤_, _<_};
 ghost use lib.ListN.{length};
 ghost use Rattle.records.specs.Bytes.{le32, sixteen, sum4};
 ghost use Rattle.tags.specs.Answers.{noTag};
-ghost use Rattle.tags.specs.Tags.{listed, checksum, accepted, tagOf, readTag, tagBytes, encodeTag, inPlace, aedAfter, readAed, encodeAed};
+ghost use Rattle.tags.specs.Tags.{listed, checksum, accepted, tagOf, readTag, tagBytes, encodeTag, inPlace, readAed, encodeAed};
+use crate::heads::read_head;
 use disc::places::Sector;
 use disc::refusals::Refusal;
 use records::bytes::le16;
@@ -176,7 +179,11 @@ impl DescriptorTag {
     }
 }
 
-// The header of an allocation extent.
+// Of the header of an allocation extent, ECMA-167 4/14.5.
+const AED_ID: u16 = 258;
+
+const AED_SIZE: usize = 24;
+
 #[repr(C)]
 pub struct AllocationExtentDescriptor {
     pub tag: DescriptorTag,
@@ -220,34 +227,18 @@ fn aed_bytes(h: [u8; 16], a: u32, b: u32) -> [u8; 24]
     ]
 }
 
-// The header behind the tag that was read at the front of `s`.
-fn aed_after(s: &[u8], r: TagRead) -> AedRead
-    ensures { λ a. ⌜ a ≡ aedAfter (now (s .entry)) r ⌝ }
-{
-    match r {
-        TagRead::Refused(why) => AedRead::NoHeader(why),
-        TagRead::Read(t) => {
-            if t.id == 258 {
-                AedRead::Header(AllocationExtentDescriptor {
-                    tag: t,
-                    previous_allocation_extent_location: le32(s, 16),
-                    length_of_allocation_descriptors: le32(s, 20),
-                })
-            } else {
-                AedRead::NoHeader(Refusal::Malformed)
-            }
-        }
-    }
-}
-
 impl AllocationExtentDescriptor {
     pub fn parse(s: &[u8]) -> AedRead
         ensures { λ r. ⌜ r ≡ readAed (now (s .entry)) ⌝ }
     {
-        if s.len() < 24 {
-            return AedRead::NoHeader(Refusal::Malformed);
+        match read_head(s, AED_ID, AED_SIZE) {
+            TagRead::Refused(why) => AedRead::NoHeader(why),
+            TagRead::Read(t) => AedRead::Header(AllocationExtentDescriptor {
+                tag: t,
+                previous_allocation_extent_location: le32(s, 16),
+                length_of_allocation_descriptors: le32(s, 20),
+            }),
         }
-        aed_after(s, DescriptorTag::parse(s))
     }
 
     pub fn encode(self) -> [u8; 24]

@@ -1,17 +1,18 @@
--- `tags::AllocationExtentDescriptor::parse` meets its contract: the test says which case of `readAed` holds.
--- Assumes nothing.
-use mathlib.Core.Path.{_∙_, ap}
+-- `tags::AllocationExtentDescriptor::parse` meets its contract: the gate's answer says which case of `readAed` holds. Assumes nothing.
 use borrow.Author.Needs.{needs}
-use borrow.Author.Tests.{le-leb, lt-leb}
-use Rattle.tags.specs.Tags.{aedAfter}
+use Rattle.tags.proofs.HeadLaws.{aed-no, aed-yes}
 use Rattle.tags.proofs.AllocationExtentDescriptor.parse.Statement.{statement}
 use Rattle.tags.proofs.AllocationExtentDescriptor.parse.Tie as tie
 
+ruleset headers = (aed-no, aed-yes, needs)
+
 pub parse-spec : {M : Type 1} → statement M
 parse-spec =
-    tie.close
-    (tie.spec
-    (λ c. simp (lt-leb _ _ (c .if1 .taken)))
+    tie.close (tie.spec
+    (λ c κs. search needs)
+    (λ c. search needs)
+    (λ c. search needs)
     (λ c κs. search needs)
     (λ c κs. search needs)
-    (λ c. simp (le-leb _ _ (c .before .before .if1 .left)) (c .aed-after .ensures ∙ ap (aedAfter _) (c .before .parse .ensures))))
+    (λ c. search headers)
+    (λ c. search headers))

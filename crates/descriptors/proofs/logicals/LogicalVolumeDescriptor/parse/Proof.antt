@@ -1,7 +1,7 @@
 -- `descriptors::logicals::LogicalVolumeDescriptor::parse` meets its contract: the tag that was read says which case of the definition holds.
 -- Assumes nothing.
 use borrow.Author.Needs.{needs}
-use Rattle.descriptors.proofs.HeadLaws.{head-long}
+use Rattle.tags.proofs.HeadLaws.{head-long}
 use Rattle.descriptors.proofs.VolumeLaws.{logical-no, logical-yes}
 use Rattle.descriptors.proofs.logicals.LogicalVolumeDescriptor.parse.Statement.{statement}
 use Rattle.descriptors.proofs.logicals.LogicalVolumeDescriptor.parse.Tie as tie

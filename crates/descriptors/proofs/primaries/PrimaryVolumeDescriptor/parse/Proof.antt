@@ -1,7 +1,7 @@
 -- `descriptors::primaries::PrimaryVolumeDescriptor::parse` meets its contract: the tag that was read says which case of the definition holds.
 -- Assumes nothing.
 use borrow.Author.Needs.{needs}
-use Rattle.descriptors.proofs.HeadLaws.{head-long}
+use Rattle.tags.proofs.HeadLaws.{head-long}
 use Rattle.descriptors.proofs.VolumeLaws.{primary-no, primary-yes}
 use Rattle.descriptors.proofs.primaries.PrimaryVolumeDescriptor.parse.Statement.{statement}
 use Rattle.descriptors.proofs.primaries.PrimaryVolumeDescriptor.parse.Tie as tie

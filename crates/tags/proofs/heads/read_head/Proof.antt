@@ -1,0 +1,15 @@
+-- `tags::heads::read_head` meets its contract: each return is a case of `readHead`. Assumes nothing.
+use borrow.Author.Needs.{needs}
+use Rattle.tags.proofs.HeadLaws.{head-short, head-whole}
+use Rattle.tags.proofs.heads.read_head.Statement.{statement}
+use Rattle.tags.proofs.heads.read_head.Tie as tie
+
+ruleset heads = (head-short, head-whole, needs)
+
+pub read-head-spec : {M : Type 1} → statement M
+read-head-spec =
+    tie.close (tie.spec
+    (λ c. search heads)
+    (λ c κs. search needs)
+    (λ c κs. search needs)
+    (λ c. search heads))
