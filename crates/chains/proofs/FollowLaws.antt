@@ -7,11 +7,9 @@ use Prim.Native.Nat.{ℕ, zero, suc, _+_, _-_, _*_, _≤_, _<_, _^_}
 use native.Mathlib.Omega.{arith}
 use native.Mathlib.Nat.{add-sub-cancel-left, add-zero, zero-add, add-assoc}
 use lib.ListN.{length, take, drop}
-use lib.Dec.{eqb, leb}
 use mir.Syntax.{w64}
 use mir.Val.{Fits}
 use borrow.Author.Tests.{le-leb, lt-leb, lt-ltb, le-ltb}
-use Rattle.disc.specs.Choice.{pick}
 use Rattle.disc.specs.Ask.{outcome, then}
 use Rattle.disc.specs.Ask.Ask.{done, refuse}
 use Rattle.disc.specs.Ask.Outcome.{answered, refused}
@@ -27,13 +25,11 @@ use Rattle.disc.specs.declared.refusals.Refusal.the-variants.{Io, Malformed, Un
 use Rattle.disc.proofs.PlaceLaws.{stands-nowhere, stands-at}
 use Rattle.disc.proofs.RanLaws.{ran-done, ran-refuse, ran-then}
 use Rattle.disc.proofs.ImageLaws.{sectorsRun, sectors-run, part-whole}
-use Rattle.records.specs.Bytes.{u32at}
-use Rattle.tags.specs.Tags.{readTag, aedAfter, readAed}
+use Rattle.tags.specs.Tags.{readAed}
 use Rattle.tags.specs.declared.AllocationExtentDescriptor.{AllocationExtentDescriptor}
 use Rattle.tags.specs.declared.AedRead.{AedRead}
 use Rattle.tags.specs.declared.AedRead.the-variants.{Header, NoHeader}
-use Rattle.tags.specs.declared.TagRead.{TagRead}
-use Rattle.tags.specs.declared.TagRead.the-variants.{Read, Refused as NoTag}
+use Rattle.tags.proofs.HeadLaws.{aed-read}
 use Rattle.areas.specs.declared.AdContinuation.{AdContinuation}
 use Rattle.areas.specs.declared.AdEnding.{AdEnding}
 use Rattle.areas.specs.declared.AdEnding.the-variants.{End, Continuation, Refused as Refuses}
@@ -49,19 +45,6 @@ use Rattle.chains.specs.Follows.{FoundArea, NoArea, Entered, EnteredFrom
 use Rattle.chains.proofs.WalkLaws.{beyond-end}
 
 -- ---- the area that continues another
-
--- a header's area length is the number at 20
-aed-area : (s : List ℕ) (h : AllocationExtentDescriptor) {r : AedRead} → r ≡ readAed s → r ≡ Header h → h .«length_of_allocation_descriptors» ≡ u32at s 20
-aed-area s h e f = told (leb 24 (length s)) (readTag s) (sym e ∙ f)
-  where
-    tested : (b : Bool) (t : AllocationExtentDescriptor) → t .«length_of_allocation_descriptors» ≡ u32at s 20 → pick b (Header t) (NoHeader Malformed) ≡ Header h → h .«length_of_allocation_descriptors» ≡ u32at s 20
-    tested true t p q = cc
-    tested false t p q = cc
-
-    told : (b : Bool) (t : TagRead) → pick b (aedAfter s t) (NoHeader Malformed) ≡ Header h → h .«length_of_allocation_descriptors» ≡ u32at s 20
-    told false t q = cc
-    told true (NoTag r) q = cc
-    told true (Read t) q = tested (eqb (t .id) 258) (record { tag = t; «previous_allocation_extent_location» = u32at s 16; «length_of_allocation_descriptors» = u32at s 20 }) refl q
 
 module _ (image : List ℕ) (length first : ℕ) where
   pub next-short : length < 24 → EnteredFrom image length first (Refused Malformed 0)
@@ -112,7 +95,7 @@ module _ (image : List ℕ) (length first : ℕ) where
           next-found y = record {
             runs = λ kind. reads kind ∙ rw (z, le-ltb length (24 + x .«length_of_allocation_descriptors») y, ran-done, add-zero, area-in-part image (2048 * first) (2048 * n) kind 24 (x .«length_of_allocation_descriptors») (omega arith));
             place = refl;
-            says = aed-area buffer x header z ∙ same-u32 buffer image 20 (2048 * first + 20) 4 (omega arith) (same-part image (2048 * first) (2048 * n) 20 4 (omega arith));
+            says = aed-read buffer header z .area ∙ same-u32 buffer image 20 (2048 * first + 20) 4 (omega arith) (same-part image (2048 * first) (2048 * n) 20 4 (omega arith));
             few = few-sectors;
           }
 

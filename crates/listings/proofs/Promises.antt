@@ -17,7 +17,8 @@ use Rattle.disc.specs.declared.replies.Reply.{Reply}
 use Rattle.disc.proofs.ReplyLaws.{replied-one}
 use Rattle.names.specs.Names.{pairs, untilZero, surrogate, dropSurrogates, encode, utf8, nameOf, written, lower, matched, isNamed}
 use Rattle.names.proofs.Promises.{same-folded}
-use Rattle.identifiers.specs.Identifiers.{nameAt, nameEnd, recordedName, nextAt, identifierOf, identifierSized, identifierNamed, identifierAfter, readIdentifier}
+use Rattle.tags.specs.Tags.{withId, readHead}
+use Rattle.identifiers.specs.Identifiers.{nameAt, nameEnd, recordedName, nextAt, identifierOf, identifierSized, identifierNamed, readIdentifier}
 use Rattle.listings.specs.Entries.{Entry, Entries, entryOf, isGood, isSkipped, nameIn, entriesFrom, entries, sound}
 use Rattle.listings.specs.Entries.Entries.{end, entry}
 use Rattle.listings.specs.Listings.{recordHead, shown, records, isLong, anyLong, listing, answersTo, firstNamed, findIn, namedOf}
@@ -81,12 +82,12 @@ entryA =
 
 pub one-listed : listing entryA
     ≡ answered (0x44 ∷ 0x45 ∷ 1 ∷ 0x00 ∷ 0x08 ∷ 0x00 ∷ 0x00 ∷ 0x05 ∷ 0x00 ∷ 0x00 ∷ 0x00 ∷ 0x00 ∷ 0x00 ∷ 0x00 ∷ 0x00 ∷ 0x00 ∷ 0x00 ∷ 0x00 ∷ 0x00 ∷ 1 ∷ 0 ∷ 0x41 ∷ [])
-unfolding pairs untilZero surrogate dropSurrogates encode utf8 nameOf nameAt nameEnd recordedName nextAt identifierOf identifierSized identifierNamed identifierAfter readIdentifier entryOf isGood isSkipped nameIn entriesFrom entries sound recordHead shown records isLong anyLong listing
+unfolding pairs untilZero surrogate dropSurrogates encode utf8 nameOf nameAt nameEnd recordedName nextAt identifierOf identifierSized identifierNamed withId readHead readIdentifier entryOf isGood isSkipped nameIn entriesFrom entries sound recordHead shown records isLong anyLong listing
 one-listed = refl
 
 -- three bytes hold no entry, and 38 or more that are none refuse the listing
 pub none-listed : (listing (0 ∷ 0 ∷ 0 ∷ []) ≡ answered []) × (listing (0 ∷ entryA) ≡ refused Malformed)
-unfolding pairs untilZero surrogate dropSurrogates encode utf8 nameOf nameAt nameEnd recordedName nextAt identifierOf identifierSized identifierNamed identifierAfter readIdentifier entryOf isGood isSkipped nameIn entriesFrom entries sound recordHead shown records isLong anyLong listing
+unfolding pairs untilZero surrogate dropSurrogates encode utf8 nameOf nameAt nameEnd recordedName nextAt identifierOf identifierSized identifierNamed withId readHead readIdentifier entryOf isGood isSkipped nameIn entriesFrom entries sound recordHead shown records isLong anyLong listing
 none-listed = (refl, refl)
 
 -- "/a//b/" has the components "a", at 1, and "b", at 4

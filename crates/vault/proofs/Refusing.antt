@@ -1,7 +1,7 @@
 -- Which refusals a tree of questions can come to: those of the original, 1 to 4, and 6 where a directory is read into the work space. So 5 and 7
 -- are given exactly when memory is short. Assumes nothing.
 use mathlib.Core.Path.{_≡_, refl, sym, subst}
-use mathlib.Core.Bool.{Bool, true, false, _&&_}
+use mathlib.Core.Bool.{Bool, true, false}
 use mathlib.Core.List.{List, [], _∷_}
 use mathlib.Core.Option.{Option, none, some}
 use Prim.Native.Nat.{ℕ, zero, suc, _+_, _-_}
@@ -19,11 +19,12 @@ use Rattle.disc.specs.Ask.Outcome.{answered, refused}
 use Rattle.disc.specs.Images.{sectors}
 use Rattle.disc.specs.declared.refusals.Refusal.{Refusal}
 use Rattle.disc.specs.declared.refusals.Refusal.the-variants.{Io, Malformed, NotBluray, Unsupported, NoWork, LongName}
-use Rattle.records.specs.Bytes.{u16at, u32at}
+use Rattle.records.specs.Bytes.{u16at}
 use Rattle.records.specs.declared.allocations.LongAd.{LongAd}
-use Rattle.tags.specs.Tags.{accepted, tagOf, aedAfter, readAed}
-use Rattle.tags.specs.declared.TagRead.the-variants.{Read as ATag, Refused as NoTag}
+use Rattle.tags.specs.Tags.{readAed}
+use Rattle.tags.specs.declared.AedRead.{AedRead}
 use Rattle.tags.specs.declared.AedRead.the-variants.{Header, NoHeader}
+use Rattle.tags.proofs.HeadLaws.{aed-refused}
 use Rattle.areas.specs.declared.AllocExtent.{AllocExtent}
 use Rattle.areas.specs.declared.AdContinuation.{AdContinuation}
 use Rattle.areas.specs.declared.AdEnding.{AdEnding}
@@ -145,16 +146,12 @@ module _ (P : Refusal → Type 0) (malformed : P Malformed) (unsupported : P Uns
       by (Refused r) h = record { by = subst P (sym (area-refused kind s i size h)) unsupported }
 
   area-only : (kind size : ℕ) (s : List ℕ) → Refuses P (λ (x : Area). Ends P (x .ending)) (areaIn kind size s (readAed s))
-  area-only kind size s = by (leb 24 (length s)) (leb 16 (length s) && accepted s)
+  area-only kind size s = by (readAed s) refl
     where
-      headed : (t : Bool) → Refuses P (λ (x : Area). Ends P (x .ending)) (areaIn kind size s (pick t (Header (record { tag = tagOf s; «previous_allocation_extent_location» = u32at s 16; «length_of_allocation_descriptors» = u32at s 20 })) (NoHeader Malformed)))
-      headed true = pick-only (ltb size (24 + u32at s 20)) (refuse-only malformed) (done-only (area-ends kind s 24 (u32at s 20)))
-      headed false = refuse-only malformed
-
-      by : (t u : Bool) → Refuses P (λ (x : Area). Ends P (x .ending)) (areaIn kind size s (pick t (aedAfter s (pick u (ATag (tagOf s)) (NoTag Malformed))) (NoHeader Malformed)))
-      by false u = refuse-only malformed
-      by true false = refuse-only malformed
-      by true true = headed (eqb (tagOf s .id) 258)
+      by : (r : AedRead) → readAed s ≡ r → Refuses P (λ (x : Area). Ends P (x .ending)) (areaIn kind size s r)
+      by (NoHeader r) e = refuse-only (subst P (sym (aed-refused s (sym e) refl)) malformed)
+      by (Header h) e =
+          pick-only (ltb size (24 + h .«length_of_allocation_descriptors»)) (refuse-only malformed) (done-only (area-ends kind s 24 (h .«length_of_allocation_descriptors»)))
 
   standing-only : {A : Type 0} {Q : A → Type 0} (o : Option ℕ) {f : ℕ → Ask A} → ((s : ℕ) → Refuses P Q (f s)) → Refuses P Q (standing o f)
   standing-only none h = refuse-only unsupported
