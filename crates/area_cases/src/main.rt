@@ -4,7 +4,7 @@ use areas::AdCursor;
 use areas::AdEnding;
 use areas::AdStep;
 use areas::AllocExtent;
-use areas::PartitionRef;
+use disc::places::PartitionRef;
 use areas::ending_of;
 use areas::next_ad;
 use disc::refusals::Refusal;
@@ -67,7 +67,7 @@ fn say_extent(e: AllocExtent) {
     say(b" extent");
     number32(e.length);
     number8(e.extent_type);
-    number32(e.block);
+    number32(e.block.0);
     let p = e.partition_ref;
     say_partition(p);
     say(b",");
@@ -76,7 +76,7 @@ fn say_extent(e: AllocExtent) {
 fn say_continuation(a: AdContinuation) {
     say(b" continuation");
     number32(a.length);
-    number32(a.block);
+    number32(a.block.0);
     let p = a.partition_ref;
     say_partition(p);
 }

@@ -8,7 +8,7 @@ use Rattle.records.specs.Answers.{shortAnswer}
 use Rattle.tags.specs.Tags.{readTag}
 use Rattle.tags.specs.Answers.{noTag, tagAnswer}
 use Rattle.areas.specs.Areas.{ended, continuation, areaAt}
-use Rattle.areas.specs.declared.PartitionRef.the-variants.{Named}
+use Rattle.disc.specs.declared.places.PartitionRef.the-variants.{Named}
 use Rattle.areas.specs.declared.AdEnding.the-variants.{End, Continuation}
 use Rattle.names.specs.Names.{nameOf}
 use Rattle.tags.proofs.Table.{row, table}
@@ -27,7 +27,7 @@ pub worked-table :
     ≡ record { number = 0; value = record { length = 2048; «extent_type» = 1; «block_location» = 5 } })
     × (areaAt 0 (0x00 ∷ 0x00 ∷ 0x00 ∷ 0xc0 ∷ 0x07 ∷ 0x00 ∷ 0x00 ∷ 0x00 ∷ []) 0 8 ≡ ended End)
     × (areaAt 1 (0x18 ∷ 0x00 ∷ 0x00 ∷ 0xc0 ∷ 0x09 ∷ 0x00 ∷ 0x00 ∷ 0x00 ∷ 0x01 ∷ 0x00 ∷ replicate 6 0x00) 0 16
-    ≡ ended (Continuation (continuation 24 9 (Named 1))))
+    ≡ ended (Continuation (continuation 24 (record { 0 = 9 }) (Named 1))))
     × (nameOf (0x08 ∷ 0x41 ∷ 0x00 ∷ 0x42 ∷ []) ≡ some (0x41 ∷ []))
     × (nameOf (0x10 ∷ 0x00 ∷ 0x41 ∷ 0xd8 ∷ 0x00 ∷ 0x00 ∷ 0x42 ∷ []) ≡ some (0x41 ∷ 0x42 ∷ []))
     × (nameOf (0x10 ∷ 0x00 ∷ 0x41 ∷ 0x00 ∷ []) ≡ none)

@@ -2,7 +2,7 @@
 use areas::AdContinuation;
 use areas::AdCursor;
 use areas::AdEnding;
-use areas::PartitionRef;
+use disc::places::PartitionRef;
 use areas::ending_of;
 use disc::refusals::Refusal;
 use names::dstrings::NameSize;
@@ -110,7 +110,7 @@ fn show_partition(p: PartitionRef) {
 fn show_continuation(a: AdContinuation) {
     text(b" continuation");
     number(a.length as u64);
-    number(a.block as u64);
+    number(a.block.0 as u64);
     let partition = a.partition_ref;
     show_partition(partition);
     end_line();
