@@ -9,7 +9,6 @@ use lib.Seq.{length-take-le}
 use lib.Dec.{leb}
 use mir.Syntax.{w64}
 use mir.Val.{Fits}
-use Rattle.disc.proofs.RefusalLaws.{refusal-numbered}
 use Rattle.disc.specs.declared.places.Mount.{Mount}
 use Rattle.disc.specs.Choice.{pick}
 use Rattle.disc.specs.Refusals.{number}
@@ -23,6 +22,7 @@ use Rattle.disc.specs.declared.replies.Reply.{Reply}
 use Rattle.disc.proofs.PartLaws.{part-slice}
 use Rattle.disc.proofs.CountLaws.{reported-sum}
 use Rattle.disc.proofs.RanLaws.{ran-then}
+use Rattle.disc.proofs.RefusalLaws.{refusal-numbered}
 use Rattle.disc.proofs.ReplyLaws.{reply-refused, reply-counts}
 use Rattle.records.specs.declared.allocations.LongAd.{LongAd}
 use Rattle.files.specs.Files.{fileBytes}

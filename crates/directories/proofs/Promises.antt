@@ -16,11 +16,10 @@ use Rattle.disc.proofs.AskLaws.{asked-then, askedBehind}
 use Rattle.disc.proofs.RanLaws.{ran-done}
 use Rattle.records.specs.declared.allocations.LongAd.{LongAd}
 use Rattle.files.specs.Files.{fileBytes}
-use Rattle.listings.specs.Entries.{Entry, Entries, entries, sound}
-use Rattle.listings.specs.Entries.Entries.{entry}
+use Rattle.listings.specs.Entries.{Entry, entries}
 use Rattle.listings.specs.Listings.{answersTo, findIn}
 use Rattle.listings.specs.Paths.{Component, front, behind, componentsFrom, components}
-use Rattle.listings.proofs.Promises.{inFront, NoneAnswers, first-wins}
+use Rattle.listings.proofs.Promises.{NoneAnswers, first-wins}
 use Rattle.directories.specs.Directories.{within, directoryBytes}
 use Rattle.directories.specs.Lookups.{entering, seeking, seekPath, icbOf, lookupOf}
 use Rattle.directories.specs.Lookups.Sought.{reached, lost}
@@ -57,13 +56,13 @@ module _ (d : Disc) (v : Mount) (work : ℕ) where
 
   -- the first entry of a name wins, whatever stands behind it
   pub enters-first : (icb : LongAd) (component : List ℕ) {b : List ℕ} → ran d (directoryBytes v work icb) .outcome ≡ answered b
-      → (before : List Entry) (e : Entry) (rest : Entries) → entries b ≡ inFront before (entry e rest) → sound (entries b) ≡ true
+      → (before : List Entry) (e : Entry) (rest : List Entry) → entries b ≡ answered (before ++ e ∷ rest)
       → NoneAnswers component before → answersTo component e ≡ true
       → ran d (entering v work icb component) ≡ record { outcome = answered (some e); count = ran d (directoryBytes v work icb) .count }
   unfolding entering findIn
-  enters-first icb component {b} r before e rest k s n h =
+  enters-first icb component {b} r before e rest k n h =
       ran-known d (directoryBytes v work icb) (findIn component)
-      ∙ rw (r, s, k, first-wins component before e rest n h)
+      ∙ rw (r, k, first-wins component before e rest n h)
 
   -- a component under what is no directory is lost before any further sector
   pub under-file : (c : Component) (cs : List Component) (icb : LongAd) → ran d (seeking v work (c ∷ cs) icb false) ≡ record { outcome = answered (lost c); count = 0 }

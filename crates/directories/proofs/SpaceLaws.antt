@@ -8,7 +8,6 @@ use native.Mathlib.Omega.{arith}
 use lib.ListN.{length, take, drop, length-append}
 use lib.Seq.{take-append-seam}
 use lib.Dec.{leb}
-use Rattle.disc.proofs.RefusalLaws.{refusal-numbered}
 use Rattle.disc.specs.declared.places.Mount.{Mount}
 use Rattle.disc.specs.Choice.{pick}
 use Rattle.disc.specs.Refusals.{number}
@@ -17,10 +16,10 @@ use Rattle.disc.specs.Ask.{Disc, Ask, Outcome, outcome, asked, then, ended, and
 use Rattle.disc.specs.Ask.Outcome.{answered, refused}
 use Rattle.disc.specs.Ran.{Ran, ran, onward}
 use Rattle.disc.specs.Replies.{replyBy, leftBy, Replied}
-use Rattle.disc.specs.declared.refusals.Refusal.{Refusal}
 use Rattle.disc.specs.declared.refusals.Refusal.the-variants.{NoWork}
 use Rattle.disc.specs.declared.replies.Reply.{Reply}
 use Rattle.disc.proofs.RanLaws.{ran-then, ran-ended}
+use Rattle.disc.proofs.RefusalLaws.{refusal-numbered}
 use Rattle.records.specs.declared.allocations.LongAd.{LongAd}
 use Rattle.files.specs.Files.{fileBytes}
 use Rattle.directories.specs.Directories.{within, directoryBytes}

@@ -8,24 +8,22 @@ use native.Mathlib.Nat.{zero-add, add-sub-cancel-left}
 use native.Mathlib.Omega.{arith}
 use lib.ListN.{length, take, drop, length-drop, drop-of-length-le}
 use lib.Seq.{drop-drop}
-use lib.Dec.{eqb}
 use borrow.Author.Tests.{ne-eqb, eq-eqb}
-use Rattle.disc.proofs.RefusalLaws.{refusal-numbered}
 use Rattle.disc.specs.declared.places.Mount.{Mount}
-use Rattle.disc.specs.Choice.{pick}
 use Rattle.disc.specs.Refusals.{number}
 use Rattle.disc.specs.Counts.{reported}
 use Rattle.disc.specs.Ask.{Disc, Ask, Outcome, outcome, asked, andThen}
 use Rattle.disc.specs.Ask.Outcome.{answered, refused}
 use Rattle.disc.specs.Ran.{Ran, ran, after, onward, followed}
-use Rattle.disc.specs.declared.refusals.Refusal.the-variants.{Malformed}
+use Rattle.disc.specs.declared.refusals.Refusal.the-variants.{NotBluray}
 use Rattle.disc.specs.declared.replies.Reply.{Reply}
 use Rattle.disc.proofs.RanLaws.{ran-then}
+use Rattle.disc.proofs.RefusalLaws.{refusal-numbered}
 use Rattle.records.specs.Allocations.{noLong}
 use Rattle.records.specs.declared.allocations.LongAd.{LongAd}
 use Rattle.identifiers.specs.Identifiers.{isDirectory}
-use Rattle.listings.specs.Entries.{Entry, entries, sound}
-use Rattle.listings.specs.Listings.{firstNamed, findIn, namedOf}
+use Rattle.listings.specs.Entries.{Entry}
+use Rattle.listings.specs.Listings.{findIn, unnamed, namedOf}
 use Rattle.listings.specs.Paths.{Component, front, behind, componentsFrom, components, slashes}
 use Rattle.listings.specs.declared.finds.Named.{Named}
 use Rattle.listings.proofs.PathLaws.{behind-slashes, front-is, slashes-long, no-more-slashes, first-component, front-some, component-within}
@@ -33,7 +31,7 @@ use Rattle.directories.specs.Directories.{directoryBytes}
 use Rattle.directories.specs.Lookups.{Sought, entering, orLost, seeking, seekPath, icbOf, foundTo, lostOf}
 use Rattle.directories.specs.Lookups.Sought.{lost}
 use Rattle.directories.specs.inner.Spaces.{replyTo, Reads}
-use Rattle.directories.specs.inner.Walks.{enteredTo, enteredOf, beyondOf, End, endOf, leadsTo, On, stepsLeft, Steps, Walks}
+use Rattle.directories.specs.inner.Walks.{enteredOf, stoppedAt, lostAt, beyondOf, End, endOf, leadsTo, On, stepsLeft, Steps, Walks}
 use Rattle.directories.specs.declared.lookups.Found.{Found}
 use Rattle.directories.specs.declared.walks.Entered.{Entered}
 use Rattle.directories.specs.declared.walks.PathPlace.{PathPlace}
@@ -43,21 +41,9 @@ use Rattle.directories.proofs.SpaceLaws.{ran-known, reads-count, reads-
 
 -- a directory that was not read refuses its entry
 refused-entered : (o : Outcome (List ℕ)) (n : ℕ) {reply : Reply} → reply ≡ replyTo o n → (reply .answer ≡ 0 → ⊥) → (f : List ℕ → Outcome (Option Entry))
-    → record { answer = reply .answer; lost = false; icb = noLong; directory = false; count = reply .count } ≡ enteredTo (andThen o f) n
+    → unnamed (reply .answer) ≡ namedOf (andThen o f)
 refused-entered (answered b) n p h f = absurd (h (rw p))
 refused-entered (refused r) n p h f = rw p
-
--- what `find` says, with a count
-named-entered : (component b : List ℕ) (n : ℕ) {r : Named} → r ≡ namedOf (findIn component b)
-    → record { answer = r .answer; lost = eqb (r .answer) 3; icb = r .icb; directory = r .directory; count = n } ≡ enteredTo (findIn component b) n
-unfolding findIn
-named-entered component b n {r} e = by (sound (entries b)) (firstNamed component (entries b)) e
-  where
-    by : (s : Bool) (o : Option Entry) → r ≡ namedOf (pick s (answered o) (refused Malformed))
-        → record { answer = r .answer; lost = eqb (r .answer) 3; icb = r .icb; directory = r .directory; count = n } ≡ enteredTo (pick s (answered o) (refused Malformed)) n
-    by true none e = rw e
-    by true (some x) e = rw e
-    by false o e = rw e
 
 module _ (d : Disc) (v : Mount) (icb : LongAd) (component : List ℕ) (w w′ : List ℕ) {read : Reply} (p : Reads (ran d (directoryBytes v (length w) icb)) w w′ read) where
   abbrev R : Ran (List ℕ)
@@ -67,20 +53,13 @@ module _ (d : Disc) (v : Mount) (icb : LongAd) (component : List ℕ) (w w′ : 
   unfolding entering
   entering-is = ran-known d (directoryBytes v (length w) icb) (findIn component)
 
-  pub enter-refused : (read .answer ≡ 0 → ⊥) → {l : LongAd} → l ≡ noLong
-      → record { answer = read .answer; lost = false; icb = l; directory = false; count = read .count } ≡ enteredOf (ran d (entering v (length w) icb component))
-  enter-refused h e = rw (e, entering-is) (refused-entered (R .outcome) (reported (R .count)) (p .says) h (findIn component))
+  pub enter-refused : (read .answer ≡ 0 → ⊥) → (e : Named) → e ≡ unnamed (read .answer)
+      → record { entry = e; count = read .count } ≡ enteredOf (ran d (entering v (length w) icb component))
+  enter-refused h e q = rw (q, entering-is, reads-count p, refused-entered (R .outcome) (reported (R .count)) (p .says) h (findIn component))
 
-  pub enter-found : read .answer ≡ 0 → (r : Named) → r ≡ namedOf (findIn component (take (read .length - 0) (drop 0 w′)))
-      → record { answer = r .answer; lost = eqb (r .answer) 3; icb = r .icb; directory = r .directory; count = read .count } ≡ enteredOf (ran d (entering v (length w) icb component))
-  enter-found h r e =
-      rw (entering-is, reads-bytes p h, reads-count p)
-      (named-entered component (take (read .length - 0) (drop 0 w′)) (reported (R .count)) e)
-
-entered-count : (o : Outcome (Option Entry)) (n : ℕ) → enteredTo o n .count ≡ n
-entered-count (answered (some e)) n = refl
-entered-count (answered none) n = refl
-entered-count (refused r) n = refl
+  pub enter-found : read .answer ≡ 0 → (e : Named) → e ≡ namedOf (findIn component (take (read .length - 0) (drop 0 w′)))
+      → record { entry = e; count = read .count } ≡ enteredOf (ran d (entering v (length w) icb component))
+  enter-found h e q = rw (q, entering-is, reads-bytes p h, reads-count p)
 
 -- ---- the walk
 
@@ -122,7 +101,7 @@ module _ (d : Disc) (v : Mount) (work : ℕ) (path : List ℕ) {p : PathPlace} (
   -- an end of the walk at which a part of the path is lost
   ends-here : (a b answer : ℕ) (icb : LongAd) (n : ℕ) → a ≤ b → b ≤ length path → n ≤ 0xffff_ffff_ffff_ffff
       → record { found = record { answer = answer; count = n; icb = icb }; lost = record { bytes = take (b - a) (drop a path); at = a } } ≡ leadsTo d v work path p
-      → Steps d v work path p (record { going = false; answer = answer; icb = icb; directory = false; count = n; from = a; end = b })
+      → Steps d v work path p (stoppedAt answer icb n a b)
   unfolding leadsTo
   ends-here a b answer icb n u v c s =
       record {
@@ -132,7 +111,7 @@ module _ (d : Disc) (v : Mount) (work : ℕ) (path : List ℕ) {p : PathPlace} (
       }
 
   pub step-arrives : length path ≤ p .from → {q : PathPlace}
-      → q ≡ record { going = false; answer = 0; icb = p .icb; directory = false; count = p .count; from = 0; end = 0 } → Steps d v work path p q
+      → q ≡ stoppedAt 0 (p .icb) (p .count) 0 0 → Steps d v work path p q
   unfolding componentsFrom front behind seeking ran outcome asked
   step-arrives h e =
       let z : drop (p .from) path ≡ [] = drop-of-length-le path h in
@@ -153,13 +132,12 @@ module _ (d : Disc) (v : Mount) (work : ℕ) (path : List ℕ) {p : PathPlace} (
     component-is : take (end - p .from) (drop (p .from) path) ≡ front (drop (p .from) path)
     component-is = rw (k, add-sub-cancel-left) (front-is (drop (p .from) path))
 
-    pub step-dead : p .directory ≡ false → {l : LongAd} → l ≡ noLong → {q : PathPlace}
-        → q ≡ record { going = false; answer = 3; icb = l; directory = false; count = p .count; from = p .from; end = end } → Steps d v work path p q
+    pub step-dead : p .directory ≡ false → {q : PathPlace} → q ≡ lostAt (p .count) (p .from) end → Steps d v work path p q
     unfolding seeking ran outcome asked
-    step-dead t j e =
-        rw (e, j)
-        (ends-here (p .from) end 3 noLong (p .count) (omega (arith, further)) end-within (on .counted)
-        (sym (ahead ∙ rw (some-left, t, ← component-is) (both (ap (notFound 3) counts) refl))))
+    step-dead t e =
+        rw e
+        (ends-here (p .from) end (number NotBluray) noLong (p .count) (omega (arith, further)) end-within (on .counted)
+        (sym (ahead ∙ rw (some-left, t, ← component-is) (both (ap (notFound (number NotBluray)) counts) refl))))
 
     module _ (t : p .directory ≡ true) where
       abbrev C : Component
@@ -185,22 +163,21 @@ module _ (d : Disc) (v : Mount) (work : ℕ) (path : List ℕ) {p : PathPlace} (
           }
 
       by-outcome : (o : Outcome (Option Entry)) (m : ℕ) → leadsTo d v work path p ≡ endOf (after (p .count) (onward o m (λ o. ran d (rest o))))
-          → Steps d v work path p (beyondOf path (enteredTo o (reported m)) (reported (p .count + reported m)) (p .from) end)
+          → Steps d v work path p (beyondOf path (namedOf o) (reported (p .count + reported m)) (p .from) end)
       unfolding beyondOf ran outcome asked
       by-outcome (answered (some e)) m s =
           goes-on (e .identifier .icb) (isDirectory (e .identifier)) _ (omega arith) (end-reported (ran d (rest (some e))) (p .count) m ∙ sym s)
       by-outcome (answered none) m s =
-          ends-here (p .from) end 3 noLong _ (omega (arith, further)) end-within (omega arith) (both (ap (notFound 3) (omega arith)) refl ∙ sym s)
+          ends-here (p .from) end (number NotBluray) noLong _ (omega (arith, further)) end-within (omega arith) (both (ap (notFound (number NotBluray)) (omega arith)) refl ∙ sym s)
       by-outcome (refused r) m s =
           simp (ne-eqb _ _ (refusal-numbered r))
           (ends-here 0 0 (number r) noLong _ zero-le zero-le (omega arith) (both (ap (notFound (number r)) (omega arith)) refl ∙ sym s))
 
       pub step-enters : {e : Entered} → e ≡ enteredOf (ran d (entering v work (p .icb) (C .bytes))) → {n : ℕ} → n ≡ reported (p .count + e .count)
-          → {q : PathPlace} → q ≡ beyondOf path e n (p .from) end → Steps d v work path p q
+          → {q : PathPlace} → q ≡ beyondOf path (e .entry) n (p .from) end → Steps d v work path p q
       step-enters {e} x {n} y z =
           let R : Ran (Option Entry) = ran d (entering v work (p .icb) (C .bytes)) in
-          let c : e .count ≡ reported (R .count) = rw x (entered-count (R .outcome) (reported (R .count))) in
-          let m : n ≡ reported (p .count + reported (R .count)) = y ∙ ap (λ k. reported (p .count + k)) c in
+          let m : n ≡ reported (p .count + reported (R .count)) = y ∙ rw x in
           rw (z, m, x) (by-outcome (R .outcome) (R .count) turn)
 
 -- the walk has come to p
@@ -218,8 +195,8 @@ walk-starts d v work root path a e =
     }
 
 module _ {d : Disc} {v : Mount} {work : ℕ} {root : LongAd} {path : List ℕ} {p : PathPlace} (w : Walking d v work root path p) where
-  pub walk-next : (k : ℕ) → k ≡ work → {q : PathPlace} → Steps d v k path p q → Walking d v work root path q
-  walk-next k l s = record { on = s .on; same = (rw l at (s .same)) ∙ w .same }
+  pub walk-next : (v : ℕ) → v ≡ work → {q : PathPlace} → Steps d v v path p q → Walking d v work root path q
+  walk-next v l s = record { on = s .on; same = (rw l at (s .same)) ∙ w .same }
 
   pub walk-ends : p .going ≡ false → Walks d v work root path p
   unfolding leadsTo
@@ -228,19 +205,17 @@ module _ {d : Disc} {v : Mount} {work : ℕ} {root : LongAd} {path : List ℕ} {
       record { found = ap (λ (x : End). x .found) e; lost = ap (λ (x : End). x .lost) e; ordered = w .on .ordered; within = w .on .within }
 
 -- the returns of `beyond`
-module _ (path : List ℕ) (e : Entered) (count from end : ℕ) where
-  pub beyond-lost : e .lost ≡ true → {q : PathPlace} → q ≡ record { going = false; answer = e .answer; icb = e .icb; directory = false; count = count; from = from; end = end }
-      → q ≡ beyondOf path e count from end
+module _ (path : List ℕ) (e : Named) (count from end : ℕ) where
+  pub beyond-refused : (e .answer ≡ 0 → ⊥) → {l : LongAd} → l ≡ noLong → {q : PathPlace} → q ≡ stoppedAt (e .answer) l count 0 0 → q ≡ beyondOf path e count from end
   unfolding beyondOf
-  beyond-lost h k = rw h k
+  beyond-refused z n k = rw (ne-eqb (e .answer) 0 z, k, n)
 
-  module _ (h : e .lost ≡ false) where
-    pub beyond-refused : (e .answer ≡ 0 → ⊥) → {q : PathPlace} → q ≡ record { going = false; answer = e .answer; icb = e .icb; directory = false; count = count; from = 0; end = 0 }
-        → q ≡ beyondOf path e count from end
+  module _ (z : e .answer ≡ 0) where
+    pub beyond-lost : e .found ≡ false → {q : PathPlace} → q ≡ lostAt count from end → q ≡ beyondOf path e count from end
     unfolding beyondOf
-    beyond-refused z k = rw (h, ne-eqb (e .answer) 0 z) k
+    beyond-lost h k = rw (eq-eqb (e .answer) 0 z, h) k
 
-    pub beyond-on : e .answer ≡ 0 → (a : ℕ) → a ≡ end + slashes (drop end path)
+    pub beyond-on : e .found ≡ true → (a : ℕ) → a ≡ end + slashes (drop end path)
         → record { going = true; answer = 0; icb = e .icb; directory = e .directory; count = count; from = a; end = length path } ≡ beyondOf path e count from end
     unfolding beyondOf
-    beyond-on z a k = rw (h, eq-eqb (e .answer) 0 z, k)
+    beyond-on h a k = rw (eq-eqb (e .answer) 0 z, h, k)

@@ -1,26 +1,26 @@
 // The walk along a path, a component at a time.
 ghost use mathlib.Core.Path.{_≡_};
-ghost use mathlib.Core.Bool.{true, false};
+ghost use mathlib.Core.Bool.{true};
 ghost use lib.ListN.{length};
 ghost use Rattle.disc.specs.Ran.{ran};
 ghost use Rattle.disc.specs.Images.{disc};
 ghost use Rattle.directories.specs.Lookups.{entering};
-ghost use Rattle.directories.specs.inner.Walks.{enteredOf, beyondOf, On, Steps, Walks};
+ghost use Rattle.directories.specs.inner.Walks.{enteredOf, stoppedAt, lostAt, beyondOf, On, Steps, Walks};
 use crate::spaces::read_directory;
 use disc::counts::add_counts;
 use disc::places::Mount;
+use disc::refusals::Refusal;
+use listings::finds::Named;
 use listings::finds::find;
+use listings::finds::no_entry;
 use listings::paths::component_end;
 use listings::paths::component_from;
 use records::allocations::LongAd;
 use records::allocations::no_long;
 
-// The entry of one component; `lost` where there is none.
+// What a directory has under the name of one component, and how many sectors it took to tell.
 pub struct Entered {
-    pub answer: u64,
-    pub lost: bool,
-    pub icb: LongAd,
-    pub directory: bool,
+    pub entry: Named,
     pub count: u64,
 }
 
@@ -37,34 +37,33 @@ pub struct PathPlace {
 }
 
 // The entry of a component in the directory at icb, which is read into the work space and left there.
-fn enter(image: &[u8], mount: Mount, icb: LongAd, component: &[u8], work: &mut [u8]) -> Entered
+fn enter(
+    image: &[u8],
+    mount: Mount,
+    icb: LongAd,
+    component: &[u8],
+    work: &mut [u8],
+) -> Entered
     ensures { λ r. ⌜ r ≡ enteredOf (ran (disc (now (image .entry))) (entering mount (length (now (work .entry))) icb (now (component .entry)))) ⌝ }
 {
     let read = read_directory(image, mount, icb, work);
     if read.answer != 0 {
         return Entered {
-            answer: read.answer,
-            lost: false,
-            icb: no_long(),
-            directory: false,
+            entry: no_entry(read.answer),
             count: read.count,
         };
     }
     let n = read.length as usize;
-    let e = find(&work[0..n], component);
-    let icb = e.icb;
+    let entry = find(&work[0..n], component);
     Entered {
-        answer: e.answer,
-        lost: e.answer == 3,
-        icb,
-        directory: e.directory,
+        entry,
         count: read.count,
     }
 }
 
 // The end of a walk: with an answer, and where a component was lost, its place.
 fn stopped(answer: u64, icb: LongAd, count: u64, from: usize, end: usize) -> PathPlace
-    ensures { λ r. ⌜ r ≡ record { going = false; answer = answer; icb = icb; directory = false; count = count; from = from; end = end } ⌝ }
+    ensures { λ r. ⌜ r ≡ stoppedAt answer icb count from end ⌝ }
 {
     PathPlace {
         going: false,
@@ -77,22 +76,29 @@ fn stopped(answer: u64, icb: LongAd, count: u64, from: usize, end: usize) -> Pat
     }
 }
 
-// Beyond a component that was entered, or stopped there.
-fn beyond(path: &[u8], e: Entered, count: u64, from: usize, end: usize) -> PathPlace
-    ensures { λ r. ⌜ r ≡ beyondOf (now (path .entry)) e count from end ⌝ }
+// The end of a walk at a component that isn't there.
+fn lost(count: u64, from: usize, end: usize) -> PathPlace
+    ensures { λ r. ⌜ r ≡ lostAt count from end ⌝ }
 {
-    let icb = e.icb;
-    if e.lost {
-        return stopped(e.answer, icb, count, from, end);
+    stopped(Refusal::NotBluray.number(), no_long(), count, from, end)
+}
+
+// Beyond a component whose entry was looked for, or stopped there.
+fn beyond(path: &[u8], entry: Named, count: u64, from: usize, end: usize) -> PathPlace
+    ensures { λ r. ⌜ r ≡ beyondOf (now (path .entry)) entry count from end ⌝ }
+{
+    if entry.answer != 0 {
+        return stopped(entry.answer, no_long(), count, 0, 0);
     }
-    if e.answer != 0 {
-        return stopped(e.answer, icb, count, 0, 0);
+    if !entry.found {
+        return lost(count, from, end);
     }
+    let icb = entry.icb;
     PathPlace {
         going: true,
         answer: 0,
         icb,
-        directory: e.directory,
+        directory: entry.directory,
         count,
         from: component_from(path, end),
         end: path.len(),
@@ -100,7 +106,13 @@ fn beyond(path: &[u8], e: Entered, count: u64, from: usize, end: usize) -> PathP
 }
 
 // One step of the walk.
-fn step(image: &[u8], mount: Mount, path: &[u8], p: PathPlace, work: &mut [u8]) -> PathPlace
+fn step(
+    image: &[u8],
+    mount: Mount,
+    path: &[u8],
+    p: PathPlace,
+    work: &mut [u8],
+) -> PathPlace
     requires { ⌜ (p .going ≡ true) × On (now path) p ⌝ }
     ensures { λ q. ⌜ Steps (disc (now (image .entry))) mount (length (now (work .entry))) (now (path .entry)) p q ⌝ }
 {
@@ -111,10 +123,11 @@ fn step(image: &[u8], mount: Mount, path: &[u8], p: PathPlace, work: &mut [u8]) 
     }
     let end = component_end(path, from);
     if !p.directory {
-        return stopped(3, no_long(), p.count, from, end);
+        return lost(p.count, from, end);
     }
     let e = enter(image, mount, icb, &path[from..end], work);
-    beyond(path, e, add_counts(p.count, e.count), from, end)
+    let entry = e.entry;
+    beyond(path, entry, add_counts(p.count, e.count), from, end)
 }
 
 // The whole walk. What is left in the work space is of no use to the caller.

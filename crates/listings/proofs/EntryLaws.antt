@@ -7,10 +7,13 @@ use native.Mathlib.Nat.{add-sub-cancel-left}
 use native.Mathlib.Omega.{arith}
 use lib.ListN.{length, take, drop, length-append, length-drop, drop-of-length-le}
 use lib.Seq.{take-all, drop-drop, drop-at, length-take-le, sets, length-sets, sets-eq}
-use lib.Dec.{ltb}
+use lib.Dec.{ltb, eqb}
 use borrow.Author.Tests.{eq-eqb, ne-eqb, eqb-true, eqb-false}
 use borrow.Rule.Slice.PartMut.{midOf, putMid}
 use Rattle.disc.specs.Choice.{pick}
+use Rattle.disc.specs.Refusals.{number}
+use Rattle.disc.specs.Ask.Outcome.{answered, refused}
+use Rattle.disc.specs.declared.refusals.Refusal.the-variants.{Malformed}
 use Rattle.disc.specs.Moves.{over}
 use Rattle.disc.proofs.MoveLaws.{over-fits}
 use Rattle.records.specs.Bytes.{byte, u16at, u32at, le16, le32, six}
@@ -23,10 +26,10 @@ use Rattle.identifiers.specs.declared.FileIdentifierDescriptor.{FileIdentifierD
 use Rattle.identifiers.specs.declared.IdentifierRead.{IdentifierRead}
 use Rattle.identifiers.specs.Identifiers.{readIdentifier, recordedName, nameAt, nameEnd, nextAt, bit, isDirectory}
 use Rattle.identifiers.specs.Wholes.{Whole}
-use Rattle.identifiers.proofs.IdentifierLaws.{read-identifier}
-use Rattle.listings.specs.Entries.{entryOf, isGood, isSkipped, nameIn}
+use Rattle.identifiers.proofs.IdentifierLaws.{read-identifier, read-identifier-refused}
+use Rattle.listings.specs.Entries.{Entry, entryOf, entryRead, isSkipped, nameIn}
 use Rattle.listings.specs.Listings.{recordHead, shown, isLong, answersTo}
-use Rattle.listings.specs.inner.Passes.{Good, Parsed, Recorded, Puts, icbIn, headIn, recordIn, earlierOf}
+use Rattle.listings.specs.inner.Passes.{Recorded, Puts, icbIn, headIn, recordIn, earlierOf}
 use Rattle.listings.specs.declared.finds.Named.{Named}
 
 -- ---- a lent tail
@@ -51,23 +54,32 @@ front-over v w d h =
 
 -- ---- reading
 
-module _ {s : List ℕ} {r : IdentifierRead} where
-  pub parsed-is : Bytes s → r ≡ readIdentifier s → Parsed s r
-  parsed-is b e = record { is = e; good = λ z. record { is = ap (λ (x : IdentifierRead). x .descriptor) e; whole = read-identifier s b e z } }
+-- e is the entry at the front of s
+pub record Known (s : List ℕ) (e : Entry) : Type 0 where
+  pub is : e ≡ entryOf s (e .identifier)
+  pub whole : Whole s (e .identifier)
 
-  parsed-good : Parsed s r → r .answer ≡ 0 → Good s (r .descriptor)
-  parsed-good p z = p .good z
+module _ (s : List ℕ) (b : Bytes s) {r : IdentifierRead} (p : r ≡ readIdentifier s) where
+  pub read-good : r .answer ≡ 0 → entryRead s ≡ answered (entryOf s (r .descriptor))
+  unfolding entryRead
+  read-good z = rw (← p, eq-eqb _ _ z)
 
-  pub name-inside : Parsed s r → r .answer ≡ 0 → r .descriptor .«name_at» + r .descriptor .«name_length» ≤ length s
-  name-inside p z = p .good z .whole .within
+  pub read-whole : r .answer ≡ 0 → Whole s (r .descriptor)
+  read-whole z = read-identifier s b p z
 
-  pub good-read : Parsed s r → r .answer ≡ 0 → isGood s ≡ true
-  unfolding isGood
-  good-read p z = rw (← p .is) (eq-eqb _ _ z)
+  pub read-bad : (r .answer ≡ 0 → ⊥) → (entryRead s ≡ refused Malformed) × (r .answer ≡ number Malformed)
+  unfolding entryRead
+  read-bad n = (rw (← p, ne-eqb _ _ n), ap (λ (x : IdentifierRead). x .answer) (read-identifier-refused s p n))
 
-  pub bad-read : Parsed s r → (r .answer ≡ 0 → ⊥) → isGood s ≡ false
-  unfolding isGood
-  bad-read p n = rw (← p .is) (ne-eqb _ _ n)
+pub known : (s : List ℕ) → Bytes s → {e : Entry} → entryRead s ≡ answered e → Known s e
+unfolding entryRead
+known s b {e} h = by (eqb (readIdentifier s .answer) 0) refl h
+  where
+    by : (t : Bool) → eqb (readIdentifier s .answer) 0 ≡ t → pick t (answered (entryOf s (readIdentifier s .descriptor))) (refused Malformed) ≡ answered e → Known s e
+    by true z k =
+        let x : e ≡ entryOf s (readIdentifier s .descriptor) = cc in
+        rw x (record { is = refl; whole = read-identifier s b refl (eqb-true _ _ z) })
+    by false z k = absurd (let y : _≡_ {A = ℕ} 0 1 = cc in omega arith)
 
 pub skipped-is : (f : FileIdentifierDescriptor) {b : Bool} → b ≡ (bit 4 (f .«file_characteristics») || bit 8 (f .«file_characteristics»)) → b ≡ isSkipped f
 unfolding isSkipped
@@ -94,55 +106,41 @@ bit-byte b = by (bit 2 b) refl
     by true e = eqb-true (b / 2 % 2) 1 e
     by false e = let n : b / 2 % 2 ≡ 1 → ⊥ = eqb-false (b / 2 % 2) 1 e in omega (arith, n)
 
--- ---- a good entry f at the front of s
+-- ---- an entry with the identifier f at the front of s
 
 -- its recorded name, as the code cuts it out
 abbrev pub part : List ℕ → FileIdentifierDescriptor → List ℕ
 part s f = take (f .«name_at» + f .«name_length» - f .«name_at») (drop (f .«name_at») s)
 
-module _ {s : List ℕ} {f : FileIdentifierDescriptor} (g : Good s f) where
-  pub identifier-is : entryOf s .identifier ≡ f
-  unfolding entryOf
-  identifier-is = sym (g .is)
+module _ {s : List ℕ} {f : FileIdentifierDescriptor} (w : Whole s f) where
+  recorded-is : recordedName s ≡ part s f
+  unfolding recordedName
+  recorded-is = rw (add-sub-cancel-left, w .from, w .recorded)
 
-  recorded-is : entryOf s .recorded ≡ part s f
-  unfolding entryOf recordedName
-  recorded-is = rw (add-sub-cancel-left, g .whole .from, g .whole .recorded)
+  size-is : length (nameIn (entryOf s f)) ≡ f .«name_size»
+  unfolding nameIn
+  size-is = sym (w .size)
 
-  size-is : length (nameIn (entryOf s)) ≡ f .«name_size»
-  unfolding nameIn entryOf
-  size-is = sym (g .whole .size)
-
-  shown-by : shown (entryOf s) ≡ pick (isSkipped f) [] (recordHead (isDirectory f) (f .icb) (f .«name_size») ++ nameIn (entryOf s))
-  unfolding shown isSkipped recordHead nameIn
-  shown-by = rw (identifier-is, size-is)
-
-  pub shown-length : length (shown (entryOf s)) ≡ pick (isSkipped f) 0 (21 + f .«name_size»)
-  unfolding isSkipped
-  shown-length = rw (shown-by, ← size-is) (by (isSkipped f))
+  pub shown-length : length (shown (entryOf s f)) ≡ pick (isSkipped f) 0 (21 + f .«name_size»)
+  unfolding shown isSkipped nameIn
+  shown-length = rw (← size-is) (by (isSkipped f))
     where
-      by : (b : Bool) → length (pick b [] (recordHead (isDirectory f) (f .icb) (length (nameIn (entryOf s))) ++ nameIn (entryOf s))) ≡ pick b 0 (21 + length (nameIn (entryOf s)))
+      by : (b : Bool) → length (pick b [] (recordHead (isDirectory f) (f .icb) (length (nameIn (entryOf s f))) ++ nameIn (entryOf s f))) ≡ pick b 0 (21 + length (nameIn (entryOf s f)))
       by true = refl
-      by false = length-append (recordHead (isDirectory f) (f .icb) (length (nameIn (entryOf s)))) (nameIn (entryOf s)) ∙ ap (λ n. n + length (nameIn (entryOf s))) (head-length _ _ _)
+      by false = length-append (recordHead (isDirectory f) (f .icb) (length (nameIn (entryOf s f)))) (nameIn (entryOf s f)) ∙ ap (λ n. n + length (nameIn (entryOf s f))) (head-length _ _ _)
 
-  pub long-is : isLong (entryOf s) ≡ pick (isSkipped f) false (ltb 65535 (f .«name_size»))
-  unfolding isLong isSkipped nameIn
-  long-is = rw (identifier-is, size-is)
+  pub long-is : isLong (entryOf s f) ≡ pick (isSkipped f) false (ltb 65535 (f .«name_size»))
+  unfolding isLong isSkipped
+  long-is = rw size-is
 
-  module _ {b : Bool} (e : b ≡ isSkipped f) where
-    pub skipped-unnamed : b ≡ true → (component : List ℕ) → false ≡ answersTo component (entryOf s)
-    unfolding answersTo
-    skipped-unnamed h component = rw (identifier-is, ← e, h)
+module _ (s : List ℕ) {f : FileIdentifierDescriptor} {b : Bool} (e : b ≡ isSkipped f) (component : List ℕ) where
+  pub skipped-unnamed : b ≡ true → Whole s f → false ≡ answersTo component (entryOf s f)
+  unfolding answersTo
+  skipped-unnamed h w = rw (← e, h)
 
-    pub part-named : b ≡ false → (component : List ℕ) {r : Bool} → r ≡ isNamed (part s f) component → r ≡ answersTo component (entryOf s)
-    unfolding answersTo
-    part-named h component k = rw (identifier-is, recorded-is, ← e, h) k
-
-    skipped-wrote : b ≡ true → (d : List ℕ) → Wrote (shown (entryOf s)) d d 0
-    skipped-wrote h d = rw (shown-by, ← e, h) (record { count = refl; bytes = sym (over-fits [] d (omega arith)) })
-
-    shown-is : b ≡ false → shown (entryOf s) ≡ recordHead (isDirectory f) (f .icb) (f .«name_size») ++ nameIn (entryOf s)
-    shown-is h = rw (shown-by, ← e, h)
+  pub part-named : b ≡ false → {r : Bool} → r ≡ isNamed (part s f) component → Whole s f → r ≡ answersTo component (entryOf s f)
+  unfolding answersTo
+  part-named h k w = rw (← e, h, recorded-is w) k
 
 -- ---- a record by an entry's bytes
 
@@ -179,53 +177,50 @@ module _ (marks : ℕ) (s name d : List ℕ) where
           };
         }
 
--- ---- an entry that is known to be good
+-- ---- the record of an entry that was read
 
-abbrev known : List ℕ → FileIdentifierDescriptor
-known s = readIdentifier s .descriptor
+module _ (s : List ℕ) (b : Bytes s) {e : Entry} (k : Known s e) where
+  abbrev f : FileIdentifierDescriptor
+  f = e .identifier
 
-module _ (s : List ℕ) (b : Bytes s) (e : isGood s ≡ true) where
-  known-good : Good s (known s)
-  unfolding isGood
-  known-good = parsed-good (parsed-is b refl) (eqb-true _ _ e)
-
-  whole : Whole s (known s)
-  whole = known-good .whole
-
-  head-bytes : (name : List ℕ) → length name ≡ known s .«name_size» → recordHead (isDirectory (known s)) (known s .icb) (known s .«name_size») ≡ headIn (byte s 18 / 2 % 2) s (length name)
+  head-bytes : (name : List ℕ) → length name ≡ f .«name_size» → recordHead (isDirectory f) (f .icb) (f .«name_size») ≡ headIn (byte s 18 / 2 % 2) s (length name)
   unfolding recordHead headIn
   head-bytes name z =
-      ap (λ (x : ℕ). 0x44 ∷ 0x45 ∷ pick (bit 2 x) 1 0 ∷ (encodeLong (known s .icb) ++ le16 (known s .«name_size»))) (whole .characteristics)
-      ∙ ap (λ (x : ℕ). 0x44 ∷ 0x45 ∷ x ∷ (encodeLong (known s .icb) ++ le16 (known s .«name_size»))) (sym (bit-byte (byte s 18)))
-      ∙ ap (λ (x : List ℕ). 0x44 ∷ 0x45 ∷ byte s 18 / 2 % 2 ∷ (x ++ le16 (known s .«name_size»))) (ap encodeLong (whole .icb) ∙ icb-recorded s b)
+      ap (λ (x : ℕ). 0x44 ∷ 0x45 ∷ pick (bit 2 x) 1 0 ∷ (encodeLong (f .icb) ++ le16 (f .«name_size»))) (k .whole .characteristics)
+      ∙ ap (λ (x : ℕ). 0x44 ∷ 0x45 ∷ x ∷ (encodeLong (f .icb) ++ le16 (f .«name_size»))) (sym (bit-byte (byte s 18)))
+      ∙ ap (λ (x : List ℕ). 0x44 ∷ 0x45 ∷ byte s 18 / 2 % 2 ∷ (x ++ le16 (f .«name_size»))) (ap encodeLong (k .whole .icb) ∙ icb-recorded s b)
       ∙ ap (λ (x : ℕ). headIn (byte s 18 / 2 % 2) s x) (sym z)
 
   name-within : nameAt s + byte s 19 ≤ length s
-  name-within = omega (arith, whole .within, whole .from, whole .recorded)
+  name-within = omega (arith, k .whole .within, k .whole .from, k .whole .recorded)
 
   -- its marks
-  module _ {m : ℕ} (k : m ≡ byte s 18) {t : Bool} (u : t ≡ (bit 4 m || bit 8 m)) where
-    marked : t ≡ isSkipped (known s)
-    marked = skipped-is (known s) (rw (whole .characteristics, ← k) u)
+  module _ {m : ℕ} (i : m ≡ byte s 18) {t : Bool} (u : t ≡ (bit 4 m || bit 8 m)) where
+    marked : t ≡ isSkipped f
+    marked = skipped-is f (rw (k .whole .characteristics, ← i) u)
 
-    left-out : t ≡ true → (d : List ℕ) → Wrote (shown (entryOf s)) d d 0
-    left-out h d = skipped-wrote known-good marked h d
+    left-out : t ≡ true → (d : List ℕ) → Wrote (shown e) d d 0
+    unfolding shown
+    left-out h d = rw (← marked, h) (record { count = refl; bytes = sym (over-fits [] d (omega arith)) })
 
     module _ (h : t ≡ false) {from n : ℕ} (a : from ≡ nameAt s) (l : n ≡ byte s 19) where
-      name-there : nameIn (entryOf s) ≡ written (nameOf (take (from + n - from) (drop from s)))
-      unfolding nameIn entryOf recordedName
-      name-there = rw (add-sub-cancel-left, a, l)
+      abbrev name : List ℕ
+      name = written (nameOf (take (from + n - from) (drop from s)))
 
-      shown-record : shown (entryOf s) ≡ recordIn m s (written (nameOf (take (from + n - from) (drop from s))))
-      unfolding recordIn
-      shown-record = shown-is known-good marked h ∙ (λ i. head-bytes (nameIn (entryOf s)) (size-is known-good) i ++ nameIn (entryOf s))
-          ∙ ap (λ (x : List ℕ). headIn (byte s 18 / 2 % 2) s (length x) ++ x) name-there ∙ rw k
+      name-there : nameIn e ≡ name
+      unfolding nameIn recordedName
+      name-there = rw (k .is, add-sub-cancel-left, a, l)
 
-      name-room : (d : List ℕ) → length (shown (entryOf s)) ≤ length d → 21 + length (written (nameOf (take (from + n - from) (drop from s)))) ≤ length d
+      shown-record : shown e ≡ recordIn m s name
+      unfolding shown recordIn
+      shown-record =
+          let z : length name ≡ f .«name_size» = rw (← name-there, k .is) (size-is (k .whole)) in
+          rw (← marked, h, name-there, i) (ap (λ (x : ℕ). recordHead (isDirectory f) (f .icb) x ++ name) z ∙ (λ j. head-bytes name z j ++ name))
+
+      name-room : (d : List ℕ) → length (shown e) ≤ length d → 21 + length name ≤ length d
       unfolding recordIn
       name-room d room =
-          let name = written (nameOf (take (from + n - from) (drop from s))) in
-          let long : length (shown (entryOf s)) ≡ 21 + length name = rw (shown-record, length-append, head-long) in
+          let long : length (shown e) ≡ 21 + length name = rw (shown-record, length-append, head-long) in
           omega (arith, long)
 
 -- ---- the returns of `put_entry`
@@ -237,39 +232,39 @@ module _ (s : List ℕ) (b : Bytes s) {from n : ℕ} (a : from ≡ nameAt s) (l 
         inside = zero-le;
         further = omega arith;
         near = omega arith;
-        next = λ g. absurd (omega (arith, name-within s b g));
-        wrote = λ g. absurd (omega (arith, name-within s b g));
+        next = λ e g. absurd (omega (arith, name-within s b (known s b g)));
+        wrote = λ e g. absurd (omega (arith, name-within s b (known s b g)));
       }
 
   next-is : (from + n + 3) / 4 * 4 ≡ nextAt s
   unfolding nextAt nameEnd
   next-is = rw (a, l)
 
-  put-puts : from + n ≤ length s → {d d′ : List ℕ} {w : ℕ} → w ≤ length d → (isGood s ≡ true → length (shown (entryOf s)) ≤ length d → Wrote (shown (entryOf s)) d d′ w)
+  put-puts : from + n ≤ length s → {d d′ : List ℕ} {w : ℕ} → w ≤ length d → ((e : Entry) → entryRead s ≡ answered e → length (shown e) ≤ length d → Wrote (shown e) d d′ w)
       → Puts s d d′ (record { wrote = w; next = (from + n + 3) / 4 * 4 })
   unfolding nameAt
-  put-puts h i k = record { inside = i; further = omega (arith, a); near = omega arith; next = λ g. next-is; wrote = k }
+  put-puts h i k = record { inside = i; further = omega (arith, a); near = omega arith; next = λ e g. next-is; wrote = k }
 
-  module _ (h : from + n ≤ length s) {m : ℕ} (k : m ≡ byte s 18) {t : Bool} (u : t ≡ (bit 4 m || bit 8 m)) where
+  module _ (h : from + n ≤ length s) {m : ℕ} (i : m ≡ byte s 18) {t : Bool} (u : t ≡ (bit 4 m || bit 8 m)) where
     pub put-left-out : t ≡ true → (d : List ℕ) → Puts s d d (record { wrote = 0; next = (from + n + 3) / 4 * 4 })
-    put-left-out v d = put-puts h zero-le (λ g room. left-out s b g k u v d)
+    put-left-out v d = put-puts h zero-le (λ e g room. left-out s b (known s b g) i u v d)
 
     pub put-recorded : t ≡ false → {d d′ : List ℕ} {w : ℕ} → Recorded m s (written (nameOf (take (from + n - from) (drop from s)))) d d′ w
         → Puts s d d′ (record { wrote = w; next = (from + n + 3) / 4 * 4 })
-    put-recorded v {d} w = put-puts h (w .inside) (λ g room. rw (shown-record s b g k u v a l) (w .wrote (name-room s b g k u v a l d room)))
+    put-recorded v {d} w = put-puts h (w .inside) (λ e g room. rw (shown-record s b (known s b g) i u v a l) (w .wrote (name-room s b (known s b g) i u v a l d room)))
 
 -- ---- what was found already, or this entry
 
-module _ (found : Named) (s component : List ℕ) where
-  pub earlier-found : found .answer ≡ 0 → found ≡ earlierOf found component (entryOf s)
+module _ (found : Named) (s component : List ℕ) {f : FileIdentifierDescriptor} where
+  pub earlier-found : found .found ≡ true → Whole s f → found ≡ earlierOf found component (entryOf s f)
   unfolding earlierOf
-  earlier-found z = rw (eq-eqb (found .answer) 0 z)
+  earlier-found h w = rw h
 
-  module _ {f : FileIdentifierDescriptor} (n : found .answer ≡ 0 → ⊥) {b : Bool} (e : Good s f → b ≡ answersTo component (entryOf s)) where
-    pub earlier-none : b ≡ false → Good s f → found ≡ earlierOf found component (entryOf s)
+  module _ (n : found .found ≡ false) {b : Bool} (e : Whole s f → b ≡ answersTo component (entryOf s f)) where
+    pub earlier-none : b ≡ false → Whole s f → found ≡ earlierOf found component (entryOf s f)
     unfolding earlierOf
-    earlier-none h g = rw (ne-eqb (found .answer) 0 n, ← e g, h)
+    earlier-none h w = rw (n, ← e w, h)
 
-    pub earlier-this : b ≡ true → {q : Bool} → q ≡ isDirectory f → Good s f → record { answer = 0; icb = f .icb; directory = q } ≡ earlierOf found component (entryOf s)
+    pub earlier-this : b ≡ true → {q : Bool} → q ≡ isDirectory f → Whole s f → record { answer = 0; found = true; icb = f .icb; directory = q } ≡ earlierOf found component (entryOf s f)
     unfolding earlierOf
-    earlier-this h k g = rw (ne-eqb (found .answer) 0 n, ← e g, h, identifier-is g, k)
+    earlier-this h k w = rw (n, ← e w, h, k)

@@ -2,35 +2,32 @@
 -- and worked cases. Assumes nothing.
 use mathlib.Core.Path.{_≡_, refl, sym, _∙_}
 use mathlib.Core.Bool.{Bool, true, false}
-use mathlib.Core.List.{List, [], _∷_, map}
+use mathlib.Core.List.{List, [], _∷_, _++_, map}
 use mathlib.Core.Option.{Option, none, some}
-use Prim.Native.Nat.{ℕ}
+use Prim.Native.Nat.{ℕ, zero, suc, _-_}
 use native.Mathlib.Omega.{arith}
 use lib.ListN.{length}
-use lib.Dec.{ltb}
+use lib.Dec.{ltb, eqb}
 use Rattle.disc.specs.Ran.{told}
 use Rattle.disc.specs.Choice.{pick}
+use Rattle.disc.specs.Ask.{Outcome, andThen}
 use Rattle.disc.specs.Ask.Outcome.{answered, refused}
 use Rattle.disc.specs.Replies.{Replied}
+use Rattle.disc.specs.declared.refusals.Refusal.{Refusal}
 use Rattle.disc.specs.declared.refusals.Refusal.the-variants.{Malformed, NoRoom}
 use Rattle.disc.specs.declared.replies.Reply.{Reply}
+use Rattle.disc.proofs.PickLaws.{not-both}
 use Rattle.disc.proofs.ReplyLaws.{replied-one}
 use Rattle.names.specs.Names.{pairs, untilZero, surrogate, dropSurrogates, encode, utf8, nameOf, written, lower, matched, isNamed}
 use Rattle.names.proofs.Promises.{same-folded}
 use Rattle.tags.specs.Tags.{withId, readHead}
 use Rattle.identifiers.specs.Identifiers.{nameAt, nameEnd, recordedName, nextAt, identifierOf, identifierSized, identifierNamed, readIdentifier}
-use Rattle.listings.specs.Entries.{Entry, Entries, entryOf, isGood, isSkipped, nameIn, entriesFrom, entries, sound}
-use Rattle.listings.specs.Entries.Entries.{end, entry}
+use Rattle.listings.specs.Entries.{Entry, entryOf, entryRead, inFront, isSkipped, nameIn, entriesFrom, entries}
 use Rattle.listings.specs.Listings.{recordHead, shown, records, isLong, anyLong, listing, answersTo, firstNamed, findIn, namedOf}
 use Rattle.listings.specs.Paths.{front, behind, componentsFrom, components}
 use Rattle.listings.specs.declared.finds.Named.{Named}
 
 -- ---- the first entry of a name
-
--- entries in front of others
-unfoldable pub inFront : List Entry → Entries → Entries
-inFront [] es = es
-inFront (e ∷ more) es = entry e (inFront more es)
 
 -- none of them answers to the component
 unfoldable pub NoneAnswers : List ℕ → List Entry → Type 0
@@ -38,20 +35,17 @@ NoneAnswers component [] = Unit {0}
 NoneAnswers component (e ∷ more) = (answersTo component e ≡ false) × NoneAnswers component more
 
 -- whatever stands behind it, an entry that answers is taken where none before it does
-pub first-wins : (component : List ℕ) (before : List Entry) (e : Entry) (rest : Entries) → NoneAnswers component before → answersTo component e ≡ true
-    → firstNamed component (inFront before (entry e rest)) ≡ some e
-unfolding firstNamed inFront NoneAnswers
+pub first-wins : (component : List ℕ) (before : List Entry) (e : Entry) (rest : List Entry) → NoneAnswers component before → answersTo component e ≡ true
+    → firstNamed component (before ++ e ∷ rest) ≡ some e
+unfolding firstNamed NoneAnswers
 first-wins component [] e rest n h = rw h
 first-wins component (x ∷ more) e rest n h = rw (n .0) (first-wins component more e rest (n .1) h)
 
 -- and no entry is found where none answers
-pub none-found : (component : List ℕ) (all : List Entry) → NoneAnswers component all → firstNamed component (inFront all end) ≡ none
-unfolding firstNamed inFront NoneAnswers
+pub none-found : (component : List ℕ) (all : List Entry) → NoneAnswers component all → firstNamed component all ≡ none
+unfolding firstNamed NoneAnswers
 none-found component [] n = refl
 none-found component (x ∷ more) n = rw (n .0) (none-found component more (n .1))
-
-never : {A : Type 0} → _≡_ {A = Bool} false true → A
-never {A} e = absurd (let z : _≡_ {A = ℕ} 0 1 = cc in omega arith)
 
 -- an entry that answers is not skipped, and its name is the component with ASCII case ignored
 pub answers-folded : (component : List ℕ) (e : Entry) → answersTo component e ≡ true → (isSkipped (e .identifier) ≡ false) × (map lower (nameIn e) ≡ map lower component)
@@ -59,10 +53,40 @@ unfolding answersTo isNamed nameIn
 answers-folded component e h = by (isSkipped (e .identifier)) (ltb 255 (length (e .recorded))) (nameOf (e .recorded)) refl h
   where
     by : (s t : Bool) (o : Option (List ℕ)) → isSkipped (e .identifier) ≡ s → pick s false (pick t false (matched o component)) ≡ true → (isSkipped (e .identifier) ≡ false) × (map lower (written o) ≡ map lower component)
-    by true t o k h = never h
-    by false true o k h = never h
-    by false false none k h = never h
+    by true t o k h = not-both h
+    by false true o k h = not-both h
+    by false false none k h = not-both h
     by false false (some name) k h = (k, same-folded name component .0 h)
+
+-- ---- a directory is refused by what refuses an entry
+
+read-refused : (s : List ℕ) {why : Refusal} → entryRead s ≡ refused why → why ≡ Malformed
+unfolding entryRead
+read-refused s {why} e = by (eqb (readIdentifier s .answer) 0) e
+  where
+    by : (t : Bool) → pick t (answered (entryOf s (readIdentifier s .descriptor))) (refused Malformed) ≡ refused why → why ≡ Malformed
+    by true e = absurd (let z : _≡_ {A = ℕ} 0 1 = cc in omega arith)
+    by false e = cc
+
+from-refused : (k : ℕ) (s : List ℕ) {why : Refusal} → entriesFrom k s ≡ refused why → why ≡ Malformed
+unfolding entriesFrom
+from-refused k [] e = absurd (let z : _≡_ {A = ℕ} 0 1 = cc in omega arith)
+from-refused (suc k) (b ∷ s) e = from-refused k s e
+from-refused zero (b ∷ s) {why} e = by (λ w q. from-refused (nextAt (b ∷ s) - 1) s q) (ltb (length (b ∷ s)) 38) (entryRead (b ∷ s)) refl e
+  where
+    others : (e : Entry) (o : Outcome (List Entry)) → ((w : Refusal) → o ≡ refused w → w ≡ Malformed) → inFront e o ≡ refused why → why ≡ Malformed
+    others e (answered es) ih q = absurd (let z : _≡_ {A = ℕ} 0 1 = cc in omega arith)
+    others e (refused w) ih q = ih why q
+
+    by : ((w : Refusal) → entriesFrom (nextAt (b ∷ s) - 1) s ≡ refused w → w ≡ Malformed) → (t : Bool) (o : Outcome Entry) → entryRead (b ∷ s) ≡ o
+        → pick t (answered []) (andThen o (λ x. inFront x (entriesFrom (nextAt (b ∷ s) - 1) s))) ≡ refused why → why ≡ Malformed
+    by ih true o k e = absurd (let z : _≡_ {A = ℕ} 0 1 = cc in omega arith)
+    by ih false (answered x) k e = others x (entriesFrom (nextAt (b ∷ s) - 1) s) ih e
+    by ih false (refused w) k e = let z : w ≡ why = cc in sym z ∙ read-refused (b ∷ s) k
+
+pub entries-refused : (s : List ℕ) {why : Refusal} → entries s ≡ refused why → why ≡ Malformed
+unfolding entries
+entries-refused s e = from-refused 0 s e
 
 -- ---- each contract leaves one result
 
@@ -82,12 +106,12 @@ entryA =
 
 pub one-listed : listing entryA
     ≡ answered (0x44 ∷ 0x45 ∷ 1 ∷ 0x00 ∷ 0x08 ∷ 0x00 ∷ 0x00 ∷ 0x05 ∷ 0x00 ∷ 0x00 ∷ 0x00 ∷ 0x00 ∷ 0x00 ∷ 0x00 ∷ 0x00 ∷ 0x00 ∷ 0x00 ∷ 0x00 ∷ 0x00 ∷ 1 ∷ 0 ∷ 0x41 ∷ [])
-unfolding pairs untilZero surrogate dropSurrogates encode utf8 nameOf nameAt nameEnd recordedName nextAt identifierOf identifierSized identifierNamed withId readHead readIdentifier entryOf isGood isSkipped nameIn entriesFrom entries sound recordHead shown records isLong anyLong listing
+unfolding pairs untilZero surrogate dropSurrogates encode utf8 nameOf nameAt nameEnd recordedName nextAt identifierOf identifierSized identifierNamed withId readHead readIdentifier entryRead isSkipped nameIn entriesFrom entries recordHead shown records isLong anyLong listing
 one-listed = refl
 
 -- three bytes hold no entry, and 38 or more that are none refuse the listing
 pub none-listed : (listing (0 ∷ 0 ∷ 0 ∷ []) ≡ answered []) × (listing (0 ∷ entryA) ≡ refused Malformed)
-unfolding pairs untilZero surrogate dropSurrogates encode utf8 nameOf nameAt nameEnd recordedName nextAt identifierOf identifierSized identifierNamed withId readHead readIdentifier entryOf isGood isSkipped nameIn entriesFrom entries sound recordHead shown records isLong anyLong listing
+unfolding pairs untilZero surrogate dropSurrogates encode utf8 nameOf nameAt nameEnd recordedName nextAt identifierOf identifierSized identifierNamed withId readHead readIdentifier entryRead isSkipped nameIn entriesFrom entries recordHead shown records isLong anyLong listing
 none-listed = (refl, refl)
 
 -- "/a//b/" has the components "a", at 1, and "b", at 4

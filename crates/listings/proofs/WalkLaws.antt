@@ -4,11 +4,11 @@ use mathlib.Core.Bool.{Bool, true, false, _||_}
 use mathlib.Core.List.{List, [], _∷_, _++_}
 use mathlib.Core.Option.{Option, none, some}
 use Prim.Native.Nat.{ℕ, zero, suc, _+_, _-_, _*_, _<_, _≤_, _^_, zero-le}
-use native.Mathlib.Nat.{sub-zero}
+use native.Mathlib.Nat.{add-zero, zero-add, sub-zero}
 use native.Mathlib.Omega.{arith}
-use lib.ListN.{length, take, drop, length-drop, length-append, length-take}
-use lib.Seq.{drop-drop, take-all, sets}
-use lib.Dec.{eqb, ltb}
+use lib.ListN.{length, drop, length-drop, length-append, length-take}
+use lib.Seq.{drop-drop, getD-drop, take-all, sets}
+use lib.Dec.{ltb}
 use borrow.Author.Tests.{lt-ltb, le-ltb}
 use borrow.Rule.Slice.PartMut.{midOf, putMid, same-len-mid}
 use mir.Syntax.{w64}
@@ -16,23 +16,26 @@ use mir.Val.{Fits}
 use Rattle.disc.specs.Ran.{told}
 use Rattle.disc.specs.Choice.{pick}
 use Rattle.disc.specs.Refusals.{number}
-use Rattle.disc.specs.Ask.Outcome.{answered}
+use Rattle.disc.specs.Ask.{Outcome, andThen}
+use Rattle.disc.specs.Ask.Outcome.{answered, refused}
 use Rattle.disc.specs.Replies.{Replied}
+use Rattle.disc.specs.declared.refusals.Refusal.{Refusal}
 use Rattle.disc.specs.declared.refusals.Refusal.the-variants.{Malformed, LongName, NoRoom}
 use Rattle.disc.specs.declared.replies.Reply.{Reply}
 use Rattle.disc.proofs.MoveLaws.{over-fits, sets-append, sets-whole}
+use Rattle.disc.proofs.RefusalLaws.{refusal-numbered}
 use Rattle.disc.proofs.ReplyLaws.{reply-refused, reply-full, reply-done}
 use Rattle.identifiers.specs.declared.IdentifierRead.{IdentifierRead}
-use Rattle.identifiers.specs.Identifiers.{nameAt, nameEnd, nextAt}
+use Rattle.names.proofs.BodyLaws.{Bytes}
+use Rattle.identifiers.specs.Identifiers.{readIdentifier, nameAt, nameEnd, nextAt}
 use Rattle.identifiers.specs.Wholes.{Whole}
-use Rattle.listings.specs.Entries.{Entry, entryOf, isGood, isSkipped, entriesFrom, entries, sound}
-use Rattle.listings.specs.Entries.Entries.{end, bad, entry}
+use Rattle.listings.specs.Entries.{Entry, entryOf, entryRead, isSkipped, inFront, entriesFrom, entries}
 use Rattle.listings.specs.Listings.{shown, records, isLong, anyLong, listing, answersTo, firstNamed, findIn, unnamed, namedTo, namedOf}
-use Rattle.listings.specs.inner.Passes.{Good, Parsed, Puts, sizeOfListing, earlierOf}
+use Rattle.listings.specs.inner.Passes.{tail, GoodAt, Comes, Puts, sizeOfListing, earlierOf}
 use Rattle.listings.specs.declared.directory_entries.Put.{Put}
 use Rattle.listings.specs.declared.finds.Named.{Named}
 use Rattle.listings.specs.declared.listing.ListingSize.{ListingSize}
-use Rattle.listings.proofs.EntryLaws.{tail-over, good-read, bad-read, shown-length, long-is}
+use Rattle.listings.proofs.EntryLaws.{tail-over, read-good, read-whole, read-bad, shown-length, long-is}
 
 -- ---- the entries at the front of s
 
@@ -46,27 +49,24 @@ next-some : (s : List ℕ) → nextAt s ≡ suc (nextAt s - 1)
 unfolding nextAt nameEnd nameAt
 next-some s = omega arith
 
-front-next : (s : List ℕ) → 38 ≤ length s → isGood s ≡ true → entries s ≡ entry (entryOf s) (entries (drop (nextAt s) s))
+front-next : (s : List ℕ) → 38 ≤ length s → {e : Entry} → entryRead s ≡ answered e → entries s ≡ inFront e (entries (drop (nextAt s) s))
 unfolding entries entriesFrom
 front-next [] h g = absurd (omega arith)
-front-next (b ∷ s) h g =
+front-next (b ∷ s) h {e} g =
     simp (le-ltb _ _ h, g)
-    (ap (entry (entryOf (b ∷ s))) (skips (nextAt (b ∷ s) - 1) s ∙ ap (λ n. entries (drop n (b ∷ s))) (sym (next-some (b ∷ s)))))
+    (ap (inFront e) (skips (nextAt (b ∷ s) - 1) s ∙ ap (λ n. entries (drop n (b ∷ s))) (sym (next-some (b ∷ s)))))
 
-front-bad : (s : List ℕ) → 38 ≤ length s → isGood s ≡ false → entries s ≡ bad
+front-bad : (s : List ℕ) → 38 ≤ length s → {why : Refusal} → entryRead s ≡ refused why → entries s ≡ refused why
 unfolding entries entriesFrom
 front-bad [] h g = absurd (omega arith)
 front-bad (b ∷ s) h g = simp (le-ltb _ _ h, g)
 
-front-end : (s : List ℕ) → length s < 38 → entries s ≡ end
+front-end : (s : List ℕ) → length s < 38 → entries s ≡ answered []
 unfolding entries entriesFrom
 front-end [] h = refl
 front-end (b ∷ s) h = simp (lt-ltb _ _ h)
 
--- ---- the same at `at`, by what `entry_at` said of the tail there
-
-abbrev pub tail : List ℕ → ℕ → List ℕ
-tail raw at = take (length raw - at) (drop at raw)
+-- ---- the same at `at`
 
 module _ (raw : List ℕ) (at : ℕ) where
   tail-is : tail raw at ≡ drop at raw
@@ -75,50 +75,51 @@ module _ (raw : List ℕ) (at : ℕ) where
   tail-length : length (tail raw at) ≡ length raw - at
   tail-length = rw tail-is (length-drop at raw)
 
-  at-end : length raw < at + 38 → entries (drop at raw) ≡ end
+  at-end : length raw < at + 38 → entries (drop at raw) ≡ answered []
   at-end h = front-end (drop at raw) (rw length-drop (omega arith))
 
   module _ (h : at + 38 ≤ length raw) where
-    at-bad : isGood (tail raw at) ≡ false → entries (drop at raw) ≡ bad
+    at-bad : {why : Refusal} → entryRead (tail raw at) ≡ refused why → entries (drop at raw) ≡ refused why
     at-bad n = rw (← tail-is) (front-bad (tail raw at) (rw tail-length (omega arith)) n)
 
-    at-good : sound (entries (drop at raw)) ≡ true → isGood (tail raw at) ≡ true
-    unfolding sound
-    at-good e = by (isGood (tail raw at)) refl
-      where
-        by : (b : Bool) → isGood (tail raw at) ≡ b → isGood (tail raw at) ≡ true
-        by true g = g
-        by false g = absurd (let z : _≡_ {A = ℕ} 0 1 = ap (λ (b : Bool). pick b 1 0) (sym (ap sound (at-bad g)) ∙ e) in omega arith)
+    at-next : {e : Entry} → entryRead (tail raw at) ≡ answered e → {n : ℕ} → n ≡ nextAt (tail raw at) → entries (drop at raw) ≡ inFront e (entries (drop (at + n) raw))
+    at-next {e} g {n} q =
+        let z : drop (nextAt (tail raw at)) (tail raw at) ≡ drop (at + n) raw =
+        ap (drop (nextAt (tail raw at))) tail-is ∙ drop-drop _ at raw ∙ ap (λ k. drop (at + k) raw) (sym q) in
+        ap entries (sym tail-is) ∙ front-next (tail raw at) (rw tail-length (omega arith)) g ∙ ap (λ l. inFront e (entries l)) z
 
-    at-next : isGood (tail raw at) ≡ true → {n : ℕ} → n ≡ nextAt (tail raw at) → entries (drop at raw) ≡ entry (entryOf (tail raw at)) (entries (drop (at + n) raw))
-    at-next g {n} e =
-        let q : drop (nextAt (tail raw at)) (tail raw at) ≡ drop (at + n) raw =
-        ap (drop (nextAt (tail raw at))) tail-is ∙ drop-drop _ at raw ∙ ap (λ k. drop (at + k) raw) (sym e) in
-        ap entries (sym tail-is) ∙ front-next (tail raw at) (rw tail-length (omega arith)) g ∙ ap (λ l. entry (entryOf (tail raw at)) (entries l)) q
+    -- what reading the entry there says
+    pub comes : Bytes raw → {r : IdentifierRead} → r ≡ readIdentifier (tail raw at) → Comes raw at r
+    comes a p =
+        let b : Bytes (tail raw at) = λ i. rw (tail-is, getD-drop) (a (at + i)) in
+        record {
+          good = λ z.
+              let w = read-whole (tail raw at) b p z in
+              record {
+                is = at-next (read-good (tail raw at) b p z) (w .next);
+                whole = w;
+                inside = omega (arith, w .within, tail-length);
+                near = omega (arith, w .within, w .near, tail-length);
+              };
+          bad = λ n.
+              let w = read-bad (tail raw at) b p n in
+              record { why = Malformed; is = at-bad (w .0); numbered = w .1 };
+        }
 
-  module _ (h : at + 38 ≤ length raw) {r : IdentifierRead} (p : Parsed (tail raw at) r) where
-    read-bad : (r .answer ≡ 0 → ⊥) → entries (drop at raw) ≡ bad
-    read-bad n = at-bad h (bad-read p n)
+-- ---- an entry that was read at `at`, in the form that the loops ask for
 
-    module _ (z : r .answer ≡ 0) where
-      whole : Whole (tail raw at) (r .descriptor)
-      whole = p .good z .whole
+module _ (raw : List ℕ) (at : ℕ) {r : IdentifierRead} (p : Comes raw at r) (z : r .answer ≡ 0) where
+  good : GoodAt raw at (r .descriptor)
+  good = p .good z
 
-      read-next : entries (drop at raw) ≡ entry (entryOf (tail raw at)) (entries (drop (at + r .descriptor .«total_size») raw))
-      read-next = at-next h (good-read p z) (whole .next)
+  pub name-inside : r .descriptor .«name_at» + r .descriptor .«name_length» ≤ length (tail raw at)
+  name-inside = good .whole .within
 
-      -- the sums of the loops that read
-      at-short : at + (r .descriptor .«name_at» + r .descriptor .«name_length») ≤ length raw
-      at-short = omega (arith, whole .within, tail-length)
+  pub at-less : at + 38 ≤ length raw → length raw + 3 - (at + r .descriptor .«total_size») < length raw + 3 - at
+  at-less h = omega (arith, good .whole .head, good .whole .on)
 
-      at-far : at + r .descriptor .«total_size» ≤ length raw + 3
-      at-far = omega (arith, whole .near, at-short)
-
-      pub at-less : length raw + 3 - (at + r .descriptor .«total_size») < length raw + 3 - at
-      at-less = omega (arith, whole .head, whole .on)
-
-      pub next-fits : length raw * 1 < 2 ^ 63 → Fits w64 (at + r .descriptor .«total_size»)
-      next-fits k = omega (arith, at-far)
+  pub next-fits : length raw * 1 < 2 ^ 63 → Fits w64 (at + r .descriptor .«total_size»)
+  next-fits k = omega (arith, good .near)
 
 -- ---- the loop that measures has come to `at`
 
@@ -135,71 +136,81 @@ or-false : (a : Bool) → (a || false) ≡ a
 or-false true = refl
 or-false false = refl
 
+-- what was measured, with what is left
+abbrev sizeWith : Bool → ℕ → Outcome (List Entry) → ListingSize
+sizeWith long n (answered es) = record { answer = 0; long = long || anyLong es; size = n + length (records es) }
+sizeWith long n (refused why) = record { answer = number why; long = false; size = 0 }
+
+size-starts : (o : Outcome (List Entry)) → sizeWith false 0 o ≡ sizeOfListing o
+size-starts (answered es) = rw zero-add
+size-starts (refused why) = refl
+
+size-turn : (long : Bool) (n : ℕ) (e : Entry) (o : Outcome (List Entry)) {b : Bool} {v : ℕ} → b ≡ isLong e → v ≡ length (shown e) → sizeWith (long || b) (n + v) o ≡ sizeWith long n (inFront e o)
+unfolding anyLong records
+size-turn long n e (answered es) {b} p q =
+    let s : n + length (shown e) + length (records es) ≡ n + length (shown e ++ records es) = rw length-append (omega arith) in
+    rw (p, q, or-pick long (isLong e) (anyLong es), s)
+size-turn long n e (refused why) p q = refl
+
 pub record Measuring (raw : List ℕ) (long : Bool) (n at : ℕ) : Type 0 where
   pub within : at ≤ length raw + 3
   pub small : n ≤ 2 * at
-  pub size : n + length (records (entries (drop at raw))) ≡ length (records (entries raw))
-  pub longs : (long || anyLong (entries (drop at raw))) ≡ anyLong (entries raw)
-  pub same : sound (entries (drop at raw)) ≡ sound (entries raw)
+  pub rest : sizeWith long n (entries (drop at raw)) ≡ sizeOfListing (entries raw)
 
 pub measure-starts : (raw : List ℕ) → Measuring raw false 0 0
-measure-starts raw = record { within = zero-le; small = zero-le; size = omega arith; longs = refl; same = refl }
+measure-starts raw = record { within = zero-le; small = zero-le; rest = size-starts (entries raw) }
 
 module _ {raw : List ℕ} {long : Bool} {n at : ℕ} (m : Measuring raw long n at) where
-  module _ (h : at + 38 ≤ length raw) {r : IdentifierRead} (p : Parsed (tail raw at) r) where
-    pub measure-bad : (r .answer ≡ 0 → ⊥) → record { good = false; long = false; size = 0 } ≡ sizeOfListing (entries raw)
-    unfolding sound
-    measure-bad g = rw (← m .same, read-bad raw at h p g)
+  module _ {r : IdentifierRead} (p : Comes raw at r) where
+    pub measure-bad : (r .answer ≡ 0 → ⊥) → record { answer = r .answer; long = false; size = 0 } ≡ sizeOfListing (entries raw)
+    measure-bad g = let w = p .bad g in rw (w .numbered) (rw (w .is) at (m .rest))
 
     module _ (z : r .answer ≡ 0) where
+      abbrev g : GoodAt raw at (r .descriptor)
+      g = p .good z
+
       pub name-fits : length raw * 1 < 2 ^ 63 → 21 + r .descriptor .«name_size» < 18446744073709551616
-      name-fits k = omega (arith, whole raw at h p z .short, whole raw at h p z .head, at-short raw at h p z)
+      name-fits k = omega (arith, g .whole .short, g .whole .head, g .inside)
 
       module _ {v : ℕ} (e : v ≡ pick (isSkipped (r .descriptor)) 0 (21 + r .descriptor .«name_size»)) where
         bound : n + v ≤ 2 * (at + (r .descriptor .«name_at» + r .descriptor .«name_length»))
-        bound = omega (arith, m .small, pick-le (isSkipped (r .descriptor)) (21 + r .descriptor .«name_size»), whole raw at h p z .short, whole raw at h p z .head)
+        bound = omega (arith, m .small, pick-le (isSkipped (r .descriptor)) (21 + r .descriptor .«name_size»), g .whole .short, g .whole .head)
 
         pub size-fits : length raw * 1 < 2 ^ 63 → Fits w64 (n + v)
-        size-fits k = omega (arith, bound, at-short raw at h p z)
+        size-fits k = omega (arith, bound, g .inside)
 
         pub measure-next : {b : Bool} → b ≡ pick (isSkipped (r .descriptor)) false (ltb 65535 (r .descriptor .«name_size»))
             → Measuring raw (long || b) (n + v) (at + r .descriptor .«total_size»)
-        unfolding sound records anyLong
-        measure-next {b} f =
-            let q = read-next raw at h p z in
-            let l : length (records (entries (drop at raw))) ≡ v + length (records (entries (drop (at + r .descriptor .«total_size») raw))) =
-            rw (q, length-append, shown-length (p .good z), e) in
-            let k : b ≡ isLong (entryOf (tail raw at)) = f ∙ sym (long-is (p .good z)) in
+        measure-next f =
             record {
-              within = at-far raw at h p z;
-              small = omega (arith, bound, whole raw at h p z .on);
-              size = omega (arith, m .size);
-              longs = or-pick long b _ ∙ rw k (rw q at (m .longs));
-              same = rw q at (m .same);
+              within = g .near;
+              small = omega (arith, bound, g .whole .on);
+              rest =
+                  size-turn long n (entryOf (tail raw at) (r .descriptor)) (entries (drop (at + r .descriptor .«total_size») raw)) (f ∙ sym (long-is (g .whole))) (e ∙ sym (shown-length (g .whole)))
+                  ∙ (rw (g .is) at (m .rest));
             }
 
-  pub measure-ends : length raw < at + 38 → record { good = true; long = long; size = n } ≡ sizeOfListing (entries raw)
-  unfolding sound records anyLong
+  pub measure-ends : length raw < at + 38 → record { answer = 0; long = long; size = n } ≡ sizeOfListing (entries raw)
+  unfolding records anyLong
   measure-ends h =
-      let q = at-end raw at h in
-      let l : n ≡ length (records (entries raw)) = omega (arith, m .size, ap (λ es. length (records es)) q) in
-      let k : long ≡ anyLong (entries raw) = sym (or-false long) ∙ (rw q at (m .longs)) in
-      rw (← m .same, q, l, k)
+      let k : record { answer = 0; long = long || false; size = n + 0 } ≡ sizeOfListing (entries raw) = rw (at-end raw at h) at (m .rest) in
+      rw (or-false long, add-zero n) at k
 
 -- ---- the loop that writes has come to `at`
 
--- what is written, where the bytes are as they were measured
-pub record Filled (raw d₀ d : List ℕ) (n at : ℕ) : Type 0 where
-  pub sounds : sound (entries (drop at raw)) ≡ true
-  pub size : n + length (records (entries (drop at raw))) ≡ length d₀
-  pub rest : sets d n (records (entries (drop at raw))) ≡ sets d₀ 0 (records (entries raw))
+-- what is written, where the bytes are as they were measured, and the entries that are left
+pub record Filled (raw d₀ d : List ℕ) (n at : ℕ) (es : List Entry) : Type 0 where
+  pub left : List Entry
+  pub are : entries (drop at raw) ≡ answered left
+  pub size : n + length (records left) ≡ length d₀
+  pub rest : sets d n (records left) ≡ sets d₀ 0 (records es)
 
 -- and where it stands, whatever they are
 pub record Filling (raw d₀ d : List ℕ) (n at : ℕ) : Type 0 where
   pub within : at ≤ length raw + 3
   pub inside : n ≤ length d
   pub long : length d ≡ length d₀
-  pub filled : sound (entries raw) ≡ true → length (records (entries raw)) ≡ length d₀ → Filled raw d₀ d n at
+  pub filled : (es : List Entry) → entries raw ≡ answered es → length (records es) ≡ length d₀ → Filled raw d₀ d n at es
 
 pub fill-starts : (raw d : List ℕ) → Filling raw d d 0 0
 fill-starts raw d =
@@ -207,15 +218,27 @@ fill-starts raw d =
       within = zero-le;
       inside = zero-le;
       long = refl;
-      filled = λ s l. record { sounds = s; size = omega arith; rest = refl };
+      filled = λ es s l. record { left = es; are = s; size = omega arith; rest = refl };
     }
 
+-- the first of the entries that are left, and the others
+record Taken (e : Entry) (o : Outcome (List Entry)) (left : List Entry) : Type 0 where
+  others : List Entry
+  are : o ≡ answered others
+  all : left ≡ e ∷ others
+
+taken : (e : Entry) (o : Outcome (List Entry)) {left : List Entry} → inFront e o ≡ answered left → Taken e o left
+taken e (answered es) q = record { others = es; are = refl; all = cc }
+taken e (refused why) q = absurd (let z : _≡_ {A = ℕ} 0 1 = cc in omega arith)
+
 module _ {raw d₀ d : List ℕ} {n at : ℕ} (m : Filling raw d₀ d n at) where
-  pub fill-ends : length raw < at + 38 → sound (entries raw) ≡ true → length (records (entries raw)) ≡ length d₀ → d ≡ records (entries raw)
+  pub fill-ends : length raw < at + 38 → (es : List Entry) → entries raw ≡ answered es → length (records es) ≡ length d₀ → d ≡ records es
   unfolding records
-  fill-ends h s l =
-      let e : records (entries (drop at raw)) ≡ [] = rw (at-end raw at h) in
-      (rw e at (m .filled s l .rest)) ∙ sets-whole (records (entries raw)) d₀ l
+  fill-ends h es s l =
+      let f = m .filled es s l in
+      let e : answered [] ≡ answered (f .left) = sym (at-end raw at h) ∙ f .are in
+      let z : f .left ≡ [] = cc in
+      (rw z at (f .rest)) ∙ sets-whole (records es) d₀ l
 
   module _ (h : at + 38 ≤ length raw) {p : Put} {ys : List ℕ} (w : Puts (tail raw at) (midOf n (length d - n) d) ys p) where
     lent : length (midOf n (length d - n) d) ≡ length d - n
@@ -230,28 +253,38 @@ module _ {raw d₀ d : List ℕ} {n at : ℕ} (m : Filling raw d₀ d n at) wher
     pub on-less : length raw + 3 - (at + p .next) < length raw + 3 - at
     on-less = omega (arith, w .further)
 
+    -- a turn over bytes that are as they were measured
+    turn : {es left : List Entry} {e : Entry} → n + length (records left) ≡ length d₀ → sets d n (records left) ≡ sets d₀ 0 (records es)
+        → entryRead (tail raw at) ≡ answered e → Taken e (entries (drop (at + p .next) raw)) left
+        → Filled raw d₀ (putMid n (length d - n) d ys) (n + p .wrote) (at + p .next) es
+    unfolding records
+    turn {left = left} {e = e} size rest r t =
+        let z : length (records left) ≡ length (shown e) + length (records (t .others)) = ap (λ l. length (records l)) (t .all) ∙ length-append (shown e) (records (t .others)) in
+        let room : n + length (shown e) ≤ length d = omega (arith, z, m .long) in
+        let v = w .wrote e r (omega (arith, lent)) in
+        let u : putMid n (length d - n) d ys ≡ sets d n (shown e) = tail-over n d (shown e) ys room (v .bytes) in
+        record {
+          left = t .others;
+          are = t .are;
+          size = omega (arith, z, v .count);
+          rest = rw (u, v .count, ← sets-append) (ap (λ l. sets d n (records l)) (sym (t .all)) ∙ rest);
+        }
+
+    turns : {es : List Entry} → Filled raw d₀ d n at es → Filled raw d₀ (putMid n (length d - n) d ys) (n + p .wrote) (at + p .next) es
+    turns {es} f = by (entryRead (tail raw at)) refl
+      where
+        by : (o : Outcome Entry) → entryRead (tail raw at) ≡ o → Filled raw d₀ (putMid n (length d - n) d ys) (n + p .wrote) (at + p .next) es
+        by (answered e) r = turn (f .size) (f .rest) r (taken e (entries (drop (at + p .next) raw)) (sym (at-next raw at h r (w .next e r)) ∙ f .are))
+        by (refused why) r = absurd (let k = sym (at-bad raw at h r) ∙ f .are in let z : _≡_ {A = ℕ} 0 1 = cc in omega arith)
+
     pub fill-next : length ys ≡ length (midOf n (length d - n) d) → Filling raw d₀ (putMid n (length d - n) d ys) (n + p .wrote) (at + p .next)
-    unfolding sound records
     fill-next k =
         let same : length (putMid n (length d - n) d ys) ≡ length d = same-len-mid n (length d - n) d ys k in
         record {
           within = omega (arith, w .near, tail-length raw at);
           inside = omega (arith, m .inside, w .inside, lent);
           long = same ∙ m .long;
-          filled = λ s l.
-              let f = m .filled s l in
-              let good = at-good raw at h (f .sounds) in
-              let q = at-next raw at h good (w .next good) in
-              let t : records (entries (drop at raw)) ≡ shown (entryOf (tail raw at)) ++ records (entries (drop (at + p .next) raw)) = rw q in
-              let z : length (records (entries (drop at raw))) ≡ length (shown (entryOf (tail raw at))) + length (records (entries (drop (at + p .next) raw))) = rw (t, length-append) in
-              let room : n + length (shown (entryOf (tail raw at))) ≤ length d = omega (arith, z, f .size, m .long) in
-              let v = w .wrote good (omega (arith, lent)) in
-              let u : putMid n (length d - n) d ys ≡ sets d n (shown (entryOf (tail raw at))) = tail-over n d (shown (entryOf (tail raw at))) ys room (v .bytes) in
-              record {
-                sounds = rw q at (f .sounds);
-                size = omega (arith, z, f .size, v .count);
-                rest = rw (u, v .count, ← sets-append, ← t) (f .rest);
-              };
+          filled = λ es s l. turns (m .filled es s l);
         }
 
 -- ---- the loop that looks for a name has come to `at`
@@ -259,96 +292,119 @@ module _ {raw d₀ d : List ℕ} {n at : ℕ} (m : Filling raw d₀ d n at) wher
 -- what was found already, else what is found in the rest
 abbrev firstOf : Named → Option Entry → Named
 firstOf found none = found
-firstOf found (some e) = pick (eqb (found .answer) 0) found (namedTo (some e))
+firstOf found (some e) = pick (found .found) found (namedTo (some e))
 
-first-kept : (found : Named) (o : Option Entry) → eqb (found .answer) 0 ≡ true → firstOf found o ≡ found
+first-kept : (found : Named) (o : Option Entry) → found .found ≡ true → firstOf found o ≡ found
 first-kept found none z = refl
 first-kept found (some e) z = rw z
 
-first-new : (o : Option Entry) → firstOf (unnamed 3) o ≡ namedTo o
-first-new none = refl
-first-new (some e) = refl
-
 first-turn : (found : Named) (component : List ℕ) (e : Entry) (o : Option Entry) → firstOf (earlierOf found component e) o ≡ firstOf found (pick (answersTo component e) (some e) o)
 unfolding earlierOf
-first-turn found component e o = by (eqb (found .answer) 0) (answersTo component e) refl
+first-turn found component e o = by (found .found) (answersTo component e) refl
   where
-    by : (t b : Bool) → eqb (found .answer) 0 ≡ t → firstOf (pick t found (pick b (namedTo (some e)) found)) o ≡ firstOf found (pick b (some e) o)
+    by : (t b : Bool) → found .found ≡ t → firstOf (pick t found (pick b (namedTo (some e)) found)) o ≡ firstOf found (pick b (some e) o)
     by true b z = first-kept found o z ∙ sym (first-kept found (pick b (some e) o) z)
     by false true z = first-kept (namedTo (some e)) o refl ∙ rw z
     by false false z = refl
 
+abbrev foundWith : Named → List ℕ → Outcome (List Entry) → Named
+foundWith found component (answered es) = firstOf found (firstNamed component es)
+foundWith found component (refused why) = unnamed (number why)
+
+found-starts : (component : List ℕ) (o : Outcome (List Entry)) → foundWith (unnamed 0) component o ≡ namedOf (andThen o (λ es. answered (firstNamed component es)))
+found-starts component (answered es) = by (firstNamed component es)
+  where
+    by : (o : Option Entry) → firstOf (unnamed 0) o ≡ namedTo o
+    by none = refl
+    by (some e) = refl
+found-starts component (refused why) = refl
+
+found-turn : (found : Named) (component : List ℕ) (e : Entry) (o : Outcome (List Entry)) → foundWith (earlierOf found component e) component o ≡ foundWith found component (inFront e o)
+unfolding firstNamed
+found-turn found component e (answered es) = first-turn found component e (firstNamed component es)
+found-turn found component e (refused why) = refl
+
 pub record Finding (component raw : List ℕ) (found : Named) (at : ℕ) : Type 0 where
   pub within : at ≤ length raw + 3
-  pub rest : firstOf found (firstNamed component (entries (drop at raw))) ≡ namedTo (firstNamed component (entries raw))
-  pub same : sound (entries (drop at raw)) ≡ sound (entries raw)
+  pub rest : foundWith found component (entries (drop at raw)) ≡ namedOf (findIn component raw)
 
-pub find-starts : (component raw : List ℕ) {found : Named} → found ≡ unnamed 3 → Finding component raw found 0
-find-starts component raw e = rw e (record { within = zero-le; rest = first-new (firstNamed component (entries raw)); same = refl })
+pub find-starts : (component raw : List ℕ) {found : Named} → found ≡ unnamed 0 → Finding component raw found 0
+unfolding findIn
+find-starts component raw e = rw e (record { within = zero-le; rest = found-starts component (entries raw) })
 
 module _ {component raw : List ℕ} {found : Named} {at : ℕ} (m : Finding component raw found at) where
   pub find-ends : length raw < at + 38 → found ≡ namedOf (findIn component raw)
-  unfolding findIn firstNamed sound
-  find-ends h =
-      let q = at-end raw at h in
-      let k : found ≡ namedTo (firstNamed component (entries raw)) = (rw q at (m .rest)) in
-      rw (← m .same, q) k
+  unfolding firstNamed
+  find-ends h = rw (at-end raw at h) at (m .rest)
 
-  module _ (h : at + 38 ≤ length raw) {r : IdentifierRead} (p : Parsed (tail raw at) r) where
-    pub find-bad : (r .answer ≡ 0 → ⊥) → {a : Named} → a ≡ unnamed 2 → a ≡ namedOf (findIn component raw)
-    unfolding findIn sound
-    find-bad n e = rw (← m .same, read-bad raw at h p n) e
+  module _ {r : IdentifierRead} (p : Comes raw at r) where
+    pub find-bad : (r .answer ≡ 0 → ⊥) → {a : Named} → a ≡ unnamed (r .answer) → a ≡ namedOf (findIn component raw)
+    find-bad n e = let w = p .bad n in e ∙ rw (w .numbered) (rw (w .is) at (m .rest))
 
-    pub find-next : r .answer ≡ 0 → {a : Named} → (Good (tail raw at) (r .descriptor) → a ≡ earlierOf found component (entryOf (tail raw at))) → Finding component raw a (at + r .descriptor .«total_size»)
-    unfolding firstNamed sound
+    pub find-next : r .answer ≡ 0 → {a : Named} → (Whole (tail raw at) (r .descriptor) → a ≡ earlierOf found component (entryOf (tail raw at) (r .descriptor)))
+        → Finding component raw a (at + r .descriptor .«total_size»)
     find-next z e =
-        let q = read-next raw at h p z in
+        let g = p .good z in
         record {
-          within = at-far raw at h p z;
-          rest = rw (e (p .good z)) (first-turn found component (entryOf (tail raw at)) _ ∙ (rw q at (m .rest)));
-          same = rw q at (m .same);
+          within = g .near;
+          rest =
+              rw (e (g .whole)) (found-turn found component (entryOf (tail raw at) (r .descriptor)) (entries (drop (at + r .descriptor .«total_size») raw)))
+              ∙ (rw (g .is) at (m .rest));
         }
 
 -- ---- the listing, by what was measured
 
-module _ (raw : List ℕ) {m : ListingSize} (p : m ≡ sizeOfListing (entries raw)) where
-  goodness : (b : Bool) → sound (entries raw) ≡ b → m .good ≡ b
-  goodness true h = rw (p, h)
-  goodness false h = rw (p, h)
-
-  pub list-bad : m .good ≡ false → {d : List ℕ} {a : ℕ} {reply : Reply} → a ≡ number Malformed → reply ≡ record { answer = a; count = 0; length = 0 } → Replied NoRoom (told (listing raw)) d d reply
+module _ (raw : List ℕ) {es : List Entry} (are : entries raw ≡ answered es) where
+  long-listing : anyLong es ≡ true → listing raw ≡ refused LongName
   unfolding listing
-  list-bad g e q =
-      let u : sound (entries raw) ≡ false = sym (goodness (sound (entries raw)) refl) ∙ g in
-      rw u (reply-refused Malformed 0 0 refl (q ∙ rw e))
+  long-listing l = rw (are, l)
 
-  module _ (g : m .good ≡ true) where
-    pub sounds : sound (entries raw) ≡ true
-    sounds = sym (goodness (sound (entries raw)) refl) ∙ g
+  some-listing : anyLong es ≡ false → listing raw ≡ answered (records es)
+  unfolding listing
+  some-listing l = rw (are, l)
 
-    longs-are : m .long ≡ anyLong (entries raw)
-    longs-are = rw (p, sounds)
+  done-listing : listing raw ≡ answered (records es) → {n : ℕ} → n ≡ length (records es) → {d ys : List ℕ} → n ≤ length d
+      → (length (records es) ≡ length (midOf 0 (n - 0) d) → ys ≡ records es)
+      → Replied NoRoom (told (listing raw)) d (putMid 0 (n - 0) d ys) (record { answer = 0; count = 0; length = n })
+  done-listing e {n} q {d} h w =
+      let l : length (records es) ≤ length d = omega arith in
+      let k : length (records es) ≡ length (midOf 0 (n - 0) d) = simp (length-take, length-drop) (omega arith) in
+      rw (e, w k, q) (reply-done (records es) 0 0 l refl (rw (over-fits (records es) d l, sub-zero)))
 
-    size-of : m .size ≡ length (records (entries raw))
-    size-of = rw (p, sounds)
+module _ (raw : List ℕ) {m : ListingSize} (p : m ≡ sizeOfListing (entries raw)) where
+  pub list-bad : (m .answer ≡ 0 → ⊥) → {d : List ℕ} {reply : Reply} → reply ≡ record { answer = m .answer; count = 0; length = 0 } → Replied NoRoom (told (listing raw)) d d reply
+  unfolding listing
+  list-bad n {d} {reply} q = by (entries raw) p
+    where
+      by : (o : Outcome (List Entry)) → m ≡ sizeOfListing o → Replied NoRoom (told (andThen o (λ es. pick (anyLong es) (refused LongName) (answered (records es))))) d d reply
+      by (answered es) e = absurd (n (rw e))
+      by (refused why) e = reply-refused why 0 0 refl (q ∙ rw e)
+
+  module _ (z : m .answer ≡ 0) where
+    -- the entries that were measured
+    record Sized : Type 0 where
+      es : List Entry
+      are : entries raw ≡ answered es
+      long : m .long ≡ anyLong es
+      size : m .size ≡ length (records es)
+
+    sized : Sized
+    sized = by (entries raw) refl
+      where
+        by : (o : Outcome (List Entry)) → entries raw ≡ o → Sized
+        by (answered es) e = record { es = es; are = e; long = rw (p, e); size = rw (p, e) }
+        by (refused why) e = absurd (refusal-numbered why (sym (ap (λ (x : ListingSize). x .answer) (p ∙ ap sizeOfListing e)) ∙ z))
 
     pub list-long : m .long ≡ true → {d : List ℕ} {a : ℕ} {reply : Reply} → a ≡ number LongName → reply ≡ record { answer = a; count = 0; length = 0 } → Replied NoRoom (told (listing raw)) d d reply
-    unfolding listing
-    list-long l e q = rw (sounds, ← longs-are, l) (reply-refused LongName 0 0 refl (q ∙ rw e))
+    list-long l e q = rw (long-listing raw (sized .are) (sym (sized .long) ∙ l)) (reply-refused LongName 0 0 refl (q ∙ rw e))
 
     module _ (s : m .long ≡ false) where
-      lists : listing raw ≡ answered (records (entries raw))
-      unfolding listing
-      lists = rw (sounds, ← longs-are, s)
+      lists : listing raw ≡ answered (records (sized .es))
+      lists = some-listing raw (sized .are) (sym (sized .long) ∙ s)
 
       pub list-full : {d : List ℕ} → length d < m .size → {a : ℕ} {reply : Reply} → a ≡ number NoRoom → reply ≡ record { answer = a; count = 0; length = 0 } → Replied NoRoom (told (listing raw)) d d reply
-      list-full h e q = rw lists (reply-full (records (entries raw)) 0 0 (omega (arith, size-of)) refl (q ∙ rw e))
+      list-full h e q = rw lists (reply-full (records (sized .es)) 0 0 (omega (arith, sized .size)) refl (q ∙ rw e))
 
-      pub list-done : {d ys : List ℕ} → m .size ≤ length d
-          → (sound (entries raw) ≡ true → length (records (entries raw)) ≡ length (midOf 0 (m .size - 0) d) → ys ≡ records (entries raw))
+      pub list-done : {d ys : List ℕ} → m .size ≤ length d → ((es : List Entry) → entries raw ≡ answered es → length (records es) ≡ length (midOf 0 (m .size - 0) d) → ys ≡ records es)
           → Replied NoRoom (told (listing raw)) d (putMid 0 (m .size - 0) d ys) (record { answer = 0; count = 0; length = m .size })
-      list-done {d} h w =
-          let l : length (records (entries raw)) ≤ length d = omega (arith, size-of) in
-          let k : length (records (entries raw)) ≡ length (midOf 0 (m .size - 0) d) = simp (length-take, length-drop) (omega (arith, size-of)) in
-          rw (lists, w sounds k, size-of)
-          (reply-done (records (entries raw)) 0 0 l refl (rw (over-fits (records (entries raw)) d l, sub-zero)))
+      list-done h w = done-listing raw (sized .are) lists (sized .size) h (w (sized .es) (sized .are))

@@ -1,10 +1,13 @@
 -- A directory's bytes: its file identifiers (ECMA-167 4/14.4) one behind the other. Document 01, "Directories and paths".
 use Prim.Native.Nat.{ℕ, zero, suc, _-_}
-use mathlib.Core.Bool.{Bool, true, false, _||_}
+use mathlib.Core.Bool.{Bool, _||_}
 use mathlib.Core.List.{List, [], _∷_}
 use lib.ListN.{length}
 use lib.Dec.{ltb, eqb}
 use Rattle.disc.specs.Choice.{pick}
+use Rattle.disc.specs.Ask.{Outcome, andThen}
+use Rattle.disc.specs.Ask.Outcome.{answered, refused}
+use Rattle.disc.specs.declared.refusals.Refusal.the-variants.{Malformed}
 use Rattle.names.specs.Names.{nameOf, written}
 use Rattle.identifiers.specs.declared.FileIdentifierDescriptor.{FileIdentifierDescriptor}
 use Rattle.identifiers.specs.Identifiers.{readIdentifier, recordedName, nextAt, isDeleted, isParent}
@@ -16,12 +19,13 @@ pub record Entry : Type 0 where
   pub identifier : FileIdentifierDescriptor
   pub recorded : List ℕ
 
--- the entry at the front of s
-unfoldable pub entryOf : List ℕ → Entry
-entryOf s = record { identifier = readIdentifier s .descriptor; recorded = recordedName s }
+-- the entry of an identifier at the front of s
+abbrev pub entryOf : List ℕ → FileIdentifierDescriptor → Entry
+entryOf s f = record { identifier = f; recorded = recordedName s }
 
-unfoldable pub isGood : List ℕ → Bool
-isGood s = eqb (readIdentifier s .answer) 0
+-- reading it
+unfoldable pub entryRead : List ℕ → Outcome Entry
+entryRead s = pick (eqb (readIdentifier s .answer) 0) (answered (entryOf s (readIdentifier s .descriptor))) (refused Malformed)
 
 -- a deleted entry, or that of the parent (4/14.4.3)
 unfoldable pub isSkipped : FileIdentifierDescriptor → Bool
@@ -33,25 +37,17 @@ nameIn e = written (nameOf (e .recorded))
 
 -- ---- all entries
 
--- a row of entries, which ends well or at a bad one
-pub data Entries : Type 0 where
-  end : Entries
-  bad : Entries
-  entry : Entry → Entries → Entries
+-- an entry in front of the others
+abbrev pub inFront : Entry → Outcome (List Entry) → Outcome (List Entry)
+inFront e others = andThen others (λ es. answered (e ∷ es))
 
--- the entries of s behind its first k bytes: one is read while 38 bytes remain
-unfoldable pub entriesFrom : ℕ → List ℕ → Entries
-entriesFrom k [] = end
+-- the entries of s behind its first k bytes: one is read while 38 bytes remain, and a bad one refuses the directory
+unfoldable pub entriesFrom : ℕ → List ℕ → Outcome (List Entry)
+entriesFrom k [] = answered []
 entriesFrom (suc k) (b ∷ s) = entriesFrom k s
 entriesFrom zero (b ∷ s) =
-    pick (ltb (length (b ∷ s)) 38) end
-    (pick (isGood (b ∷ s)) (entry (entryOf (b ∷ s)) (entriesFrom (nextAt (b ∷ s) - 1) s)) bad)
+    pick (ltb (length (b ∷ s)) 38) (answered [])
+    (andThen (entryRead (b ∷ s)) (λ e. inFront e (entriesFrom (nextAt (b ∷ s) - 1) s)))
 
-unfoldable pub entries : List ℕ → Entries
+unfoldable pub entries : List ℕ → Outcome (List Entry)
 entries s = entriesFrom 0 s
-
--- one bad entry refuses the directory
-unfoldable pub sound : Entries → Bool
-sound end = true
-sound bad = false
-sound (entry e es) = sound es

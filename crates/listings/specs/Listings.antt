@@ -7,16 +7,15 @@ use lib.ListN.{length}
 use lib.Dec.{ltb}
 use Rattle.disc.specs.Choice.{pick}
 use Rattle.disc.specs.Refusals.{number}
-use Rattle.disc.specs.Ask.{Outcome}
+use Rattle.disc.specs.Ask.{Outcome, andThen}
 use Rattle.disc.specs.Ask.Outcome.{answered, refused}
-use Rattle.disc.specs.declared.refusals.Refusal.the-variants.{Malformed, LongName}
+use Rattle.disc.specs.declared.refusals.Refusal.the-variants.{LongName}
 use Rattle.records.specs.Bytes.{le16}
 use Rattle.records.specs.Allocations.{encodeLong, noLong}
 use Rattle.records.specs.declared.allocations.LongAd.{LongAd}
 use Rattle.names.specs.Names.{isNamed}
 use Rattle.identifiers.specs.Identifiers.{isDirectory}
-use Rattle.listings.specs.Entries.{Entry, Entries, isSkipped, nameIn, entries, sound}
-use Rattle.listings.specs.Entries.Entries.{end, bad, entry}
+use Rattle.listings.specs.Entries.{Entry, isSkipped, nameIn, entries}
 use Rattle.listings.specs.declared.finds.Named.{Named}
 
 -- ---- the listing
@@ -31,48 +30,42 @@ shown e =
     pick (isSkipped (e .identifier)) []
     (recordHead (isDirectory (e .identifier)) (e .identifier .icb) (length (nameIn e)) ++ nameIn e)
 
-unfoldable pub records : Entries → List ℕ
-records end = []
-records bad = []
-records (entry e es) = shown e ++ records es
+unfoldable pub records : List Entry → List ℕ
+records [] = []
+records (e ∷ es) = shown e ++ records es
 
 -- a listed name that exceeds 65,535 bytes
 unfoldable pub isLong : Entry → Bool
 isLong e = pick (isSkipped (e .identifier)) false (ltb 65535 (length (nameIn e)))
 
-unfoldable pub anyLong : Entries → Bool
-anyLong end = false
-anyLong bad = false
-anyLong (entry e es) = pick (isLong e) true (anyLong es)
+unfoldable pub anyLong : List Entry → Bool
+anyLong [] = false
+anyLong (e ∷ es) = pick (isLong e) true (anyLong es)
 
 -- a bad entry is refused first, then a long name
 unfoldable pub listing : List ℕ → Outcome (List ℕ)
-listing s =
-    pick (sound (entries s))
-    (pick (anyLong (entries s)) (refused LongName) (answered (records (entries s))))
-    (refused Malformed)
+listing s = andThen (entries s) (λ es. pick (anyLong es) (refused LongName) (answered (records es)))
 
 -- ---- the first entry of a name
 
 unfoldable pub answersTo : List ℕ → Entry → Bool
 answersTo component e = pick (isSkipped (e .identifier)) false (isNamed (e .recorded) component)
 
-unfoldable pub firstNamed : List ℕ → Entries → Option Entry
-firstNamed component end = none
-firstNamed component bad = none
-firstNamed component (entry e es) = pick (answersTo component e) (some e) (firstNamed component es)
+unfoldable pub firstNamed : List ℕ → List Entry → Option Entry
+firstNamed component [] = none
+firstNamed component (e ∷ es) = pick (answersTo component e) (some e) (firstNamed component es)
 
 -- the whole directory is parsed before a name is matched
 unfoldable pub findIn : List ℕ → List ℕ → Outcome (Option Entry)
-findIn component s = pick (sound (entries s)) (answered (firstNamed component (entries s))) (refused Malformed)
+findIn component s = andThen (entries s) (λ es. answered (firstNamed component es))
 
--- the same as the code reports it: no entry is 3
+-- the same as the code reports it
 abbrev pub unnamed : ℕ → Named
-unnamed n = record { answer = n; icb = noLong; directory = false }
+unnamed n = record { answer = n; found = false; icb = noLong; directory = false }
 
 abbrev pub namedTo : Option Entry → Named
-namedTo none = unnamed 3
-namedTo (some e) = record { answer = 0; icb = e .identifier .icb; directory = isDirectory (e .identifier) }
+namedTo none = unnamed 0
+namedTo (some e) = record { answer = 0; found = true; icb = e .identifier .icb; directory = isDirectory (e .identifier) }
 
 abbrev pub namedOf : Outcome (Option Entry) → Named
 namedOf (answered o) = namedTo o

@@ -7,9 +7,10 @@ ghost use lib.ListN.{length};
 ghost use Rattle.disc.specs.Choice.{pick};
 ghost use Rattle.names.specs.Names.{nameOf, written};
 ghost use Rattle.identifiers.specs.Identifiers.{bit};
+ghost use Rattle.identifiers.specs.Wholes.{Whole};
 ghost use Rattle.listings.specs.Entries.{entryOf, isSkipped};
 ghost use Rattle.listings.specs.Listings.{answersTo};
-ghost use Rattle.listings.specs.inner.Passes.{Good, Parsed, Recorded, Puts, headIn};
+ghost use Rattle.listings.specs.inner.Passes.{Comes, Recorded, Puts, headIn};
 use disc::moves::copy;
 use identifiers::FileIdentifierDescriptor;
 use identifiers::IdentifierRead;
@@ -18,11 +19,18 @@ use names::dstrings::put_name;
 use names::matching::is_named;
 use records::bytes::byte_at;
 
-// Reads the entry at the front of s.
-pub(crate) fn entry_at(s: &[u8]) -> IdentifierRead
-    ensures { λ r. ⌜ Parsed (now (s .entry)) r ⌝ }
+// What an identifier has before its implementation use: an entry is read while so many bytes remain.
+pub(crate) const LEAST: usize = 38;
+
+// What a record has before its name.
+const HEAD: usize = 21;
+
+// Reads the entry that stands at `at` in a directory's bytes: the cursor of the passes that check.
+pub(crate) fn entry_at(raw: &[u8], at: usize) -> IdentifierRead
+    requires { ⌜ at + 38 ≤ length (now raw) ⌝ }
+    ensures { λ r. ⌜ Comes (now (raw .entry)) at r ⌝ }
 {
-    FileIdentifierDescriptor::parse(s)
+    FileIdentifierDescriptor::parse(&raw[at..])
 }
 
 // Whether an entry of these characteristics is left out of listings and lookups: it is deleted, or the parent's.
@@ -49,7 +57,7 @@ pub(crate) fn record_size(f: FileIdentifierDescriptor) -> usize
     if is_skipped(f) {
         return 0;
     }
-    21 + f.name_size
+    HEAD + f.name_size
 }
 
 // Whether the entry is listed with a name whose length does not fit its record.
@@ -98,16 +106,16 @@ fn put_record(marks: u8, s: &[u8], recorded: &[u8], out: &mut [u8]) -> usize
     requires { ⌜ 36 ≤ length (now s) ⌝ }
     ensures { λ r. ⌜ Recorded marks (now (s .entry)) (written (nameOf (now (recorded .entry)))) (now (out .entry)) (now (out .exit)) r ⌝ }
 {
-    if out.len() < 21 {
+    if out.len() < HEAD {
         return 0;
     }
-    let n = put_name(recorded, &mut out[21..]);
-    if out.len() - 21 < n {
+    let n = put_name(recorded, &mut out[HEAD..]);
+    if out.len() - HEAD < n {
         return 0;
     }
     let h = head(marks / 2 % 2, s, n);
     copy(&h, out);
-    21 + n
+    HEAD + n
 }
 
 // How many bytes were written of an entry, and how far behind its start the next one starts.
@@ -142,7 +150,7 @@ pub(crate) fn put_entry(s: &[u8], out: &mut [u8]) -> Put
 // Whether the entry f, read at the front of s, is not skipped, and has the name that is looked for.
 pub(crate) fn answers_to(s: &[u8], f: FileIdentifierDescriptor, component: &[u8]) -> bool
     requires { ⌜ f .«name_at» + f .«name_length» ≤ length (now s) ⌝ }
-    ensures { λ r. ⌜ (Good (now (s .entry)) f → r ≡ answersTo (now (component .entry)) (entryOf (now (s .entry)))) ⌝ }
+    ensures { λ r. ⌜ (Whole (now (s .entry)) f → r ≡ answersTo (now (component .entry)) (entryOf (now (s .entry)) f)) ⌝ }
 {
     if is_skipped(f) {
         return false;

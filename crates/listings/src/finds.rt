@@ -2,27 +2,31 @@
 ghost use mathlib.Core.Path.{_≡_};
 ghost use Prim.Native.Nat.{_+_, _≤_};
 ghost use lib.ListN.{length};
+ghost use Rattle.identifiers.specs.Wholes.{Whole};
 ghost use Rattle.listings.specs.Entries.{entryOf};
 ghost use Rattle.listings.specs.Listings.{findIn, namedOf, unnamed};
-ghost use Rattle.listings.specs.inner.Passes.{Good, earlierOf};
+ghost use Rattle.listings.specs.inner.Passes.{earlierOf};
+use crate::directory_entries::LEAST;
 use crate::directory_entries::answers_to;
 use crate::directory_entries::entry_at;
 use identifiers::FileIdentifierDescriptor;
 use records::allocations::LongAd;
 use records::allocations::no_long;
 
-// The ICB of an entry, and whether it is a directory; zeros where the answer is a refusal.
+// The ICB of an entry, and whether it is a directory; zeros where none has the name, or where the directory is refused.
 pub struct Named {
     pub answer: u64,
+    pub found: bool,
     pub icb: LongAd,
     pub directory: bool,
 }
 
-fn no_entry(answer: u64) -> Named
+pub fn no_entry(answer: u64) -> Named
     ensures { λ r. ⌜ r ≡ unnamed answer ⌝ }
 {
     Named {
         answer,
+        found: false,
         icb: no_long(),
         directory: false,
     }
@@ -31,15 +35,16 @@ fn no_entry(answer: u64) -> Named
 // What was found already, else the entry f, read at the front of s, if it answers to the component.
 fn earlier(found: Named, s: &[u8], f: FileIdentifierDescriptor, component: &[u8]) -> Named
     requires { ⌜ f .«name_at» + f .«name_length» ≤ length (now s) ⌝ }
-    ensures { λ r. ⌜ (Good (now (s .entry)) f → r ≡ earlierOf found (now (component .entry)) (entryOf (now (s .entry)))) ⌝ }
+    ensures { λ r. ⌜ (Whole (now (s .entry)) f → r ≡ earlierOf found (now (component .entry)) (entryOf (now (s .entry)) f)) ⌝ }
 {
-    if found.answer == 0 {
+    if found.found {
         return found;
     }
     if answers_to(s, f, component) {
         let icb = f.icb;
         return Named {
             answer: 0,
+            found: true,
             icb,
             directory: f.is_directory(),
         };
@@ -51,15 +56,15 @@ fn earlier(found: Named, s: &[u8], f: FileIdentifierDescriptor, component: &[u8]
 pub fn find(raw: &[u8], component: &[u8]) -> Named
     ensures { λ r. ⌜ r ≡ namedOf (findIn (now (component .entry)) (now (raw .entry))) ⌝ }
 {
-    let mut found = no_entry(3);
+    let mut found = no_entry(0);
     let mut at: usize = 0;
-    while at + 38 <= raw.len() {
-        let s = &raw[at..];
-        let r = entry_at(s);
+    while at + LEAST <= raw.len() {
+        let r = entry_at(raw, at);
         if r.answer != 0 {
-            return no_entry(2);
+            return no_entry(r.answer);
         }
         let f = r.descriptor;
+        let s = &raw[at..];
         at += f.total_size;
         found = earlier(found, s, f, component);
     }

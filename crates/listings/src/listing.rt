@@ -1,13 +1,15 @@
 // A directory's listing: a record for each entry that is not skipped.
 ghost use mathlib.Core.Path.{_≡_};
-ghost use mathlib.Core.Bool.{true};
+ghost use mathlib.Core.List.{List};
 ghost use lib.ListN.{length};
 ghost use Rattle.disc.specs.Ran.{told};
+ghost use Rattle.disc.specs.Ask.Outcome.{answered};
 ghost use Rattle.disc.specs.Replies.{Replied};
 ghost use Rattle.disc.specs.declared.refusals.Refusal.the-variants.{NoRoom};
-ghost use Rattle.listings.specs.Entries.{entries, sound};
+ghost use Rattle.listings.specs.Entries.{Entry, entries};
 ghost use Rattle.listings.specs.Listings.{records, listing};
 ghost use Rattle.listings.specs.inner.Passes.{sizeOfListing};
+use crate::directory_entries::LEAST;
 use crate::directory_entries::entry_at;
 use crate::directory_entries::is_long;
 use crate::directory_entries::put_entry;
@@ -16,9 +18,9 @@ use disc::refusals::Refusal;
 use disc::replies::Reply;
 use disc::replies::refusal;
 
-// Whether all entries are good, whether a listed name is too long, and how many bytes the listing takes.
+// Whether a listed name is too long, and how many bytes the listing takes; zeros where the directory is refused.
 pub struct ListingSize {
-    pub good: bool,
+    pub answer: u64,
     pub long: bool,
     pub size: usize,
 }
@@ -29,11 +31,11 @@ fn measure(raw: &[u8]) -> ListingSize
     let mut long = false;
     let mut n: usize = 0;
     let mut at: usize = 0;
-    while at + 38 <= raw.len() {
-        let r = entry_at(&raw[at..]);
+    while at + LEAST <= raw.len() {
+        let r = entry_at(raw, at);
         if r.answer != 0 {
             return ListingSize {
-                good: false,
+                answer: r.answer,
                 long: false,
                 size: 0,
             };
@@ -44,7 +46,7 @@ fn measure(raw: &[u8]) -> ListingSize
         at += f.total_size;
     }
     ListingSize {
-        good: true,
+        answer: 0,
         long,
         size: n,
     }
@@ -53,11 +55,11 @@ fn measure(raw: &[u8]) -> ListingSize
 // Writes the records of the entries over out, each behind the one before. The entries are not checked again, so what is lent is the room
 // that was measured, and nothing behind it can be written, whatever the bytes are by now.
 fn put_entries(raw: &[u8], out: &mut [u8])
-    ensures { λ _. ⌜ (sound (entries (now (raw .entry))) ≡ true → length (records (entries (now (raw .entry)))) ≡ length (now (out .entry)) → now (out .exit) ≡ records (entries (now (raw .entry)))) ⌝ }
+    ensures { λ _. ⌜ ((es : List Entry) → entries (now (raw .entry)) ≡ answered es → length (records es) ≡ length (now (out .entry)) → now (out .exit) ≡ records es) ⌝ }
 {
     let mut n: usize = 0;
     let mut at: usize = 0;
-    while at + 38 <= raw.len() {
+    while at + LEAST <= raw.len() {
         let p = put_entry(&raw[at..], &mut out[n..]);
         n += p.wrote;
         at += p.next;
@@ -69,8 +71,8 @@ pub fn list(raw: &[u8], out: &mut [u8]) -> Reply
     ensures { λ r. ⌜ Replied NoRoom (told (listing (now (raw .entry)))) (now (out .entry)) (now (out .exit)) r ⌝ }
 {
     let m = measure(raw);
-    if !m.good {
-        return refusal(Refusal::Malformed.number(), 0);
+    if m.answer != 0 {
+        return refusal(m.answer, 0);
     }
     if m.long {
         return refusal(Refusal::LongName.number(), 0);

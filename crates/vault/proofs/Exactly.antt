@@ -23,11 +23,12 @@ use Rattle.records.specs.declared.allocations.LongAd.{LongAd}
 use Rattle.areas.specs.declared.AllocExtent.{AllocExtent}
 use Rattle.volumes.specs.Openings.{opening}
 use Rattle.volumes.specs.Labels.{labelling}
-use Rattle.listings.specs.Entries.{entries, sound}
+use Rattle.listings.specs.Entries.{Entry, entries}
 use Rattle.listings.specs.Listings.{records, anyLong}
+use Rattle.listings.proofs.Promises.{entries-refused}
 use Rattle.vault.specs.Calls.{reading, parting, extentListing, listing, finding, pathReading, labels, reads, lists, readsPath, extents}
 use Rattle.volumes.specs.declared.openings.VolumeRecord.{VolumeRecord}
-use Rattle.vault.proofs.Orders.{listingAnswer, slotted, extents-order, list-order}
+use Rattle.vault.proofs.Orders.{entriesAnswer, listingAnswer, slotted, extents-order, list-order}
 use Rattle.vault.proofs.Refusing.{Within, refuses-within, bytes-only, part-only, list-only, opening-only, label-only, lookup-only, path-only, listing-only}
 
 -- ---- memory aside, 1 to 4
@@ -111,14 +112,20 @@ module _ (image : List ℕ) (v : VolumeRecord) where
 six : (work room : ℕ) (o : Outcome (List ℕ)) → Within Original o → eqb (listingAnswer work room o) 6 ≡ overfull work o
 unfolding Within
 six work room (refused why) p = ne-eqb (number why) 6 (λ e. omega arith)
-six work room (answered b) p = by (leb (length b) work) (sound (entries b)) (anyLong (entries b)) (leb (length (records (entries b))) room)
+six work room (answered b) p = by (leb (length b) work)
   where
-    by : (s t u w : Bool) → eqb (pick s (pick t (pick u 8 (pick w 0 5)) 2) 6) 6 ≡ not s
-    by true true true w = refl
-    by true true false true = refl
-    by true true false false = refl
-    by true false u w = refl
-    by false t u w = refl
+    fits : (u w : Bool) → eqb (pick u 8 (pick w 0 5)) 6 ≡ false
+    fits true w = refl
+    fits false true = refl
+    fits false false = refl
+
+    listed : (o : Outcome (List Entry)) → entries b ≡ o → eqb (entriesAnswer room o) 6 ≡ false
+    listed (answered es) e = fits (anyLong es) (leb (length (records es)) room)
+    listed (refused why) e = rw (entries-refused b e)
+
+    by : (s : Bool) → eqb (pick s (entriesAnswer room (entries b)) 6) 6 ≡ not s
+    by true = listed (entries b) refl
+    by false = refl
 
 pub list-6 : (image : List ℕ) (v : VolumeRecord) (icb : LongAd) (out work : List ℕ)
     → eqb (lists image v icb out work .reply .answer) 6 ≡ overfull (length work) (ran (disc image) (reading v icb) .outcome)

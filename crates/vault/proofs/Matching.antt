@@ -1,7 +1,7 @@
 -- Demand 2, said of the lookup itself: the first entry of a name wins, and a name matches with ASCII case ignored and nothing else. Assumes nothing.
 use mathlib.Core.Path.{_≡_, refl, ap, sym, _∙_}
 use mathlib.Core.Bool.{Bool, true, false}
-use mathlib.Core.List.{List, [], _∷_, map}
+use mathlib.Core.List.{List, [], _∷_, _++_, map}
 use mathlib.Core.Option.{Option, none, some}
 use Prim.Native.Nat.{ℕ, _+_}
 use native.Mathlib.Omega.{arith}
@@ -14,18 +14,16 @@ use Rattle.disc.specs.Ask.{Disc, Outcome, andThen}
 use Rattle.disc.specs.Ask.Outcome.{answered, refused}
 use Rattle.disc.specs.Images.{disc}
 use Rattle.disc.specs.Ran.{Ran, ran, after, onward}
-use Rattle.disc.specs.declared.refusals.Refusal.the-variants.{Malformed}
 use Rattle.disc.proofs.RefusalLaws.{refusal-numbered}
 use Rattle.disc.proofs.RanLaws.{ran-done, ran-then}
 use Rattle.records.specs.declared.allocations.LongAd.{LongAd}
 use Rattle.names.specs.Names.{nameOf, lower, sameName, matched, isNamed}
 use Rattle.names.proofs.Promises.{same-folded}
 use Rattle.identifiers.specs.Identifiers.{isDirectory}
-use Rattle.listings.specs.Entries.{Entry, Entries, isSkipped, nameIn, entries, sound}
-use Rattle.listings.specs.Entries.Entries.{end, bad, entry}
+use Rattle.listings.specs.Entries.{Entry, isSkipped, nameIn, entries}
 use Rattle.listings.specs.Listings.{answersTo, firstNamed, findIn}
 use Rattle.listings.specs.Paths.{Component, front, behind, componentsFrom, components}
-use Rattle.listings.proofs.Promises.{inFront, NoneAnswers, answers-folded}
+use Rattle.listings.proofs.Promises.{NoneAnswers, answers-folded}
 use Rattle.directories.specs.Directories.{directoryBytes}
 use Rattle.directories.specs.Lookups.{Sought, entering, orLost, seeking, seekPath, icbOf, foundOf}
 use Rattle.directories.specs.Lookups.Sought.{reached, lost}
@@ -54,11 +52,10 @@ same-answers : (c c′ : List ℕ) → map lower c ≡ map lower c′ → (e : E
 unfolding answersTo isNamed
 same-answers c c′ h e = ap (λ t. pick (isSkipped (e .identifier)) false (pick (ltb 255 (length (e .recorded))) false t)) (same-matched (nameOf (e .recorded)) c c′ h)
 
-same-first : (c c′ : List ℕ) → map lower c ≡ map lower c′ → (es : Entries) → firstNamed c es ≡ firstNamed c′ es
+same-first : (c c′ : List ℕ) → map lower c ≡ map lower c′ → (es : List Entry) → firstNamed c es ≡ firstNamed c′ es
 unfolding firstNamed
-same-first c c′ h end = refl
-same-first c c′ h bad = refl
-same-first c c′ h (entry e es) = rw (same-answers c c′ h e, same-first c c′ h es)
+same-first c c′ h [] = refl
+same-first c c′ h (e ∷ es) = rw (same-answers c c′ h e, same-first c c′ h es)
 
 same-entering : (d : Disc) (v : Mount) (work : ℕ) (icb : LongAd) (c c′ : List ℕ) → map lower c ≡ map lower c′ → ran d (entering v work icb c) ≡ ran d (entering v work icb c′)
 unfolding entering findIn
@@ -68,7 +65,11 @@ same-entering d v work icb c c′ h =
     ∙ sym (ran-known d (directoryBytes v work icb) (findIn c′))
   where
     by : (o : Outcome (List ℕ)) → andThen o (findIn c) ≡ andThen o (findIn c′)
-    by (answered b) = rw (same-first c c′ h (entries b))
+    by (answered b) = in-all (entries b)
+      where
+        in-all : (o : Outcome (List Entry)) → andThen o (λ es. answered (firstNamed c es)) ≡ andThen o (λ es. answered (firstNamed c′ es))
+        in-all (answered es) = ap answered (same-first c c′ h es)
+        in-all (refused why) = refl
     by (refused why) = refl
 
 -- two walks that come to the same ICB, or to the same refusal, after as many sectors
@@ -140,26 +141,26 @@ one-cue image v work = lookup-case image v (0x31 ∷ 0x30 ∷ 0x2e ∷ 0x31 ∷ 
 
 -- one step of a walk: the directory at icb is b, and e its first entry that answers to the component
 module _ (d : Disc) (v : Mount) (work : ℕ) (icb : LongAd) (c : Component) {b : List ℕ} (r : ran d (directoryBytes v work icb) .outcome ≡ answered b)
-    (before : List Entry) (e : Entry) (rest : Entries) (k : entries b ≡ inFront before (entry e rest)) (s : sound (entries b) ≡ true)
+    (before : List Entry) (e : Entry) (rest : List Entry) (k : entries b ≡ answered (before ++ e ∷ rest))
     (n : NoneAnswers (c .bytes) before) (h : answersTo (c .bytes) e ≡ true) where
   pub seek-first : (cs : List Component) → ran d (seeking v work (c ∷ cs) icb true)
       ≡ after (ran d (directoryBytes v work icb) .count) (ran d (seeking v work cs (e .identifier .icb) (isDirectory (e .identifier))))
   unfolding seeking
   seek-first cs =
       ran-then d (entering v work icb (c .bytes)) (λ o. orLost c o (λ x. seeking v work cs (x .identifier .icb) (isDirectory (x .identifier))))
-      ∙ rw (enters-first d v work icb (c .bytes) r before e rest k s n h)
+      ∙ rw (enters-first d v work icb (c .bytes) r before e rest k n h)
 
 -- of the lookup itself: a path of one component is answered with the ICB of the first entry of that name, after the sectors of the root directory
 pub lookup-first : (image : List ℕ) (v : VolumeRecord) (path work : List ℕ) (c : Component) → components path ≡ c ∷ [] → {b : List ℕ}
     → ran (disc image) (directoryBytes (v .mount) (length work) (v .root)) .outcome ≡ answered b
-    → (before : List Entry) (e : Entry) (rest : Entries) → entries b ≡ inFront before (entry e rest) → sound (entries b) ≡ true → NoneAnswers (c .bytes) before → answersTo (c .bytes) e ≡ true
+    → (before : List Entry) (e : Entry) (rest : List Entry) → entries b ≡ answered (before ++ e ∷ rest) → NoneAnswers (c .bytes) before → answersTo (c .bytes) e ≡ true
     → finds image v path work .found
     ≡ record { answer = 0; count = reported (ran (disc image) (directoryBytes (v .mount) (length work) (v .root)) .count); icb = e .identifier .icb }
 unfolding seekPath seeking
-lookup-first image v path work c p r before e rest k s n h =
+lookup-first image v path work c p r before e rest k n h =
     let m = ran (disc image) (directoryBytes (v .mount) (length work) (v .root)) .count in
     let w : ran (disc image) (seekPath (v .mount) (length work) (v .root) path) ≡ record { outcome = answered (reached (e .identifier .icb)); count = m + 0 } =
-    rw (p, seek-first (disc image) (v .mount) (length work) (v .root) c r before e rest k s n h [], ran-done (disc image) (reached (e .identifier .icb))) in
+    rw (p, seek-first (disc image) (v .mount) (length work) (v .root) c r before e rest k n h [], ran-done (disc image) (reached (e .identifier .icb))) in
     let l : ran (disc image) (finding v (length work) path) ≡ record { outcome = answered (e .identifier .icb); count = m + 0 } =
     look-is (disc image) (v .mount) (length work) (v .root) path ∙ rw w in
     rw l (ap (λ x. record { answer = 0; count = reported x; icb = e .identifier .icb }) (let z : m + 0 ≡ m = omega arith in z))
@@ -167,11 +168,10 @@ lookup-first image v path work c p r before e rest k s n h =
 -- ---- and nothing else matches: what a path of one component is answered with is an entry that is listed and has that name, ASCII case ignored
 
 -- an entry that is found answers to its name
-found-answers : (c : List ℕ) (es : Entries) {e : Entry} → firstNamed c es ≡ some e → answersTo c e ≡ true
+found-answers : (c : List ℕ) (es : List Entry) {e : Entry} → firstNamed c es ≡ some e → answersTo c e ≡ true
 unfolding firstNamed
-found-answers c end q = absurd (let z : _≡_ {A = ℕ} 0 1 = cc in omega arith)
-found-answers c bad q = absurd (let z : _≡_ {A = ℕ} 0 1 = cc in omega arith)
-found-answers c (entry x es) {e} q = by (answersTo c x) refl (λ r. found-answers c es r) q
+found-answers c [] q = absurd (let z : _≡_ {A = ℕ} 0 1 = cc in omega arith)
+found-answers c (x ∷ es) {e} q = by (answersTo c x) refl (λ r. found-answers c es r) q
   where
     by : (t : Bool) → answersTo c x ≡ t → (firstNamed c es ≡ some e → answersTo c e ≡ true) → pick t (some x) (firstNamed c es) ≡ some e → answersTo c e ≡ true
     by true k f q = let z : x ≡ e = cc in rw z at k
@@ -179,11 +179,11 @@ found-answers c (entry x es) {e} q = by (answersTo c x) refl (λ r. found-answer
 
 entered-answers : (c b : List ℕ) {e : Entry} → findIn c b ≡ answered (some e) → answersTo c e ≡ true
 unfolding findIn
-entered-answers c b {e} q = by (sound (entries b)) q
+entered-answers c b {e} q = by (entries b) q
   where
-    by : (t : Bool) → pick t (answered (firstNamed c (entries b))) (refused Malformed) ≡ answered (some e) → answersTo c e ≡ true
-    by true q = found-answers c (entries b) cc
-    by false q = absurd (let z : _≡_ {A = ℕ} 0 1 = cc in omega arith)
+    by : (o : Outcome (List Entry)) → andThen o (λ es. answered (firstNamed c es)) ≡ answered (some e) → answersTo c e ≡ true
+    by (answered es) q = found-answers c es cc
+    by (refused why) q = absurd (let z : _≡_ {A = ℕ} 0 1 = cc in omega arith)
 
 -- the lookup that a walk comes to
 looks : Ran Sought → Found

@@ -15,14 +15,14 @@ use Rattle.disc.specs.Ask.Outcome.{answered, refused}
 use Rattle.disc.specs.Images.{disc}
 use Rattle.disc.specs.Ran.{Ran, ran, onward, eachIn}
 use Rattle.disc.specs.Replies.{replyBy}
-use Rattle.disc.specs.declared.refusals.Refusal.the-variants.{Malformed, NoRoom, NoWork, NoSlot, LongName}
+use Rattle.disc.specs.declared.refusals.Refusal.the-variants.{NoRoom, NoWork, NoSlot, LongName}
 use Rattle.disc.specs.declared.replies.Reply.{Reply}
 use Rattle.disc.proofs.RanLaws.{ran-then}
 use Rattle.records.specs.declared.allocations.LongAd.{LongAd}
 use Rattle.volumes.specs.Labels.{labelling}
 use Rattle.areas.specs.declared.AllocExtent.{AllocExtent}
 use Rattle.files.specs.Files.{fileBytes}
-use Rattle.listings.specs.Entries.{entries, sound}
+use Rattle.listings.specs.Entries.{Entry, entries}
 use Rattle.listings.specs.Listings.{records, anyLong, listing as listingOf}
 use Rattle.directories.specs.Directories.{within, directoryBytes, listingAt}
 use Rattle.directories.specs.Lookups.{readPathOf}
@@ -73,15 +73,14 @@ extents-order f image v icb row = by (ran (disc image) (extentListing v icb) .ou
 
 -- ---- a listing: the refusals of reading the directory, 6, a bad entry, 8, and then 5
 
+-- of the entries that were read
+abbrev pub entriesAnswer : ℕ → Outcome (List Entry) → ℕ
+entriesAnswer room (refused why) = number why
+entriesAnswer room (answered es) = pick (anyLong es) 8 (pick (leb (length (records es)) room) 0 5)
+
 abbrev pub listingAnswer : ℕ → ℕ → Outcome (List ℕ) → ℕ
 listingAnswer work room (refused why) = number why
-listingAnswer work room (answered b) =
-    pick (leb (length b) work)
-    (pick (sound (entries b))
-    (pick (anyLong (entries b)) 8
-    (pick (leb (length (records (entries b))) room) 0 5))
-    2)
-    6
+listingAnswer work room (answered b) = pick (leb (length b) work) (entriesAnswer room (entries b)) 6
 
 -- what a listing comes to, by what reading the directory comes to
 listing-is : (d : Disc) (v : Mount) (work : ℕ) (icb : LongAd)
@@ -91,22 +90,24 @@ listing-is d v work icb =
     ap (λ (r : Ran (List ℕ)). r .outcome) (ran-known d (directoryBytes v work icb) listingOf)
     ∙ ap (λ (r : Ran (List ℕ)). andThen (r .outcome) listingOf) (ran-known d (fileBytes v icb) (within work))
 
-entries-ordered : (room : ℕ) (b : List ℕ) → roomed room (listingOf b) ≡ pick (sound (entries b)) (pick (anyLong (entries b)) 8 (pick (leb (length (records (entries b))) room) 0 5)) 2
+entries-ordered : (room : ℕ) (b : List ℕ) → roomed room (listingOf b) ≡ entriesAnswer room (entries b)
 unfolding listingOf
-entries-ordered room b = by (sound (entries b)) (anyLong (entries b))
+entries-ordered room b = by (entries b)
   where
-    by : (t u : Bool) → roomed room (pick t (pick u (refused LongName) (answered (records (entries b)))) (refused Malformed)) ≡ pick t (pick u 8 (pick (leb (length (records (entries b))) room) 0 5)) 2
-    by false u = refl
-    by true true = refl
-    by true false = refl
+    long : (u : Bool) (es : List Entry) → roomed room (pick u (refused LongName) (answered (records es))) ≡ pick u 8 (pick (leb (length (records es)) room) 0 5)
+    long true es = refl
+    long false es = refl
+
+    by : (o : Outcome (List Entry)) → roomed room (andThen o (λ es. pick (anyLong es) (refused LongName) (answered (records es)))) ≡ entriesAnswer room o
+    by (answered es) = long (anyLong es) es
+    by (refused why) = refl
 
 ordered : (work room : ℕ) (o : Outcome (List ℕ)) → roomed room (andThen (andThen o (within work)) listingOf) ≡ listingAnswer work room o
 unfolding within
 ordered work room (refused why) = refl
 ordered work room (answered b) = by (leb (length b) work)
   where
-    by : (t : Bool) → roomed room (andThen (pick t (answered b) (refused NoWork)) listingOf)
-        ≡ pick t (pick (sound (entries b)) (pick (anyLong (entries b)) 8 (pick (leb (length (records (entries b))) room) 0 5)) 2) 6
+    by : (t : Bool) → roomed room (andThen (pick t (answered b) (refused NoWork)) listingOf) ≡ pick t (entriesAnswer room (entries b)) 6
     by false = refl
     by true = entries-ordered room b
 

@@ -12,7 +12,7 @@ use Rattle.files.specs.Files.File.{embedded, chained}
 use Rattle.disc.specs.declared.places.Mount.{Mount}
 use Rattle.disc.specs.Places.{placed, icbPlaced, standing}
 use Rattle.disc.specs.Choice.{pick}
-use Rattle.disc.specs.Ask.{Disc, Held, Ask, Outcome, outcome, then, given, ended}
+use Rattle.disc.specs.Ask.{Disc, Held, Ask, Outcome, outcome, then, given, ended, andThen}
 use Rattle.disc.specs.Ask.Held.{holds, lacks}
 use Rattle.disc.specs.Ask.Ask.{done, refuse, ask}
 use Rattle.disc.specs.Ask.Outcome.{answered, refused}
@@ -51,9 +51,10 @@ use Rattle.volumes.specs.Labels.{labelling}
 use Rattle.chains.specs.Chains.{sectorsFor, areaIn, nextArea, continued, areaFrom}
 use Rattle.files.specs.Reads.{joining, extentBytes, extentsBytes}
 use Rattle.files.specs.Files.{Located, located, entryAt, isEmbedded, chainOf, fileBytes, filePart, fileExtents, File, resolved, fileAt, contentOf}
-use Rattle.listings.specs.Entries.{Entry, entries, sound}
-use Rattle.listings.specs.Listings.{anyLong, listing, findIn}
+use Rattle.listings.specs.Entries.{Entry, entries}
+use Rattle.listings.specs.Listings.{records, anyLong, listing, firstNamed, findIn}
 use Rattle.listings.specs.Paths.{Component, components}
+use Rattle.listings.proofs.Promises.{entries-refused}
 use Rattle.identifiers.specs.Identifiers.{isDirectory}
 use Rattle.directories.specs.Directories.{within, directoryBytes, listingAt}
 use Rattle.directories.specs.Lookups.{Sought, entering, orLost, seeking, seekPath, icbOf, lookupOf, readPathOf}
@@ -306,11 +307,11 @@ module _ (P : Refusal → Type 0) (malformed : P Malformed) (missing : P NotBlur
 
   entering-only : (icb : LongAd) (component : List ℕ) → Refuses P Any (entering m work icb component)
   unfolding entering findIn
-  entering-only icb component = then-only (directory-only icb) (λ b q. by (sound (entries b)) _)
+  entering-only icb component = then-only (directory-only icb) (λ b q. by b (entries b) refl)
     where
-      by : (t : Bool) (o : Option Entry) → Refuses P Any (ended (pick t (answered o) (refused Malformed)))
-      by true o = done-only tt
-      by false o = refuse-only malformed
+      by : (b : List ℕ) (o : Outcome (List Entry)) → entries b ≡ o → Refuses P Any (ended (andThen o (λ es. answered (firstNamed component es))))
+      by b (answered es) e = done-only tt
+      by b (refused why) e = refuse-only (rw (entries-refused b e) malformed)
 
   seeking-only : (cs : List Component) (icb : LongAd) (directory : Bool) → Refuses P Any (seeking m work cs icb directory)
   unfolding seeking
@@ -336,9 +337,12 @@ module _ (P : Refusal → Type 0) (malformed : P Malformed) (missing : P NotBlur
 
   pub listing-only : P LongName → (icb : LongAd) → Refuses P Any (listingAt m work icb)
   unfolding listingAt listing
-  listing-only long icb = then-only (directory-only icb) (λ b q. by (sound (entries b)) (anyLong (entries b)) _)
+  listing-only long icb = then-only (directory-only icb) (λ b q. by b (entries b) refl)
     where
-      by : (t u : Bool) (b : List ℕ) → Refuses P Any (ended (pick t (pick u (refused LongName) (answered b)) (refused Malformed)))
-      by true true b = refuse-only long
-      by true false b = done-only tt
-      by false u b = refuse-only malformed
+      shown : (u : Bool) (l : List ℕ) → Refuses P Any (ended (pick u (refused LongName) (answered l)))
+      shown true l = refuse-only long
+      shown false l = done-only tt
+
+      by : (b : List ℕ) (o : Outcome (List Entry)) → entries b ≡ o → Refuses P Any (ended (andThen o (λ es. pick (anyLong es) (refused LongName) (answered (records es)))))
+      by b (answered es) e = shown (anyLong es) (records es)
+      by b (refused why) e = refuse-only (rw (entries-refused b e) malformed)

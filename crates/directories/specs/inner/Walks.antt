@@ -3,41 +3,46 @@ use Prim.Native.Nat.{ℕ, _+_, _-_, _≤_, _<_}
 use mathlib.Core.Path.{_≡_}
 use mathlib.Core.Bool.{true, false}
 use mathlib.Core.List.{List}
-use mathlib.Core.Option.{Option, none, some}
+use mathlib.Core.Option.{Option}
 use lib.ListN.{length, take, drop}
 use lib.Dec.{eqb}
 use Rattle.disc.specs.declared.places.Mount.{Mount}
 use Rattle.disc.specs.Choice.{pick}
 use Rattle.disc.specs.Refusals.{number}
 use Rattle.disc.specs.Counts.{reported}
-use Rattle.disc.specs.Ask.{Disc, Outcome, andThen}
-use Rattle.disc.specs.Ask.Outcome.{answered, refused}
+use Rattle.disc.specs.Ask.{Disc, andThen}
 use Rattle.disc.specs.Ran.{Ran, ran, after}
+use Rattle.disc.specs.declared.refusals.Refusal.the-variants.{NotBluray}
 use Rattle.records.specs.Allocations.{noLong}
 use Rattle.records.specs.declared.allocations.LongAd.{LongAd}
-use Rattle.identifiers.specs.Identifiers.{isDirectory}
 use Rattle.listings.specs.Entries.{Entry}
+use Rattle.listings.specs.Listings.{namedOf}
+use Rattle.listings.specs.declared.finds.Named.{Named}
 use Rattle.listings.specs.Paths.{Component, componentsFrom, slashes}
 use Rattle.directories.specs.Lookups.{Sought, seeking, seekPath, icbOf, foundTo, lostOf}
 use Rattle.directories.specs.declared.lookups.Found.{Found}
 use Rattle.directories.specs.declared.walks.Entered.{Entered}
 use Rattle.directories.specs.declared.walks.PathPlace.{PathPlace}
 
--- what entering a directory gives: an entry, no entry, or a refusal
-abbrev pub enteredTo : Outcome (Option Entry) → ℕ → Entered
-enteredTo (answered (some e)) n = record { answer = 0; lost = false; icb = e .identifier .icb; directory = isDirectory (e .identifier); count = n }
-enteredTo (answered none) n = record { answer = 3; lost = true; icb = noLong; directory = false; count = n }
-enteredTo (refused r) n = record { answer = number r; lost = false; icb = noLong; directory = false; count = n }
-
+-- what looking for a component's entry in a directory gives
 abbrev pub enteredOf : Ran (Option Entry) → Entered
-enteredOf r = enteredTo (r .outcome) (reported (r .count))
+enteredOf r = record { entry = namedOf (r .outcome); count = reported (r .count) }
 
--- the place behind a component that was entered
-unfoldable pub beyondOf : List ℕ → Entered → ℕ → ℕ → ℕ → PathPlace
+-- the end of a walk: with an answer, and where a component was lost, its place
+abbrev pub stoppedAt : ℕ → LongAd → ℕ → ℕ → ℕ → PathPlace
+stoppedAt answer icb count from end = record { going = false; answer = answer; icb = icb; directory = false; count = count; from = from; end = end }
+
+abbrev pub lostAt : ℕ → ℕ → ℕ → PathPlace
+lostAt count from end = stoppedAt (number NotBluray) noLong count from end
+
+-- the place behind a component whose entry was looked for
+unfoldable pub beyondOf : List ℕ → Named → ℕ → ℕ → ℕ → PathPlace
 beyondOf path e count from end =
-    pick (e .lost) (record { going = false; answer = e .answer; icb = e .icb; directory = false; count = count; from = from; end = end })
-    (pick (eqb (e .answer) 0) (record { going = true; answer = 0; icb = e .icb; directory = e .directory; count = count; from = end + slashes (drop end path); end = length path })
-    (record { going = false; answer = e .answer; icb = e .icb; directory = false; count = count; from = 0; end = 0 }))
+    pick (eqb (e .answer) 0)
+    (pick (e .found)
+    (record { going = true; answer = 0; icb = e .icb; directory = e .directory; count = count; from = end + slashes (drop end path); end = length path })
+    (lostAt count from end))
+    (stoppedAt (e .answer) noLong count 0 0)
 
 -- how a walk ends: what it found, and the component that it lost
 pub record End : Type 0 where

@@ -1,42 +1,60 @@
 -- What the passes over a directory's bytes say.
-use Prim.Native.Nat.{ℕ, _+_, _/_, _%_, _≤_}
+use Prim.Native.Nat.{ℕ, _+_, _-_, _/_, _%_, _≤_}
 use mathlib.Core.Path.{_≡_}
-use mathlib.Core.Bool.{true, false}
+use mathlib.Core.Bool.{false}
 use mathlib.Core.List.{List, [], _∷_, _++_}
 use mathlib.Core.Option.{some}
-use lib.ListN.{length}
-use lib.Dec.{eqb}
+use lib.ListN.{length, take, drop}
 use Rattle.disc.specs.Choice.{pick}
+use Rattle.disc.specs.Refusals.{number}
+use Rattle.disc.specs.Ask.{Outcome}
+use Rattle.disc.specs.Ask.Outcome.{answered, refused}
+use Rattle.disc.specs.declared.refusals.Refusal.{Refusal}
 use Rattle.records.specs.Bytes.{byte, six, le16}
 use Rattle.names.specs.Names.{Wrote}
-use Rattle.identifiers.specs.Identifiers.{readIdentifier, nextAt}
+use Rattle.identifiers.specs.Identifiers.{nextAt}
 use Rattle.identifiers.specs.Wholes.{Whole}
 use Rattle.identifiers.specs.declared.FileIdentifierDescriptor.{FileIdentifierDescriptor}
 use Rattle.identifiers.specs.declared.IdentifierRead.{IdentifierRead}
-use Rattle.listings.specs.Entries.{Entry, Entries, entryOf, isGood, sound}
+use Rattle.listings.specs.Entries.{Entry, entryOf, entryRead, inFront, entries}
 use Rattle.listings.specs.Listings.{shown, records, anyLong, answersTo, namedTo}
 use Rattle.listings.specs.declared.directory_entries.Put.{Put}
 use Rattle.listings.specs.declared.finds.Named.{Named}
 use Rattle.listings.specs.declared.listing.ListingSize.{ListingSize}
 
--- f is a good entry at the front of s
-pub record Good (s : List ℕ) (f : FileIdentifierDescriptor) : Type 0 where
-  pub is : f ≡ readIdentifier s .descriptor
-  pub whole : Whole s f
+-- ---- the entry that stands at a place
 
--- what reading the entry at the front of s says
-pub record Parsed (s : List ℕ) (r : IdentifierRead) : Type 0 where
-  pub is : r ≡ readIdentifier s
-  pub good : r .answer ≡ 0 → Good s (r .descriptor)
+-- the bytes from there on
+abbrev pub tail : List ℕ → ℕ → List ℕ
+tail raw at = take (length raw - at) (drop at raw)
 
--- the head of an entry's record: the ICB's bytes as they are recorded, the name's length n
+-- it is good, with its identifier f: the next one starts at most three bytes past the end
+pub record GoodAt (raw : List ℕ) (at : ℕ) (f : FileIdentifierDescriptor) : Type 0 where
+  pub is : entries (drop at raw) ≡ inFront (entryOf (tail raw at) f) (entries (drop (at + f .«total_size») raw))
+  pub whole : Whole (tail raw at) f
+  pub inside : at + (f .«name_at» + f .«name_length») ≤ length raw
+  pub near : at + f .«total_size» ≤ length raw + 3
+
+-- it is bad, and this is its number
+pub record BadAt (raw : List ℕ) (at n : ℕ) : Type 0 where
+  pub why : Refusal
+  pub is : entries (drop at raw) ≡ refused why
+  pub numbered : n ≡ number why
+
+pub record Comes (raw : List ℕ) (at : ℕ) (r : IdentifierRead) : Type 0 where
+  pub good : r .answer ≡ 0 → GoodAt raw at (r .descriptor)
+  pub bad : (r .answer ≡ 0 → ⊥) → BadAt raw at (r .answer)
+
+-- ---- a record
+
+-- its head: the ICB's bytes as they are recorded, the name's length n
 abbrev pub icbIn : List ℕ → List ℕ
 icbIn s = six s 20 ++ six s 26 ++ byte s 32 ∷ byte s 33 ∷ byte s 34 ∷ byte s 35 ∷ []
 
 unfoldable pub headIn : ℕ → List ℕ → ℕ → List ℕ
 headIn directory s n = 0x44 ∷ 0x45 ∷ directory ∷ (icbIn s ++ le16 n)
 
--- and the record, with the entry's characteristics and a name in UTF-8
+-- and the whole, with the entry's characteristics and a name in UTF-8
 unfoldable pub recordIn : ℕ → List ℕ → List ℕ → List ℕ
 recordIn marks s name = headIn (marks / 2 % 2) s (length name) ++ name
 
@@ -51,16 +69,16 @@ pub record Puts (s before after : List ℕ) (r : Put) : Type 0 where
   pub inside : r .wrote ≤ length before
   pub further : 1 ≤ r .next
   pub near : r .next ≤ length s + 3
-  pub next : isGood s ≡ true → r .next ≡ nextAt s
-  pub wrote : isGood s ≡ true → length (shown (entryOf s)) ≤ length before → Wrote (shown (entryOf s)) before after (r .wrote)
+  pub next : (e : Entry) → entryRead s ≡ answered e → r .next ≡ nextAt s
+  pub wrote : (e : Entry) → entryRead s ≡ answered e → length (shown e) ≤ length before → Wrote (shown e) before after (r .wrote)
+
+-- ---- all entries
 
 -- what measuring a directory's entries says
-abbrev pub sizeOfListing : Entries → ListingSize
-sizeOfListing es =
-    pick (sound es)
-    (record { good = true; long = anyLong es; size = length (records es) })
-    (record { good = false; long = false; size = 0 })
+abbrev pub sizeOfListing : Outcome (List Entry) → ListingSize
+sizeOfListing (answered es) = record { answer = 0; long = anyLong es; size = length (records es) }
+sizeOfListing (refused why) = record { answer = number why; long = false; size = 0 }
 
 -- what was found already, else an entry that answers to the component
 unfoldable pub earlierOf : Named → List ℕ → Entry → Named
-earlierOf found component e = pick (eqb (found .answer) 0) found (pick (answersTo component e) (namedTo (some e)) found)
+earlierOf found component e = pick (found .found) found (pick (answersTo component e) (namedTo (some e)) found)

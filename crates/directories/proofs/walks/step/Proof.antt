@@ -12,7 +12,7 @@ ruleset steps = (component-within, step-arrives, step-dead, step-enters, not-tru
 entered : tie.Need-returns-3
 entered c =
     let counted = c .before in
-    let entered = counted .before .before .before in
+    let entered = counted .before .before .before .before in
     let live = entered .before .before .before in
     let ended = live .before .before in
     let here = ended .before in
@@ -25,7 +25,6 @@ step-spec =
     tie.close (tie.spec
     (λ c κs. search steps)
     (λ c. search steps)
-    (λ c κs. search steps)
     (λ c κs. search steps)
     (λ c κs. search steps)
     (λ c. search steps)

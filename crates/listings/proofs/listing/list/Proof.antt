@@ -12,7 +12,6 @@ list-spec =
     tie.close (tie.spec
     (λ c κs. search lists)
     (λ c κs. search lists)
-    (λ c κs. search lists)
     (λ c. search lists)
     (λ c κs. search lists)
     (λ c κs. search lists)

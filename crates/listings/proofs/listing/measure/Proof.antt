@@ -2,7 +2,7 @@
 use borrow.Author.Needs.{needs}
 use Prim.Native.Nat.{_+_, _-_}
 use lib.ListN.{length}
-use Rattle.listings.proofs.WalkLaws.{Measuring, measure-starts, measure-bad, name-fits, size-fits, next-fits, at-less, measure-next, measure-ends}
+use Rattle.listings.proofs.WalkLaws.{next-fits, at-less, Measuring, measure-starts, measure-bad, name-fits, size-fits, measure-next, measure-ends}
 use Rattle.listings.proofs.listing.measure.Statement.{statement}
 use Rattle.listings.proofs.listing.measure.Tie as tie
 
@@ -17,9 +17,6 @@ abbrev μ-loop : tie.MeasureT-loop
 pub measure-spec : {M : Type 1} → statement M
 measure-spec =
     tie.close (tie.spec Inv-loop μ-loop
-    (λ c. search measures)
-    (λ c. search measures)
-    (λ c. search measures)
     (λ c. search measures)
     (λ c. search measures)
     (λ c κs. search measures)
