@@ -13,7 +13,7 @@ use Rattle.disc.specs.Ask.Held.{holds, lacks}
 use Rattle.disc.specs.Ask.Ask.{done, refuse, ask}
 use Rattle.disc.specs.Ask.Outcome.{answered, refused}
 use Rattle.disc.specs.Ran.{ran, onward}
-use Rattle.disc.specs.Images.{sectors}
+use Rattle.disc.specs.Images.{sectors, sectorsFor}
 use Rattle.disc.specs.Places.{placed, standing}
 use Rattle.disc.specs.declared.places.Mount.{Mount}
 use Rattle.disc.specs.declared.refusals.Refusal.{Refusal}
@@ -26,7 +26,7 @@ use Rattle.areas.specs.declared.AdContinuation.{AdContinuation}
 use Rattle.areas.specs.declared.AdEnding.{AdEnding}
 use Rattle.areas.specs.declared.AdEnding.the-variants.{End, Continuation, Refused}
 use Rattle.areas.specs.Areas.{Area}
-use Rattle.chains.specs.Chains.{sectorsFor, areaIn, areaFrom, nextArea, continued, chain}
+use Rattle.chains.specs.Chains.{areaIn, areaFrom, nextArea, continued, chain}
 
 -- ---- a tree that asks for at most n sectors, whatever it is given
 

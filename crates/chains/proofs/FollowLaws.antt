@@ -14,7 +14,7 @@ use Rattle.disc.specs.Ask.{outcome, then}
 use Rattle.disc.specs.Ask.Ask.{done, refuse}
 use Rattle.disc.specs.Ask.Outcome.{answered, refused}
 use Rattle.disc.specs.Ran.{ran, after, followed}
-use Rattle.disc.specs.Images.{disc, sectors, heldFrom, bytesOf}
+use Rattle.disc.specs.Images.{disc, sectors, heldFrom, bytesOf, sectorsFor}
 use Rattle.disc.specs.Places.{placed, Stands}
 use Rattle.disc.specs.declared.places.Mount.{Mount}
 use Rattle.disc.specs.declared.places.Sector.{Sector}
@@ -39,20 +39,20 @@ use Rattle.chains.specs.declared.cursors.ChainCursor.{ChainCursor}
 use Rattle.chains.specs.declared.continuations.NextArea.{NextArea}
 use Rattle.chains.specs.declared.continuations.NextArea.the-variants.{Found, Refused}
 use Rattle.chains.specs.declared.follows.Chain.the-variants.{Whole, Refused as BrokenOff}
-use Rattle.chains.specs.Chains.{sectorsFor, areaIn, areaFrom, nextArea, continued}
+use Rattle.chains.specs.Chains.{areaIn, areaFrom, nextArea, continued}
 use Rattle.chains.specs.Walks.{beyond, left}
-use Rattle.chains.specs.Follows.{FoundArea, NoArea, Entered, EnteredFrom, chainAt, Followed}
+use Rattle.chains.specs.Follows.{FoundArea, NoArea, Reaches, ReachesFrom, chainAt, Followed}
 use Rattle.chains.proofs.WalkLaws.{beyond-end}
 
 -- ---- the area that continues another
 
 module _ (image : List ℕ) (length first : ℕ) where
-  pub next-short : length < 24 → EnteredFrom image length first (Refused Malformed 0)
+  pub next-short : length < 24 → ReachesFrom image length first (Refused Malformed 0)
   unfolding areaFrom
   next-short k = record { runs = λ kind. rw (lt-ltb length 24 k) (ran-refuse (disc image) Malformed); few = omega arith }
 
   module _ (h : 24 ≤ length) where
-    pub next-long : 1048576 < length → EnteredFrom image length first (Refused Unsupported 0)
+    pub next-long : 1048576 < length → ReachesFrom image length first (Refused Unsupported 0)
     unfolding areaFrom
     next-long k = record { runs = λ kind. rw (le-ltb length 24 h, lt-ltb 1048576 length k) (ran-refuse (disc image) Unsupported); few = omega arith }
 
@@ -64,7 +64,7 @@ module _ (image : List ℕ) (length first : ℕ) where
       unfolding areaFrom
       asks kind = rw (le-ltb length 24 h, le-ltb 1048576 length l, ran-then, sectors-run, ← u)
 
-      pub next-missing : held < n → EnteredFrom image length first (Refused Io (held + 1))
+      pub next-missing : held < n → ReachesFrom image length first (Refused Io (held + 1))
       next-missing k = record { runs = λ kind. asks kind ∙ rw (← m, lt-leb n held k); few = omega (arith, few-sectors) }
 
       module _ (k : n ≤ held) {b : List ℕ} (p : b ≡ bytesOf (outcome (disc image) (sectors n first))) {r : AedRead} (q : r ≡ readAed b) where
@@ -83,15 +83,15 @@ module _ (image : List ℕ) (length first : ℕ) where
         reads : (kind : ℕ) → ran (disc image) (areaFrom kind length first) ≡ after n (ran (disc image) (areaIn kind length buffer r))
         reads kind = asks kind ∙ rw (← m, le-leb n held k, header)
 
-        pub next-none : {why : Refusal} → r ≡ NoHeader why → EnteredFrom image length first (Refused why n)
+        pub next-none : {why : Refusal} → r ≡ NoHeader why → ReachesFrom image length first (Refused why n)
         next-none z = record { runs = λ kind. reads kind ∙ rw (z, ran-refuse, add-zero); few = few-sectors }
 
         module _ {x : AllocationExtentDescriptor} (z : r ≡ Header x) where
-          pub next-over : length < 24 + x .«length_of_allocation_descriptors» → EnteredFrom image length first (Refused Malformed n)
+          pub next-over : length < 24 + x .«length_of_allocation_descriptors» → ReachesFrom image length first (Refused Malformed n)
           next-over y = record { runs = λ kind. reads kind ∙ rw (z, lt-ltb length (24 + x .«length_of_allocation_descriptors») y, ran-refuse, add-zero); few = few-sectors }
 
           pub next-found : 24 + x .«length_of_allocation_descriptors» ≤ length
-              → EnteredFrom image length first (Found (2048 * first + 24) (x .«length_of_allocation_descriptors») n)
+              → ReachesFrom image length first (Found (2048 * first + 24) (x .«length_of_allocation_descriptors») n)
           next-found y = record {
             runs = λ kind. reads kind ∙ rw (z, le-ltb length (24 + x .«length_of_allocation_descriptors») y, ran-done, add-zero, area-in-part image (2048 * first) (2048 * n) kind 24 (x .«length_of_allocation_descriptors») (omega arith));
             place = refl;
@@ -101,7 +101,7 @@ module _ (image : List ℕ) (length first : ℕ) where
 
 -- where it stands, before those checks
 module _ (image : List ℕ) (m : Mount) (a : AdContinuation) {p : Placed} (q : Stands m (a .«partition_ref») (a .block .0) p) where
-  pub next-nowhere : p ≡ Nowhere → Entered image m a (Refused Unsupported 0)
+  pub next-nowhere : p ≡ Nowhere → Reaches image m a (Refused Unsupported 0)
   unfolding nextArea
   next-nowhere e = record { runs = λ kind. rw (stands-nowhere m (a .«partition_ref») (a .block .0) q e) (ran-refuse (disc image) Unsupported); few = omega arith }
 
@@ -109,7 +109,7 @@ module _ (image : List ℕ) (m : Mount) (a : AdContinuation) {p : Placed} (q : S
     there : placed m (a .«partition_ref») (a .block .0) ≡ some (s .0)
     there = stands-at m (a .«partition_ref») (a .block .0) q e
 
-    pub next-there : (r : NextArea) → EnteredFrom image (a .length) (s .0) r → Entered image m a r
+    pub next-there : (r : NextArea) → ReachesFrom image (a .length) (s .0) r → Reaches image m a r
     unfolding nextArea
     next-there (Found at size n) y = record { runs = λ kind. rw there (y .runs kind); there = λ kind. rw (there, y .place, y .says); few = y .few }
     next-there (Refused why n) y = record { runs = λ kind. rw there (y .runs kind); few = y .few }
@@ -191,7 +191,7 @@ module _ (image : List ℕ) (m : Mount) (kind : ℕ) where
         pub follow-cut : c .hops ≡ 0 → Followed image m kind c₀ (BrokenOff Malformed count)
         follow-cut h = record { runs = (rw add-zero at (i .broken Malformed 0 (chain-cut c x (sym z ∙ e) h))); few = omega (arith, i .few) }
 
-        module _ (h : c .hops ≡ 0 → ⊥) (r : NextArea) (q : Entered image m x r) where
+        module _ (h : c .hops ≡ 0 → ⊥) (r : NextArea) (q : Reaches image m x r) where
           more : c .hops ≡ suc (c .hops - 1)
           more = omega arith
 

@@ -13,7 +13,7 @@ use Rattle.disc.specs.Ask.{Disc, Ask, Outcome, then}
 use Rattle.disc.specs.Ask.Ask.{done, refuse}
 use Rattle.disc.specs.Ask.Outcome.{answered, refused}
 use Rattle.disc.specs.Ran.{ran, onward}
-use Rattle.disc.specs.Images.{sectors}
+use Rattle.disc.specs.Images.{sectors, sectorsFor}
 use Rattle.disc.specs.Places.{placed, standing}
 use Rattle.disc.specs.declared.places.Mount.{Mount}
 use Rattle.disc.specs.declared.refusals.Refusal.{Refusal}
@@ -28,7 +28,7 @@ use Rattle.areas.specs.declared.AdEnding.{AdEnding}
 use Rattle.areas.specs.declared.AdEnding.the-variants.{End, Continuation, Refused}
 use Rattle.areas.specs.Areas.{Area}
 use Rattle.areas.proofs.TotalLaws.{total, total-append, area-total}
-use Rattle.chains.specs.Chains.{sectorsFor, areaIn, areaFrom, nextArea, continued, chain}
+use Rattle.chains.specs.Chains.{areaIn, areaFrom, nextArea, continued, chain}
 
 -- ---- a tree whose answers have at most a size, whatever it is given
 

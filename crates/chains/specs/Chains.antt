@@ -1,11 +1,11 @@
 -- A chain of areas (ECMA-167 4/12, 4/14.5): document 01, "Reading an entry", the last paragraph.
-use Prim.Native.Nat.{ℕ, zero, suc, _+_, _/_}
+use Prim.Native.Nat.{ℕ, zero, suc, _+_}
 use mathlib.Core.List.{List, [], _++_}
 use lib.Dec.{ltb}
 use Rattle.disc.specs.Choice.{pick}
 use Rattle.disc.specs.Ask.{Ask, then}
 use Rattle.disc.specs.Ask.Ask.{done, refuse}
-use Rattle.disc.specs.Images.{sectors}
+use Rattle.disc.specs.Images.{sectors, sectorsFor}
 use Rattle.disc.specs.Places.{placed, standing}
 use Rattle.disc.specs.declared.places.Mount.{Mount}
 use Rattle.disc.specs.declared.refusals.Refusal.the-variants.{Malformed, Unsupported}
@@ -17,10 +17,6 @@ use Rattle.areas.specs.declared.AdContinuation.{AdContinuation}
 use Rattle.areas.specs.declared.AdEnding.{AdEnding}
 use Rattle.areas.specs.declared.AdEnding.the-variants.{End, Continuation, Refused}
 use Rattle.areas.specs.Areas.{Area, areaAt}
-
--- how many sectors n bytes take
-abbrev pub sectorsFor : ℕ → ℕ
-sectorsFor n = (n + 2047) / 2048
 
 -- no more continuations than these are followed, and none is longer than this
 abbrev pub mostContinuations : ℕ

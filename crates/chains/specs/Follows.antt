@@ -28,9 +28,9 @@ pub record NoArea (image : List ℕ) (m : Mount) (a : AdContinuation) (r : Refus
   pub runs : (kind : ℕ) → ran (disc image) (nextArea m kind a) ≡ record { outcome = refused r; count = n }
   pub few : n ≤ 512
 
-abbrev pub Entered : List ℕ → Mount → AdContinuation → NextArea → Type 0
-Entered image m a (Found at size n) = FoundArea image m a at size n
-Entered image m a (Refused r n) = NoArea image m a r n
+abbrev pub Reaches : List ℕ → Mount → AdContinuation → NextArea → Type 0
+Reaches image m a (Found at size n) = FoundArea image m a at size n
+Reaches image m a (Refused r n) = NoArea image m a r n
 
 -- the same of the bytes from a sector on
 pub record FoundFrom (image : List ℕ) (length first at size n : ℕ) : Type 0 where
@@ -43,9 +43,9 @@ pub record NoneFrom (image : List ℕ) (length first : ℕ) (r : Refusal) (n : �
   pub runs : (kind : ℕ) → ran (disc image) (areaFrom kind length first) ≡ record { outcome = refused r; count = n }
   pub few : n ≤ 512
 
-abbrev pub EnteredFrom : List ℕ → ℕ → ℕ → NextArea → Type 0
-EnteredFrom image length first (Found at size n) = FoundFrom image length first at size n
-EnteredFrom image length first (Refused r n) = NoneFrom image length first r n
+abbrev pub ReachesFrom : List ℕ → ℕ → ℕ → NextArea → Type 0
+ReachesFrom image length first (Found at size n) = FoundFrom image length first at size n
+ReachesFrom image length first (Refused r n) = NoneFrom image length first r n
 
 -- what is left to run of a chain from a cursor on
 abbrev pub chainAt : List ℕ → Mount → ℕ → ChainCursor → Ran (List AllocExtent)

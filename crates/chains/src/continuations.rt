@@ -1,10 +1,10 @@
 // The area that continues another, looked for where it stands in the image.
 ghost use Prim.Native.Nat.{_<_, _^_};
-ghost use Rattle.chains.specs.Follows.{Entered, EnteredFrom};
-use crate::references::sectors_for;
+ghost use Rattle.chains.specs.Follows.{Reaches, ReachesFrom};
 use areas::AdContinuation;
 use disc::images::held_from;
 use disc::images::run_part;
+use disc::images::sectors_for;
 use disc::places::Mount;
 use disc::places::Placed;
 use disc::places::Sector;
@@ -30,7 +30,7 @@ const LONGEST: u32 = 1048576;
 // The area in `length` bytes from a sector on: the checks in order. Its sectors are one part of the image: nothing is copied.
 fn area_from(image: &[u8], length: u32, first: Sector) -> NextArea
     requires { ⌜ first .0 < 2 ^ 33 ⌝ }
-    ensures { λ r. ⌜ EnteredFrom (now (image .entry)) length (first .0) r ⌝ }
+    ensures { λ r. ⌜ ReachesFrom (now (image .entry)) length (first .0) r ⌝ }
 {
     if length < HEADER {
         return NextArea::Refused(Refusal::Malformed, 0);
@@ -61,7 +61,7 @@ fn area_from(image: &[u8], length: u32, first: Sector) -> NextArea
 
 // The area that continues another; one that stands in another partition is refused before its checks.
 pub(crate) fn next_area(image: &[u8], mount: Mount, a: AdContinuation) -> NextArea
-    ensures { λ r. ⌜ Entered (now (image .entry)) mount a r ⌝ }
+    ensures { λ r. ⌜ Reaches (now (image .entry)) mount a r ⌝ }
 {
     let reference = a.partition_ref;
     let block = a.block;

@@ -2,4 +2,3 @@
 pub mod continuations;
 pub mod cursors;
 pub mod follows;
-pub mod references;

@@ -22,6 +22,10 @@ unfoldable pub sectors : ℕ → ℕ → Ask (List ℕ)
 sectors zero first = done []
 sectors (suc n) first = ask first (λ b. then (sectors n (first + 1)) (λ rest. done (b ++ rest)))
 
+-- how many sectors n bytes take
+abbrev pub sectorsFor : ℕ → ℕ
+sectorsFor n = (n + 2047) / 2048
+
 -- how many sectors an image has from `first` on
 abbrev pub heldFrom : List ℕ → ℕ → ℕ
 heldFrom image first = length image / 2048 - first

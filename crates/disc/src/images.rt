@@ -2,8 +2,15 @@
 ghost use mathlib.Core.Path.{_≡_};
 ghost use Prim.Native.Nat.{_+_, _-_, _*_, _/_, _<_};
 ghost use Rattle.disc.specs.Ask.{bytesIn, outcome};
-ghost use Rattle.disc.specs.Images.{disc, sectors, heldFrom, bytesOf};
+ghost use Rattle.disc.specs.Images.{disc, sectors, sectorsFor, heldFrom, bytesOf};
 use crate::places::Sector;
+
+// How many sectors n bytes take.
+pub fn sectors_for(n: u32) -> u64
+    ensures { λ r. ⌜ r ≡ sectorsFor n ⌝ }
+{
+    (n as u64 + 2047) / 2048
+}
 
 // How many sectors the image has from `first` on.
 pub fn held_from(image: &[u8], first: Sector) -> u64

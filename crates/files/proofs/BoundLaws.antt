@@ -23,7 +23,7 @@ use Rattle.disc.proofs.RanLaws.{ran-done, never}
 use Rattle.disc.proofs.ImageLaws.{split}
 use Rattle.areas.specs.declared.AllocExtent.{AllocExtent}
 use Rattle.files.specs.Reads.{extentsBytes, visited, extentsHold}
-use Rattle.files.specs.Pieces.{sectorsRead, beforeOutcome, inFront, restOf, HeldPiece}
+use Rattle.files.specs.inner.Pieces.{sectorsRead, beforeOutcome, inFront, restOf, HeldPiece}
 use Rattle.files.proofs.PieceLaws.{part-long, weigh-type, weigh-nowhere, weigh-missing, weigh-held}
 
 -- ---- an extent is refused, or held

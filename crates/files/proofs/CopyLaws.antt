@@ -25,8 +25,8 @@ use Rattle.chains.specs.Walks.{weight}
 use Rattle.chains.specs.declared.cursors.ChainCursor.{ChainCursor}
 use Rattle.files.specs.declared.pieces.Turn.{Turn}
 use Rattle.files.specs.declared.pieces.Turn.the-variants.{Piece, Hop, Refused as Stopped, End}
-use Rattle.files.specs.Pieces.{beforeOutcome, inFront, restAt, PieceTurn, Turned}
-use Rattle.files.specs.Passes.{Copied}
+use Rattle.files.specs.inner.Pieces.{beforeOutcome, inFront, restAt, PieceTurn, Turned}
+use Rattle.files.specs.inner.Passes.{Copied}
 use Rattle.chains.specs.Walks.{left}
 use Rattle.files.proofs.PieceLaws.{part-long}
 use Rattle.files.proofs.BoundLaws.{few-bytes}

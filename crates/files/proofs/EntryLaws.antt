@@ -41,7 +41,7 @@ use Rattle.files.specs.declared.icbs.PlaceRead.{PlaceRead}
 use Rattle.files.specs.declared.icbs.PlaceRead.the-variants.{Found, Refused}
 use Rattle.files.specs.Files.{Located, located, entryAt, resolved, fileAt}
 use Rattle.files.specs.Files.File.{chained}
-use Rattle.files.specs.Places.{placeAt, placeBy, placeOf}
+use Rattle.files.specs.inner.Places.{placeAt, placeBy, placeOf}
 use Rattle.files.specs.Wholes.{readBy, placeIn, frontOf, FoundPlace, Locates, EmbeddedFile, Resolves}
 use Rattle.files.specs.declared.resolves.Resolved.the-variants.{Embedded, Chained, Refused as Unresolved}
 

@@ -14,13 +14,12 @@ use Rattle.disc.specs.Ask.{Ask, then}
 use Rattle.disc.specs.Ask.Ask.{done, ask}
 use Rattle.disc.specs.Ask.Outcome.{answered, refused}
 use Rattle.disc.specs.Ran.{Ran, ran, after}
-use Rattle.disc.specs.Images.{disc, heldFrom}
+use Rattle.disc.specs.Images.{disc, heldFrom, sectorsFor}
 use Rattle.disc.specs.declared.refusals.Refusal.the-variants.{Io}
 use Rattle.disc.proofs.RanLaws.{ran-done, ran-there, ran-missing, ran-then}
 use Rattle.disc.proofs.ImageLaws.{split, held, missing, same-answer, one-behind}
-use Rattle.chains.specs.Chains.{sectorsFor}
 use Rattle.files.specs.Reads.{joining, extentBytes}
-use Rattle.files.specs.Pieces.{sectorsRead}
+use Rattle.files.specs.inner.Pieces.{sectorsRead}
 
 abbrev pub extentRuns : List ℕ → ℕ → ℕ → ℕ → Ran (List ℕ)
 extentRuns image at size want =

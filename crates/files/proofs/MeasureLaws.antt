@@ -20,8 +20,8 @@ use Rattle.files.specs.declared.pieces.Turn.{Turn}
 use Rattle.files.specs.declared.pieces.Turn.the-variants.{Piece, Hop, Refused as Stopped, End}
 use Rattle.files.specs.declared.extents.Measured.{Measured}
 use Rattle.files.specs.declared.extents.Measured.the-variants.{Sized, Refused}
-use Rattle.files.specs.Pieces.{inFront, joined, restAt, Lies, PieceTurn, Turned}
-use Rattle.files.specs.Passes.{sized}
+use Rattle.files.specs.inner.Pieces.{inFront, joined, restAt, Lies, PieceTurn, Turned}
+use Rattle.files.specs.inner.Passes.{sized}
 use Rattle.files.proofs.PieceLaws.{part-long}
 
 -- ---- what is measured, piece by piece

@@ -29,7 +29,7 @@ use Rattle.files.specs.declared.pieces.Piece.{Piece}
 use Rattle.files.specs.declared.pieces.Piece.the-variants.{Held, Refused}
 use Rattle.files.specs.declared.pieces.Turn.the-variants.{Piece as APiece, Hop, Refused as Stopped, End}
 use Rattle.files.specs.Reads.{joining, extentsBytes}
-use Rattle.files.specs.Pieces.{sectorsRead, inFront, joined, restOf, Lies, weighedAt, Weighed, Turned}
+use Rattle.files.specs.inner.Pieces.{sectorsRead, inFront, joined, restOf, Lies, weighedAt, Weighed, Turned}
 use Rattle.files.proofs.ExtentLaws.{extentRuns, extent-runs}
 
 -- ---- what an extent gives

@@ -40,8 +40,8 @@ use Rattle.chains.proofs.TotalLaws.{chain-within}
 use Rattle.files.specs.Reads.{visited, heldAt, extentsHold}
 use Rattle.files.specs.Files.{Located, located, entryIn, entryAt, isEmbedded, embeddedBytes, chainOf, File, resolved, fileAt, contentOf, fileBytes, visitsOf, fileVisited, visitsIn}
 use Rattle.files.specs.Files.File.{embedded, chained}
-use Rattle.files.specs.Places.{placeOf}
-use Rattle.files.specs.Pieces.{sectorsRead, restOf, HeldPiece}
+use Rattle.files.specs.inner.Places.{placeOf}
+use Rattle.files.specs.inner.Pieces.{sectorsRead, restOf, HeldPiece}
 use Rattle.files.proofs.EntryLaws.{entry-asks, locates}
 use Rattle.files.proofs.PieceLaws.{weigh-type, weigh-held}
 use Rattle.files.proofs.BoundLaws.{extents-cut, extents-bound}

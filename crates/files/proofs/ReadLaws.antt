@@ -26,8 +26,8 @@ use Rattle.files.specs.declared.icbs.Place.{Place}
 use Rattle.files.specs.declared.extents.Measured.{Measured}
 use Rattle.files.specs.declared.extents.Measured.the-variants.{Sized, Refused}
 use Rattle.files.specs.Files.{fileBytes}
-use Rattle.files.specs.Pieces.{restAt}
-use Rattle.files.specs.Passes.{sizedBy, sized, Copied}
+use Rattle.files.specs.inner.Pieces.{restAt}
+use Rattle.files.specs.inner.Passes.{sizedBy, sized, Copied}
 use Rattle.files.specs.Wholes.{embeddedIn, embeddedRun, frontOf, EmbeddedFile, ChainedFile, Resolves}
 use Rattle.files.specs.declared.resolves.Resolved.{Resolved}
 use Rattle.files.specs.declared.resolves.Resolved.the-variants.{Embedded, Chained, Refused as Unresolved}

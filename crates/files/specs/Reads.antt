@@ -4,6 +4,7 @@ use mathlib.Core.List.{List, [], _∷_, _++_}
 use mathlib.Core.Option.{Option, none, some}
 use lib.ListN.{length, take, drop}
 use lib.Dec.{eqb, leb}
+use Rattle.disc.specs.Images.{sectorsFor}
 use Rattle.disc.specs.Choice.{pick}
 use Rattle.disc.specs.Ask.{Ask, then}
 use Rattle.disc.specs.Ask.Ask.{done, refuse, ask}
@@ -11,7 +12,6 @@ use Rattle.disc.specs.Places.{placed, standing}
 use Rattle.disc.specs.declared.places.Mount.{Mount}
 use Rattle.disc.specs.declared.refusals.Refusal.the-variants.{Unsupported}
 use Rattle.areas.specs.declared.AllocExtent.{AllocExtent}
-use Rattle.chains.specs.Chains.{sectorsFor}
 
 -- the read stops if it has the `want` bytes that are missing, and what is past them is cut; else more is joined
 abbrev pub joining : ℕ → List ℕ → Ask (List ℕ) → Ask (List ℕ)

@@ -18,7 +18,7 @@ use Rattle.chains.specs.Walks.{left}
 use Rattle.chains.specs.declared.cursors.ChainCursor.{ChainCursor}
 use Rattle.files.specs.Files.{Located, entryAt, embeddedBytes, fileAt}
 use Rattle.files.specs.Files.File.{embedded, chained}
-use Rattle.files.specs.Places.{placeAt}
+use Rattle.files.specs.inner.Places.{placeAt}
 use Rattle.files.specs.declared.icbs.Place.{Place}
 use Rattle.files.specs.declared.icbs.PlaceRead.{PlaceRead}
 use Rattle.files.specs.declared.icbs.PlaceRead.the-variants.{Found, Refused}

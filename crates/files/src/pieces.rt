@@ -1,12 +1,13 @@
 // The next piece of a file: what a cursor's next extent gives, looked for where it stands in the image.
 ghost use mathlib.Core.Path.{_≡_};
 ghost use Prim.Native.Nat.{_<_, _^_, min};
-ghost use Rattle.files.specs.Pieces.{sectorsRead, weighedAt, Weighed, Turned};
+ghost use Rattle.files.specs.inner.Pieces.{sectorsRead, weighedAt, Weighed, Turned};
 use areas::AllocExtent;
 use chains::cursors::ChainCursor;
 use chains::cursors::ChainStep;
 use chains::cursors::advance;
 use disc::images::held_from;
+use disc::images::sectors_for;
 use disc::places::Mount;
 use disc::places::Placed;
 use disc::places::Sector;
@@ -43,9 +44,9 @@ fn sectors_read(size: u32, want: u64) -> u64
     ensures { λ r. ⌜ r ≡ sectorsRead size want ⌝ }
 {
     if want == 0 {
-        return (lesser(size as u64, 1) + 2047) / 2048;
+        return sectors_for(lesser(size as u64, 1) as u32);
     }
-    (lesser(size as u64, want) + 2047) / 2048
+    sectors_for(lesser(size as u64, want) as u32)
 }
 
 // An extent of `size` bytes from a sector on, measured by one division: an image is one slice, so its sectors are all there exactly when the last

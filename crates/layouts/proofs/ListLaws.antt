@@ -40,7 +40,7 @@ use Rattle.files.specs.Wholes.{frontOf, ChainedFile, Resolves}
 use Rattle.layouts.specs.declared.lists.Extent.{Extent}
 use Rattle.layouts.specs.declared.lists.Listing.{Listing}
 use Rattle.layouts.specs.Calls.{referenceOf, extentOf, fieldsOf, wordsOf, Listed}
-use Rattle.layouts.specs.Lists.{storedOf, Front, Stands, Planned, listedRun}
+use Rattle.layouts.specs.inner.Lists.{storedOf, Front, Stands, Planned, listedRun}
 
 -- ---- the return of `extent_of`
 

@@ -1,3 +1,3 @@
 -- What the contracts cite, lowest first.
 pub mod Calls
-pub mod Lists
+pub mod inner

@@ -8,7 +8,7 @@ ghost use Rattle.disc.specs.Images.{disc};
 ghost use Rattle.chains.specs.Walks.{left};
 ghost use Rattle.files.specs.Files.{fileExtents};
 ghost use Rattle.layouts.specs.Calls.{referenceOf, extentOf, fieldsOf, wordsOf, Listed};
-ghost use Rattle.layouts.specs.Lists.{Stands, Planned, listedRun};
+ghost use Rattle.layouts.specs.inner.Lists.{Stands, Planned, listedRun};
 use areas::AllocExtent;
 use chains::cursors::ChainCursor;
 use chains::cursors::ChainStep;

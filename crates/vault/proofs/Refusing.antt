@@ -16,7 +16,7 @@ use Rattle.disc.specs.Ask.{Disc, Held, Ask, Outcome, outcome, then, given, ende
 use Rattle.disc.specs.Ask.Held.{holds, lacks}
 use Rattle.disc.specs.Ask.Ask.{done, refuse, ask}
 use Rattle.disc.specs.Ask.Outcome.{answered, refused}
-use Rattle.disc.specs.Images.{sectors}
+use Rattle.disc.specs.Images.{sectors, sectorsFor}
 use Rattle.disc.specs.declared.refusals.Refusal.{Refusal}
 use Rattle.disc.specs.declared.refusals.Refusal.the-variants.{Io, Malformed, NotBluray, Unsupported, NoWork, LongName}
 use Rattle.records.specs.Bytes.{u16at}
@@ -48,7 +48,7 @@ use Rattle.volumes.specs.Sequences.{nothing, Parsed, keptOf, Says, primaryIn, p
 use Rattle.volumes.specs.Sequences.Says.{found, passed, over, fails}
 use Rattle.volumes.specs.Openings.{fileSetIn, mounting, anchored, opening}
 use Rattle.volumes.specs.Labels.{labelling}
-use Rattle.chains.specs.Chains.{sectorsFor, areaIn, nextArea, continued, areaFrom}
+use Rattle.chains.specs.Chains.{areaIn, nextArea, continued, areaFrom}
 use Rattle.files.specs.Reads.{joining, extentBytes, extentsBytes}
 use Rattle.files.specs.Files.{Located, located, entryAt, isEmbedded, chainOf, fileBytes, filePart, fileExtents, File, resolved, fileAt, contentOf}
 use Rattle.listings.specs.Entries.{Entry, entries}

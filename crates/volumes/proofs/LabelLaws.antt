@@ -24,7 +24,7 @@ use Rattle.names.specs.Names.{Wrote, nameOfField, written, sizeOf}
 use Rattle.names.specs.declared.dstrings.NameSize.{NameSize}
 use Rattle.volumes.specs.Openings.{opening, openedBy, openedOf}
 use Rattle.volumes.specs.Labels.{labelOf, labelling}
-use Rattle.volumes.specs.Steps.{sizeIn, Labels}
+use Rattle.volumes.specs.inner.Steps.{sizeIn, Labels}
 use Rattle.volumes.specs.declared.openings.VolumeRecord.{VolumeRecord}
 use Rattle.volumes.specs.declared.openings.Opened.{Opened}
 

@@ -41,7 +41,7 @@ use Rattle.descriptors.specs.declared.file_sets.FileSetRead.{FileSetRead}
 use Rattle.volumes.specs.Sequences.{nothing, Parsed, keptOf, Says, saysIn, goOn, scan, scannedBy, scannedOf}
 use Rattle.volumes.specs.Sequences.Says.{found, passed, over, fails}
 use Rattle.volumes.specs.Openings.{noVolume, mountIn, fileSetIn, volumeIn, mounting, anchored, opening, openedBy, openedOf}
-use Rattle.volumes.specs.Steps.{mountable, fileSetAt}
+use Rattle.volumes.specs.inner.Steps.{mountable, fileSetAt}
 use Rattle.volumes.specs.declared.sequences.Kept.{Kept}
 use Rattle.volumes.specs.declared.sequences.Scanned.{Scanned}
 use Rattle.volumes.specs.declared.openings.VolumeRecord.{VolumeRecord}

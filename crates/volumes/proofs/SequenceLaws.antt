@@ -18,7 +18,7 @@ use Rattle.records.specs.declared.allocations.LongAd.{LongAd}
 use Rattle.volumes.specs.Sequences.{nothing, Parsed, prevailing, keptOf, Says, saysIn, goOn, scan, turnOf, scannedBy, scannedOf}
 use Rattle.volumes.specs.Sequences.Says.{found, passed, over, fails}
 use Rattle.volumes.specs.declared.sequences.Kept.{Kept}
-use Rattle.volumes.specs.declared.sequences.Turn.{Turn}
+use Rattle.volumes.specs.declared.sequences.SectorTurn.{SectorTurn}
 use Rattle.volumes.specs.declared.sequences.Scanned.{Scanned}
 
 -- the return of `nothing_kept`
@@ -95,7 +95,7 @@ module _ {image : List ℕ} {first n i : ℕ} {kept : Kept} (p : Scanning image 
     unfolding scan
     turn-rest = p .rest ∙ rw (one-more, ran-there (disc image) (first + i) _ sector (held image (first + i) there)) (scanned-twice kept i (ran (disc image) (goOn (saysIn sector) behind)))
 
-    module _ {b : List ℕ} {t : Turn} (g : b ≡ bytesIn (disc image (first + i))) (e : t ≡ turnOf kept (saysIn b)) where
+    module _ {b : List ℕ} {t : SectorTurn} (g : b ≡ bytesIn (disc image (first + i))) (e : t ≡ turnOf kept (saysIn b)) where
       same : b ≡ sector
       same = g ∙ sector-is
 

@@ -17,11 +17,11 @@ use Rattle.volumes.specs.Sequences.{nothing, primaryIn, partitionIn, log
 use Rattle.volumes.specs.Sequences.Parsed.{primary, partition, logical}
 use Rattle.volumes.specs.Sequences.Says.{found, passed, over}
 use Rattle.volumes.specs.declared.sequences.Kept.{Kept}
-use Rattle.volumes.specs.declared.sequences.Turn.{Turn}
+use Rattle.volumes.specs.declared.sequences.SectorTurn.{SectorTurn}
 
 -- ---- a descriptor that was parsed
 
-module _ (k : Kept) {t : Turn} where
+module _ (k : Kept) {t : SectorTurn} where
   pub primary-fails : (r : PrimaryRead) → (r .answer ≡ 0 → ⊥) → t ≡ record { going = false; answer = 2; kept = nothing } → t ≡ turnOf k (primaryIn r)
   primary-fails r h e = rw (ne-eqb (r .answer) 0 h) e
 
@@ -47,22 +47,22 @@ module _ (k : Kept) {t : Turn} where
 -- ---- a sector, by its id
 
 module _ (k : Kept) (b : List ℕ) {id : ℕ} (i : id ≡ u16at b 0) where
-  pub id-primary : {r : PrimaryRead} {t : Turn} → id ≡ 1 → r ≡ readPrimary b → t ≡ turnOf k (primaryIn r) → t ≡ turnOf k (saysIn b)
+  pub id-primary : {r : PrimaryRead} {t : SectorTurn} → id ≡ 1 → r ≡ readPrimary b → t ≡ turnOf k (primaryIn r) → t ≡ turnOf k (saysIn b)
   unfolding saysIn
   id-primary h q e = rw (← i, h, ← q) e
 
-  pub id-partition : {r : PartitionRead} {t : Turn} → id ≡ 5 → r ≡ readPartition b → t ≡ turnOf k (partitionIn r) → t ≡ turnOf k (saysIn b)
+  pub id-partition : {r : PartitionRead} {t : SectorTurn} → id ≡ 5 → r ≡ readPartition b → t ≡ turnOf k (partitionIn r) → t ≡ turnOf k (saysIn b)
   unfolding saysIn
   id-partition h q e = rw (← i, h, ← q) e
 
-  pub id-logical : {r : LogicalRead} {t : Turn} → id ≡ 6 → r ≡ readLogical b → t ≡ turnOf k (logicalIn r) → t ≡ turnOf k (saysIn b)
+  pub id-logical : {r : LogicalRead} {t : SectorTurn} → id ≡ 6 → r ≡ readLogical b → t ≡ turnOf k (logicalIn r) → t ≡ turnOf k (saysIn b)
   unfolding saysIn
   id-logical h q e = rw (← i, h, ← q) e
 
-  pub id-terminating : {t : Turn} → id ≡ 8 → t ≡ turnOf k over → t ≡ turnOf k (saysIn b)
+  pub id-terminating : {t : SectorTurn} → id ≡ 8 → t ≡ turnOf k over → t ≡ turnOf k (saysIn b)
   unfolding saysIn
   id-terminating h e = rw (← i, h) e
 
-  pub id-other : {t : Turn} → (id ≡ 1 → ⊥) → (id ≡ 5 → ⊥) → (id ≡ 6 → ⊥) → (id ≡ 8 → ⊥) → t ≡ turnOf k passed → t ≡ turnOf k (saysIn b)
+  pub id-other : {t : SectorTurn} → (id ≡ 1 → ⊥) → (id ≡ 5 → ⊥) → (id ≡ 6 → ⊥) → (id ≡ 8 → ⊥) → t ≡ turnOf k passed → t ≡ turnOf k (saysIn b)
   unfolding saysIn
   id-other p q r s e = rw (← i, ne-eqb id 1 p, ne-eqb id 5 q, ne-eqb id 6 r, ne-eqb id 8 s) e

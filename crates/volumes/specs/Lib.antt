@@ -2,4 +2,4 @@
 pub mod Sequences
 pub mod Openings
 pub mod Labels
-pub mod Steps
+pub mod inner

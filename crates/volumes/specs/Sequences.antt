@@ -23,7 +23,7 @@ use Rattle.descriptors.specs.declared.partitions.PartitionRead.the-variants.{Re
 use Rattle.descriptors.specs.declared.logicals.LogicalVolumeDescriptor.{LogicalVolumeDescriptor}
 use Rattle.descriptors.specs.declared.logicals.LogicalRead.{LogicalRead}
 use Rattle.volumes.specs.declared.sequences.Kept.{Kept}
-use Rattle.volumes.specs.declared.sequences.Turn.{Turn}
+use Rattle.volumes.specs.declared.sequences.SectorTurn.{SectorTurn}
 use Rattle.volumes.specs.declared.sequences.Scanned.{Scanned}
 
 -- ---- what is kept of the descriptors found so far
@@ -126,7 +126,7 @@ scan (suc n) at = ask at (λ b. goOn (saysIn b) (scan n (at + 1)))
 
 -- ---- as the code reports it, where k was kept before
 
-abbrev pub turnOf : Kept → Says → Turn
+abbrev pub turnOf : Kept → Says → SectorTurn
 turnOf k (found p) = record { going = true; answer = 0; kept = prevailing k p }
 turnOf k passed = record { going = true; answer = 0; kept = k }
 turnOf k over = record { going = false; answer = 0; kept = k }

@@ -5,7 +5,7 @@ ghost use Rattle.disc.specs.Ran.{ran};
 ghost use Rattle.disc.specs.Images.{disc};
 ghost use Rattle.disc.specs.Replies.{Replied};
 ghost use Rattle.volumes.specs.Labels.{labelling};
-ghost use Rattle.volumes.specs.Steps.{sizeIn, Labels};
+ghost use Rattle.volumes.specs.inner.Steps.{sizeIn, Labels};
 use crate::openings::Opened;
 use crate::openings::open_volume;
 use disc::replies::Reply;

@@ -5,7 +5,7 @@ ghost use Rattle.disc.specs.Ran.{ran, after};
 ghost use Rattle.disc.specs.Images.{disc};
 ghost use Rattle.descriptors.specs.FileSets.{readFileSet};
 ghost use Rattle.volumes.specs.Openings.{noVolume, mountIn, volumeIn, mounting, anchored, opening, openedBy, openedOf};
-ghost use Rattle.volumes.specs.Steps.{mountable, fileSetAt};
+ghost use Rattle.volumes.specs.inner.Steps.{mountable, fileSetAt};
 use crate::sequences::Kept;
 use crate::sequences::scan_sequence;
 use descriptors::anchors::AnchorRead;

@@ -30,7 +30,7 @@ pub struct Kept {
 }
 
 // What one sector of the sequence comes to: the scan goes on or is over, or is refused.
-pub struct Turn {
+pub struct SectorTurn {
     pub going: bool,
     pub answer: u64,
     pub kept: Kept,
@@ -59,27 +59,27 @@ pub fn nothing_kept() -> Kept
     }
 }
 
-fn goes_on(k: Kept) -> Turn
+fn goes_on(k: Kept) -> SectorTurn
     ensures { λ r. ⌜ r ≡ record { going = true; answer = 0; kept = k } ⌝ }
 {
-    Turn {
+    SectorTurn {
         going: true,
         answer: 0,
         kept: k,
     }
 }
 
-fn fails(answer: u64) -> Turn
+fn fails(answer: u64) -> SectorTurn
     ensures { λ r. ⌜ r ≡ record { going = false; answer = answer; kept = nothing } ⌝ }
 {
-    Turn {
+    SectorTurn {
         going: false,
         answer,
         kept: nothing_kept(),
     }
 }
 
-fn take_primary(k: Kept, r: PrimaryRead) -> Turn
+fn take_primary(k: Kept, r: PrimaryRead) -> SectorTurn
     ensures { λ t. ⌜ t ≡ turnOf k (primaryIn r) ⌝ }
 {
     if r.answer != 0 {
@@ -100,7 +100,7 @@ fn take_primary(k: Kept, r: PrimaryRead) -> Turn
     })
 }
 
-fn take_partition(k: Kept, r: PartitionRead) -> Turn
+fn take_partition(k: Kept, r: PartitionRead) -> SectorTurn
     ensures { λ t. ⌜ t ≡ turnOf k (partitionIn r) ⌝ }
 {
     match r {
@@ -115,7 +115,7 @@ fn take_partition(k: Kept, r: PartitionRead) -> Turn
     }
 }
 
-fn take_logical(k: Kept, r: LogicalRead) -> Turn
+fn take_logical(k: Kept, r: LogicalRead) -> SectorTurn
     ensures { λ t. ⌜ t ≡ turnOf k (logicalIn r) ⌝ }
 {
     if r.answer != 0 {
@@ -137,7 +137,7 @@ fn take_logical(k: Kept, r: LogicalRead) -> Turn
 }
 
 // One sector of the sequence, by its id.
-fn take_sector(k: Kept, b: &[u8]) -> Turn
+fn take_sector(k: Kept, b: &[u8]) -> SectorTurn
     ensures { λ t. ⌜ t ≡ turnOf k (saysIn (now (b .entry))) ⌝ }
 {
     let id = le16(b, 0);
@@ -151,7 +151,7 @@ fn take_sector(k: Kept, b: &[u8]) -> Turn
         return take_logical(k, LogicalVolumeDescriptor::parse(b));
     }
     if id == 8 {
-        return Turn {
+        return SectorTurn {
             going: false,
             answer: 0,
             kept: k,

@@ -64,7 +64,7 @@ use Rattle.areas.specs.declared.AllocExtent.{AllocExtent}
 use Rattle.chains.specs.Walks.{left}
 use Rattle.files.specs.Files.{fileExtents}
 use Rattle.layouts.specs.Calls.{extentOf, Listed}
-use Rattle.layouts.specs.Lists.{Stands, Planned}
+use Rattle.layouts.specs.inner.Lists.{Stands, Planned}
 use Rattle.layouts.specs.declared.lists.Extent.{Extent}
 use Rattle.layouts.specs.declared.lists.Listing.{Listing}
 use Rattle.layouts.proofs.ListLaws.{Storing, store-starts, store-few, store-ends, store-slot, store-next}

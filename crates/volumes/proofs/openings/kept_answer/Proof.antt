@@ -3,7 +3,7 @@ use borrow.Author.Needs.{needs}
 use borrow.Author.Tests.{not-true, not-false}
 use mathlib.Core.Path.{refl}
 use Rattle.disc.proofs.PickLaws.{pick-eq, pick-ne, pick-yes, pick-no}
-use Rattle.volumes.specs.Steps.{mountable}
+use Rattle.volumes.specs.inner.Steps.{mountable}
 use Rattle.volumes.proofs.openings.kept_answer.Statement.{statement}
 use Rattle.volumes.proofs.openings.kept_answer.Tie as tie
 

@@ -1,4 +1,4 @@
--- What the passes over a file's extents say: for the contracts of private functions. There is nothing to believe here.
+-- What the passes over a file's extents say: for the contracts of private functions.
 use Prim.Native.Nat.{ℕ, _+_}
 use mathlib.Core.Path.{_≡_}
 use mathlib.Core.Bool.{true}

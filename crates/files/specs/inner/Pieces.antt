@@ -1,4 +1,4 @@
--- What the next piece of a file is, against the tree of its extents: for the contracts of private functions. There is nothing to believe here.
+-- What the next piece of a file is, against the tree of its extents: for the contracts of private functions.
 use Prim.Native.Nat.{ℕ, _+_, _-_, _*_, _≤_, _<_, min, max}
 use mathlib.Core.Path.{_≡_}
 use mathlib.Core.List.{List, [], _∷_, _++_}
@@ -8,11 +8,10 @@ use Rattle.disc.specs.Choice.{pick}
 use Rattle.disc.specs.Ask.{Outcome}
 use Rattle.disc.specs.Ask.Outcome.{answered, refused}
 use Rattle.disc.specs.Ran.{Ran, ran}
-use Rattle.disc.specs.Images.{disc, heldFrom}
+use Rattle.disc.specs.Images.{disc, heldFrom, sectorsFor}
 use Rattle.disc.specs.declared.places.Mount.{Mount}
 use Rattle.disc.specs.declared.refusals.Refusal.the-variants.{Io}
 use Rattle.areas.specs.declared.AllocExtent.{AllocExtent}
-use Rattle.chains.specs.Chains.{sectorsFor}
 use Rattle.chains.specs.Walks.{left, weight}
 use Rattle.chains.specs.declared.cursors.ChainCursor.{ChainCursor}
 use Rattle.files.specs.Reads.{extentsBytes}

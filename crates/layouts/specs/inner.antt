@@ -1,0 +1,2 @@
+-- What private contracts alone cite.
+pub mod Lists
