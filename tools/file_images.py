@@ -95,7 +95,7 @@ def attributes():
 
 
 def example():
-    """Document 01's example."""
+    """The example of RULES 7.11."""
     i = Image("the example", 40)
     i.marked(10, 11, 20)
     area = short_ad(3000, 10) + short_ad(100, 20) + short_ad(5000, 30, ALLOCATED)

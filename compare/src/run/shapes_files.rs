@@ -65,7 +65,7 @@ pub fn shapes() -> Vec<Shape> {
     all
 }
 
-/// Document 01's example, and files of every kind.
+/// The example of RULES 7.11, and files of every kind.
 fn kinds(random: &mut Random, extended: bool) -> Shape {
     let mut d = disc();
     for kind in 0..4 {

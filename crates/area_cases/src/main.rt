@@ -4,9 +4,9 @@ use areas::AdCursor;
 use areas::AdEnding;
 use areas::AdStep;
 use areas::AllocExtent;
-use disc::places::PartitionRef;
 use areas::ending_of;
 use areas::next_ad;
+use disc::places::PartitionRef;
 use disc::refusals::Refusal;
 use libc::STDOUT_FILENO;
 

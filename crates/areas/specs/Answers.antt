@@ -1,5 +1,4 @@
--- The answer number and the values of each answer that is an enum: 0 and what was read, or the refusal's number and zeros.
--- Assumes nothing: these are definitions.
+-- The answer number and the values of each answer that is an enum: 0 and what was read, or the refusal's number and zeros. RULES 12.3.
 use mathlib.Core.Option.{Option, none, some}
 use Rattle.disc.specs.Refusals.{number}
 use Rattle.records.specs.Answers.{Answer}

@@ -1,5 +1,4 @@
--- Areas of allocation descriptors (ECMA-167 4/12, 4/14.14): the extents that one lists, and how it ends. Document 01, "Reading an entry".
--- Assumes nothing: these are definitions.
+-- Areas of allocation descriptors (ECMA-167 4/12, 4/14.14): the extents that one lists, and how it ends. RULES 6.9 to 6.14.
 use Prim.Native.Nat.{ℕ, zero, suc, _+_, _-_, _/_}
 use mathlib.Core.Bool.{Bool, true}
 use mathlib.Core.List.{List, [], _∷_}

@@ -1,4 +1,4 @@
--- A chain of areas (ECMA-167 4/12, 4/14.5): document 01, "Reading an entry", the last paragraph.
+-- A chain of areas (ECMA-167 4/12, 4/14.5): RULES 6.15 to 6.18.
 use Prim.Native.Nat.{ℕ, zero, suc, _+_}
 use mathlib.Core.List.{List, [], _++_}
 use lib.Dec.{ltb}

@@ -1,4 +1,4 @@
--- The file set descriptor (ECMA-167 4/14.1): document 01, "Opening a volume". Assumes nothing: these are definitions.
+-- The file set descriptor (ECMA-167 4/14.1): RULES 5.12.
 use Prim.Native.Nat.{ℕ}
 use mathlib.Core.List.{List}
 use Rattle.disc.specs.Refusals.{number}

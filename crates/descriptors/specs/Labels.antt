@@ -1,5 +1,4 @@
--- Label fields, which two of the descriptors have: document 01, "Opening a volume".
--- Assumes nothing: these are definitions.
+-- Label fields, which two of the descriptors have: RULES 5.10.
 use Prim.Native.Nat.{ℕ}
 use mathlib.Core.Bool.{Bool, true, false}
 use mathlib.Core.List.{List}

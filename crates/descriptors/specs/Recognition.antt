@@ -1,5 +1,4 @@
--- What a volume structure descriptor says it is (ECMA-167 2/9.1): document 01, "Opening a volume", of one sector's bytes.
--- Assumes nothing: these are definitions.
+-- What a volume structure descriptor says it is (ECMA-167 2/9.1): RULES 5.17, of one sector's bytes.
 use Prim.Native.Nat.{ℕ}
 use mathlib.Core.Bool.{Bool, _&&_, _||_}
 use mathlib.Core.List.{List}

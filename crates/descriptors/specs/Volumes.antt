@@ -1,5 +1,4 @@
--- The descriptors of a volume descriptor sequence, and the anchor that leads to it (ECMA-167 3/10): document 01, "Opening a volume".
--- Assumes nothing: these are definitions.
+-- The descriptors of a volume descriptor sequence, and the anchor that leads to it (ECMA-167 3/10): RULES 5.2 and 5.7 to 5.10.
 use Prim.Native.Nat.{ℕ}
 use mathlib.Core.List.{List}
 use lib.ListN.{take, drop, replicate}

@@ -1,4 +1,4 @@
--- A directory listed from its ICB: document 01, "Directories and paths" and "Answer numbers".
+-- A directory listed from its ICB: RULES 1.9, 8.1 and 8.10.
 use Prim.Native.Nat.{ℕ}
 use mathlib.Core.List.{List}
 use lib.ListN.{length}

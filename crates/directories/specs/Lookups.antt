@@ -1,4 +1,4 @@
--- A path looked up, the component that failed, and a file read by its path: document 01, "Directories and paths".
+-- A path looked up, the component that failed, and a file read by its path: RULES 8.13 to 8.21.
 use Prim.Native.Nat.{ℕ}
 use mathlib.Core.Bool.{Bool, true, false}
 use mathlib.Core.List.{List, [], _∷_}

@@ -14,13 +14,7 @@ use listings::listing::list;
 use records::allocations::LongAd;
 
 // The listing, with the directory's bytes left in the work space.
-fn list_read(
-    image: &[u8],
-    mount: Mount,
-    icb: LongAd,
-    out: &mut [u8],
-    work: &mut [u8],
-) -> Reply
+fn list_read(image: &[u8], mount: Mount, icb: LongAd, out: &mut [u8], work: &mut [u8]) -> Reply
     ensures { λ r. ⌜ Replied NoRoom (ran (disc (now (image .entry))) (listingAt mount (length (now (work .entry))) icb)) (now (out .entry)) (now (out .exit)) r ⌝ }
 {
     let read = read_directory(image, mount, icb, work);

@@ -25,13 +25,7 @@ pub struct Found {
 }
 
 // The ICB that the path names.
-pub fn lookup(
-    image: &[u8],
-    mount: Mount,
-    root: LongAd,
-    path: &[u8],
-    work: &mut [u8],
-) -> Found
+pub fn lookup(image: &[u8], mount: Mount, root: LongAd, path: &[u8], work: &mut [u8]) -> Found
     ensures { λ r. ⌜ r ≡ foundOf (ran (disc (now (image .entry))) (lookupOf mount (length (now (work .entry))) root (now (path .entry)))) ⌝ }
     ensures { λ _. ⌜ now (work .exit) ≡ replicate (length (now (work .entry))) 0 ⌝ }
 {

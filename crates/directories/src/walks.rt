@@ -37,13 +37,7 @@ pub struct PathPlace {
 }
 
 // The entry of a component in the directory at icb, which is read into the work space and left there.
-fn enter(
-    image: &[u8],
-    mount: Mount,
-    icb: LongAd,
-    component: &[u8],
-    work: &mut [u8],
-) -> Entered
+fn enter(image: &[u8], mount: Mount, icb: LongAd, component: &[u8], work: &mut [u8]) -> Entered
     ensures { λ r. ⌜ r ≡ enteredOf (ran (disc (now (image .entry))) (entering mount (length (now (work .entry))) icb (now (component .entry)))) ⌝ }
 {
     let read = read_directory(image, mount, icb, work);
@@ -106,13 +100,7 @@ fn beyond(path: &[u8], entry: Named, count: u64, from: usize, end: usize) -> Pat
 }
 
 // One step of the walk.
-fn step(
-    image: &[u8],
-    mount: Mount,
-    path: &[u8],
-    p: PathPlace,
-    work: &mut [u8],
-) -> PathPlace
+fn step(image: &[u8], mount: Mount, path: &[u8], p: PathPlace, work: &mut [u8]) -> PathPlace
     requires { ⌜ (p .going ≡ true) × On (now path) p ⌝ }
     ensures { λ q. ⌜ Steps (disc (now (image .entry))) mount (length (now (work .entry))) (now (path .entry)) p q ⌝ }
 {

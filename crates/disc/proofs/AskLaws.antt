@@ -11,7 +11,7 @@ use Rattle.disc.specs.Ask.Held.{holds, lacks}
 use Rattle.disc.specs.Ask.Ask.{done, refuse, ask}
 use Rattle.disc.specs.Ask.Outcome.{answered, refused}
 
--- ---- demand 3: discs that agree on the list of a call give the same outcome and the same list
+-- ---- RULES 2.7: discs that agree on the list of a call give the same outcome and the same list
 
 agree-step : {R : Type 0} (d e : Disc) (x y : Held) → x ≡ y → (o o′ : List ℕ → R) (r : R) (a : List ℕ → List ℕ)
     → Agree d e (given x a [])

@@ -36,7 +36,7 @@ module _ {A : Type 0} (d : Disc) where
   unfolding ran outcome asked
   ran-missing s k h = rw h
 
--- demand 3, outcome and count together
+-- RULES 2.7, outcome and count together
 pub same-ran : {A : Type 0} (m : Ask A) (d e : Disc) → Agree d e (asked d m) → ran d m ≡ ran e m
 unfolding ran
 same-ran m d e h = λ i. record { outcome = same-outcome m d e h i; count = length (same-asked m d e h i) }

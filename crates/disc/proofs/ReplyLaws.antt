@@ -23,7 +23,7 @@ use Rattle.disc.proofs.RanLaws.{same-ran}
 pub replied-one : {A : Type 0} {full : Refusal} {r : Ran (List A)} {b a a′ : List A} {p p′ : Reply} → Replied full r b a p → Replied full r b a′ p′ → (p ≡ p′) × (a ≡ a′)
 replied-one h k = (h .says ∙ sym (k .says), h .leaves ∙ sym (k .leaves))
 
--- demand 3: on discs that agree on the list of a call, the same reply and the same memory
+-- RULES 2.7: on discs that agree on the list of a call, the same reply and the same memory
 pub same-replied : {A : Type 0} {full : Refusal} (m : Ask (List A)) (d e : Disc) → Agree d e (asked d m) → {b a : List A} {p : Reply}
     → Replied full (ran d m) b a p → Replied full (ran e m) b a p
 same-replied m d e h k = rw (same-ran m d e h) at k

@@ -1,4 +1,4 @@
--- A call is a tree of questions: it asks for a sector, is given its bytes, and goes on.
+-- A call is a tree of questions: it asks for a sector, is given its bytes, and goes on. RULES 2.2 and 2.3.
 use mathlib.Core.Path.{_≡_}
 use mathlib.Core.List.{List, [], _∷_}
 use Prim.Native.Nat.{ℕ, zero, suc}

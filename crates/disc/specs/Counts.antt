@@ -1,4 +1,4 @@
--- A count of sectors as a call reports it.
+-- A count of sectors as a call reports it. RULES 2.4.
 use Prim.Native.Nat.{ℕ, min}
 
 abbrev pub reported : ℕ → ℕ

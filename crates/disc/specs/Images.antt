@@ -1,4 +1,4 @@
--- The disc that a lent image is, and a run of its sectors: document 01, "Opening a volume".
+-- The disc that a lent image is, and a run of its sectors: RULES 2.1 and 2.5.
 use mathlib.Core.Bool.{Bool, true, false}
 use mathlib.Core.List.{List, [], _++_}
 use Prim.Native.Nat.{ℕ, zero, suc, _+_, _-_, _*_, _/_}

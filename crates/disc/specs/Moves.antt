@@ -1,4 +1,4 @@
--- Lent memory after bytes were moved into it.
+-- Lent memory after bytes were moved into it. RULES 10.3.
 use mathlib.Core.List.{List, _++_}
 use Prim.Native.Nat.{ℕ}
 use lib.ListN.{length, take, drop}

@@ -1,4 +1,4 @@
--- Two counters, and the sole crossing between them: a block is counted from the partition's start, a sector from the disc's.
+-- Two counters, and the sole crossing between them: a block is counted from the partition's start, a sector from the disc's. RULES 9.1 to 9.6.
 use Prim.Native.Nat.{ℕ, _+_, _<_, _^_}
 use mathlib.Core.Path.{_≡_}
 use mathlib.Core.Option.{Option, none, some}

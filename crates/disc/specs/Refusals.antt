@@ -1,4 +1,4 @@
--- The answer number of each refusal: document 01's table.
+-- The answer number of each refusal: the table of RULES 1.1.
 use Prim.Native.Nat.{ℕ}
 use Rattle.disc.specs.declared.refusals.Refusal.{Refusal}
 use Rattle.disc.specs.declared.refusals.Refusal.the-variants.{Io, Malformed, NotBluray, Unsupported, NoRoom, NoWork, NoSlot, LongName}

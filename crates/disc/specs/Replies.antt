@@ -1,4 +1,4 @@
--- What a call that writes into lent memory says and leaves there.
+-- What a call that writes into lent memory says and leaves there. RULES 1.5 to 1.7, 10.3 and 10.4.
 use Prim.Native.Nat.{ℕ}
 use mathlib.Core.Path.{_≡_}
 use mathlib.Core.List.{List, _++_}

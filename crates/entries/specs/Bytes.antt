@@ -1,4 +1,4 @@
--- Numbers of eight bytes at an offset (ECMA-167 1/7.1.7). Assumes nothing: these are definitions.
+-- Numbers of eight bytes at an offset (ECMA-167 1/7.1.7). RULES 3.1.
 use Prim.Native.Nat.{ℕ, _+_, _*_}
 use mathlib.Core.List.{List}
 use Rattle.records.specs.Bytes.{u32at}

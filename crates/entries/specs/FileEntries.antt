@@ -1,4 +1,4 @@
--- The entry of a file, plain (ECMA-167 4/14.9) or extended (4/14.17): document 01, "Reading an entry". Assumes nothing: these are definitions.
+-- The entry of a file, plain (ECMA-167 4/14.9) or extended (4/14.17): RULES 6.3 to 6.8.
 use Prim.Native.Nat.{ℕ, _+_, _%_}
 use mathlib.Core.Bool.{Bool}
 use mathlib.Core.List.{List}

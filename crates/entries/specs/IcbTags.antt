@@ -1,4 +1,4 @@
--- The ICB tag, 20 bytes (ECMA-167 4/14.6). Assumes nothing: these are definitions.
+-- The ICB tag, 20 bytes (ECMA-167 4/14.6). RULES 6.5.
 use Prim.Native.Nat.{ℕ, _+_}
 use mathlib.Core.List.{List}
 use lib.ListN.{length}

@@ -2,7 +2,7 @@
 // for each query what is asked, and what was answered. `read` has the sum of the whole lent output, which came full of A5; `part` the sum of
 // the part; `extents` each extent, and whether the slots behind are as they came.
 //
-// What is expected are the original's answers; where it aborts, at an absurd information length, they are those of document 01.
+// What is expected are the original's answers; where it aborts, at an absurd information length, they are those of RULES 7.10.
 ghost use mathlib.Core.Path.{_≡_};
 ghost use Prim.Native.Nat.{_≤_, _<_, _^_};
 ghost use lib.ListN.{length};

@@ -46,7 +46,7 @@ use Rattle.files.proofs.EntryLaws.{entry-asks, locates}
 use Rattle.files.proofs.PieceLaws.{weigh-type, weigh-held}
 use Rattle.files.proofs.BoundLaws.{extents-cut, extents-bound}
 
--- ---- demand 3: images that agree on the sectors that a read asks for give the same reply and the same memory
+-- ---- RULES 2.7: images that agree on the sectors that a read asks for give the same reply and the same memory
 
 pub read-same : (full : Refusal) (image image′ : List ℕ) (m : Mount) (icb : LongAd)
     → Agree (disc image) (disc image′) (asked (disc image) (fileBytes m icb))
@@ -169,7 +169,7 @@ module _ (image : List ℕ) (m : Mount) (icb : LongAd) {x : Located} (h : ran (d
         let g = le-leb (length (extentsHold image m es)) (length before) r in
         (p .says ∙ rw (q, read-endless, g), p .leaves ∙ rw (q, read-endless, g))
 
--- ---- document 01's example: short extents 3,000 at block 10, 100 at 20, 5,000 of type 1 at 30
+-- ---- the example of RULES 7.11: short extents 3,000 at block 10, 100 at 20, 5,000 of type 1 at 30
 
 abbrev pub example : List AllocExtent
 example = extent 3000 0 10 Unnamed ∷ extent 100 0 20 Unnamed ∷ extent 5000 1 30 Unnamed ∷ []

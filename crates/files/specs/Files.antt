@@ -1,4 +1,4 @@
--- A file from its ICB: document 01, "Reading an entry" and "Reading a file". This is what the public calls promise.
+-- A file from its ICB: RULES 6.1, 6.2 and 7. This is what the public calls promise.
 use Prim.Native.Nat.{ℕ, _+_, _*_, min}
 use mathlib.Core.Bool.{Bool}
 use mathlib.Core.List.{List, []}

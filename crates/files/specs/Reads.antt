@@ -1,4 +1,4 @@
--- A file's bytes, read from its extents: document 01, "Reading a file".
+-- A file's bytes, read from its extents: RULES 7.3 to 7.8.
 use Prim.Native.Nat.{ℕ, zero, suc, _+_, _-_, _*_}
 use mathlib.Core.List.{List, [], _∷_, _++_}
 use mathlib.Core.Option.{Option, none, some}

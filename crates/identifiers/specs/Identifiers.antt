@@ -1,4 +1,4 @@
--- The file identifier, one entry of a directory (ECMA-167 4/14.4): document 01, "Directories and paths". Assumes nothing: these are definitions.
+-- The file identifier, one entry of a directory (ECMA-167 4/14.4): RULES 8.3 to 8.6.
 use Prim.Native.Nat.{ℕ, _+_, _*_, _/_, _%_}
 use mathlib.Core.Bool.{Bool}
 use mathlib.Core.List.{List}

@@ -58,7 +58,7 @@ rows-agree r {before} p = record {
   leaves = rw (p .leaves) (left-map fieldsOf extentOf before (r .outcome));
 }
 
--- ---- demand 3: images that agree on the sectors that a call asks for give the same answer and the same memory
+-- ---- RULES 2.7: images that agree on the sectors that a call asks for give the same answer and the same memory
 
 pub part-same : (image image′ : List ℕ) (m : Mount) (icb : LongAd)
     → Agree (disc image) (disc image′) (asked (disc image) (filePart m icb))

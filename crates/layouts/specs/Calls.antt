@@ -1,4 +1,4 @@
--- What the calls on a file say beside its bytes: the answer with a part of the image, and the answer with a list of extents.
+-- What the calls on a file say beside its bytes: the answer with a part of the image, and the answer with a list of extents. RULES 7.12 to 7.17.
 use Prim.Native.Nat.{ℕ}
 use mathlib.Core.Path.{_≡_}
 use mathlib.Core.List.{List, [], _∷_}

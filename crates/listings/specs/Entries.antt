@@ -1,4 +1,4 @@
--- A directory's bytes: its file identifiers (ECMA-167 4/14.4) one behind the other. Document 01, "Directories and paths".
+-- A directory's bytes: its file identifiers (ECMA-167 4/14.4) one behind the other. RULES 8.2 to 8.8.
 use Prim.Native.Nat.{ℕ, zero, suc, _-_}
 use mathlib.Core.Bool.{Bool, _||_}
 use mathlib.Core.List.{List, [], _∷_}

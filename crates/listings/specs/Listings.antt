@@ -1,4 +1,4 @@
--- What a directory's bytes list, and which entry has a name: document 01, "Directories and paths".
+-- What a directory's bytes list, and which entry has a name: RULES 8.7 to 8.10 and 8.15.
 use Prim.Native.Nat.{ℕ}
 use mathlib.Core.Bool.{Bool, true, false}
 use mathlib.Core.List.{List, [], _∷_, _++_}

@@ -1,4 +1,4 @@
--- A path's components: document 01, "Directories and paths".
+-- A path's components: RULES 8.11.
 use Prim.Native.Nat.{ℕ, suc}
 use mathlib.Core.List.{List, [], _∷_}
 use lib.Dec.{eqb}

@@ -1,5 +1,5 @@
--- What a recorded name says, and when two names match: document 01, "Tags and small records" and "Directories and paths".
--- A d-string is OSTA UDF 2.1.3's, in a field ECMA-167 1/7.2.12's. Assumes nothing: these are definitions.
+-- What a recorded name says, and when two names match: RULES 4.
+-- A d-string is OSTA UDF 2.1.3's, in a field ECMA-167 1/7.2.12's.
 use Prim.Native.Nat.{ℕ, _+_, _-_, _*_, _/_, _%_}
 use mathlib.Core.Path.{_≡_}
 use mathlib.Core.Bool.{Bool, true, false}

@@ -1,4 +1,4 @@
--- The probe of the volume recognition sequence (ECMA-167 2/8.3): document 01, "Opening a volume". Assumes nothing: these are definitions.
+-- The probe of the volume recognition sequence (ECMA-167 2/8.3): RULES 5.17 and 5.18.
 use Prim.Native.Nat.{ℕ, zero, suc, _+_}
 use mathlib.Core.Bool.{Bool, true, false, _&&_}
 use mathlib.Core.List.{List}

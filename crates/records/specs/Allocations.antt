@@ -1,5 +1,4 @@
--- extent_ad (ECMA-167 3/7.1), lb_addr (4/7.1), short_ad, long_ad and ext_ad (4/14.14.1 to 14.14.3), each at an offset: document 01, "Tags and small
--- records". Assumes nothing: these are definitions.
+-- extent_ad (ECMA-167 3/7.1), lb_addr (4/7.1), short_ad, long_ad and ext_ad (4/14.14.1 to 14.14.3), each at an offset: RULES 3.8 to 3.13 and 3.16.
 use Prim.Native.Nat.{ℕ, _+_, _*_, _/_, _%_}
 use mathlib.Core.List.{List, _++_}
 use lib.ListN.{length, replicate}

@@ -1,5 +1,4 @@
--- The answer number and the values of each answer that is an enum: 0 and what was read, or the refusal's number and zeros.
--- Assumes nothing: these are definitions.
+-- The answer number and the values of each answer that is an enum: 0 and what was read, or the refusal's number and zeros. RULES 12.3.
 use Prim.Native.Nat.{ℕ}
 use Rattle.disc.specs.Refusals.{number}
 use Rattle.records.specs.declared.allocations.ExtentAd.{ExtentAd}
@@ -12,7 +11,7 @@ use Rattle.records.specs.declared.allocations.LbAddr.{LbAddr}
 use Rattle.records.specs.declared.allocations.LbAddrRead.{LbAddrRead}
 use Rattle.records.specs.declared.allocations.LbAddrRead.the-variants.{Read as AnAddress, Refused as NoAddress}
 
--- an answer as document 01 has it
+-- an answer by its number (RULES 1.1) and its value
 pub record Answer (A : Type 0) : Type 0 where
   pub number : ℕ
   pub value : A

@@ -1,4 +1,4 @@
--- Bytes of a list, and little-endian numbers at an offset (ECMA-167 1/7.1). Assumes nothing: these are definitions.
+-- Bytes of a list, and little-endian numbers at an offset (ECMA-167 1/7.1). RULES 3.1.
 use Prim.Native.Nat.{ℕ, _+_, _*_, _/_, _%_}
 use mathlib.Core.List.{List, [], _∷_, _++_}
 use lib.ListN.{getD}

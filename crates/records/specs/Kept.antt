@@ -1,5 +1,4 @@
--- What encoding keeps of a record: 30 bits of a raw length's length and of an ext_ad's recorded length, 2 bits of a type, all of the rest.
--- Assumes nothing: these are definitions.
+-- What encoding keeps of a record: 30 bits of a raw length's length and of an ext_ad's recorded length, 2 bits of a type, all of the rest. RULES 3.16.
 use Prim.Native.Nat.{ℕ, _%_, _<_, _^_}
 use mathlib.Core.Path.{_≡_}
 use lib.ListN.{length}

@@ -1,4 +1,4 @@
--- What decoding a d-string leaves: document 01, "Answer numbers". Assumes nothing: these are definitions.
+-- What decoding a d-string leaves: RULES 10.6.
 use Prim.Native.Nat.{ℕ}
 use mathlib.Core.List.{List}
 use mathlib.Core.Option.{Option, none, some}

@@ -1,4 +1,4 @@
--- The entry of a file as it crosses: an enum can't. Assumes nothing: these are definitions.
+-- The entry of a file as it crosses: an enum can't.
 use Prim.Native.Nat.{ℕ}
 use mathlib.Core.Bool.{Bool, true, false}
 use Rattle.records.specs.Answers.{Answer}

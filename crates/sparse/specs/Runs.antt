@@ -1,4 +1,4 @@
--- An image kept sparse. Assumes nothing: these are definitions.
+-- An image kept sparse.
 use mathlib.Core.Path.{_≡_}
 use mathlib.Core.List.{List, _++_}
 use Prim.Native.Nat.{ℕ, zero, suc, _+_, min}

@@ -1,5 +1,4 @@
--- The descriptor tag, 16 bytes (ECMA-167 3/7.2), and the header of an allocation extent, 24 (4/14.5): document 01, "Tags and small records".
--- Assumes nothing: these are definitions.
+-- The descriptor tag, 16 bytes (ECMA-167 3/7.2), and the header of an allocation extent, 24 (4/14.5): RULES 3.4 to 3.7, 3.14, 3.15 and 9.7.
 use Prim.Native.Nat.{ℕ, _+_, _%_}
 use mathlib.Core.Bool.{Bool, _&&_, _||_}
 use mathlib.Core.List.{List, _∷_, _++_}

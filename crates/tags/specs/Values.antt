@@ -1,4 +1,4 @@
--- A value of each record: every field in the range of its type. Assumes nothing: these are definitions.
+-- A value of each record: every field in the range of its type.
 use Prim.Native.Nat.{_<_, _^_}
 use Rattle.tags.specs.declared.DescriptorTag.{DescriptorTag}
 use Rattle.tags.specs.declared.AllocationExtentDescriptor.{AllocationExtentDescriptor}

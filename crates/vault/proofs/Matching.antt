@@ -1,4 +1,4 @@
--- Demand 2, said of the lookup itself: the first entry of a name wins, and a name matches with ASCII case ignored and nothing else. Assumes nothing.
+-- RULES 4.10 and 8.15, said of the lookup itself: the first entry of a name wins, and a name matches with ASCII case ignored and nothing else. Assumes nothing.
 use mathlib.Core.Path.{_≡_, refl, ap, sym, _∙_}
 use mathlib.Core.Bool.{Bool, true, false}
 use mathlib.Core.List.{List, [], _∷_, _++_, map}

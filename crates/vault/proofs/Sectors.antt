@@ -1,4 +1,4 @@
--- Demand 3: each call has its list of sectors. The count that it reports is min(the list's length, 2^64 - 1), images that agree on the list give the
+-- RULES 2.2 to 2.8: each call has its list of sectors. The count that it reports is min(the list's length, 2^64 - 1), images that agree on the list give the
 -- same answer, count and memory, and a read by ICB asks for no more sectors than its bytes and extents warrant. Assumes nothing.
 use mathlib.Core.Path.{_≡_, refl, ap, _∙_}
 use mathlib.Core.Bool.{Bool, true, false}

@@ -1,4 +1,4 @@
--- Demand 1: every call ends in an answer or a refusal of the table; a refusal has zeros in every value but the count, and changes no output byte; work
+-- RULES 1.1, 1.5, 1.6 and 10.5: every call ends in an answer or a refusal of the table; a refusal has zeros in every value but the count, and changes no output byte; work
 -- space comes back all zero. And a contract allows one result. Assumes nothing.
 use mathlib.Core.Path.{_≡_, refl, ap, sym, _∙_}
 use mathlib.Core.Bool.{Bool, true, false}

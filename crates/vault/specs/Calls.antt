@@ -1,5 +1,5 @@
 -- What each call leaves, as a function of what it was lent: its answer, its count, and the memory. The trees of questions are those of the crates below:
--- document 01, from "Answer numbers" on.
+-- RULES 1, 2 and 10.
 use Prim.Native.Nat.{ℕ}
 use mathlib.Core.List.{List}
 use lib.ListN.{length, replicate}

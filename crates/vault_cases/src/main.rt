@@ -3,7 +3,7 @@
 // ICB to be listed and read. `sum` is that of the whole lent output, or of the part of the image; `zero` says that the work space came
 // back all zero. Output and work space come full of A5. A byte that is no printable character is \ and two hex digits.
 //
-// What is expected are the original's answers, and where a path isn't UTF-8, which the original doesn't take, those of document 01.
+// What is expected are the original's answers, and where a path isn't UTF-8, which the original doesn't take, those of RULES 8.12.
 ghost use mathlib.Core.Path.{_≡_};
 ghost use Prim.Native.Nat.{_≤_, _<_, _^_};
 ghost use lib.ListN.{length};

@@ -36,7 +36,7 @@ pub label-one : (image : List ℕ) {before after after′ : List ℕ} {p p′ : 
     → (p ≡ p′) × (after ≡ after′)
 label-one image e f = replied-one e f
 
--- ---- demand 3: images that agree on the sectors of a call's list give the same answer, count, volume and output
+-- ---- RULES 2.7: images that agree on the sectors of a call's list give the same answer, count, volume and output
 
 pub opening-same : (image other : List ℕ) → Agree (disc image) (disc other) (asked (disc image) opening) → {o o′ : Opened}
     → o ≡ openedOf (ran (disc image) opening)

@@ -1,4 +1,4 @@
--- The label of a volume: document 01, "Directories and paths", the last paragraph.
+-- The label of a volume: RULES 5.16.
 use Prim.Native.Nat.{ℕ}
 use mathlib.Core.List.{List}
 use Rattle.disc.specs.Ask.{Ask, then}

@@ -1,4 +1,4 @@
--- Opening a volume: document 01, "Opening a volume".
+-- Opening a volume: RULES 5.1, 5.11 and 5.14.
 use Prim.Native.Nat.{ℕ, _/_}
 use mathlib.Core.Option.{Option}
 use lib.ListN.{replicate}

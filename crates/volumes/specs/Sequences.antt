@@ -1,4 +1,4 @@
--- The volume descriptor sequence (ECMA-167 3/8.4.2): document 01, "Opening a volume".
+-- The volume descriptor sequence (ECMA-167 3/8.4.2): RULES 5.3 to 5.6.
 use Prim.Native.Nat.{ℕ, zero, suc, _+_}
 use mathlib.Core.Bool.{true, false}
 use mathlib.Core.List.{List, [], _∷_}

@@ -2,8 +2,8 @@
 use areas::AdContinuation;
 use areas::AdCursor;
 use areas::AdEnding;
-use disc::places::PartitionRef;
 use areas::ending_of;
+use disc::places::PartitionRef;
 use disc::refusals::Refusal;
 use names::dstrings::NameSize;
 use names::dstrings::name_size;
