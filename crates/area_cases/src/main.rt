@@ -6,62 +6,13 @@ use areas::AdStep;
 use areas::AllocExtent;
 use areas::ending_of;
 use areas::next_ad;
-use disc::places::PartitionRef;
-use disc::refusals::Refusal;
-use libc::STDOUT_FILENO;
-
-// ---- words and numbers
-
-fn say(text: &[u8]) {
-    io::write_all(STDOUT_FILENO, text);
-}
-
-fn number(n: u64) {
-    say(b" ");
-    io::print_decimal(STDOUT_FILENO, n);
-}
-
-// The narrower ones, so that a caller casts nothing.
-fn number8(n: u8) {
-    number(n as u64);
-}
-
-fn number16(n: u16) {
-    number(n as u64);
-}
-
-fn number32(n: u32) {
-    number(n as u64);
-}
-
-fn wide(b: u8) -> u64 {
-    b as u64
-}
-
-fn say_byte(b: u8) {
-    say(b" ");
-    io::print_hex(STDOUT_FILENO, wide(b), 2);
-}
-
-fn say_bytes(s: &[u8]) {
-    let mut i = 0;
-    while i < s.len() {
-        say_byte(s[i]);
-        i += 1;
-    }
-}
-
-fn say_refusal(why: Refusal) {
-    say(b" refused");
-    number(why.number());
-}
-
-fn say_partition(p: PartitionRef) {
-    match p {
-        PartitionRef::Unnamed => say(b" none"),
-        PartitionRef::Named(n) => number16(n),
-    }
-}
+use programs::words::number;
+use programs::words::number8;
+use programs::words::number32;
+use programs::words::say;
+use programs::words::say_bytes;
+use programs::words::say_partition;
+use programs::words::say_refusal;
 
 fn say_extent(e: AllocExtent) {
     say(b" extent");

@@ -21,7 +21,7 @@ use Rattle.areas.specs.declared.AdCursor.{AdCursor}
 use Rattle.areas.specs.declared.AdStep.{AdStep}
 use Rattle.areas.specs.declared.AdStep.the-variants.{Extent, Continuation as Continues, End as Ends, Refused as Refuses}
 use Rattle.areas.specs.declared.AdEnding.the-variants.{End, Continuation, Refused}
-use Rattle.areas.specs.Areas.{sizeOf, says, descriptorAt, Area, ended, inFront, behind, descriptors, areaAt, stepped, nextOf}
+use Rattle.areas.specs.Areas.{sizeOf, descriptorOf, descriptorAt, Area, ended, inFront, behind, descriptors, areaAt, stepped, nextOf}
 
 -- ---- one descriptor
 
@@ -45,7 +45,7 @@ small-size kind e = rw e (each (eqb kind 0) (eqb kind 1))
 
 -- past the end every descriptor has length 0
 pub descriptor-past : (kind : ℕ) (s : List ℕ) (i : ℕ) → length s ≤ i → descriptorAt kind s i ≡ Stop
-unfolding descriptorAt says
+unfolding descriptorAt descriptorOf
 descriptor-past kind s i h = rw (← u32-past s i h) (each (eqb kind 0) (eqb kind 1))
   where
     each : (a b : Bool) → pick a Stop (pick b Stop Stop) ≡ Stop

@@ -11,7 +11,7 @@ use lib.Dec.{eqb}
 use Rattle.disc.specs.Choice.{pick}
 use Rattle.records.specs.Bytes.{byte, u16at, u32at}
 use Rattle.records.specs.Allocations.{shortOf, longOf, extOf}
-use Rattle.areas.specs.Areas.{sizeOf, shortSays, longSays, extSays, descriptorAt, descriptors, areaAt}
+use Rattle.areas.specs.Areas.{sizeOf, shortDescriptor, longDescriptor, extDescriptor, descriptorAt, descriptors, areaAt}
 
 -- the same bytes in two lists, n of them from i on and from k on
 abbrev pub Same : List ℕ → List ℕ → ℕ → ℕ → ℕ → Type 0
@@ -38,10 +38,10 @@ module _ (s t : List ℕ) where
   -- ---- the same descriptors
 
   module _ (i k : ℕ) where
-    short-same : Same s t i k 8 → shortSays (shortOf s i) ≡ shortSays (shortOf t k)
+    short-same : Same s t i k 8 → shortDescriptor (shortOf s i) ≡ shortDescriptor (shortOf t k)
     short-same f = rw (same-u32 i k 8 (omega arith) f, same-u32 (i + 4) (k + 4) 4 (omega arith) (same-on i k 8 4 4 (omega arith) f))
 
-    long-same : Same s t i k 16 → longSays (longOf s i) ≡ longSays (longOf t k)
+    long-same : Same s t i k 16 → longDescriptor (longOf s i) ≡ longDescriptor (longOf t k)
     long-same f =
         rw (
           same-u32 i k 16 (omega arith) f,
@@ -49,7 +49,7 @@ module _ (s t : List ℕ) where
           same-u16 (i + 8) (k + 8) 2 (omega arith) (same-on i k 16 8 2 (omega arith) f),
         )
 
-    ext-same : Same s t i k 20 → extSays (extOf s i) ≡ extSays (extOf t k)
+    ext-same : Same s t i k 20 → extDescriptor (extOf s i) ≡ extDescriptor (extOf t k)
     ext-same f =
         rw (
           same-u32 i k 20 (omega arith) f,
@@ -64,8 +64,8 @@ module _ (s t : List ℕ) where
     same-descriptor kind f = each (eqb kind 0) (eqb kind 1) f
       where
         each : (a b : Bool) → Same s t i k (pick a 8 (pick b 16 20))
-            → pick a (shortSays (shortOf s i)) (pick b (longSays (longOf s i)) (extSays (extOf s i)))
-            ≡ pick a (shortSays (shortOf t k)) (pick b (longSays (longOf t k)) (extSays (extOf t k)))
+            → pick a (shortDescriptor (shortOf s i)) (pick b (longDescriptor (longOf s i)) (extDescriptor (extOf s i)))
+            ≡ pick a (shortDescriptor (shortOf t k)) (pick b (longDescriptor (longOf t k)) (extDescriptor (extOf t k)))
         each true b f = short-same f
         each false true f = long-same f
         each false false f = ext-same f

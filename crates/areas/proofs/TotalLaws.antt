@@ -13,7 +13,7 @@ use Rattle.areas.specs.declared.AllocExtent.{AllocExtent}
 use Rattle.areas.specs.declared.AdContinuation.{AdContinuation}
 use Rattle.areas.specs.declared.Descriptor.{Descriptor}
 use Rattle.areas.specs.declared.Descriptor.the-variants.{Stop, Data, Continued, Compressed}
-use Rattle.areas.specs.Areas.{sizeOf, says, shortSays, longSays, extSays, descriptorAt, Area, behind, descriptors, areaAt}
+use Rattle.areas.specs.Areas.{sizeOf, descriptorOf, shortDescriptor, longDescriptor, extDescriptor, descriptorAt, Area, behind, descriptors, areaAt}
 use Rattle.areas.proofs.AreaLaws.{some-size}
 
 -- the effective lengths of extents, added up
@@ -34,9 +34,9 @@ dataLength (Continued a) = 0
 dataLength Compressed = 0
 
 -- a raw length has 30 bits, and an ext_ad's information length counts where it equals the recorded one, which has as many
-says-small : (stored : AllocExtent) (whole : Bool) (e : AllocExtent) → (whole ≡ true → e .length < 2 ^ 30) → dataLength (says stored whole e) < 2 ^ 30
-unfolding says
-says-small stored whole e h = each (eqb (stored .length) 0) (eqb (stored .«extent_type») 3) whole _ h
+one-small : (stored : AllocExtent) (whole : Bool) (e : AllocExtent) → (whole ≡ true → e .length < 2 ^ 30) → dataLength (descriptorOf stored whole e) < 2 ^ 30
+unfolding descriptorOf
+one-small stored whole e h = each (eqb (stored .length) 0) (eqb (stored .«extent_type») 3) whole _ h
   where
     each : (a b c : Bool) (k : AdContinuation) → (c ≡ true → e .length < 2 ^ 30) → dataLength (pick a Stop (pick b (Continued k) (pick c (Data e) Compressed))) < 2 ^ 30
     each true b c k g = omega arith
@@ -48,10 +48,10 @@ descriptor-small : (kind : ℕ) (s : List ℕ) (i : ℕ) → dataLength (descrip
 unfolding descriptorAt
 descriptor-small kind s i = each (eqb kind 0) (eqb kind 1)
   where
-    each : (a b : Bool) → dataLength (pick a (shortSays (shortOf s i)) (pick b (longSays (longOf s i)) (extSays (extOf s i)))) < 2 ^ 30
-    each true b = says-small _ _ _ (λ e. omega arith)
-    each false true = says-small _ _ _ (λ e. omega arith)
-    each false false = says-small _ _ _ (λ e. omega (arith, eqb-true (extOf s i .«recorded_length») (extOf s i .«information_length») e))
+    each : (a b : Bool) → dataLength (pick a (shortDescriptor (shortOf s i)) (pick b (longDescriptor (longOf s i)) (extDescriptor (extOf s i)))) < 2 ^ 30
+    each true b = one-small _ _ _ (λ e. omega arith)
+    each false true = one-small _ _ _ (λ e. omega arith)
+    each false false = one-small _ _ _ (λ e. omega (arith, eqb-true (extOf s i .«recorded_length») (extOf s i .«information_length») e))
 
 descriptors-small : (n kind : ℕ) (s : List ℕ) (i : ℕ) → total (descriptors n kind s i .extents) ≤ n * sizeOf kind * 2 ^ 27
 unfolding descriptors total

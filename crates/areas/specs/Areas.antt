@@ -36,8 +36,8 @@ abbrev pub continuation : ℕ → Block → PartitionRef → AdContinuation
 continuation length block partition = record { length = length; block = block; «partition_ref» = partition }
 
 -- length 0 ends an area, whatever the type; type 3 continues it; an extent that isn't recorded whole is compressed
-unfoldable pub says : AllocExtent → Bool → AllocExtent → Descriptor
-says stored whole effective =
+unfoldable pub descriptorOf : AllocExtent → Bool → AllocExtent → Descriptor
+descriptorOf stored whole effective =
     pick (eqb (stored .length) 0) Stop
     (pick (eqb (stored .«extent_type») 3) (Continued (continuation (stored .length) (stored .block) (stored .«partition_ref»)))
     (pick whole (Data effective)
@@ -47,30 +47,30 @@ abbrev pub inPartition : ℕ → ℕ → LbAddr → AllocExtent
 inPartition length type location = extent length type (location .block) (Named (location .«partition_ref»))
 
 -- a short_ad names no partition (4/14.14.1)
-abbrev pub shortSays : ShortAd → Descriptor
-shortSays a =
-    says (extent (a .length) (a .«extent_type») (a .«block_location») Unnamed) true
+abbrev pub shortDescriptor : ShortAd → Descriptor
+shortDescriptor a =
+    descriptorOf (extent (a .length) (a .«extent_type») (a .«block_location») Unnamed) true
     (extent (a .length) (a .«extent_type») (a .«block_location») Unnamed)
 
 -- a long_ad (4/14.14.2)
-abbrev pub longSays : LongAd → Descriptor
-longSays a =
-    says (inPartition (a .length) (a .«extent_type») (a .location)) true
+abbrev pub longDescriptor : LongAd → Descriptor
+longDescriptor a =
+    descriptorOf (inPartition (a .length) (a .«extent_type») (a .location)) true
     (inPartition (a .length) (a .«extent_type») (a .location))
 
 -- an ext_ad's effective length is its information length (4/14.14.3)
-abbrev pub extSays : ExtAd → Descriptor
-extSays a =
-    says (inPartition (a .length) (a .«extent_type») (a .location))
+abbrev pub extDescriptor : ExtAd → Descriptor
+extDescriptor a =
+    descriptorOf (inPartition (a .length) (a .«extent_type») (a .location))
     (eqb (a .«recorded_length») (a .«information_length»))
     (inPartition (a .«information_length») (a .«extent_type») (a .location))
 
 -- the descriptor of a kind at i
 unfoldable pub descriptorAt : ℕ → List ℕ → ℕ → Descriptor
 descriptorAt kind s i =
-    pick (eqb kind 0) (shortSays (shortOf s i))
-    (pick (eqb kind 1) (longSays (longOf s i))
-    (extSays (extOf s i)))
+    pick (eqb kind 0) (shortDescriptor (shortOf s i))
+    (pick (eqb kind 1) (longDescriptor (longOf s i))
+    (extDescriptor (extOf s i)))
 
 -- ---- an area
 

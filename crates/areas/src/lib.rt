@@ -1,7 +1,7 @@
 // Areas of allocation descriptors, read where they stand by a cursor that is passed by value.
 ghost use mathlib.Core.Path.{_≡_};
 ghost use Rattle.records.specs.Allocations.{shortOf, longOf, extOf};
-ghost use Rattle.areas.specs.Areas.{sizeOf, says, shortSays, longSays, extSays, descriptorAt, nextOf, areaAt};
+ghost use Rattle.areas.specs.Areas.{sizeOf, descriptorOf, shortDescriptor, longDescriptor, extDescriptor, descriptorAt, nextOf, areaAt};
 use disc::places::Block;
 use disc::places::PartitionRef;
 use disc::refusals::Refusal;
@@ -66,8 +66,8 @@ fn size_of(kind: u8) -> usize
 }
 
 // `stored` is the extent as recorded, `effective` with its effective length. Length 0 is tested first: it ends an area even with type 3.
-fn says(stored: AllocExtent, whole: bool, effective: AllocExtent) -> Descriptor
-    ensures { λ r. ⌜ r ≡ says stored whole effective ⌝ }
+fn descriptor_of(stored: AllocExtent, whole: bool, effective: AllocExtent) -> Descriptor
+    ensures { λ r. ⌜ r ≡ descriptorOf stored whole effective ⌝ }
 {
     if stored.length == 0 {
         return Descriptor::Stop;
@@ -87,8 +87,8 @@ fn says(stored: AllocExtent, whole: bool, effective: AllocExtent) -> Descriptor
     Descriptor::Compressed
 }
 
-fn short_says(s: &[u8], i: usize) -> Descriptor
-    ensures { λ r. ⌜ r ≡ shortSays (shortOf (now (s .entry)) i) ⌝ }
+fn short_descriptor(s: &[u8], i: usize) -> Descriptor
+    ensures { λ r. ⌜ r ≡ shortDescriptor (shortOf (now (s .entry)) i) ⌝ }
 {
     let a = short_at(s, i);
     let e = AllocExtent {
@@ -97,11 +97,11 @@ fn short_says(s: &[u8], i: usize) -> Descriptor
         block: Block(a.block_location),
         partition_ref: PartitionRef::Unnamed,
     };
-    says(e, true, e)
+    descriptor_of(e, true, e)
 }
 
-fn long_says(s: &[u8], i: usize) -> Descriptor
-    ensures { λ r. ⌜ r ≡ longSays (longOf (now (s .entry)) i) ⌝ }
+fn long_descriptor(s: &[u8], i: usize) -> Descriptor
+    ensures { λ r. ⌜ r ≡ longDescriptor (longOf (now (s .entry)) i) ⌝ }
 {
     let a = long_at(s, i);
     let e = AllocExtent {
@@ -110,11 +110,11 @@ fn long_says(s: &[u8], i: usize) -> Descriptor
         block: Block(a.location.block),
         partition_ref: PartitionRef::Named(a.location.partition_ref),
     };
-    says(e, true, e)
+    descriptor_of(e, true, e)
 }
 
-fn ext_says(s: &[u8], i: usize) -> Descriptor
-    ensures { λ r. ⌜ r ≡ extSays (extOf (now (s .entry)) i) ⌝ }
+fn ext_descriptor(s: &[u8], i: usize) -> Descriptor
+    ensures { λ r. ⌜ r ≡ extDescriptor (extOf (now (s .entry)) i) ⌝ }
 {
     let a = ext_at(s, i);
     let stored = AllocExtent {
@@ -129,7 +129,7 @@ fn ext_says(s: &[u8], i: usize) -> Descriptor
         block: Block(a.location.block),
         partition_ref: PartitionRef::Named(a.location.partition_ref),
     };
-    says(stored, a.recorded_length == a.information_length, effective)
+    descriptor_of(stored, a.recorded_length == a.information_length, effective)
 }
 
 // The descriptor of a kind at `i`.
@@ -137,12 +137,12 @@ fn descriptor_at(s: &[u8], kind: u8, i: usize) -> Descriptor
     ensures { λ r. ⌜ r ≡ descriptorAt kind (now (s .entry)) i ⌝ }
 {
     if kind == 0 {
-        return short_says(s, i);
+        return short_descriptor(s, i);
     }
     if kind == 1 {
-        return long_says(s, i);
+        return long_descriptor(s, i);
     }
-    ext_says(s, i)
+    ext_descriptor(s, i)
 }
 
 // The next descriptor of an area. Past the end of `s` all bytes are 0, and length 0 ends it.

@@ -8,6 +8,7 @@ use lib.ListN.{getD}
 use mir.Syntax.{w8}
 use mir.Val.{Fits}
 use borrow.Author.Tests.{eq-eqb, ne-eqb}
+use Rattle.disc.proofs.ByteLaws.{Bytes}
 use Rattle.disc.specs.Places.{placed, Stands}
 use Rattle.disc.specs.declared.places.Mount.{Mount}
 use Rattle.disc.specs.declared.places.Sector.{Sector}
@@ -66,9 +67,6 @@ module _ (image : List ℕ) (m : Mount) (kind : ℕ) (c : ChainCursor) {r : AdSt
   advance-hops e f = f ∙ step-of e
 
 -- ---- what a step leaves
-
-abbrev pub Bytes : List ℕ → Type 0
-Bytes s = (i : ℕ) → Fits w8 (getD s i 0)
 
 pub record Taken (image : List ℕ) (m : Mount) (kind : ℕ) (c : ChainCursor) (e : AllocExtent) (c′ : ChainCursor) : Type 0 where
   pub list : left image m kind c ≡ e ∷ left image m kind c′

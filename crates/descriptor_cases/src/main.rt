@@ -8,38 +8,24 @@ use descriptors::partitions::PartitionDescriptor;
 use descriptors::partitions::PartitionRead;
 use descriptors::primaries::PrimaryVolumeDescriptor;
 use disc::moves::copy;
-use libc::STDOUT_FILENO;
+use disc::refusals::Refusal;
+use programs::lent::wide;
+use programs::words::number;
+use programs::words::say;
+use programs::words::say_bytes;
+use programs::words::say_refusal;
 use records::allocations::ExtentAd;
 use records::allocations::LongAd;
 use tags::DescriptorTag;
 
-fn say(text: &[u8]) {
-    io::write_all(STDOUT_FILENO, text);
-}
-
 fn say_number(name: &[u8], n: u64) {
     say(b" ");
     say(name);
-    say(b" ");
-    io::print_decimal(STDOUT_FILENO, n);
+    number(n);
 }
 
-fn wide(b: u8) -> u64 {
-    b as u64
-}
-
-// A space and two hex digits for each byte.
-fn say_bytes(b: &[u8]) {
-    let mut i = 0;
-    while i < b.len() {
-        say(b" ");
-        io::print_hex(STDOUT_FILENO, wide(b[i]), 2);
-        i += 1;
-    }
-}
-
-fn say_refused(number: u64) {
-    say_number(b"refused", number);
+fn refuse(why: Refusal) {
+    say_refusal(why);
     say(b"\n");
 }
 
@@ -136,7 +122,7 @@ fn asked(name: &[u8], id: u16, n: usize, at: usize, b: u8) {
 
 fn say_anchor(r: AnchorRead) {
     match r {
-        AnchorRead::Refused(why) => say_refused(why.number()),
+        AnchorRead::Refused(why) => refuse(why),
         AnchorRead::Read(a) => {
             say_tag(a.tag);
             say_extent(b"main", a.main_volume_descriptor_sequence);
@@ -168,7 +154,7 @@ fn primary(s: &[u8], n: usize) {
 
 fn say_partition(r: PartitionRead) {
     match r {
-        PartitionRead::Refused(why) => say_refused(why.number()),
+        PartitionRead::Refused(why) => refuse(why),
         PartitionRead::Read(p) => {
             say_tag(p.tag);
             say_number(b"sequence", p.volume_descriptor_sequence_number as u64);

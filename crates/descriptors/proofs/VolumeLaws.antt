@@ -1,12 +1,13 @@
 -- The anchor and the descriptors of a volume descriptor sequence: which case of its definition each reader is in. Assumes nothing.
 use Prim.Native.Nat.{ℕ}
-use mathlib.Core.Path.{_≡_}
-use mathlib.Core.Bool.{Bool, true, false}
+use mathlib.Core.Path.{_≡_, refl, sym, ap, _∙_}
 use mathlib.Core.List.{List}
+use native.Mathlib.Omega.{arith}
 use lib.ListN.{take, drop, replicate}
 use Rattle.disc.specs.Refusals.{number}
+use Rattle.disc.specs.Ask.{Outcome}
+use Rattle.disc.specs.Ask.Outcome.{answered, refused}
 use Rattle.disc.specs.declared.refusals.Refusal.{Refusal}
-use Rattle.disc.specs.declared.refusals.Refusal.the-variants.{Malformed}
 use Rattle.records.specs.Bytes.{u16at, u32at}
 use Rattle.records.specs.Allocations.{extentOf, longOf, noLong}
 use Rattle.records.specs.declared.allocations.ExtentAd.{ExtentAd}
@@ -16,8 +17,10 @@ use Rattle.tags.specs.Answers.{noTag}
 use Rattle.tags.specs.declared.DescriptorTag.{DescriptorTag}
 use Rattle.tags.specs.declared.TagRead.{TagRead}
 use Rattle.tags.specs.declared.TagRead.the-variants.{Read as ATag, Refused as NoTag}
-use Rattle.descriptors.specs.Labels.{decodes}
-use Rattle.descriptors.specs.Volumes.{readAnchor, noPrimary, primaryBehind, readPrimary, readPartition, noLogical, logicalBehind, readLogical}
+use Rattle.names.specs.Names.{nameOfField, sizeOf}
+use Rattle.names.specs.declared.dstrings.NameSize.{NameSize}
+use Rattle.names.specs.declared.dstrings.NameSize.the-variants.{Size, Refused as NoName}
+use Rattle.descriptors.specs.Volumes.{readAnchor, labelled, primaryOf, primaryBehind, readPrimary, primaryRead, readPartition, logicalOf, logicalBehind, readLogical, logicalRead}
 use Rattle.descriptors.specs.declared.anchors.AnchorRead.the-variants.{Read as AnAnchor, Refused as NoAnchor}
 use Rattle.descriptors.specs.declared.primaries.PrimaryRead.{PrimaryRead}
 use Rattle.descriptors.specs.declared.partitions.PartitionRead.the-variants.{Read as APartition, Refused as NoPartition}
@@ -28,7 +31,7 @@ module _ (why : Refusal) {n : ℕ} {t : DescriptorTag} (p : n ≡ number why) (q
   pub primary-none : record {
     answer = n;
     descriptor = record { tag = t; «volume_descriptor_sequence_number» = 0; «primary_volume_descriptor_number» = 0; «volume_identifier» = replicate 32 0 };
-  } ≡ noPrimary why
+  } ≡ primaryRead (refused why)
   primary-none = rw (p, q)
 
   pub logical-none : {location : LongAd} → location ≡ noLong → record {
@@ -40,7 +43,7 @@ module _ (why : Refusal) {n : ℕ} {t : DescriptorTag} (p : n ≡ number why) (q
       «logical_block_size» = 0;
       «file_set_descriptor_location» = location;
     };
-  } ≡ noLogical why
+  } ≡ logicalRead (refused why)
   logical-none r = rw (p, q, r)
 
 -- ---- what each reader's proof cites: `x` is what `read_head` gave
@@ -59,11 +62,11 @@ module _ (s : List ℕ) {x : TagRead} where
   unfolding readAnchor
   anchor-yes e h p q = rw (← e, h, p, q)
 
-  pub primary-no : {why : Refusal} {r : PrimaryRead} → x ≡ readHead s 1 56 → x ≡ NoTag why → r ≡ noPrimary why → r ≡ readPrimary s
+  pub primary-no : {why : Refusal} {r : PrimaryRead} → x ≡ readHead s 1 56 → x ≡ NoTag why → r ≡ primaryRead (refused why) → r ≡ primaryRead (readPrimary s)
   unfolding readPrimary
   primary-no e h k = rw (← e, h) k
 
-  pub primary-yes : {t : DescriptorTag} {r : PrimaryRead} → x ≡ readHead s 1 56 → x ≡ ATag t → r ≡ primaryBehind s t → r ≡ readPrimary s
+  pub primary-yes : {t : DescriptorTag} {r : PrimaryRead} → x ≡ readHead s 1 56 → x ≡ ATag t → r ≡ primaryRead (primaryBehind s t) → r ≡ primaryRead (readPrimary s)
   unfolding readPrimary
   primary-yes e h k = rw (← e, h) k
 
@@ -90,23 +93,32 @@ module _ (s : List ℕ) {x : TagRead} where
   unfolding readPartition
   partition-yes e h p q k l m = rw (← e, h, p, q, k, l, m)
 
-  pub logical-no : {why : Refusal} {r : LogicalRead} → x ≡ readHead s 6 440 → x ≡ NoTag why → r ≡ noLogical why → r ≡ readLogical s
+  pub logical-no : {why : Refusal} {r : LogicalRead} → x ≡ readHead s 6 440 → x ≡ NoTag why → r ≡ logicalRead (refused why) → r ≡ logicalRead (readLogical s)
   unfolding readLogical
   logical-no e h k = rw (← e, h) k
 
-  pub logical-yes : {t : DescriptorTag} {r : LogicalRead} → x ≡ readHead s 6 440 → x ≡ ATag t → r ≡ logicalBehind s t → r ≡ readLogical s
+  pub logical-yes : {t : DescriptorTag} {r : LogicalRead} → x ≡ readHead s 6 440 → x ≡ ATag t → r ≡ logicalRead (logicalBehind s t) → r ≡ logicalRead (readLogical s)
   unfolding readLogical
   logical-yes e h k = rw (← e, h) k
 
-module _ (s : List ℕ) (t : DescriptorTag) {b : Bool} {label : List ℕ} where
-  pub primary-unnamed : {r : PrimaryRead} → label ≡ take 32 (drop 24 s) → b ≡ decodes label → b ≡ false → r ≡ noPrimary Malformed → r ≡ primaryBehind s t
-  unfolding primaryBehind
-  primary-unnamed l e h k = rw (← l, ← e, h) k
+-- ---- behind the gate: `z` is the size of the label's name
 
-  pub primary-named : {m n : ℕ}
-      → label ≡ take 32 (drop 24 s)
-      → b ≡ decodes label
-      → b ≡ true
+labelled-no : {A : Type 0} (o : Outcome (List ℕ)) (d : A) {z : NameSize} {why : Refusal} → z ≡ sizeOf o → z ≡ NoName why → labelled o d ≡ refused why
+labelled-no (refused r) d e h = cc
+labelled-no (answered name) d e h = absurd (let z : _≡_ {A = ℕ} 0 1 = cc in omega arith)
+
+labelled-yes : {A : Type 0} (o : Outcome (List ℕ)) (d : A) {z : NameSize} {n : ℕ} → z ≡ sizeOf o → z ≡ Size n → labelled o d ≡ answered d
+labelled-yes (refused r) d e h = absurd (let z : _≡_ {A = ℕ} 0 1 = cc in omega arith)
+labelled-yes (answered name) d e h = refl
+
+module _ (s : List ℕ) (t : DescriptorTag) {label : List ℕ} {z : NameSize} (e : z ≡ sizeOf (nameOfField label)) where
+  pub primary-unnamed : label ≡ take 32 (drop 24 s) → {why : Refusal} {r : PrimaryRead} → z ≡ NoName why → r ≡ primaryRead (refused why)
+      → r ≡ primaryRead (primaryBehind s t)
+  unfolding primaryBehind
+  primary-unnamed l h k = k ∙ ap primaryRead (sym (labelled-no (nameOfField (take 32 (drop 24 s))) (primaryOf s t) (rw l at e) h))
+
+  pub primary-named : label ≡ take 32 (drop 24 s) → {k m n : ℕ}
+      → z ≡ Size k
       → m ≡ u32at s 16
       → n ≡ u32at s 20
       → record {
@@ -117,18 +129,17 @@ module _ (s : List ℕ) (t : DescriptorTag) {b : Bool} {label : List ℕ} where
           «primary_volume_descriptor_number» = n;
           «volume_identifier» = label;
         };
-      } ≡ primaryBehind s t
+      } ≡ primaryRead (primaryBehind s t)
   unfolding primaryBehind
-  primary-named l e h p q = rw (← l, ← e, h, p, q)
+  primary-named l h p q = rw (p, q, l) (ap primaryRead (sym (labelled-yes (nameOfField (take 32 (drop 24 s))) (primaryOf s t) (rw l at e) h)))
 
-  pub logical-unnamed : {r : LogicalRead} → label ≡ take 128 (drop 84 s) → b ≡ decodes label → b ≡ false → r ≡ noLogical Malformed → r ≡ logicalBehind s t
+  pub logical-unnamed : label ≡ take 128 (drop 84 s) → {why : Refusal} {r : LogicalRead} → z ≡ NoName why → r ≡ logicalRead (refused why)
+      → r ≡ logicalRead (logicalBehind s t)
   unfolding logicalBehind
-  logical-unnamed l e h k = rw (← l, ← e, h) k
+  logical-unnamed l h k = k ∙ ap logicalRead (sym (labelled-no (nameOfField (take 128 (drop 84 s))) (logicalOf s t) (rw l at e) h))
 
-  pub logical-named : {m n : ℕ} {place : LongAd}
-      → label ≡ take 128 (drop 84 s)
-      → b ≡ decodes label
-      → b ≡ true
+  pub logical-named : label ≡ take 128 (drop 84 s) → {k m n : ℕ} {place : LongAd}
+      → z ≡ Size k
       → m ≡ u32at s 16
       → n ≡ u32at s 212
       → place ≡ longOf s 248
@@ -141,6 +152,6 @@ module _ (s : List ℕ) (t : DescriptorTag) {b : Bool} {label : List ℕ} where
           «logical_block_size» = n;
           «file_set_descriptor_location» = place;
         };
-      } ≡ logicalBehind s t
+      } ≡ logicalRead (logicalBehind s t)
   unfolding logicalBehind
-  logical-named l e h p q k = rw (← l, ← e, h, p, q, k)
+  logical-named l h p q k = rw (p, q, k, l) (ap logicalRead (sym (labelled-yes (nameOfField (take 128 (drop 84 s))) (logicalOf s t) (rw l at e) h)))

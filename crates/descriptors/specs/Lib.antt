@@ -1,5 +1,4 @@
 -- What the contracts cite, lowest first.
-pub mod Labels
 pub mod Volumes
 pub mod FileSets
 pub mod Answers

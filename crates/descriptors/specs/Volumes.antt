@@ -2,18 +2,17 @@
 use Prim.Native.Nat.{ℕ}
 use mathlib.Core.List.{List}
 use lib.ListN.{take, drop, replicate}
-use Rattle.disc.specs.Choice.{pick}
 use Rattle.disc.specs.Refusals.{number}
-use Rattle.disc.specs.declared.refusals.Refusal.{Refusal}
-use Rattle.disc.specs.declared.refusals.Refusal.the-variants.{Malformed}
+use Rattle.disc.specs.Ask.{Outcome}
+use Rattle.disc.specs.Ask.Outcome.{answered, refused}
 use Rattle.records.specs.Bytes.{u16at, u32at}
 use Rattle.records.specs.Allocations.{extentOf, longOf, noLong}
-use Rattle.tags.specs.Tags.{readHead}
+use Rattle.tags.specs.Tags.{readHead, gated}
 use Rattle.tags.specs.Answers.{noTag}
 use Rattle.tags.specs.declared.DescriptorTag.{DescriptorTag}
 use Rattle.tags.specs.declared.TagRead.{TagRead}
 use Rattle.tags.specs.declared.TagRead.the-variants.{Read as ATag, Refused as NoTag}
-use Rattle.descriptors.specs.Labels.{decodes}
+use Rattle.names.specs.Names.{nameOfField}
 use Rattle.descriptors.specs.declared.anchors.AnchorVolumeDescriptorPointer.{AnchorVolumeDescriptorPointer}
 use Rattle.descriptors.specs.declared.anchors.AnchorRead.{AnchorRead}
 use Rattle.descriptors.specs.declared.anchors.AnchorRead.the-variants.{Read as AnAnchor, Refused as NoAnchor}
@@ -55,30 +54,30 @@ primaryOf s t = record {
   «volume_identifier» = take 32 (drop 24 s);
 }
 
--- Refused: the number, and zeros.
-abbrev pub noPrimary : Refusal → PrimaryRead
-noPrimary r = record {
-  answer = number r;
-  descriptor = record {
-    tag = noTag;
-    «volume_descriptor_sequence_number» = 0;
-    «primary_volume_descriptor_number» = 0;
-    «volume_identifier» = replicate 32 0;
-  };
-}
+-- The label is the last check: one that is decoded leads on, and of a bad one the refusal passes through (1/7.2.12).
+abbrev pub labelled : {A : Type 0} → Outcome (List ℕ) → A → Outcome A
+labelled (refused r) d = refused r
+labelled (answered name) d = answered d
 
--- The label is the last check.
-unfoldable pub primaryBehind : List ℕ → DescriptorTag → PrimaryRead
-primaryBehind s t = pick (decodes (take 32 (drop 24 s))) (record { answer = 0; descriptor = primaryOf s t }) (noPrimary Malformed)
-
--- Behind the gate: its refusal, or the label's check.
-abbrev pub primaryAfter : List ℕ → TagRead → PrimaryRead
-primaryAfter s (NoTag r) = noPrimary r
-primaryAfter s (ATag t) = primaryBehind s t
+unfoldable pub primaryBehind : List ℕ → DescriptorTag → Outcome PrimaryVolumeDescriptor
+primaryBehind s t = labelled (nameOfField (take 32 (drop 24 s))) (primaryOf s t)
 
 -- Reading a primary volume descriptor at the front of s.
-unfoldable pub readPrimary : List ℕ → PrimaryRead
-readPrimary s = primaryAfter s (readHead s 1 56)
+unfoldable pub readPrimary : List ℕ → Outcome PrimaryVolumeDescriptor
+readPrimary s = gated (readHead s 1 56) (primaryBehind s)
+
+-- As the code reports it: the answer number, and zeros where it is a refusal.
+abbrev pub noPrimary : PrimaryVolumeDescriptor
+noPrimary = record {
+  tag = noTag;
+  «volume_descriptor_sequence_number» = 0;
+  «primary_volume_descriptor_number» = 0;
+  «volume_identifier» = replicate 32 0;
+}
+
+abbrev pub primaryRead : Outcome PrimaryVolumeDescriptor → PrimaryRead
+primaryRead (answered d) = record { answer = 0; descriptor = d }
+primaryRead (refused r) = record { answer = number r; descriptor = noPrimary }
 
 -- ---- partition descriptor: id 5, 196 bytes (3/10.5)
 
@@ -115,28 +114,23 @@ logicalOf s t = record {
   «file_set_descriptor_location» = longOf s 248;
 }
 
--- Refused: the number, and zeros.
-abbrev pub noLogical : Refusal → LogicalRead
-noLogical r = record {
-  answer = number r;
-  descriptor = record {
-    tag = noTag;
-    «volume_descriptor_sequence_number» = 0;
-    «logical_volume_identifier» = replicate 128 0;
-    «logical_block_size» = 0;
-    «file_set_descriptor_location» = noLong;
-  };
-}
-
--- The label is the last check.
-unfoldable pub logicalBehind : List ℕ → DescriptorTag → LogicalRead
-logicalBehind s t = pick (decodes (take 128 (drop 84 s))) (record { answer = 0; descriptor = logicalOf s t }) (noLogical Malformed)
-
--- Behind the gate: its refusal, or the label's check.
-abbrev pub logicalAfter : List ℕ → TagRead → LogicalRead
-logicalAfter s (NoTag r) = noLogical r
-logicalAfter s (ATag t) = logicalBehind s t
+unfoldable pub logicalBehind : List ℕ → DescriptorTag → Outcome LogicalVolumeDescriptor
+logicalBehind s t = labelled (nameOfField (take 128 (drop 84 s))) (logicalOf s t)
 
 -- Reading a logical volume descriptor at the front of s.
-unfoldable pub readLogical : List ℕ → LogicalRead
-readLogical s = logicalAfter s (readHead s 6 440)
+unfoldable pub readLogical : List ℕ → Outcome LogicalVolumeDescriptor
+readLogical s = gated (readHead s 6 440) (logicalBehind s)
+
+-- As the code reports it.
+abbrev pub noLogical : LogicalVolumeDescriptor
+noLogical = record {
+  tag = noTag;
+  «volume_descriptor_sequence_number» = 0;
+  «logical_volume_identifier» = replicate 128 0;
+  «logical_block_size» = 0;
+  «file_set_descriptor_location» = noLong;
+}
+
+abbrev pub logicalRead : Outcome LogicalVolumeDescriptor → LogicalRead
+logicalRead (answered d) = record { answer = 0; descriptor = d }
+logicalRead (refused r) = record { answer = number r; descriptor = noLogical }

@@ -1,6 +1,7 @@
 // The file set descriptor: where the root directory is.
 ghost use mathlib.Core.Path.{_≡_};
-ghost use Rattle.descriptors.specs.FileSets.{readFileSet, noFileSet};
+ghost use Rattle.disc.specs.Ask.Outcome.{refused};
+ghost use Rattle.descriptors.specs.FileSets.{readFileSet, fileSetRead};
 use disc::refusals::Refusal;
 use records::allocations::LongAd;
 use records::allocations::long_at;
@@ -29,7 +30,7 @@ pub struct FileSetRead {
 }
 
 fn no_file_set(why: Refusal) -> FileSetRead
-    ensures { λ r. ⌜ r ≡ noFileSet why ⌝ }
+    ensures { λ r. ⌜ r ≡ fileSetRead (refused why) ⌝ }
 {
     FileSetRead {
         answer: why.number(),
@@ -42,7 +43,7 @@ fn no_file_set(why: Refusal) -> FileSetRead
 
 impl FileSetDescriptor {
     pub fn parse(s: &[u8]) -> FileSetRead
-        ensures { λ r. ⌜ r ≡ readFileSet (now (s .entry)) ⌝ }
+        ensures { λ r. ⌜ r ≡ fileSetRead (readFileSet (now (s .entry))) ⌝ }
     {
         match read_head(s, ID, SIZE) {
             TagRead::Refused(why) => no_file_set(why),

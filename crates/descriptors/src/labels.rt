@@ -1,21 +1,8 @@
-// Label fields: whether one can be decoded, and the bytes of one as an array.
+// The bytes of a label's field as an array.
 ghost use mathlib.Core.Path.{_≡_};
 ghost use Prim.Native.Nat.{_≤_};
 ghost use lib.ListN.{length, take, drop};
-ghost use Rattle.descriptors.specs.Labels.{decodes};
 use disc::moves::copy;
-use names::dstrings::NameSize;
-use names::fields::field_size;
-
-// Whether the d-string field `f` has a name.
-pub(crate) fn is_label(f: &[u8]) -> bool
-    ensures { λ r. ⌜ r ≡ decodes (now (f .entry)) ⌝ }
-{
-    match field_size(f) {
-        NameSize::Size(_) => true,
-        NameSize::Refused => false,
-    }
-}
 
 // The volume identifier of a primary volume descriptor, as recorded.
 pub(crate) fn volume_label(s: &[u8]) -> [u8; 32]

@@ -2,10 +2,12 @@
 ghost use mathlib.Core.Path.{_≡_};
 ghost use Prim.Native.Nat.{_≤_};
 ghost use lib.ListN.{length};
-ghost use Rattle.descriptors.specs.Volumes.{readLogical, logicalBehind, noLogical};
-use crate::labels::is_label;
+ghost use Rattle.disc.specs.Ask.Outcome.{refused};
+ghost use Rattle.descriptors.specs.Volumes.{logicalBehind, readLogical, logicalRead};
 use crate::labels::logical_label;
 use disc::refusals::Refusal;
+use names::dstrings::NameSize;
+use names::fields::field_size;
 use records::allocations::LongAd;
 use records::allocations::long_at;
 use records::allocations::no_long;
@@ -38,7 +40,7 @@ pub struct LogicalRead {
 }
 
 fn no_logical(why: Refusal) -> LogicalRead
-    ensures { λ r. ⌜ r ≡ noLogical why ⌝ }
+    ensures { λ r. ⌜ r ≡ logicalRead (refused why) ⌝ }
 {
     LogicalRead {
         answer: why.number(),
@@ -55,27 +57,27 @@ fn no_logical(why: Refusal) -> LogicalRead
 // The descriptor in `s` behind its tag `t`. The label is copied first: the copy is checked and kept.
 fn logical_behind(s: &[u8], t: DescriptorTag) -> LogicalRead
     requires { ⌜ 440 ≤ length (now s) ⌝ }
-    ensures { λ r. ⌜ r ≡ logicalBehind (now (s .entry)) t ⌝ }
+    ensures { λ r. ⌜ r ≡ logicalRead (logicalBehind (now (s .entry)) t) ⌝ }
 {
     let label = logical_label(s);
-    if !is_label(&label) {
-        return no_logical(Refusal::Malformed);
-    }
-    LogicalRead {
-        answer: 0,
-        descriptor: LogicalVolumeDescriptor {
-            tag: t,
-            volume_descriptor_sequence_number: le32(s, 16),
-            logical_volume_identifier: label,
-            logical_block_size: le32(s, 212),
-            file_set_descriptor_location: long_at(s, 248),
+    match field_size(&label) {
+        NameSize::Refused(why) => no_logical(why),
+        NameSize::Size(_) => LogicalRead {
+            answer: 0,
+            descriptor: LogicalVolumeDescriptor {
+                tag: t,
+                volume_descriptor_sequence_number: le32(s, 16),
+                logical_volume_identifier: label,
+                logical_block_size: le32(s, 212),
+                file_set_descriptor_location: long_at(s, 248),
+            },
         },
     }
 }
 
 impl LogicalVolumeDescriptor {
     pub fn parse(s: &[u8]) -> LogicalRead
-        ensures { λ r. ⌜ r ≡ readLogical (now (s .entry)) ⌝ }
+        ensures { λ r. ⌜ r ≡ logicalRead (readLogical (now (s .entry))) ⌝ }
     {
         match read_head(s, ID, SIZE) {
             TagRead::Refused(why) => no_logical(why),

@@ -2,10 +2,12 @@
 ghost use mathlib.Core.Path.{_≡_};
 ghost use Prim.Native.Nat.{_≤_};
 ghost use lib.ListN.{length};
-ghost use Rattle.descriptors.specs.Volumes.{readPrimary, primaryBehind, noPrimary};
-use crate::labels::is_label;
+ghost use Rattle.disc.specs.Ask.Outcome.{refused};
+ghost use Rattle.descriptors.specs.Volumes.{primaryBehind, readPrimary, primaryRead};
 use crate::labels::volume_label;
 use disc::refusals::Refusal;
+use names::dstrings::NameSize;
+use names::fields::field_size;
 use records::bytes::le32;
 use tags::DescriptorTag;
 use tags::TagRead;
@@ -34,7 +36,7 @@ pub struct PrimaryRead {
 }
 
 fn no_primary(why: Refusal) -> PrimaryRead
-    ensures { λ r. ⌜ r ≡ noPrimary why ⌝ }
+    ensures { λ r. ⌜ r ≡ primaryRead (refused why) ⌝ }
 {
     PrimaryRead {
         answer: why.number(),
@@ -50,26 +52,26 @@ fn no_primary(why: Refusal) -> PrimaryRead
 // The descriptor in `s` behind its tag `t`. The label is copied first: the copy is checked and kept.
 fn primary_behind(s: &[u8], t: DescriptorTag) -> PrimaryRead
     requires { ⌜ 56 ≤ length (now s) ⌝ }
-    ensures { λ r. ⌜ r ≡ primaryBehind (now (s .entry)) t ⌝ }
+    ensures { λ r. ⌜ r ≡ primaryRead (primaryBehind (now (s .entry)) t) ⌝ }
 {
     let label = volume_label(s);
-    if !is_label(&label) {
-        return no_primary(Refusal::Malformed);
-    }
-    PrimaryRead {
-        answer: 0,
-        descriptor: PrimaryVolumeDescriptor {
-            tag: t,
-            volume_descriptor_sequence_number: le32(s, 16),
-            primary_volume_descriptor_number: le32(s, 20),
-            volume_identifier: label,
+    match field_size(&label) {
+        NameSize::Refused(why) => no_primary(why),
+        NameSize::Size(_) => PrimaryRead {
+            answer: 0,
+            descriptor: PrimaryVolumeDescriptor {
+                tag: t,
+                volume_descriptor_sequence_number: le32(s, 16),
+                primary_volume_descriptor_number: le32(s, 20),
+                volume_identifier: label,
+            },
         },
     }
 }
 
 impl PrimaryVolumeDescriptor {
     pub fn parse(s: &[u8]) -> PrimaryRead
-        ensures { λ r. ⌜ r ≡ readPrimary (now (s .entry)) ⌝ }
+        ensures { λ r. ⌜ r ≡ primaryRead (readPrimary (now (s .entry))) ⌝ }
     {
         match read_head(s, ID, SIZE) {
             TagRead::Refused(why) => no_primary(why),

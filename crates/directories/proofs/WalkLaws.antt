@@ -195,8 +195,8 @@ walk-starts d v work root path a e =
     }
 
 module _ {d : Disc} {v : Mount} {work : ℕ} {root : LongAd} {path : List ℕ} {p : PathPlace} (w : Walking d v work root path p) where
-  pub walk-next : (v : ℕ) → v ≡ work → {q : PathPlace} → Steps d v v path p q → Walking d v work root path q
-  walk-next v l s = record { on = s .on; same = (rw l at (s .same)) ∙ w .same }
+  pub walk-next : (lent : ℕ) → lent ≡ work → {q : PathPlace} → Steps d v lent path p q → Walking d v work root path q
+  walk-next lent l s = record { on = s .on; same = (rw l at (s .same)) ∙ w .same }
 
   pub walk-ends : p .going ≡ false → Walks d v work root path p
   unfolding leadsTo

@@ -5,7 +5,8 @@ ghost use lib.ListN.{length, take, drop, replicate};
 ghost use lib.Seq.{sets};
 ghost use Rattle.disc.specs.Moves.{over};
 
-fn least(a: usize, b: usize) -> usize
+// The lesser of two lengths.
+pub fn least(a: usize, b: usize) -> usize
     ensures { λ r. ⌜ r ≡ min a b ⌝ }
 {
     if a < b { a } else { b }

@@ -1,6 +1,14 @@
 // Why a call is refused.
 ghost use mathlib.Core.Path.{_≡_};
 ghost use Rattle.disc.specs.Refusals.{number};
+use crate::answers::IO;
+use crate::answers::LONG_NAME;
+use crate::answers::MALFORMED;
+use crate::answers::NO_ROOM;
+use crate::answers::NO_SLOT;
+use crate::answers::NO_WORK;
+use crate::answers::NOT_BLURAY;
+use crate::answers::UNSUPPORTED;
 
 pub enum Refusal {
     // A sector that was asked for isn't wholly inside the image.
@@ -24,14 +32,14 @@ impl Refusal {
         ensures { λ r. ⌜ r ≡ number self ⌝ }
     {
         match self {
-            Refusal::Io => 1,
-            Refusal::Malformed => 2,
-            Refusal::NotBluray => 3,
-            Refusal::Unsupported => 4,
-            Refusal::NoRoom => 5,
-            Refusal::NoWork => 6,
-            Refusal::NoSlot => 7,
-            Refusal::LongName => 8,
+            Refusal::Io => IO,
+            Refusal::Malformed => MALFORMED,
+            Refusal::NotBluray => NOT_BLURAY,
+            Refusal::Unsupported => UNSUPPORTED,
+            Refusal::NoRoom => NO_ROOM,
+            Refusal::NoWork => NO_WORK,
+            Refusal::NoSlot => NO_SLOT,
+            Refusal::LongName => LONG_NAME,
         }
     }
 }

@@ -10,7 +10,7 @@ use borrow.Author.Tests.{eq-eqb, ne-eqb, lt-ltb, le-ltb, ltb-false}
 use Rattle.disc.specs.Choice.{pick}
 use Rattle.disc.specs.declared.refusals.Refusal.{Refusal}
 use Rattle.disc.specs.declared.refusals.Refusal.the-variants.{Malformed}
-use Rattle.records.specs.Bytes.{u16at, u32at}
+use Rattle.records.specs.Bytes.{u16at, u32at, u64at}
 use Rattle.tags.specs.Tags.{readHead}
 use Rattle.tags.specs.declared.DescriptorTag.{DescriptorTag}
 use Rattle.tags.specs.declared.TagRead.{TagRead}
@@ -21,7 +21,6 @@ use Rattle.entries.specs.declared.«file_entries».EntryTail.{EntryTail}
 use Rattle.entries.specs.declared.«file_entries».FileEntry.{FileEntry}
 use Rattle.entries.specs.declared.«file_entries».EntryRead.{EntryRead}
 use Rattle.entries.specs.declared.«file_entries».EntryRead.the-variants.{Read, Refused}
-use Rattle.entries.specs.Bytes.{u64at}
 use Rattle.entries.specs.IcbTags.{icbTagOf}
 use Rattle.entries.specs.FileEntries.{plainTail, extendedTail, kindOf, entryOf, entryWith, entryId, entryBehind, entryAfter, readEntry}
 use Rattle.tags.proofs.HeadLaws.{Passed, head-read, head-refused}

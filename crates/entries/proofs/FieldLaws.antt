@@ -1,19 +1,15 @@
--- A number, an ICB tag and an entry by their fields, each as the call that read it ensures. Assumes nothing.
+-- An ICB tag and an entry by their fields, each as the call that read it ensures. Assumes nothing.
 use Prim.Native.Nat.{ℕ, _+_, _*_, _%_, _<_}
 use mathlib.Core.Path.{_≡_}
 use mathlib.Core.List.{List}
-use Rattle.records.specs.Bytes.{byte, u16at, u32at}
+use Rattle.records.specs.Bytes.{byte, u16at, u32at, u64at}
 use Rattle.tags.specs.declared.DescriptorTag.{DescriptorTag}
-use Rattle.entries.specs.Bytes.{u64at}
 use Rattle.entries.specs.IcbTags.{icbTagOf}
 use Rattle.entries.specs.FileEntries.{entryOf}
 use Rattle.entries.specs.declared.«icb_tags».IcbTag.{IcbTag}
 use Rattle.entries.specs.declared.«file_entries».EntryTail.{EntryTail}
 
 module _ (s : List ℕ) (i : ℕ) {a b : ℕ} where
-  pub u64-parts : {r : ℕ} → a ≡ u32at s i → b ≡ u32at s (i + 4) → r ≡ a + b * 0x1_0000_0000 → r ≡ u64at s i
-  u64-parts p q e = rw (e, p, q)
-
   pub icb-tag-fields : {c d e f g h : ℕ} → a ≡ u32at s i → b ≡ u16at s (i + 4) → c ≡ u16at s (i + 6) → d ≡ u16at s (i + 8) → e ≡ byte s (i + 11)
       → f ≡ u32at s (i + 12) → g ≡ u16at s (i + 16) → h ≡ u16at s (i + 18)
       → record {

@@ -1,4 +1,3 @@
 -- Laws of entries.
-pub mod NumberLaws
 pub mod FieldLaws
 pub mod EntryLaws

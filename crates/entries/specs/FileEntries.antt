@@ -6,12 +6,11 @@ use lib.ListN.{length}
 use lib.Dec.{eqb, ltb}
 use Rattle.disc.specs.Choice.{pick}
 use Rattle.disc.specs.declared.refusals.Refusal.the-variants.{Malformed}
-use Rattle.records.specs.Bytes.{byte, u16at, u32at}
+use Rattle.records.specs.Bytes.{byte, u16at, u32at, u64at}
 use Rattle.tags.specs.Tags.{readHead}
 use Rattle.tags.specs.declared.DescriptorTag.{DescriptorTag}
 use Rattle.tags.specs.declared.TagRead.{TagRead}
 use Rattle.tags.specs.declared.TagRead.the-variants.{Read as ATag, Refused as NoTag}
-use Rattle.entries.specs.Bytes.{u64at}
 use Rattle.entries.specs.IcbTags.{icbTagOf}
 use Rattle.entries.specs.declared.«icb_tags».IcbTag.{IcbTag}
 use Rattle.entries.specs.declared.«file_entries».ObjectSize.the-variants.{Recorded, Absent}

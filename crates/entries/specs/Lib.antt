@@ -1,5 +1,4 @@
 -- What the contracts cite, lowest first.
-pub mod Bytes
 pub mod IcbTags
 pub mod FileEntries
 pub mod Answers

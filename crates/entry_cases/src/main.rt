@@ -1,8 +1,6 @@
 // Runs the cases of ICB tags, file entries and file identifiers, a line each: what was asked, and what was answered, field by field in the
 // order of the record.
 use disc::moves::copy;
-use disc::refusals::Refusal;
-use entries::bytes::le64;
 use entries::file_entries::EntryRead;
 use entries::file_entries::FileEntry;
 use entries::file_entries::ObjectSize;
@@ -10,56 +8,18 @@ use entries::icb_tags::IcbTag;
 use entries::icb_tags::IcbTagRead;
 use identifiers::FileIdentifierDescriptor;
 use identifiers::IdentifierRead;
-use libc::STDOUT_FILENO;
+use programs::lent::front;
+use programs::words::number;
+use programs::words::number8;
+use programs::words::number16;
+use programs::words::number32;
+use programs::words::say;
+use programs::words::say_bytes;
+use programs::words::say_refusal;
 use records::allocations::LbAddr;
 use records::allocations::LongAd;
+use records::bytes::le64;
 use tags::DescriptorTag;
-
-// ---- words and numbers
-
-fn say(text: &[u8]) {
-    io::write_all(STDOUT_FILENO, text);
-}
-
-fn number(n: u64) {
-    say(b" ");
-    io::print_decimal(STDOUT_FILENO, n);
-}
-
-// The narrower ones, so that a caller casts nothing.
-fn number8(n: u8) {
-    number(n as u64);
-}
-
-fn number16(n: u16) {
-    number(n as u64);
-}
-
-fn number32(n: u32) {
-    number(n as u64);
-}
-
-fn wide(b: u8) -> u64 {
-    b as u64
-}
-
-fn say_byte(b: u8) {
-    say(b" ");
-    io::print_hex(STDOUT_FILENO, wide(b), 2);
-}
-
-fn say_bytes(s: &[u8]) {
-    let mut i = 0;
-    while i < s.len() {
-        say_byte(s[i]);
-        i += 1;
-    }
-}
-
-fn say_refusal(why: Refusal) {
-    say(b" refused");
-    number(why.number());
-}
 
 // A word where it holds.
 fn say_if(holds: bool, word: &[u8]) {
@@ -84,14 +44,6 @@ fn put(text: &[u8], out: &mut [u8], at: usize) {
         return;
     }
     copy(text, &mut out[at..]);
-}
-
-// The first n bytes of s, or all if it has fewer.
-fn front(s: &[u8], n: usize) -> &[u8] {
-    if s.len() < n {
-        return s;
-    }
-    &s[0..n]
 }
 
 // A tag of an id at the front of out, with the right checksum.

@@ -4,14 +4,21 @@
 //
 // What is expected are the original's answers; where it aborts, at an absurd information length, they are those of RULES 7.10.
 ghost use mathlib.Core.Path.{_≡_};
-ghost use Prim.Native.Nat.{_≤_, _<_, _^_};
+ghost use Prim.Native.Nat.{_≤_, _<_};
 ghost use lib.ListN.{length};
+use disc::moves::least;
 use disc::places::Mount;
 use disc::refusals::Refusal;
 use files::reads::read_file;
 use layouts::lists::file_words;
 use layouts::parts::file_part;
-use libc::STDOUT_FILENO;
+use programs::lent::fill;
+use programs::lent::part;
+use programs::lent::sum;
+use programs::lent::two_mebibytes;
+use programs::words::say;
+use programs::words::say_answer;
+use programs::words::say_named;
 use records::allocations::LongAd;
 use records::allocations::long_at;
 use records::bytes::le16;
@@ -21,25 +28,9 @@ use sparse::expand;
 // What a slot holds when it is lent: no length, type, block or partition of the images.
 const FREE: u32 = 4294901760;
 
-fn say(text: &[u8]) {
-    io::write_all(STDOUT_FILENO, text);
-}
-
-fn say_number(name: &[u8], n: u64) {
-    say(name);
-    io::print_decimal(STDOUT_FILENO, n);
-}
-
-fn say_answer(call: &[u8], answer: u64, count: u64, length: u64) {
-    say_number(call, answer);
-    say_number(b" count ", count);
-    say_number(b" length ", length);
-}
-
-fn wide(b: u8) -> u64
-    ensures { λ r. ⌜ r < 2 ^ 8 ⌝ }
-{
-    b as u64
+fn say_counted(call: &[u8], answer: u64, count: u64, length: u64) {
+    say_answer(call, answer, count);
+    say_named(b" length ", length);
 }
 
 // The numbers of a slot, or zeros past the end.
@@ -48,42 +39,6 @@ fn slot(row: &[[u32; 4]], i: usize) -> [u32; 4] {
         return [0; 4];
     }
     row[i]
-}
-
-fn least(a: usize, b: usize) -> usize
-    ensures { λ r. ⌜ (r ≤ a) × (r ≤ b) ⌝ }
-{
-    if a < b { a } else { b }
-}
-
-// The bytes from a to e, or none where they aren't there.
-fn part(s: &[u8], a: usize, e: usize) -> &[u8] {
-    if s.len() < e {
-        return &s[0..0];
-    }
-    if e < a {
-        return &s[0..0];
-    }
-    &s[a..e]
-}
-
-// A sum that tells where each byte stands.
-fn sum(b: &[u8]) -> u64 {
-    let mut s: u64 = 0;
-    let mut i = 0;
-    while i < b.len() {
-        s = (s * 31 + wide(b[i])) % 4294967296;
-        i += 1;
-    }
-    s
-}
-
-fn fill(out: &mut [u8]) {
-    let mut i = 0;
-    while i < out.len() {
-        out[i] = 0xa5;
-        i += 1;
-    }
 }
 
 fn is_free_slot(w: [u32; 4]) -> bool {
@@ -107,8 +62,8 @@ fn is_free(row: &[[u32; 4]], from: usize) -> bool {
 fn say_read(image: &[u8], mount: Mount, icb: LongAd, out: &mut [u8]) {
     fill(out);
     let r = read_file(image, mount, icb, out, Refusal::NoRoom);
-    say_answer(b"read ", r.answer, r.count, r.length);
-    say_number(b" sum ", sum(out));
+    say_counted(b"read ", r.answer, r.count, r.length);
+    say_named(b" sum ", sum(out));
     say(b"\n");
 }
 
@@ -116,16 +71,16 @@ fn say_part(image: &[u8], mount: Mount, icb: LongAd) {
     let mut answer: u64 = 99;
     let mut count: u64 = 99;
     let p = file_part(image, mount, icb, &mut answer, &mut count);
-    say_answer(b"part ", answer, count, p.len() as u64);
-    say_number(b" sum ", sum(p));
+    say_counted(b"part ", answer, count, p.len() as u64);
+    say_named(b" sum ", sum(p));
     say(b"\n");
 }
 
 fn say_slot(w: [u32; 4]) {
-    say_number(b" (", w[0] as u64);
-    say_number(b" ", w[1] as u64);
-    say_number(b" ", w[2] as u64);
-    say_number(b" ", w[3] as u64);
+    say_named(b" (", w[0] as u64);
+    say_named(b" ", w[1] as u64);
+    say_named(b" ", w[2] as u64);
+    say_named(b" ", w[3] as u64);
     say(b")");
 }
 
@@ -148,7 +103,7 @@ fn lend_row(image: &[u8], mount: Mount, icb: LongAd, n: usize, row: &mut [[u32; 
     requires { ⌜ n ≤ length (now row) ⌝ }
 {
     let r = file_words(image, mount, icb, &mut row[..n]);
-    say_answer(b"extents ", r.answer, r.count, r.length);
+    say_counted(b"extents ", r.answer, r.count, r.length);
     say_slots(r.length as usize, row);
 }
 
@@ -163,14 +118,14 @@ fn say_extents(image: &[u8], mount: Mount, icb: LongAd, n: usize)
 // ---- the file of images
 
 fn say_query(q: &[u8], icb: LongAd) {
-    say_number(b"icb ", icb.length as u64);
-    say_number(b" ", icb.extent_type as u64);
-    say_number(b" ", icb.location.block as u64);
-    say_number(b" ", icb.location.partition_ref as u64);
-    say_number(b" start ", le32(q, 0) as u64);
-    say_number(b" partition ", le16(q, 4) as u64);
-    say_number(b" room ", le32(q, 22) as u64);
-    say_number(b" slots ", le16(q, 26) as u64);
+    say_named(b"icb ", icb.length as u64);
+    say_named(b" ", icb.extent_type as u64);
+    say_named(b" ", icb.location.block as u64);
+    say_named(b" ", icb.location.partition_ref as u64);
+    say_named(b" start ", le32(q, 0) as u64);
+    say_named(b" partition ", le16(q, 4) as u64);
+    say_named(b" room ", le32(q, 22) as u64);
+    say_named(b" slots ", le16(q, 26) as u64);
     say(b"\n");
 }
 
@@ -219,13 +174,6 @@ fn run_all(all: &[u8], image: &mut [u8], out: &mut [u8]) {
     }
 }
 
-// 2 MiB: the longest continuation that is followed has 1 MiB.
-fn image_space() -> [u8; 2097152]
-    ensures { λ r. ⌜ 2097152 ≡ length r ⌝ }
-{
-    [0; 2097152]
-}
-
 fn images_space() -> [u8; 131072]
     ensures { λ r. ⌜ 131072 ≡ length r ⌝ }
 {
@@ -240,7 +188,8 @@ fn main() {
     }
     let mut all = images_space();
     let n = io::read_full(fd, &mut all);
-    let mut image = image_space();
+    // The longest continuation that is followed has 1 MiB.
+    let mut image = two_mebibytes();
     let mut out = io::large_buffer();
     run_all(&all[..n], &mut image, &mut out);
 }

@@ -1,11 +1,12 @@
 // The next piece of a file: what a cursor's next extent gives, looked for where it stands in the image.
 ghost use mathlib.Core.Path.{_≡_};
-ghost use Prim.Native.Nat.{_<_, _^_, min};
+ghost use Prim.Native.Nat.{_<_, _^_};
 ghost use Rattle.files.specs.inner.Pieces.{sectorsRead, weighedAt, Weighed, Turned};
 use areas::AllocExtent;
 use chains::cursors::ChainCursor;
 use chains::cursors::ChainStep;
 use chains::cursors::advance;
+use disc::counts::lesser;
 use disc::images::held_from;
 use disc::images::sectors_for;
 use disc::places::Mount;
@@ -30,13 +31,6 @@ pub enum Turn {
     Hop(ChainCursor),
     Refused(Refusal, u64),
     End,
-}
-
-// The lesser of two numbers.
-pub fn lesser(a: u64, b: u64) -> u64
-    ensures { λ r. ⌜ r ≡ min a b ⌝ }
-{
-    if a < b { a } else { b }
 }
 
 // How many sectors of an extent of `size` bytes are read for `want` bytes: the first is read even for none.

@@ -1,8 +1,7 @@
 -- Laws of file identifiers: the returns of the functions that read one, and what an identifier that was read says. Assumes nothing.
-use mathlib.Core.Path.{_≡_, refl, sym, ap, _∙_}
+use mathlib.Core.Path.{_≡_, refl, ap, _∙_}
 use mathlib.Core.Bool.{Bool, true, false}
 use mathlib.Core.List.{List}
-use mathlib.Core.Option.{Option, none, some}
 use Prim.Native.Nat.{ℕ, _+_, _-_, _*_, _/_, _≤_, _<_}
 use native.Mathlib.Omega.{arith}
 use lib.ListN.{length, getD, take, drop, length-take, List·getD-eq-default}
@@ -13,10 +12,12 @@ use mir.Val.{Fits}
 use mir.Facts.{fits-lit}
 use borrow.Author.Tests.{lt-ltb, le-ltb, ltb-true, ltb-false}
 use Rattle.disc.specs.Choice.{pick}
+use Rattle.disc.specs.Ask.{Outcome}
+use Rattle.disc.specs.Ask.Outcome.{answered, refused}
 use Rattle.disc.specs.declared.refusals.Refusal.{Refusal}
 use Rattle.disc.specs.declared.refusals.Refusal.the-variants.{Malformed}
 use Rattle.records.specs.Bytes.{byte, u16at}
-use Rattle.tags.specs.Tags.{readTag, readHead}
+use Rattle.tags.specs.Tags.{readHead}
 use Rattle.records.specs.Allocations.{longOf}
 use Rattle.records.specs.declared.allocations.LongAd.{LongAd}
 use Rattle.tags.specs.declared.DescriptorTag.{DescriptorTag}
@@ -25,14 +26,14 @@ use Rattle.tags.specs.declared.TagRead.the-variants.{Read as ATag, Refused as N
 use Rattle.names.specs.Names.{nameOf, written, sizeOf}
 use Rattle.names.specs.declared.dstrings.NameSize.{NameSize}
 use Rattle.names.specs.declared.dstrings.NameSize.the-variants.{Size, Refused as NoName}
-use Rattle.names.proofs.BodyLaws.{Bytes}
-use Rattle.names.proofs.Promises.{name-short}
+use Rattle.disc.proofs.ByteLaws.{Bytes}
+use Rattle.names.proofs.Promises.{name-short, name-refused}
 use Rattle.identifiers.specs.declared.FileIdentifierDescriptor.{FileIdentifierDescriptor}
 use Rattle.identifiers.specs.declared.IdentifierRead.{IdentifierRead}
-use Rattle.identifiers.specs.Identifiers.{nameAt, nameEnd, recordedName, nextAt, identifierOf, refusedBy, identifierSized, identifierNamed, identifierAfter, readIdentifier}
+use Rattle.identifiers.specs.Identifiers.{nameAt, nameEnd, recordedName, nextAt, identifierOf, identifierSized, identifierNamed, readIdentifier, identifierRead}
 use Rattle.identifiers.specs.Wholes.{Whole}
 use Rattle.disc.proofs.RefusalLaws.{refusal-numbered}
-use Rattle.tags.proofs.HeadLaws.{head-read, head-refused}
+use Rattle.tags.proofs.HeadLaws.{Passed, gated-answered, gated-refused}
 
 -- ---- the returns of the functions
 
@@ -48,11 +49,11 @@ module _ (s : List ℕ) where
     fields-are a n size v k i = rw (v, k, i)
 
     module _ (a n : ℕ) {size : NameSize} where
-      pub sized-not : size ≡ NoName → {r : IdentifierRead} → r ≡ refusedBy Malformed → r ≡ identifierSized s t a n size
+      pub sized-not : {why : Refusal} → size ≡ NoName why → {r : IdentifierRead} → r ≡ identifierRead (refused why) → r ≡ identifierRead (identifierSized s t a n size)
       unfolding identifierSized
       sized-not e k = rw e k
 
-      pub sized-whole : (k : ℕ) → size ≡ Size k → {f : FileIdentifierDescriptor} → f ≡ identifierOf s t a n k → record { answer = 0; descriptor = f } ≡ identifierSized s t a n size
+      pub sized-whole : (k : ℕ) → size ≡ Size k → {f : FileIdentifierDescriptor} → f ≡ identifierOf s t a n k → record { answer = 0; descriptor = f } ≡ identifierRead (identifierSized s t a n size)
       unfolding identifierSized
       sized-whole k e g = rw (e, g)
 
@@ -61,23 +62,26 @@ module _ (s : List ℕ) where
       unfolding nameEnd
       end-is = cc
 
-      pub named-over : length s < a + n → {r : IdentifierRead} → r ≡ refusedBy Malformed → r ≡ identifierNamed s t
+      pub named-over : length s < a + n → {r : IdentifierRead} → r ≡ identifierRead (refused Malformed) → r ≡ identifierRead (identifierNamed s t)
       unfolding identifierNamed
       named-over h k = simp (lt-ltb (length s) (nameEnd s) (rw end-is at h)) k
 
-      pub named-sized : a + n ≤ length s → {size : NameSize} → size ≡ sizeOf (nameOf (take (a + n - a) (drop a s))) → {r : IdentifierRead} → r ≡ identifierSized s t a n size → r ≡ identifierNamed s t
+      pub named-sized : a + n ≤ length s → {size : NameSize} → size ≡ sizeOf (nameOf (take (a + n - a) (drop a s))) → {r : IdentifierRead}
+          → r ≡ identifierRead (identifierSized s t a n size) → r ≡ identifierRead (identifierNamed s t)
       unfolding identifierNamed recordedName
-      named-sized h z k =
+      named-sized h {size} z k =
           let g : a + n - a ≡ n = omega arith in
-          simp (le-ltb (length s) (nameEnd s) (rw end-is at h)) (rw (← e, ← f) (k ∙ ap (identifierSized s t a n) (z ∙ rw g)))
+          let y : size ≡ sizeOf (nameOf (take n (drop a s))) = rw g at z in
+          let i : identifierSized s t a n size ≡ identifierNamed s t = simp (le-ltb (length s) (nameEnd s) (rw end-is at h)) (rw (← e, ← f) (ap (identifierSized s t a n) y)) in
+          k ∙ ap identifierRead i
 
   -- `x` is what the gate gave
   module _ {x : TagRead} (e : x ≡ readHead s 257 38) {r : IdentifierRead} where
-    pub identifier-no : {why : Refusal} → x ≡ NoTag why → r ≡ refusedBy why → r ≡ readIdentifier s
+    pub identifier-no : {why : Refusal} → x ≡ NoTag why → r ≡ identifierRead (refused why) → r ≡ identifierRead (readIdentifier s)
     unfolding readIdentifier
     identifier-no h k = rw (← e, h) k
 
-    pub identifier-yes : {t : DescriptorTag} → x ≡ ATag t → r ≡ identifierNamed s t → r ≡ readIdentifier s
+    pub identifier-yes : {t : DescriptorTag} → x ≡ ATag t → r ≡ identifierRead (identifierNamed s t) → r ≡ identifierRead (readIdentifier s)
     unfolding readIdentifier
     identifier-yes h k = rw (← e, h) k
 
@@ -93,30 +97,32 @@ part-bytes s n m b i = told (ltb i n) refl
         let l : length (take n (drop m s)) ≤ i = rw length-take (omega (arith, ltb-false i n e)) in
         rw (List·getD-eq-default (take n (drop m s)) 0 l) (fits-lit tt)
 
-sized-is : (o : Option (List ℕ)) {n : ℕ} → Size n ≡ sizeOf o → n ≡ length (written o)
-sized-is none e = absurd (let z : _≡_ {A = ℕ} 0 1 = cc in omega arith)
-sized-is (some name) e = cc
+sized-is : (o : Outcome (List ℕ)) {n : ℕ} → sizeOf o ≡ Size n → n ≡ length (written o)
+sized-is (refused why) e = absurd (let z : _≡_ {A = ℕ} 0 1 = cc in omega arith)
+sized-is (answered name) e = cc
 
-module _ (s : List ℕ) (b : Bytes s) where
-  sized-says : (t : DescriptorTag) → readTag s ≡ ATag t → t .id ≡ 257 → nameEnd s ≤ length s → (z : NameSize) → z ≡ sizeOf (nameOf (recordedName s))
-      → identifierSized s t (nameAt s) (byte s 19) z .answer ≡ 0 → Whole s (identifierSized s t (nameAt s) (byte s 19) z .descriptor)
+module _ (s : List ℕ) (b : Bytes s) {f : FileIdentifierDescriptor} where
+  sized-says : (t : DescriptorTag) → Passed s 257 38 t → nameEnd s ≤ length s → (z : NameSize) → sizeOf (nameOf (recordedName s)) ≡ z
+      → identifierSized s t (nameAt s) (byte s 19) z ≡ answered f → Whole s f
   unfolding identifierSized identifierOf nameEnd nameAt recordedName nextAt
-  sized-says t g i w NoName z q = absurd (omega arith)
-  sized-says t g i w (Size n) z q =
+  sized-says t p w (NoName why) z q = absurd (let z : _≡_ {A = ℕ} 0 1 = cc in omega arith)
+  sized-says t p w (Size n) z q =
+      let i : identifierOf s t (nameAt s) (byte s 19) n ≡ f = cc in
       let name : List ℕ = take (byte s 19) (drop (nameAt s) s) in
       let size : n ≡ length (written (nameOf name)) = sized-is (nameOf name) z in
       let least : length (written (nameOf name)) ≤ 2 * (length name - 1) = name-short name (part-bytes s (byte s 19) (nameAt s) b) in
       let long : length name ≤ byte s 19 = rw length-take (omega arith) in
       let few : byte s 19 < 256 = b 19 .fits in
-      record {
-        tag = g;
-        id = i;
+      rw (← i)
+      (record {
+        tag = p .tag;
+        id = p .is;
         version = refl;
         characteristics = refl;
         icb = refl;
         from = refl;
         recorded = refl;
-        named = sym z;
+        named = z;
         size = size;
         next = refl;
         head = omega arith;
@@ -126,39 +132,42 @@ module _ (s : List ℕ) (b : Bytes s) where
         short = omega arith;
         on = omega arith;
         near = omega arith;
-      }
+      })
 
-  after-says : (q : TagRead) → readHead s 257 38 ≡ q → identifierAfter s q .answer ≡ 0 → Whole s (identifierAfter s q .descriptor)
+  named-says : (t : DescriptorTag) → Passed s 257 38 t → identifierNamed s t ≡ answered f → Whole s f
   unfolding identifierNamed
-  after-says (NoTag why) g z = absurd (refusal-numbered why z)
-  after-says (ATag t) g z = told (ltb (length s) (nameEnd s)) refl z
+  named-says t p q = told (ltb (length s) (nameEnd s)) refl q
     where
-      name : NameSize
-      name = sizeOf (nameOf (recordedName s))
-
       told : (y : Bool) → ltb (length s) (nameEnd s) ≡ y
-          → pick y (refusedBy Malformed) (identifierSized s t (nameAt s) (byte s 19) name) .answer ≡ 0
-          → Whole s (pick y (refusedBy Malformed) (identifierSized s t (nameAt s) (byte s 19) name) .descriptor)
-      told true f z = absurd (omega arith)
-      told false f z = let p = head-read s 257 38 g in sized-says t (p .tag) (p .is) (ltb-false _ _ f) name refl z
+          → pick y (refused Malformed) (identifierSized s t (nameAt s) (byte s 19) (sizeOf (nameOf (recordedName s)))) ≡ answered f → Whole s f
+      told true y q = absurd (let z : _≡_ {A = ℕ} 0 1 = cc in omega arith)
+      told false y q = sized-says t p (ltb-false _ _ y) (sizeOf (nameOf (recordedName s))) refl q
 
-  -- an answer of 0 says it all
-  pub read-identifier : {r : IdentifierRead} → r ≡ readIdentifier s → r .answer ≡ 0 → Whole s (r .descriptor)
+  -- an identifier that was read
+  pub identifier-read : readIdentifier s ≡ answered f → Whole s f
   unfolding readIdentifier
-  read-identifier e z = rw e (after-says (readHead s 257 38) refl (rw e at z))
+  identifier-read e = let g = gated-answered s 257 38 (identifierNamed s) e in named-says (g .tag) (g .head) (g .is)
 
--- and any other answer is 2, with zeros
-pub read-identifier-refused : (s : List ℕ) {r : IdentifierRead} → r ≡ readIdentifier s → (r .answer ≡ 0 → ⊥) → r ≡ refusedBy Malformed
-unfolding readIdentifier identifierNamed identifierSized
-read-identifier-refused s e n = e ∙ told (readHead s 257 38) refl (λ z. n (rw e z))
+-- the same as the code reports it: an answer of 0 says it all
+pub read-identifier : (s : List ℕ) → Bytes s → {r : IdentifierRead} → r ≡ identifierRead (readIdentifier s) → r .answer ≡ 0 → Whole s (r .descriptor)
+read-identifier s b {r} e z = told (readIdentifier s) refl e
   where
-    tagged : (t : DescriptorTag) (y : Bool) (z : NameSize)
-        → (pick y (refusedBy Malformed) (identifierSized s t (nameAt s) (byte s 19) z) .answer ≡ 0 → ⊥)
-        → pick y (refusedBy Malformed) (identifierSized s t (nameAt s) (byte s 19) z) ≡ refusedBy Malformed
-    tagged t true z n = refl
-    tagged t false NoName n = refl
-    tagged t false (Size k) n = absurd (n refl)
+    told : (o : Outcome FileIdentifierDescriptor) → readIdentifier s ≡ o → r ≡ identifierRead o → Whole s (r .descriptor)
+    told (answered f) g e = rw e (identifier-read s b g)
+    told (refused why) g e = absurd (refusal-numbered why (rw e at z))
 
-    told : (q : TagRead) → readHead s 257 38 ≡ q → (identifierAfter s q .answer ≡ 0 → ⊥) → identifierAfter s q ≡ refusedBy Malformed
-    told (NoTag why) g n = ap refusedBy (head-refused s 257 38 g)
-    told (ATag t) g n = tagged t (ltb (length s) (nameEnd s)) (sizeOf (nameOf (recordedName s))) n
+-- and an identifier that was refused is malformed
+module _ (s : List ℕ) {why : Refusal} where
+  named-refused : (t : DescriptorTag) → identifierNamed s t ≡ refused why → why ≡ Malformed
+  unfolding identifierNamed identifierSized
+  named-refused t q = told (ltb (length s) (nameEnd s)) (nameOf (recordedName s)) refl q
+    where
+      told : (y : Bool) (o : Outcome (List ℕ)) → nameOf (recordedName s) ≡ o
+          → pick y (refused Malformed) (identifierSized s t (nameAt s) (byte s 19) (sizeOf o)) ≡ refused why → why ≡ Malformed
+      told true o g q = cc
+      told false (answered name) g q = absurd (let z : _≡_ {A = ℕ} 0 1 = cc in omega arith)
+      told false (refused w) g q = let p : w ≡ why = cc in name-refused (recordedName s) (rw p at g)
+
+  pub identifier-refused : readIdentifier s ≡ refused why → why ≡ Malformed
+  unfolding readIdentifier
+  identifier-refused e = gated-refused s 257 38 (identifierNamed s) named-refused e

@@ -6,15 +6,14 @@ use lib.ListN.{length, take, drop}
 use lib.Dec.{eqb, ltb}
 use Rattle.disc.specs.Choice.{pick}
 use Rattle.disc.specs.Refusals.{number}
-use Rattle.disc.specs.declared.refusals.Refusal.{Refusal}
+use Rattle.disc.specs.Ask.{Outcome}
+use Rattle.disc.specs.Ask.Outcome.{answered, refused}
 use Rattle.disc.specs.declared.refusals.Refusal.the-variants.{Malformed}
 use Rattle.records.specs.Bytes.{byte, u16at}
-use Rattle.tags.specs.Tags.{readHead}
+use Rattle.tags.specs.Tags.{readHead, gated}
 use Rattle.records.specs.Allocations.{longOf, noLong}
 use Rattle.tags.specs.Answers.{noTag}
 use Rattle.tags.specs.declared.DescriptorTag.{DescriptorTag}
-use Rattle.tags.specs.declared.TagRead.{TagRead}
-use Rattle.tags.specs.declared.TagRead.the-variants.{Read as ATag, Refused as NoTag}
 use Rattle.names.specs.Names.{nameOf, sizeOf}
 use Rattle.names.specs.declared.dstrings.NameSize.{NameSize}
 use Rattle.names.specs.declared.dstrings.NameSize.the-variants.{Size, Refused as NoName}
@@ -56,6 +55,22 @@ identifierOf s t at n size = record {
   «total_size» = rounded (at + n);
 }
 
+-- a bad d-string is refused as its name is
+unfoldable pub identifierSized : List ℕ → DescriptorTag → ℕ → ℕ → NameSize → Outcome FileIdentifierDescriptor
+identifierSized s t at n (NoName why) = refused why
+identifierSized s t at n (Size size) = answered (identifierOf s t at n size)
+
+-- before that, a name that ends past the bytes given
+unfoldable pub identifierNamed : List ℕ → DescriptorTag → Outcome FileIdentifierDescriptor
+identifierNamed s t =
+    pick (ltb (length s) (nameEnd s)) (refused Malformed)
+    (identifierSized s t (nameAt s) (byte s 19) (sizeOf (nameOf (recordedName s))))
+
+-- reading an identifier at the front of s: id 257, 38 bytes at least
+unfoldable pub readIdentifier : List ℕ → Outcome FileIdentifierDescriptor
+readIdentifier s = gated (readHead s 257 38) (identifierNamed s)
+
+-- as the code reports it: the answer number, and zeros where it is a refusal
 abbrev pub noIdentifier : FileIdentifierDescriptor
 noIdentifier = record {
   tag = noTag;
@@ -68,28 +83,9 @@ noIdentifier = record {
   «total_size» = 0;
 }
 
-abbrev pub refusedBy : Refusal → IdentifierRead
-refusedBy why = record { answer = number why; descriptor = noIdentifier }
-
--- a bad d-string is refused
-unfoldable pub identifierSized : List ℕ → DescriptorTag → ℕ → ℕ → NameSize → IdentifierRead
-identifierSized s t at n NoName = refusedBy Malformed
-identifierSized s t at n (Size size) = record { answer = 0; descriptor = identifierOf s t at n size }
-
--- before that, a name that ends past the bytes given
-unfoldable pub identifierNamed : List ℕ → DescriptorTag → IdentifierRead
-identifierNamed s t =
-    pick (ltb (length s) (nameEnd s)) (refusedBy Malformed)
-    (identifierSized s t (nameAt s) (byte s 19) (sizeOf (nameOf (recordedName s))))
-
--- behind the gate: its refusal, or what it leads to
-abbrev pub identifierAfter : List ℕ → TagRead → IdentifierRead
-identifierAfter s (NoTag why) = refusedBy why
-identifierAfter s (ATag t) = identifierNamed s t
-
--- reading an identifier at the front of s: id 257, 38 bytes at least
-unfoldable pub readIdentifier : List ℕ → IdentifierRead
-readIdentifier s = identifierAfter s (readHead s 257 38)
+abbrev pub identifierRead : Outcome FileIdentifierDescriptor → IdentifierRead
+identifierRead (answered f) = record { answer = 0; descriptor = f }
+identifierRead (refused why) = record { answer = number why; descriptor = noIdentifier }
 
 -- ---- the characteristics (4/14.4.3)
 

@@ -1,7 +1,8 @@
 // File identifiers: one entry of a directory.
 ghost use mathlib.Core.Path.{_≡_};
-ghost use Prim.Native.Nat.{_+_, _<_};
-ghost use Rattle.identifiers.specs.Identifiers.{nameAt, refusedBy, identifierOf, identifierSized, identifierNamed, readIdentifier, isDeleted, isDirectory, isParent};
+ghost use Prim.Native.Nat.{_+_, _/_, _%_, _<_};
+ghost use Rattle.disc.specs.Ask.Outcome.{refused};
+ghost use Rattle.identifiers.specs.Identifiers.{nameAt, identifierOf, identifierSized, identifierNamed, readIdentifier, identifierRead, bit, isDeleted, isDirectory, isParent};
 use disc::refusals::Refusal;
 use names::dstrings::NameSize;
 use names::dstrings::name_size;
@@ -18,7 +19,8 @@ use tags::no_tag;
 // ECMA-167 4/14.4. The size is that of what stands before the implementation use.
 const ID: u16 = 257;
 
-const SIZE: usize = 38;
+// What an identifier has at least: all before its implementation use and its name.
+pub const LEAST_SIZE: usize = 38;
 
 // The recorded name, a d-string of `name_length` bytes, stands at `name_at`; as UTF-8 it has `name_size` bytes. The next identifier
 // starts `total_size` bytes on.
@@ -42,7 +44,7 @@ pub struct IdentifierRead {
 }
 
 fn refused_by(why: Refusal) -> IdentifierRead
-    ensures { λ r. ⌜ r ≡ refusedBy why ⌝ }
+    ensures { λ r. ⌜ r ≡ identifierRead (refused why) ⌝ }
 {
     IdentifierRead {
         answer: why.number(),
@@ -63,7 +65,7 @@ fn refused_by(why: Refusal) -> IdentifierRead
 pub fn name_at(s: &[u8]) -> usize
     ensures { λ r. ⌜ (r ≡ nameAt (now (s .entry))) × (r < 65574) ⌝ }
 {
-    SIZE + le16(s, 36) as usize
+    LEAST_SIZE + le16(s, 36) as usize
 }
 
 // Every field at its offset; the name's `n` bytes stand at `at`, and it has `size` bytes of UTF-8.
@@ -98,10 +100,10 @@ fn identifier_sized(
     size: NameSize,
 ) -> IdentifierRead
     requires { ⌜ at + n < 0x1_0000_0000 ⌝ }
-    ensures { λ r. ⌜ r ≡ identifierSized (now (s .entry)) t at n size ⌝ }
+    ensures { λ r. ⌜ r ≡ identifierRead (identifierSized (now (s .entry)) t at n size) ⌝ }
 {
     match size {
-        NameSize::Refused => refused_by(Refusal::Malformed),
+        NameSize::Refused(why) => refused_by(why),
         NameSize::Size(k) => IdentifierRead {
             answer: 0,
             descriptor: identifier_of(s, t, at, n, k),
@@ -111,7 +113,7 @@ fn identifier_sized(
 
 // The same, unless its name ends past the bytes given. Where it stands and how long it is are fetched here, once.
 fn identifier_named(s: &[u8], t: DescriptorTag) -> IdentifierRead
-    ensures { λ r. ⌜ r ≡ identifierNamed (now (s .entry)) t ⌝ }
+    ensures { λ r. ⌜ r ≡ identifierRead (identifierNamed (now (s .entry)) t) ⌝ }
 {
     let at = name_at(s);
     let n = byte_at(s, 19) as usize;
@@ -122,11 +124,37 @@ fn identifier_named(s: &[u8], t: DescriptorTag) -> IdentifierRead
     identifier_sized(s, t, at, n, name_size(&s[at..end]))
 }
 
+// The bits of the characteristics (4/14.4.3): of a directory, of a deleted identifier, of the parent's.
+pub fn marks_directory(characteristics: u8) -> bool
+    ensures { λ r. ⌜ r ≡ bit 2 characteristics ⌝ }
+{
+    characteristics / 2 % 2 == 1
+}
+
+pub fn marks_deleted(characteristics: u8) -> bool
+    ensures { λ r. ⌜ r ≡ bit 4 characteristics ⌝ }
+{
+    characteristics / 4 % 2 == 1
+}
+
+pub fn marks_parent(characteristics: u8) -> bool
+    ensures { λ r. ⌜ r ≡ bit 8 characteristics ⌝ }
+{
+    characteristics / 8 % 2 == 1
+}
+
+// The first of them as a number.
+pub fn directory_bit(characteristics: u8) -> u8
+    ensures { λ r. ⌜ r ≡ characteristics / 2 % 2 ⌝ }
+{
+    characteristics / 2 % 2
+}
+
 impl FileIdentifierDescriptor {
     pub fn parse(s: &[u8]) -> IdentifierRead
-        ensures { λ r. ⌜ r ≡ readIdentifier (now (s .entry)) ⌝ }
+        ensures { λ r. ⌜ r ≡ identifierRead (readIdentifier (now (s .entry))) ⌝ }
     {
-        match read_head(s, ID, SIZE) {
+        match read_head(s, ID, LEAST_SIZE) {
             TagRead::Refused(why) => refused_by(why),
             TagRead::Read(t) => identifier_named(s, t),
         }
@@ -135,18 +163,18 @@ impl FileIdentifierDescriptor {
     pub fn is_directory(self) -> bool
         ensures { λ r. ⌜ r ≡ isDirectory self ⌝ }
     {
-        self.file_characteristics / 2 % 2 == 1
+        marks_directory(self.file_characteristics)
     }
 
     pub fn is_deleted(self) -> bool
         ensures { λ r. ⌜ r ≡ isDeleted self ⌝ }
     {
-        self.file_characteristics / 4 % 2 == 1
+        marks_deleted(self.file_characteristics)
     }
 
     pub fn is_parent(self) -> bool
         ensures { λ r. ⌜ r ≡ isParent self ⌝ }
     {
-        self.file_characteristics / 8 % 2 == 1
+        marks_parent(self.file_characteristics)
     }
 }

@@ -12,6 +12,7 @@ use lib.Seq.{sets, sets-eq}
 use mir.Syntax.{w64}
 use mir.Val.{Fits}
 use borrow.Author.Tests.{le-leb, lt-leb, leb-true}
+use Rattle.disc.proofs.ByteLaws.{Bytes}
 use Rattle.disc.specs.Refusals.{number}
 use Rattle.disc.specs.Choice.{pick}
 use Rattle.disc.specs.Counts.{reported}
@@ -31,7 +32,7 @@ use Rattle.chains.specs.declared.cursors.ChainCursor.{ChainCursor}
 use Rattle.chains.specs.declared.cursors.ChainStep.{ChainStep}
 use Rattle.chains.specs.declared.cursors.ChainStep.the-variants.{Takes, Hops, Ends}
 use Rattle.chains.specs.Walks.{left, weight, stepOf}
-use Rattle.chains.proofs.WalkLaws.{Bytes, Taken, Hopped, Stepped, steps}
+use Rattle.chains.proofs.WalkLaws.{Taken, Hopped, Stepped, steps}
 use Rattle.files.specs.declared.icbs.Place.{Place}
 use Rattle.files.specs.Files.{fileExtents}
 use Rattle.files.specs.declared.resolves.Resolved.{Resolved}

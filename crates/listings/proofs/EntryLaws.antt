@@ -8,26 +8,28 @@ use native.Mathlib.Omega.{arith}
 use lib.ListN.{length, take, drop, length-append, length-drop, drop-of-length-le}
 use lib.Seq.{take-all, drop-drop, drop-at, length-take-le, sets, length-sets, sets-eq}
 use lib.Dec.{ltb, eqb}
-use borrow.Author.Tests.{eq-eqb, ne-eqb, eqb-true, eqb-false}
+use borrow.Author.Tests.{eqb-true, eqb-false}
 use borrow.Rule.Slice.PartMut.{midOf, putMid}
 use Rattle.disc.specs.Choice.{pick}
 use Rattle.disc.specs.Refusals.{number}
+use Rattle.disc.specs.Ask.{Outcome}
 use Rattle.disc.specs.Ask.Outcome.{answered, refused}
-use Rattle.disc.specs.declared.refusals.Refusal.the-variants.{Malformed}
+use Rattle.disc.specs.declared.refusals.Refusal.{Refusal}
 use Rattle.disc.specs.Moves.{over}
+use Rattle.disc.proofs.RefusalLaws.{refusal-numbered}
 use Rattle.disc.proofs.MoveLaws.{over-fits}
 use Rattle.records.specs.Bytes.{byte, u16at, u32at, le16, le32, six}
 use Rattle.records.specs.Allocations.{encodeLong, longOf}
 use Rattle.records.proofs.Numbers.{le16-u16, le32-u32, u32-fits, raw-whole}
 use Rattle.records.specs.declared.allocations.LongAd.{LongAd}
 use Rattle.names.specs.Names.{Wrote, nameOf, written, isNamed}
-use Rattle.names.proofs.BodyLaws.{Bytes}
+use Rattle.disc.proofs.ByteLaws.{Bytes}
 use Rattle.identifiers.specs.declared.FileIdentifierDescriptor.{FileIdentifierDescriptor}
 use Rattle.identifiers.specs.declared.IdentifierRead.{IdentifierRead}
-use Rattle.identifiers.specs.Identifiers.{readIdentifier, recordedName, nameAt, nameEnd, nextAt, bit, isDirectory}
+use Rattle.identifiers.specs.Identifiers.{readIdentifier, identifierRead, recordedName, nameAt, nameEnd, nextAt, bit, isDirectory}
 use Rattle.identifiers.specs.Wholes.{Whole}
-use Rattle.identifiers.proofs.IdentifierLaws.{read-identifier, read-identifier-refused}
-use Rattle.listings.specs.Entries.{Entry, entryOf, entryRead, isSkipped, nameIn}
+use Rattle.identifiers.proofs.IdentifierLaws.{identifier-read, read-identifier}
+use Rattle.listings.specs.Entries.{Entry, entryOf, entryIn, entryRead, isSkipped, nameIn}
 use Rattle.listings.specs.Listings.{recordHead, shown, isLong, answersTo}
 use Rattle.listings.specs.inner.Passes.{Recorded, Puts, icbIn, headIn, recordIn, earlierOf}
 use Rattle.listings.specs.declared.finds.Named.{Named}
@@ -59,27 +61,44 @@ pub record Known (s : List ℕ) (e : Entry) : Type 0 where
   pub is : e ≡ entryOf s (e .identifier)
   pub whole : Whole s (e .identifier)
 
-module _ (s : List ℕ) (b : Bytes s) {r : IdentifierRead} (p : r ≡ readIdentifier s) where
+-- it is refused, and n is the refusal's number
+pub record Badly (s : List ℕ) (n : ℕ) : Type 0 where
+  pub why : Refusal
+  pub is : entryRead s ≡ refused why
+  pub numbered : n ≡ number why
+
+module _ (s : List ℕ) (b : Bytes s) {r : IdentifierRead} (p : r ≡ identifierRead (readIdentifier s)) where
   pub read-good : r .answer ≡ 0 → entryRead s ≡ answered (entryOf s (r .descriptor))
   unfolding entryRead
-  read-good z = rw (← p, eq-eqb _ _ z)
+  read-good z = told (readIdentifier s) p
+    where
+      told : (o : Outcome FileIdentifierDescriptor) → r ≡ identifierRead o → entryIn s o ≡ answered (entryOf s (r .descriptor))
+      told (answered f) e = rw e
+      told (refused why) e = absurd (refusal-numbered why (rw e at z))
 
   pub read-whole : r .answer ≡ 0 → Whole s (r .descriptor)
   read-whole z = read-identifier s b p z
 
-  pub read-bad : (r .answer ≡ 0 → ⊥) → (entryRead s ≡ refused Malformed) × (r .answer ≡ number Malformed)
+  pub read-bad : (r .answer ≡ 0 → ⊥) → Badly s (r .answer)
   unfolding entryRead
-  read-bad n = (rw (← p, ne-eqb _ _ n), ap (λ (x : IdentifierRead). x .answer) (read-identifier-refused s p n))
+  read-bad n = told (readIdentifier s) refl p
+    where
+      told : (o : Outcome FileIdentifierDescriptor) → readIdentifier s ≡ o → r ≡ identifierRead o → Badly s (r .answer)
+      told (answered f) g e = absurd (n (ap (λ (x : IdentifierRead). x .answer) e))
+      told (refused why) g e = record { why = why; is = ap (entryIn s) g; numbered = ap (λ (x : IdentifierRead). x .answer) e }
 
 pub known : (s : List ℕ) → Bytes s → {e : Entry} → entryRead s ≡ answered e → Known s e
 unfolding entryRead
-known s b {e} h = by (eqb (readIdentifier s .answer) 0) refl h
+known s b {e} h = told (readIdentifier s) refl h
   where
-    by : (t : Bool) → eqb (readIdentifier s .answer) 0 ≡ t → pick t (answered (entryOf s (readIdentifier s .descriptor))) (refused Malformed) ≡ answered e → Known s e
-    by true z k =
-        let x : e ≡ entryOf s (readIdentifier s .descriptor) = cc in
-        rw x (record { is = refl; whole = read-identifier s b refl (eqb-true _ _ z) })
-    by false z k = absurd (let y : _≡_ {A = ℕ} 0 1 = cc in omega arith)
+    told : (o : Outcome FileIdentifierDescriptor) → readIdentifier s ≡ o → entryIn s o ≡ answered e → Known s e
+    told (answered f) g k =
+        let x : e ≡ entryOf s f = cc in
+        rw x (record { is = refl; whole = identifier-read s b g })
+    told (refused why) g k = absurd (let y : _≡_ {A = ℕ} 0 1 = cc in omega arith)
+
+pub left-out-is : (m : ℕ) {a b r : Bool} → a ≡ bit 4 m → b ≡ bit 8 m → r ≡ (a || b) → r ≡ (bit 4 m || bit 8 m)
+left-out-is m p q e = rw (e, p, q)
 
 pub skipped-is : (f : FileIdentifierDescriptor) {b : Bool} → b ≡ (bit 4 (f .«file_characteristics») || bit 8 (f .«file_characteristics»)) → b ≡ isSkipped f
 unfolding isSkipped
@@ -94,9 +113,8 @@ head-length d icb n = refl
 -- the ICB as it is recorded is what encoding it gives
 icb-recorded : (s : List ℕ) → Bytes s → encodeLong (longOf s 20) ≡ icbIn s
 icb-recorded s b =
-    let h : (i : ℕ) → byte s i < 256 = λ i. b i .fits in
-    ap (λ (n : ℕ). le32 n ++ le32 (u32at s 24) ++ le16 (u16at s 28) ++ six s 30) (raw-whole (u32at s 20) (u32-fits s h 20))
-    ∙ (λ i. le32-u32 s h 20 i ++ le32-u32 s h 24 i ++ le16-u16 s h 28 i ++ six s 30)
+    ap (λ (n : ℕ). le32 n ++ le32 (u32at s 24) ++ le16 (u16at s 28) ++ six s 30) (raw-whole (u32at s 20) (u32-fits s b 20))
+    ∙ (λ i. le32-u32 s b 20 i ++ le32-u32 s b 24 i ++ le16-u16 s b 28 i ++ six s 30)
 
 -- a bit is its own byte
 bit-byte : (b : ℕ) → b / 2 % 2 ≡ pick (bit 2 b) 1 0
@@ -161,12 +179,12 @@ module _ (marks : ℕ) (s name d : List ℕ) where
     pub record-cut : length (putMid 21 (length d - 21) d ys) - 21 < w → Recorded marks s name d (putMid 21 (length d - 21) d ys) 0
     record-cut h = record { inside = zero-le; wrote = λ room. absurd (omega (arith, p .count)) }
 
-    pub record-put : 21 ≤ length d → w ≤ length (putMid 21 (length d - 21) d ys) - 21 → {hd d′ : List ℕ} → hd ≡ headIn (marks / 2 % 2) s w
+    pub record-put : 21 ≤ length d → w ≤ length (putMid 21 (length d - 21) d ys) - 21 → {directory : ℕ} → directory ≡ marks / 2 % 2 → {hd d′ : List ℕ} → hd ≡ headIn directory s w
         → d′ ≡ over hd (putMid 21 (length d - 21) d ys) → Recorded marks s name d d′ (21 + w)
     unfolding recordIn
-    record-put least h {hd} j c =
+    record-put least h q {hd} j c =
         let z = head-long (marks / 2 % 2) s (length name) in
-        let i : hd ≡ headIn (marks / 2 % 2) s (length name) = j ∙ rw (p .count) in
+        let i : hd ≡ headIn (marks / 2 % 2) s (length name) = j ∙ rw (q, p .count) in
         record {
           inside = omega arith;
           wrote = λ room. record {

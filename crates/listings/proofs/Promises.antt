@@ -21,8 +21,10 @@ use Rattle.disc.proofs.ReplyLaws.{replied-one}
 use Rattle.names.specs.Names.{pairs, untilZero, surrogate, dropSurrogates, encode, utf8, nameOf, written, lower, matched, isNamed}
 use Rattle.names.proofs.Promises.{same-folded}
 use Rattle.tags.specs.Tags.{withId, readHead}
+use Rattle.identifiers.specs.declared.FileIdentifierDescriptor.{FileIdentifierDescriptor}
+use Rattle.identifiers.proofs.IdentifierLaws.{identifier-refused}
 use Rattle.identifiers.specs.Identifiers.{nameAt, nameEnd, recordedName, nextAt, identifierOf, identifierSized, identifierNamed, readIdentifier}
-use Rattle.listings.specs.Entries.{Entry, entryOf, entryRead, inFront, isSkipped, nameIn, entriesFrom, entries}
+use Rattle.listings.specs.Entries.{Entry, entryIn, entryRead, inFront, isSkipped, nameIn, entriesFrom, entries}
 use Rattle.listings.specs.Listings.{recordHead, shown, records, isLong, anyLong, listing, answersTo, firstNamed, findIn, namedOf}
 use Rattle.listings.specs.Paths.{front, behind, componentsFrom, components}
 use Rattle.listings.specs.declared.finds.Named.{Named}
@@ -52,21 +54,21 @@ pub answers-folded : (component : List ℕ) (e : Entry) → answersTo component 
 unfolding answersTo isNamed nameIn
 answers-folded component e h = by (isSkipped (e .identifier)) (ltb 255 (length (e .recorded))) (nameOf (e .recorded)) refl h
   where
-    by : (s t : Bool) (o : Option (List ℕ)) → isSkipped (e .identifier) ≡ s → pick s false (pick t false (matched o component)) ≡ true → (isSkipped (e .identifier) ≡ false) × (map lower (written o) ≡ map lower component)
+    by : (s t : Bool) (o : Outcome (List ℕ)) → isSkipped (e .identifier) ≡ s → pick s false (pick t false (matched o component)) ≡ true → (isSkipped (e .identifier) ≡ false) × (map lower (written o) ≡ map lower component)
     by true t o k h = not-both h
     by false true o k h = not-both h
-    by false false none k h = not-both h
-    by false false (some name) k h = (k, same-folded name component .0 h)
+    by false false (refused why) k h = not-both h
+    by false false (answered name) k h = (k, same-folded name component .0 h)
 
 -- ---- a directory is refused by what refuses an entry
 
 read-refused : (s : List ℕ) {why : Refusal} → entryRead s ≡ refused why → why ≡ Malformed
 unfolding entryRead
-read-refused s {why} e = by (eqb (readIdentifier s .answer) 0) e
+read-refused s {why} e = by (readIdentifier s) refl e
   where
-    by : (t : Bool) → pick t (answered (entryOf s (readIdentifier s .descriptor))) (refused Malformed) ≡ refused why → why ≡ Malformed
-    by true e = absurd (let z : _≡_ {A = ℕ} 0 1 = cc in omega arith)
-    by false e = cc
+    by : (o : Outcome FileIdentifierDescriptor) → readIdentifier s ≡ o → entryIn s o ≡ refused why → why ≡ Malformed
+    by (answered f) g k = absurd (let y : _≡_ {A = ℕ} 0 1 = cc in omega arith)
+    by (refused w) g k = let z : w ≡ why = cc in sym z ∙ identifier-refused s g
 
 from-refused : (k : ℕ) (s : List ℕ) {why : Refusal} → entriesFrom k s ≡ refused why → why ≡ Malformed
 unfolding entriesFrom

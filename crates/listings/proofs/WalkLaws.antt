@@ -26,8 +26,8 @@ use Rattle.disc.proofs.MoveLaws.{over-fits, sets-append, sets-whole}
 use Rattle.disc.proofs.RefusalLaws.{refusal-numbered}
 use Rattle.disc.proofs.ReplyLaws.{reply-refused, reply-full, reply-done}
 use Rattle.identifiers.specs.declared.IdentifierRead.{IdentifierRead}
-use Rattle.names.proofs.BodyLaws.{Bytes}
-use Rattle.identifiers.specs.Identifiers.{readIdentifier, nameAt, nameEnd, nextAt}
+use Rattle.disc.proofs.ByteLaws.{Bytes}
+use Rattle.identifiers.specs.Identifiers.{readIdentifier, identifierRead, nameAt, nameEnd, nextAt}
 use Rattle.identifiers.specs.Wholes.{Whole}
 use Rattle.listings.specs.Entries.{Entry, entryOf, entryRead, isSkipped, inFront, entriesFrom, entries}
 use Rattle.listings.specs.Listings.{shown, records, isLong, anyLong, listing, answersTo, firstNamed, findIn, unnamed, namedTo, namedOf}
@@ -89,7 +89,7 @@ module _ (raw : List ℕ) (at : ℕ) where
         ap entries (sym tail-is) ∙ front-next (tail raw at) (rw tail-length (omega arith)) g ∙ ap (λ l. inFront e (entries l)) z
 
     -- what reading the entry there says
-    pub comes : Bytes raw → {r : IdentifierRead} → r ≡ readIdentifier (tail raw at) → Comes raw at r
+    pub comes : Bytes raw → {r : IdentifierRead} → r ≡ identifierRead (readIdentifier (tail raw at)) → Comes raw at r
     comes a p =
         let b : Bytes (tail raw at) = λ i. rw (tail-is, getD-drop) (a (at + i)) in
         record {
@@ -103,7 +103,7 @@ module _ (raw : List ℕ) (at : ℕ) where
               };
           bad = λ n.
               let w = read-bad (tail raw at) b p n in
-              record { why = Malformed; is = at-bad (w .0); numbered = w .1 };
+              record { why = w .why; is = at-bad (w .is); numbered = w .numbered };
         }
 
 -- ---- an entry that was read at `at`, in the form that the loops ask for

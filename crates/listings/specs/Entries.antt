@@ -3,11 +3,10 @@ use Prim.Native.Nat.{ℕ, zero, suc, _-_}
 use mathlib.Core.Bool.{Bool, _||_}
 use mathlib.Core.List.{List, [], _∷_}
 use lib.ListN.{length}
-use lib.Dec.{ltb, eqb}
+use lib.Dec.{ltb}
 use Rattle.disc.specs.Choice.{pick}
 use Rattle.disc.specs.Ask.{Outcome, andThen}
-use Rattle.disc.specs.Ask.Outcome.{answered, refused}
-use Rattle.disc.specs.declared.refusals.Refusal.the-variants.{Malformed}
+use Rattle.disc.specs.Ask.Outcome.{answered}
 use Rattle.names.specs.Names.{nameOf, written}
 use Rattle.identifiers.specs.declared.FileIdentifierDescriptor.{FileIdentifierDescriptor}
 use Rattle.identifiers.specs.Identifiers.{readIdentifier, recordedName, nextAt, isDeleted, isParent}
@@ -23,9 +22,12 @@ pub record Entry : Type 0 where
 abbrev pub entryOf : List ℕ → FileIdentifierDescriptor → Entry
 entryOf s f = record { identifier = f; recorded = recordedName s }
 
--- reading it
+-- reading it: an identifier that is refused refuses the entry
+abbrev pub entryIn : List ℕ → Outcome FileIdentifierDescriptor → Outcome Entry
+entryIn s o = andThen o (λ f. answered (entryOf s f))
+
 unfoldable pub entryRead : List ℕ → Outcome Entry
-entryRead s = pick (eqb (readIdentifier s .answer) 0) (answered (entryOf s (readIdentifier s .descriptor))) (refused Malformed)
+entryRead s = entryIn s (readIdentifier s)
 
 -- a deleted entry, or that of the parent (4/14.4.3)
 unfoldable pub isSkipped : FileIdentifierDescriptor → Bool

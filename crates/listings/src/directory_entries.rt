@@ -14,13 +14,13 @@ ghost use Rattle.listings.specs.inner.Passes.{Comes, Recorded, Puts, hea
 use disc::moves::copy;
 use identifiers::FileIdentifierDescriptor;
 use identifiers::IdentifierRead;
+use identifiers::directory_bit;
+use identifiers::marks_deleted;
+use identifiers::marks_parent;
 use identifiers::name_at;
 use names::dstrings::put_name;
 use names::matching::is_named;
 use records::bytes::byte_at;
-
-// What an identifier has before its implementation use: an entry is read while so many bytes remain.
-pub(crate) const LEAST: usize = 38;
 
 // What a record has before its name.
 const HEAD: usize = 21;
@@ -37,8 +37,8 @@ pub(crate) fn entry_at(raw: &[u8], at: usize) -> IdentifierRead
 fn is_left_out(marks: u8) -> bool
     ensures { λ r. ⌜ r ≡ (bit 4 marks || bit 8 marks) ⌝ }
 {
-    let deleted = marks / 4 % 2 == 1;
-    let parent = marks / 8 % 2 == 1;
+    let deleted = marks_deleted(marks);
+    let parent = marks_parent(marks);
     deleted | parent
 }
 
@@ -113,7 +113,7 @@ fn put_record(marks: u8, s: &[u8], recorded: &[u8], out: &mut [u8]) -> usize
     if out.len() - HEAD < n {
         return 0;
     }
-    let h = head(marks / 2 % 2, s, n);
+    let h = head(directory_bit(marks), s, n);
     copy(&h, out);
     HEAD + n
 }

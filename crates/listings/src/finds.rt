@@ -6,10 +6,10 @@ ghost use Rattle.identifiers.specs.Wholes.{Whole};
 ghost use Rattle.listings.specs.Entries.{entryOf};
 ghost use Rattle.listings.specs.Listings.{findIn, namedOf, unnamed};
 ghost use Rattle.listings.specs.inner.Passes.{earlierOf};
-use crate::directory_entries::LEAST;
 use crate::directory_entries::answers_to;
 use crate::directory_entries::entry_at;
 use identifiers::FileIdentifierDescriptor;
+use identifiers::LEAST_SIZE;
 use records::allocations::LongAd;
 use records::allocations::no_long;
 
@@ -58,7 +58,7 @@ pub fn find(raw: &[u8], component: &[u8]) -> Named
 {
     let mut found = no_entry(0);
     let mut at: usize = 0;
-    while at + LEAST <= raw.len() {
+    while at + LEAST_SIZE <= raw.len() {
         let r = entry_at(raw, at);
         if r.answer != 0 {
             return no_entry(r.answer);

@@ -9,7 +9,6 @@ ghost use Rattle.disc.specs.declared.refusals.Refusal.the-variants.{NoRoom};
 ghost use Rattle.listings.specs.Entries.{Entry, entries};
 ghost use Rattle.listings.specs.Listings.{records, listing};
 ghost use Rattle.listings.specs.inner.Passes.{sizeOfListing};
-use crate::directory_entries::LEAST;
 use crate::directory_entries::entry_at;
 use crate::directory_entries::is_long;
 use crate::directory_entries::put_entry;
@@ -17,6 +16,7 @@ use crate::directory_entries::record_size;
 use disc::refusals::Refusal;
 use disc::replies::Reply;
 use disc::replies::refusal;
+use identifiers::LEAST_SIZE;
 
 // Whether a listed name is too long, and how many bytes the listing takes; zeros where the directory is refused.
 pub struct ListingSize {
@@ -31,7 +31,7 @@ fn measure(raw: &[u8]) -> ListingSize
     let mut long = false;
     let mut n: usize = 0;
     let mut at: usize = 0;
-    while at + LEAST <= raw.len() {
+    while at + LEAST_SIZE <= raw.len() {
         let r = entry_at(raw, at);
         if r.answer != 0 {
             return ListingSize {
@@ -59,7 +59,7 @@ fn put_entries(raw: &[u8], out: &mut [u8])
 {
     let mut n: usize = 0;
     let mut at: usize = 0;
-    while at + LEAST <= raw.len() {
+    while at + LEAST_SIZE <= raw.len() {
         let p = put_entry(&raw[at..], &mut out[n..]);
         n += p.wrote;
         at += p.next;

@@ -2,7 +2,6 @@
 // what was asked, its bytes in hex, and what was answered: a name's size and bytes.
 ghost use Prim.Native.Nat.{_≤_};
 ghost use lib.ListN.{length};
-use libc::STDOUT_FILENO;
 use names::dstrings::NameSize;
 use names::dstrings::name_size;
 use names::dstrings::put_name;
@@ -10,44 +9,26 @@ use names::fields::field_size;
 use names::fields::put_field;
 use names::matching::is_named;
 use names::matching::same_name;
-
-fn say(text: &[u8]) {
-    io::write_all(STDOUT_FILENO, text);
-}
-
-fn wide(b: u8) -> u64 {
-    b as u64
-}
-
-// A space and two hex digits for each of the first n bytes of b, or of all if it has fewer.
-fn say_bytes(b: &[u8], n: usize) {
-    let mut i = 0;
-    while i < b.len() {
-        if i == n {
-            return;
-        }
-        say(b" ");
-        io::print_hex(STDOUT_FILENO, wide(b[i]), 2);
-        i += 1;
-    }
-}
+use programs::lent::front;
+use programs::words::say;
+use programs::words::say_bytes;
+use programs::words::say_named;
 
 // What was asked, and of which bytes.
 fn asked(what: &[u8], b: &[u8]) {
     say(what);
-    say_bytes(b, b.len());
+    say_bytes(b);
 }
 
 // What was answered for a name, and the name, which stands at the front of b.
 fn say_name(size: NameSize, b: &[u8]) {
     match size {
         NameSize::Size(n) => {
-            say(b": ");
-            io::print_decimal(STDOUT_FILENO, n as u64);
-            say_bytes(b, n);
+            say_named(b": ", n as u64);
+            say_bytes(front(b, n));
             say(b"\n");
         }
-        NameSize::Refused => say(b": refused\n"),
+        NameSize::Refused(_) => say(b": refused\n"),
     }
 }
 
@@ -88,8 +69,8 @@ fn put_front(s: &[u8], room: usize, out: &mut [u8])
     requires { ⌜ room ≤ length (now out) ⌝ }
 {
     let n = put_name(s, &mut out[..room]);
-    io::print_decimal(STDOUT_FILENO, n as u64);
-    say_bytes(out, out.len());
+    say_named(b": ", n as u64);
+    say_bytes(out);
 }
 
 // The same of eight bytes EE: what has no room is left out, and what is behind stays.
@@ -98,7 +79,6 @@ fn into(room: usize, s: &[u8])
 {
     let mut out = [0xeeu8; 8];
     asked(b"into", s);
-    say(b": ");
     put_front(s, room, &mut out);
     say(b"\n");
 }

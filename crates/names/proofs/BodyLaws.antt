@@ -11,6 +11,7 @@ use lib.Dec.{eqb, ltb, lit≤}
 use mir.Syntax.{w8, w64}
 use mir.Val.{Fits}
 use borrow.Author.Tests.{ne-eqb, lt-ltb}
+use Rattle.disc.proofs.ByteLaws.{Bytes}
 use Rattle.disc.proofs.PickLaws.{pick-both}
 use Rattle.disc.specs.Choice.{pick}
 use Rattle.disc.proofs.MoveLaws.{sets-append}
@@ -75,10 +76,6 @@ module _ {step i : ℕ} {s : List ℕ} (p : At step s i) where
   text-end h = rw (units-none step (drop i s) (p .body .two) (rw length-drop h))
 
 -- ---- how long a text is
-
--- Every element is a byte, as in a slice of bytes.
-abbrev pub Bytes : List ℕ → Type 0
-Bytes s = (i : ℕ) → Fits w8 (getD s i 0)
 
 encode-three : (u : ℕ) → length (encode u) ≤ 3
 unfolding encode

@@ -2,7 +2,6 @@
 use mathlib.Core.Path.{_≡_, refl, sym, ap, _∙_}
 use mathlib.Core.Bool.{Bool, true, false}
 use mathlib.Core.List.{List, [], _∷_}
-use mathlib.Core.Option.{Option}
 use Prim.Native.Nat.{ℕ, suc, _+_, _<_, _≤_}
 use native.Mathlib.Numerals.{add-one}
 use native.Mathlib.Omega.{arith}
@@ -11,12 +10,13 @@ use lib.Seq.{drop-cons, take-append-seam}
 use lib.Dec.{eqb}
 use borrow.Author.Tests.{ne-eqb, lt-ltb, le-ltb}
 use Rattle.disc.specs.Choice.{pick}
+use Rattle.disc.specs.Ask.{Outcome}
 use Rattle.disc.proofs.MoveLaws.{over-fits, over-long}
 use Rattle.names.specs.declared.dstrings.Form.{Form}
 use Rattle.names.specs.declared.dstrings.Form.the-variants.{Empty, Units, Bad}
 use Rattle.names.specs.Names.{Wrote, nameOf, lower, sameName, matched, isNamed}
 use Rattle.names.specs.Units.{Formed, textOf}
-use Rattle.names.proofs.BodyLaws.{Bytes}
+use Rattle.disc.proofs.ByteLaws.{Bytes}
 use Rattle.names.proofs.NameLaws.{found}
 use Rattle.names.proofs.Promises.{at-most-508}
 
@@ -62,7 +62,7 @@ module _ (s t : List ℕ) where
   named-long h = rw (lt-ltb 255 (length s) h)
 
   module _ (h : length s ≤ 255) {f : Form} (p : Formed s f) where
-    matches-by : {o : Option (List ℕ)} → nameOf s ≡ o → matched o t ≡ isNamed s t
+    matches-by : {o : Outcome (List ℕ)} → nameOf s ≡ o → matched o t ≡ isNamed s t
     unfolding isNamed
     matches-by e = rw (le-ltb 255 (length s) h, e)
 

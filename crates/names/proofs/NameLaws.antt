@@ -7,6 +7,7 @@ use lib.ListN.{length, getD, take, drop, length-take}
 use lib.Dec.{lit≤}
 use borrow.Author.Tests.{eq-eqb, ne-eqb, lt-ltb, le-ltb}
 use Rattle.disc.specs.Moves.{over}
+use Rattle.disc.specs.declared.refusals.Refusal.the-variants.{Malformed}
 use Rattle.names.specs.declared.dstrings.Form.{Form}
 use Rattle.names.specs.declared.dstrings.Form.the-variants.{Empty, Units, Bad}
 use Rattle.names.specs.declared.dstrings.NameSize.{NameSize}
@@ -14,8 +15,8 @@ use Rattle.names.specs.declared.dstrings.NameSize.the-variants.{Size, Re
 use Rattle.names.specs.declared.fields.FieldLength.{FieldLength}
 use Rattle.names.specs.declared.fields.FieldLength.the-variants.{Length, TooLong}
 use Rattle.names.specs.Names.{Wrote, nameOf, nameOfField, written, sizeOf}
-use Rattle.names.specs.Units.{Body, Formed, Measured, units, textOf, nameAs, frontName}
-use Rattle.names.proofs.BodyLaws.{Bytes}
+use Rattle.names.specs.Units.{Body, Formed, FieldMeasured, units, textOf, nameAs, frontName}
+use Rattle.disc.proofs.ByteLaws.{Bytes}
 use Rattle.names.proofs.Promises.{bytes-kept}
 
 -- ---- which form a d-string has
@@ -70,7 +71,7 @@ module _ {s : List ℕ} {f : Form} (p : Formed s f) where
   pub size-units : (step : ℕ) {n : ℕ} → f ≡ Units step → n ≡ length (textOf step (drop 1 s)) → Size n ≡ sizeOf (nameOf s)
   size-units step e h = rw (found e, h)
 
-  pub size-bad : f ≡ Bad → Refused ≡ sizeOf (nameOf s)
+  pub size-bad : f ≡ Bad → Refused Malformed ≡ sizeOf (nameOf s)
   size-bad e = rw (found e)
 
   module _ {d : List ℕ} where
@@ -86,21 +87,21 @@ module _ {s : List ℕ} {f : Form} (p : Formed s f) where
 -- ---- a field
 
 module _ {f : List ℕ} where
-  pub field-empty : length f ≡ 0 → Measured f (Length 0)
+  pub field-empty : length f ≡ 0 → FieldMeasured f (Length 0)
   unfolding nameOfField nameOf
   field-empty z = record { name = simp (eq-eqb _ _ z); within = zero-le }
 
   module _ (z : length f ≡ 0 → ⊥) (n : ℕ) (e : n ≡ getD f (length f - 1) 0) where
-    pub field-bad : length f - 1 < n → Measured f TooLong
+    pub field-bad : length f - 1 < n → FieldMeasured f TooLong
     unfolding nameOfField
     field-bad h = record { name = rw (← e) (simp (ne-eqb _ _ z, lt-ltb _ _ h)); within = tt }
 
-    pub field-front : n ≤ length f - 1 → Measured f (Length n)
+    pub field-front : n ≤ length f - 1 → FieldMeasured f (Length n)
     unfolding nameOfField
     field-front h = record { name = rw (← e) (simp (ne-eqb _ _ z, le-ltb _ _ h)); within = omega arith }
 
 -- Here r is what `measured` found of the field f.
-module _ {f : List ℕ} {r : FieldLength} (p : Measured f r) where
+module _ {f : List ℕ} {r : FieldLength} (p : FieldMeasured f r) where
   front : {q : FieldLength} → r ≡ q → nameOfField f ≡ frontName q f
   front e = rw (← e) (p .name)
 
@@ -113,7 +114,7 @@ module _ {f : List ℕ} {r : FieldLength} (p : Measured f r) where
   pub front-size : (n : ℕ) {v : NameSize} → r ≡ Length n → v ≡ sizeOf (nameOf (take n f)) → v ≡ sizeOf (nameOfField f)
   front-size n e s = rw (front e) s
 
-  pub front-none : r ≡ TooLong → Refused ≡ sizeOf (nameOfField f)
+  pub front-none : r ≡ TooLong → Refused Malformed ≡ sizeOf (nameOfField f)
   front-none e = rw (front e)
 
   module _ {d : List ℕ} where

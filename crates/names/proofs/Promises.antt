@@ -4,18 +4,22 @@ use mathlib.Core.Path.{_≡_, refl, sym, ap, _∙_}
 use mathlib.Core.Bool.{Bool, true, false}
 use mathlib.Core.List.{List, [], _∷_, map}
 use mathlib.Core.Logic.{_⊎_, inl, inr}
-use mathlib.Core.Option.{Option, none, some}
 use Prim.Native.Nat.{ℕ, suc, _+_, _-_, _*_, _%_, _<_, _≤_, zero-le}
 use native.Mathlib.Omega.{arith}
-use lib.ListN.{length}
-use lib.Dec.{eqb}
+use lib.ListN.{length, getD, take}
+use lib.Dec.{eqb, ltb}
 use borrow.Author.Tests.{eqb-true, eq-eqb, lt-ltb, le-ltb}
+use Rattle.disc.proofs.ByteLaws.{Bytes}
 use Rattle.disc.proofs.PickLaws.{pick-both}
 use Rattle.disc.specs.Choice.{pick}
+use Rattle.disc.specs.Ask.{Outcome}
+use Rattle.disc.specs.Ask.Outcome.{answered, refused}
+use Rattle.disc.specs.declared.refusals.Refusal.{Refusal}
+use Rattle.disc.specs.declared.refusals.Refusal.the-variants.{Malformed}
 use Rattle.names.specs.declared.dstrings.NameSize.{NameSize}
 use Rattle.names.specs.declared.dstrings.NameSize.the-variants.{Size}
-use Rattle.names.specs.Names.{Wrote, pairs, untilZero, surrogate, dropSurrogates, encode, utf8, nameOf, written, sizeOf, lower, sameName}
-use Rattle.names.proofs.BodyLaws.{Bytes, short-bytes, short-pairs}
+use Rattle.names.specs.Names.{Wrote, pairs, untilZero, surrogate, dropSurrogates, encode, utf8, nameOf, nameOfField, written, sizeOf, lower, sameName}
+use Rattle.names.proofs.BodyLaws.{short-bytes, short-pairs}
 
 -- ---- d-strings
 
@@ -28,7 +32,7 @@ bytes-kept (u ∷ s) b =
     elim (eqb u 0) as (λ z. dropSurrogates (pick z [] (u ∷ untilZero s)) ≡ pick z [] (u ∷ untilZero s)) [ true ↦ refl | false ↦ simp (lt-ltb u 0xd800 (omega arith)) (ap (λ (r : List ℕ). u ∷ r) (bytes-kept s (λ i. b (suc i)))) ]
 
 -- A name of at most two bytes for each of n.
-abbrev Short : ℕ → Option (List ℕ) → Type 0
+abbrev Short : ℕ → Outcome (List ℕ) → Type 0
 Short n name = length (written name) ≤ 2 * n
 
 short-after : (id : ℕ) (s : List ℕ) → Bytes s → Short (length s) (nameOf (id ∷ s))
@@ -55,9 +59,32 @@ at-most-508 s b h = omega (arith, name-short s b)
 pub name-size-508 : (s : List ℕ) {r : NameSize} {n : ℕ} → Bytes s → length s ≤ 255 → r ≡ sizeOf (nameOf s) → r ≡ Size n → n ≤ 508
 name-size-508 s b h e k = sized (nameOf s) (sym e ∙ k) (at-most-508 s b h)
   where
-    sized : (o : Option (List ℕ)) {n m : ℕ} → sizeOf o ≡ Size n → length (written o) ≤ m → n ≤ m
-    sized none e h = absurd (let z : _≡_ {A = ℕ} 0 1 = cc in omega arith)
-    sized (some name) {n} e h = let z : n ≡ length name = cc in omega arith
+    sized : (o : Outcome (List ℕ)) {n m : ℕ} → sizeOf o ≡ Size n → length (written o) ≤ m → n ≤ m
+    sized (refused why) e h = absurd (let z : _≡_ {A = ℕ} 0 1 = cc in omega arith)
+    sized (answered name) {n} e h = let z : n ≡ length name = cc in omega arith
+
+-- A d-string that is refused is malformed, and so is a field.
+pub name-refused : (s : List ℕ) {why : Refusal} → nameOf s ≡ refused why → why ≡ Malformed
+unfolding nameOf
+name-refused [] e = absurd (let z : _≡_ {A = ℕ} 0 1 = cc in omega arith)
+name-refused (id ∷ body) {why} e = told (eqb id 0) (eqb id 8) (eqb id 16) (eqb (length body % 2) 1) [] _ _ e
+  where
+    told : (a b c d : Bool) (x y z : List ℕ)
+        → pick a (answered x) (pick b (answered y) (pick c (pick d (refused Malformed) (answered z)) (refused Malformed))) ≡ refused why → why ≡ Malformed
+    told true b c d x y z k = absurd (let z : _≡_ {A = ℕ} 0 1 = cc in omega arith)
+    told false true c d x y z k = absurd (let z : _≡_ {A = ℕ} 0 1 = cc in omega arith)
+    told false false true true x y z k = cc
+    told false false true false x y z k = absurd (let z : _≡_ {A = ℕ} 0 1 = cc in omega arith)
+    told false false false d x y z k = cc
+
+pub field-refused : (f : List ℕ) {why : Refusal} → nameOfField f ≡ refused why → why ≡ Malformed
+unfolding nameOfField
+field-refused f {why} e = told (eqb (length f) 0) (ltb (length f - 1) (getD f (length f - 1) 0)) e
+  where
+    told : (a b : Bool) → pick a (answered []) (pick b (refused Malformed) (nameOf (take (getD f (length f - 1) 0) f))) ≡ refused why → why ≡ Malformed
+    told true b k = absurd (let z : _≡_ {A = ℕ} 0 1 = cc in omega arith)
+    told false true k = cc
+    told false false k = name-refused _ k
 
 -- A contract by `Wrote` leaves one result.
 pub wrote-one : {t b a a′ : List ℕ} {r r′ : ℕ} → Wrote t b a r → Wrote t b a′ r′ → (r ≡ r′) × (a ≡ a′)
@@ -118,10 +145,10 @@ same-transitive a b c e f = same-from a c (same-to a b e ∙ same-to b c f)
 
 -- Cases 9 to 13, together.
 pub worked :
-    (nameOf (0x08 ∷ 0x41 ∷ 0x00 ∷ 0x42 ∷ []) ≡ some (0x41 ∷ []))
-    × (nameOf (0x10 ∷ 0x00 ∷ 0x41 ∷ 0xd8 ∷ 0x00 ∷ 0x00 ∷ 0x42 ∷ []) ≡ some (0x41 ∷ 0x42 ∷ []))
-    × (nameOf (0x10 ∷ 0x00 ∷ 0x41 ∷ 0x00 ∷ []) ≡ none)
-    × (nameOf (0x08 ∷ 0xe9 ∷ []) ≡ some (0xc3 ∷ 0xa9 ∷ []))
-    × (nameOf (0xfe ∷ []) ≡ none)
+    (nameOf (0x08 ∷ 0x41 ∷ 0x00 ∷ 0x42 ∷ []) ≡ answered (0x41 ∷ []))
+    × (nameOf (0x10 ∷ 0x00 ∷ 0x41 ∷ 0xd8 ∷ 0x00 ∷ 0x00 ∷ 0x42 ∷ []) ≡ answered (0x41 ∷ 0x42 ∷ []))
+    × (nameOf (0x10 ∷ 0x00 ∷ 0x41 ∷ 0x00 ∷ []) ≡ refused Malformed)
+    × (nameOf (0x08 ∷ 0xe9 ∷ []) ≡ answered (0xc3 ∷ 0xa9 ∷ []))
+    × (nameOf (0xfe ∷ []) ≡ refused Malformed)
 unfolding pairs untilZero surrogate dropSurrogates encode utf8 nameOf
 worked = (refl, refl, refl, refl, refl)

@@ -4,11 +4,14 @@ use Prim.Native.Nat.{ℕ, _+_, _-_, _*_, _/_, _%_}
 use mathlib.Core.Path.{_≡_}
 use mathlib.Core.Bool.{Bool, true, false}
 use mathlib.Core.List.{List, [], _∷_, _++_}
-use mathlib.Core.Option.{Option, none, some}
 use lib.ListN.{length, getD, take}
 use lib.Dec.{ltb, eqb}
 use Rattle.disc.specs.Choice.{pick}
 use Rattle.disc.specs.Moves.{over}
+use Rattle.disc.specs.Ask.{Outcome}
+use Rattle.disc.specs.Ask.Outcome.{answered, refused}
+use Rattle.disc.specs.Images.{bytesOf}
+use Rattle.disc.specs.declared.refusals.Refusal.the-variants.{Malformed}
 use Rattle.names.specs.declared.dstrings.NameSize.{NameSize}
 use Rattle.names.specs.declared.dstrings.NameSize.the-variants.{Size, Refused}
 
@@ -50,31 +53,30 @@ utf8 (u ∷ us) = encode u ++ utf8 us
 
 -- ---- names
 
--- The name of a d-string as UTF-8, or none where it is refused. The first byte is the compression id of OSTA UDF 2.1.1.
-unfoldable pub nameOf : List ℕ → Option (List ℕ)
-nameOf [] = some []
+-- The name of a d-string as UTF-8. The first byte is the compression id of OSTA UDF 2.1.1.
+unfoldable pub nameOf : List ℕ → Outcome (List ℕ)
+nameOf [] = answered []
 nameOf (id ∷ body) =
-    pick (eqb id 0) (some [])
-    (pick (eqb id 8) (some (utf8 (untilZero body)))
-    (pick (eqb id 16) (pick (eqb (length body % 2) 1) none (some (utf8 (dropSurrogates (untilZero (pairs body))))))
-    none))
+    pick (eqb id 0) (answered [])
+    (pick (eqb id 8) (answered (utf8 (untilZero body)))
+    (pick (eqb id 16) (pick (eqb (length body % 2) 1) (refused Malformed) (answered (utf8 (dropSurrogates (untilZero (pairs body))))))
+    (refused Malformed)))
 
 -- The name in a d-string field, whose last byte is the length of its d-string: ECMA-167 1/7.2.12.
-unfoldable pub nameOfField : List ℕ → Option (List ℕ)
+unfoldable pub nameOfField : List ℕ → Outcome (List ℕ)
 nameOfField f =
-    pick (eqb (length f) 0) (some [])
-    (pick (ltb (length f - 1) (getD f (length f - 1) 0)) none
+    pick (eqb (length f) 0) (answered [])
+    (pick (ltb (length f - 1) (getD f (length f - 1) 0)) (refused Malformed)
     (nameOf (take (getD f (length f - 1) 0) f)))
 
 -- What is written of a name: nothing where it is refused.
-abbrev pub written : Option (List ℕ) → List ℕ
-written none = []
-written (some name) = name
+abbrev pub written : Outcome (List ℕ) → List ℕ
+written name = bytesOf name
 
 -- The size of a name as the code reports it.
-abbrev pub sizeOf : Option (List ℕ) → NameSize
-sizeOf none = Refused
-sizeOf (some name) = Size (length name)
+abbrev pub sizeOf : Outcome (List ℕ) → NameSize
+sizeOf (refused why) = Refused why
+sizeOf (answered name) = Size (length name)
 
 -- A text was written over the front of what was lent, and its length was returned.
 pub record Wrote (text before after : List ℕ) (r : ℕ) : Type 0 where
@@ -95,9 +97,9 @@ sameName (a ∷ s) [] = false
 sameName (a ∷ s) (b ∷ t) = pick (eqb (lower a) (lower b)) (sameName s t) false
 
 -- A refused name matches no component.
-abbrev pub matched : Option (List ℕ) → List ℕ → Bool
-matched none component = false
-matched (some name) component = sameName name component
+abbrev pub matched : Outcome (List ℕ) → List ℕ → Bool
+matched (refused why) component = false
+matched (answered name) component = sameName name component
 
 -- A d-string names a component of a path. No directory entry records one of more than 255 bytes: ECMA-167 4/14.4.4.
 unfoldable pub isNamed : List ℕ → List ℕ → Bool

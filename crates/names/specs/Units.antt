@@ -3,11 +3,13 @@
 use Prim.Native.Nat.{ℕ, _≤_, _+_, _*_}
 use mathlib.Core.Path.{_≡_}
 use mathlib.Core.List.{List, []}
-use mathlib.Core.Option.{Option, none, some}
 use lib.ListN.{length, getD, take, drop}
 use lib.Seq.{sets}
 use lib.Dec.{eqb}
 use Rattle.disc.specs.Choice.{pick}
+use Rattle.disc.specs.Ask.{Outcome}
+use Rattle.disc.specs.Ask.Outcome.{answered, refused}
+use Rattle.disc.specs.declared.refusals.Refusal.the-variants.{Malformed}
 use Rattle.names.specs.declared.dstrings.Form.{Form}
 use Rattle.names.specs.declared.dstrings.Form.the-variants.{Empty, Units, Bad}
 use Rattle.names.specs.declared.fields.FieldLength.{FieldLength}
@@ -46,10 +48,10 @@ pub record Body (s : List ℕ) (step : ℕ) : Type 0 where
   pub two : step ≤ 2
 
 -- The name of a d-string of a form.
-abbrev pub nameAs : Form → List ℕ → Option (List ℕ)
-nameAs Empty s = some []
-nameAs (Units step) s = some (textOf step (drop 1 s))
-nameAs Bad s = none
+abbrev pub nameAs : Form → List ℕ → Outcome (List ℕ)
+nameAs Empty s = answered []
+nameAs (Units step) s = answered (textOf step (drop 1 s))
+nameAs Bad s = refused Malformed
 
 -- What is known besides: of a body, that it is there.
 abbrev pub Readable : Form → List ℕ → Type 0
@@ -65,9 +67,9 @@ pub record Formed (s : List ℕ) (f : Form) : Type 0 where
 -- ---- a field
 
 -- The name of a field whose d-string has a length.
-abbrev pub frontName : FieldLength → List ℕ → Option (List ℕ)
+abbrev pub frontName : FieldLength → List ℕ → Outcome (List ℕ)
 frontName (Length n) f = nameOf (take n f)
-frontName TooLong f = none
+frontName TooLong f = refused Malformed
 
 -- What is known besides: a length is within the field.
 abbrev pub Within : FieldLength → List ℕ → Type 0
@@ -75,6 +77,6 @@ Within (Length n) f = n ≤ length f
 Within TooLong f = Unit {0}
 
 -- The field f has a d-string of the length r.
-pub record Measured (f : List ℕ) (r : FieldLength) : Type 0 where
+pub record FieldMeasured (f : List ℕ) (r : FieldLength) : Type 0 where
   pub name : nameOfField f ≡ frontName r f
   pub within : Within r f

@@ -2,6 +2,7 @@
 use crate::units::put;
 use crate::units::unit;
 use crate::units::unit_size;
+use disc::refusals::Refusal;
 ghost use mathlib.Core.Path.{_≡_};
 ghost use lib.ListN.{length, drop};
 ghost use Rattle.names.specs.Names.{Wrote, nameOf, written, sizeOf};
@@ -10,7 +11,7 @@ ghost use Rattle.names.specs.Units.{Body, Formed, textOf};
 // How many bytes of UTF-8 a recorded name has.
 pub enum NameSize {
     Size(usize),
-    Refused,
+    Refused(Refusal),
 }
 
 // How the body of a d-string is to be read: not at all, in units of a number of bytes, or not a d-string.
@@ -87,7 +88,7 @@ pub fn name_size(s: &[u8]) -> NameSize
     match form_of(s) {
         Form::Empty => NameSize::Size(0),
         Form::Units(step) => NameSize::Size(text_size(s, step)),
-        Form::Bad => NameSize::Refused,
+        Form::Bad => NameSize::Refused(Refusal::Malformed),
     }
 }
 

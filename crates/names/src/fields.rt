@@ -3,9 +3,10 @@ use crate::dstrings::NameSize;
 use crate::dstrings::name_size;
 use crate::dstrings::put_name;
 use crate::units::wide;
+use disc::refusals::Refusal;
 ghost use mathlib.Core.Path.{_≡_};
 ghost use Rattle.names.specs.Names.{Wrote, nameOfField, written, sizeOf};
-ghost use Rattle.names.specs.Units.{Measured};
+ghost use Rattle.names.specs.Units.{FieldMeasured};
 
 // How long the d-string of a field is.
 enum FieldLength {
@@ -14,7 +15,7 @@ enum FieldLength {
 }
 
 fn measured(f: &[u8]) -> FieldLength
-    ensures { λ r. ⌜ Measured (now (f .entry)) r ⌝ }
+    ensures { λ r. ⌜ FieldMeasured (now (f .entry)) r ⌝ }
 {
     if f.len() == 0 {
         return FieldLength::Length(0);
@@ -33,7 +34,7 @@ pub fn field_size(f: &[u8]) -> NameSize
 {
     match measured(f) {
         FieldLength::Length(n) => name_size(&f[..n]),
-        FieldLength::TooLong => NameSize::Refused,
+        FieldLength::TooLong => NameSize::Refused(Refusal::Malformed),
     }
 }
 

@@ -1,25 +1,8 @@
 // Runs the cases of one sector of the recognition sequence, a line each: its first bytes, and what it is.
 use descriptors::recognition::Structure;
 use descriptors::recognition::structure_of;
-use libc::STDOUT_FILENO;
-
-fn say(text: &[u8]) {
-    io::write_all(STDOUT_FILENO, text);
-}
-
-fn wide(b: u8) -> u64 {
-    b as u64
-}
-
-// A space and two hex digits for each byte.
-fn say_bytes(b: &[u8]) {
-    let mut i = 0;
-    while i < b.len() {
-        say(b" ");
-        io::print_hex(STDOUT_FILENO, wide(b[i]), 2);
-        i += 1;
-    }
-}
+use programs::words::say;
+use programs::words::say_bytes;
 
 fn sector(s: &[u8]) {
     say(b"sector");

@@ -7,12 +7,9 @@ use native.Mathlib.Nat.{le-of-suc-le-suc, not-suc-le-zero, zero-add, add-mul-div
 use lib.Dec.{lit<}
 use native.Mathlib.Omega.{arith}
 use lib.ListN.{length, take, List·getD-eq-default}
-use Rattle.records.specs.Bytes.{byte, u16at, u32at, le16, le32}
+use Rattle.disc.proofs.ByteLaws.{Bytes}
+use Rattle.records.specs.Bytes.{byte, u16at, u32at, u64at, le16, le32}
 use Rattle.records.specs.Allocations.{rawOf}
-
--- every element is a byte
-abbrev pub Bytes : List ℕ → Type 0
-Bytes s = (i : ℕ) → byte s i < 256
 
 pub u16-le16 : (n : ℕ) → n < 2 ^ 16 → u16at (le16 n) 0 ≡ n
 u16-le16 n h = omega arith
@@ -39,13 +36,13 @@ module _ (a b c d : ℕ) (ha : a < 256) (hb : b < 256) (hc : c < 256) (hd : d < 
       rw (e, e₁, e₂, e₃, low a (b + (c + d * 256) * 256) ha, low b (c + d * 256) hb, low c d hc, mod-eq-of-lt hd)
 
 pub le16-u16 : (s : List ℕ) → Bytes s → (i : ℕ) → le16 (u16at s i) ≡ byte s i ∷ byte s (i + 1) ∷ []
-le16-u16 s h i = pair (byte s i) (byte s (i + 1)) (h i) (h (i + 1))
+le16-u16 s h i = pair (byte s i) (byte s (i + 1)) (h i .fits) (h (i + 1) .fits)
 
 pub le32-u32 : (s : List ℕ) → Bytes s → (i : ℕ) → le32 (u32at s i) ≡ byte s i ∷ byte s (i + 1) ∷ byte s (i + 2) ∷ byte s (i + 3) ∷ []
-le32-u32 s h i = quad (byte s i) (byte s (i + 1)) (byte s (i + 2)) (byte s (i + 3)) (h i) (h (i + 1)) (h (i + 2)) (h (i + 3))
+le32-u32 s h i = quad (byte s i) (byte s (i + 1)) (byte s (i + 2)) (byte s (i + 3)) (h i .fits) (h (i + 1) .fits) (h (i + 2) .fits) (h (i + 3) .fits)
 
 pub u32-fits : (s : List ℕ) → Bytes s → (i : ℕ) → u32at s i < 2 ^ 32
-u32-fits s h i = omega (arith, h i, h (i + 1), h (i + 2), h (i + 3))
+u32-fits s h i = omega (arith, h i .fits, h (i + 1) .fits, h (i + 2) .fits, h (i + 3) .fits)
 
 pub u32-le32 : (n : ℕ) → n < 2 ^ 32 → u32at (le32 n) 0 ≡ n
 u32-le32 n h =
@@ -89,3 +86,9 @@ u16-past s i h = rw (← byte-past s i h, ← byte-past s (i + 1) (omega arith))
 pub u32-past : (s : List ℕ) (i : ℕ) → length s ≤ i → 0 ≡ u32at s i
 u32-past s i h =
     rw (← byte-past s i h, ← byte-past s (i + 1) (omega arith), ← byte-past s (i + 2) (omega arith), ← byte-past s (i + 3) (omega arith))
+
+pub u64-past : (s : List ℕ) (i : ℕ) → length s ≤ i → 0 ≡ u64at s i
+u64-past s i h = rw (← u32-past s i h, ← u32-past s (i + 4) (omega arith))
+
+pub u64-parts : (s : List ℕ) (i : ℕ) {a b r : ℕ} → a ≡ u32at s i → b ≡ u32at s (i + 4) → r ≡ a + b * 0x1_0000_0000 → r ≡ u64at s i
+u64-parts s i p q e = rw (e, p, q)

@@ -7,6 +7,7 @@ ghost use Rattle.records.specs.Allocations.{extentOf, readExtent, encode
 use crate::bytes::byte_at;
 use crate::bytes::le16;
 use crate::bytes::le32;
+use disc::answers::MALFORMED;
 use disc::refusals::Refusal;
 
 #[repr(C)]
@@ -230,7 +231,7 @@ impl LongAd {
     {
         if s.len() < 16 {
             LongRead {
-                answer: 2,
+                answer: MALFORMED,
                 ad: no_long(),
             }
         } else {
@@ -332,7 +333,7 @@ impl ExtAd {
     {
         if s.len() < 20 {
             ExtRead {
-                answer: 2,
+                answer: MALFORMED,
                 ad: no_ext(),
             }
         } else {

@@ -2,6 +2,7 @@
 ghost use mathlib.Core.Path.{_≡_};
 ghost use Rattle.names.specs.Names.{nameOf, nameOfField};
 ghost use Rattle.records_c.specs.Decoded.{decoded};
+use disc::answers::NO_ROOM;
 use names::dstrings::NameSize;
 use names::dstrings::name_size;
 use names::dstrings::put_name;
@@ -21,14 +22,14 @@ pub extern "C" fn records_decode_dstring(bytes: &[u8], out: &mut [u8]) -> Writte
     ensures { λ r. ⌜ record { answer = r .answer; length = r .length; out = now (out .exit) } ≡ decoded (nameOf (now (bytes .entry))) (now (out .entry)) ⌝ }
 {
     match name_size(bytes) {
-        NameSize::Refused => Written {
-            answer: 2,
+        NameSize::Refused(why) => Written {
+            answer: why.number(),
             length: 0,
         },
         NameSize::Size(n) => {
             if out.len() < n {
                 return Written {
-                    answer: 5,
+                    answer: NO_ROOM,
                     length: 0,
                 };
             }
@@ -47,14 +48,14 @@ pub extern "C" fn records_decode_dstring_field(bytes: &[u8], out: &mut [u8]) -> 
     ensures { λ r. ⌜ record { answer = r .answer; length = r .length; out = now (out .exit) } ≡ decoded (nameOfField (now (bytes .entry))) (now (out .entry)) ⌝ }
 {
     match field_size(bytes) {
-        NameSize::Refused => Written {
-            answer: 2,
+        NameSize::Refused(why) => Written {
+            answer: why.number(),
             length: 0,
         },
         NameSize::Size(n) => {
             if out.len() < n {
                 return Written {
-                    answer: 5,
+                    answer: NO_ROOM,
                     length: 0,
                 };
             }

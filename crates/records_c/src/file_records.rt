@@ -3,7 +3,7 @@ ghost use mathlib.Core.Path.{_≡_};
 ghost use Rattle.entries.specs.Answers.{noIcbTag, icbTagAnswer, entryAnswer};
 ghost use Rattle.entries.specs.FileEntries.{readEntry};
 ghost use Rattle.entries.specs.IcbTags.{readIcbTag};
-ghost use Rattle.identifiers.specs.Identifiers.{readIdentifier};
+ghost use Rattle.identifiers.specs.Identifiers.{readIdentifier, identifierRead};
 ghost use Rattle.records_c.specs.Entries.{hasSize, sizeIn, fieldsOf, noFields, shown};
 use entries::file_entries::EntryRead;
 use entries::file_entries::FileEntry;
@@ -170,7 +170,7 @@ pub extern "C" fn records_parse_file_entry(bytes: &[u8]) -> EntryAnswer
 
 #[no_mangle]
 pub extern "C" fn records_parse_file_identifier(bytes: &[u8]) -> IdentifierRead
-    ensures { λ r. ⌜ r ≡ readIdentifier (now (bytes .entry)) ⌝ }
+    ensures { λ r. ⌜ r ≡ identifierRead (readIdentifier (now (bytes .entry))) ⌝ }
 {
     FileIdentifierDescriptor::parse(bytes)
 }

@@ -1,8 +1,8 @@
 // The anchor, the descriptors of a volume descriptor sequence, and the file set descriptor.
 ghost use mathlib.Core.Path.{_≡_};
 ghost use Rattle.descriptors.specs.Answers.{anchorAnswer, partitionAnswer};
-ghost use Rattle.descriptors.specs.FileSets.{readFileSet};
-ghost use Rattle.descriptors.specs.Volumes.{readAnchor, readPrimary, readPartition, readLogical};
+ghost use Rattle.descriptors.specs.FileSets.{readFileSet, fileSetRead};
+ghost use Rattle.descriptors.specs.Volumes.{readAnchor, readPrimary, primaryRead, readPartition, readLogical, logicalRead};
 use descriptors::anchors::AnchorRead;
 use descriptors::anchors::AnchorVolumeDescriptorPointer;
 use descriptors::file_sets::FileSetDescriptor;
@@ -53,7 +53,7 @@ pub extern "C" fn records_parse_anchor(bytes: &[u8]) -> AnchorAnswer
 
 #[no_mangle]
 pub extern "C" fn records_parse_primary_volume(bytes: &[u8]) -> PrimaryRead
-    ensures { λ r. ⌜ r ≡ readPrimary (now (bytes .entry)) ⌝ }
+    ensures { λ r. ⌜ r ≡ primaryRead (readPrimary (now (bytes .entry))) ⌝ }
 {
     PrimaryVolumeDescriptor::parse(bytes)
 }
@@ -80,14 +80,14 @@ pub extern "C" fn records_parse_partition(bytes: &[u8]) -> PartitionAnswer
 
 #[no_mangle]
 pub extern "C" fn records_parse_logical_volume(bytes: &[u8]) -> LogicalRead
-    ensures { λ r. ⌜ r ≡ readLogical (now (bytes .entry)) ⌝ }
+    ensures { λ r. ⌜ r ≡ logicalRead (readLogical (now (bytes .entry))) ⌝ }
 {
     LogicalVolumeDescriptor::parse(bytes)
 }
 
 #[no_mangle]
 pub extern "C" fn records_parse_file_set(bytes: &[u8]) -> FileSetRead
-    ensures { λ r. ⌜ r ≡ readFileSet (now (bytes .entry)) ⌝ }
+    ensures { λ r. ⌜ r ≡ fileSetRead (readFileSet (now (bytes .entry))) ⌝ }
 {
     FileSetDescriptor::parse(bytes)
 }

@@ -8,12 +8,17 @@
 // For each query a line: the call, its answer, count and length, and two sums. The first is that of the whole lent output, which came full of
 // A5, or of the ICB found, the component lost or the part of the image; the second is that of the work space, which comes full of A5 and goes all
 // zero. Opening has start and partition in place of the length, and the sums of the root and of the label.
-ghost use mathlib.Core.Path.{_≡_};
 ghost use Prim.Native.Nat.{_≤_, _<_, _^_};
 ghost use lib.ListN.{length};
+use disc::moves::least;
 use disc::places::Mount;
 use disc::replies::Reply;
-use libc::STDOUT_FILENO;
+use programs::lent::fill;
+use programs::lent::part;
+use programs::lent::sum;
+use programs::lent::two_mebibytes;
+use programs::words::number;
+use programs::words::say;
 use records::allocations::LongAd;
 use records::allocations::long_at;
 use records::bytes::byte_at;
@@ -25,22 +30,13 @@ use vault::volume::label;
 use vault::volume::probe;
 use volumes::openings::VolumeRecord;
 
-fn say(text: &[u8]) {
-    io::write_all(STDOUT_FILENO, text);
-}
-
-fn say_number(n: u64) {
-    say(b" ");
-    io::print_decimal(STDOUT_FILENO, n);
-}
-
 fn say_line(call: &[u8], r: Reply, sum: u64, work: u64) {
     say(call);
-    say_number(r.answer);
-    say_number(r.count);
-    say_number(r.length);
-    say_number(sum);
-    say_number(work);
+    number(r.answer);
+    number(r.count);
+    number(r.length);
+    number(sum);
+    number(work);
     say(b"\n");
 }
 
@@ -50,40 +46,6 @@ fn reply(answer: u64, count: u64, length: u64) -> Reply {
         count,
         length,
     }
-}
-
-fn wide(b: u8) -> u64
-    ensures { λ r. ⌜ r < 2 ^ 8 ⌝ }
-{
-    b as u64
-}
-
-fn least(a: usize, b: usize) -> usize
-    ensures { λ r. ⌜ (r ≤ a) × (r ≤ b) ⌝ }
-{
-    if a < b { a } else { b }
-}
-
-// The bytes from a to e, or none where they aren't there.
-fn part(s: &[u8], a: usize, e: usize) -> &[u8] {
-    if s.len() < e {
-        return &s[0..0];
-    }
-    if e < a {
-        return &s[0..0];
-    }
-    &s[a..e]
-}
-
-// A sum that tells where each byte stands.
-fn sum(b: &[u8]) -> u64 {
-    let mut s: u64 = 0;
-    let mut i = 0;
-    while i < b.len() {
-        s = (s * 31 + wide(b[i])) % 4294967296;
-        i += 1;
-    }
-    s
 }
 
 fn sum_icb(icb: LongAd) -> u64 {
@@ -110,14 +72,6 @@ fn sum_row(row: &[[u32; 4]]) -> u64 {
         i += 1;
     }
     s
-}
-
-fn fill(out: &mut [u8]) {
-    let mut i = 0;
-    while i < out.len() {
-        out[i] = 0xa5;
-        i += 1;
-    }
 }
 
 // ---- the calls, by the number of each
@@ -294,22 +248,16 @@ fn run_all(all: &[u8], image: &mut [u8], out: &mut [u8], work: &mut [u8]) {
     }
 }
 
-// 2 MiB: room for the whole list, and for the longest image of it.
-fn space() -> [u8; 2097152]
-    ensures { λ r. ⌜ 2097152 ≡ length r ⌝ }
-{
-    [0; 2097152]
-}
-
 fn main() {
     let fd = os::open_read(b"images");
     if fd < 0 {
         os::fail(b"images");
         return;
     }
-    let mut all = space();
+    // Room for the whole list, and for the longest image of it.
+    let mut all = two_mebibytes();
     let n = io::read_full(fd, &mut all);
-    let mut image = space();
+    let mut image = two_mebibytes();
     let mut out = io::large_buffer();
     let mut work = io::large_buffer();
     run_all(&all[..n], &mut image, &mut out, &mut work);

@@ -3,11 +3,11 @@
 // A packed image is, with numbers of 32 bits, little-endian: the image's length, the number of runs, and then each run: where in the
 // image it stands, how many bytes it has, and those bytes. Every other byte of the image is 0.
 ghost use mathlib.Core.Path.{_≡_};
-ghost use Prim.Native.Nat.{min};
 ghost use Rattle.records.specs.Bytes.{u32at};
 ghost use Rattle.sparse.specs.Runs.{laid, runEnd, laidRuns, Expanded};
 use disc::moves::clear;
 use disc::moves::copy;
+use disc::moves::least;
 use records::bytes::le32;
 
 // Where the run at i ends, which has a head of 8 bytes; 0 where it isn't whole.
@@ -55,12 +55,6 @@ fn lay_runs(packed: &[u8], image: &mut [u8])
         i = end;
         k += 1;
     }
-}
-
-fn least(a: usize, b: usize) -> usize
-    ensures { λ r. ⌜ r ≡ min a b ⌝ }
-{
-    if a < b { a } else { b }
 }
 
 // Makes the image that was packed, and returns its length, or that of `image` if there is no room for all of it.

@@ -1,10 +1,10 @@
 // extent_ad, short_ad, lb_addr, long_ad, ext_ad and the header of an allocation extent.
 use crate::outputs::answered;
-use crate::outputs::byte;
-use crate::outputs::end_line;
-use crate::outputs::number;
 use crate::outputs::refused;
-use crate::outputs::text;
+use programs::words::end_line;
+use programs::words::number;
+use programs::words::number8;
+use programs::words::say;
 use records::allocations::ExtAd;
 use records::allocations::ExtRead;
 use records::allocations::ExtentAd;
@@ -20,7 +20,7 @@ use tags::AllocationExtentDescriptor;
 use tags::DescriptorTag;
 
 fn show_extent(r: ExtentRead) {
-    text(b"extent_ad");
+    say(b"extent_ad");
     match r {
         ExtentRead::Refused(why) => refused(why),
         ExtentRead::Read(a) => {
@@ -32,7 +32,7 @@ fn show_extent(r: ExtentRead) {
 }
 
 fn show_short(r: ShortRead) {
-    text(b"short_ad");
+    say(b"short_ad");
     match r {
         ShortRead::Refused(why) => refused(why),
         ShortRead::Read(a) => {
@@ -50,7 +50,7 @@ fn show_address(a: LbAddr) {
 }
 
 fn show_lb_addr(r: LbAddrRead) {
-    text(b"lb_addr");
+    say(b"lb_addr");
     match r {
         LbAddrRead::Refused(why) => refused(why),
         LbAddrRead::Read(a) => {
@@ -61,7 +61,7 @@ fn show_lb_addr(r: LbAddrRead) {
 }
 
 fn show_long(r: LongRead) {
-    text(b"long_ad");
+    say(b"long_ad");
     if r.answer != 0 {
         answered(r.answer);
         return;
@@ -70,13 +70,13 @@ fn show_long(r: LongRead) {
     number(a.length as u64);
     number(a.extent_type as u64);
     show_address(a.location);
-    byte(a.implementation_use[0]);
-    byte(a.implementation_use[5]);
+    number8(a.implementation_use[0]);
+    number8(a.implementation_use[5]);
     end_line();
 }
 
 fn show_ext(r: ExtRead) {
-    text(b"ext_ad");
+    say(b"ext_ad");
     if r.answer != 0 {
         answered(r.answer);
         return;
@@ -87,8 +87,8 @@ fn show_ext(r: ExtRead) {
     number(a.recorded_length as u64);
     number(a.information_length as u64);
     show_address(a.location);
-    byte(a.implementation_use[0]);
-    byte(a.implementation_use[1]);
+    number8(a.implementation_use[0]);
+    number8(a.implementation_use[1]);
     end_line();
 }
 
@@ -169,7 +169,7 @@ fn header_with(id: u16) -> AllocationExtentDescriptor {
 }
 
 fn show_header(r: AedRead) {
-    text(b"header");
+    say(b"header");
     match r {
         AedRead::NoHeader(why) => refused(why),
         AedRead::Header(a) => {

@@ -1,16 +1,16 @@
 // Tags: the ids at the ends of the ranges, every length, every refusal, every change of one byte, and the place check.
 ghost use Prim.Native.Nat.{_+_, _≤_, _<_};
-use crate::outputs::end_line;
-use crate::outputs::number;
 use crate::outputs::refused;
-use crate::outputs::text;
 use crate::outputs::yes_or_no;
 use disc::places::Sector;
+use programs::words::end_line;
+use programs::words::number;
+use programs::words::say;
 use tags::DescriptorTag;
 use tags::TagRead;
 
 fn show(t: DescriptorTag) {
-    text(b": read");
+    say(b": read");
     number(t.id as u64);
     number(t.descriptor_version as u64);
     number(t.serial_number as u64);
@@ -45,7 +45,7 @@ fn case_1() -> [u8; 16] {
 
 // A tag with this id and the right checksum.
 fn id(n: u16) {
-    text(b"id");
+    say(b"id");
     number(n as u64);
     let bytes = tag_with(n, 513, 1027, 1541).encode();
     answer(DescriptorTag::parse(&bytes));
@@ -67,7 +67,7 @@ pub(crate) fn ids() {
 fn front(n: usize)
     requires { ⌜ n ≤ 16 ⌝ }
 {
-    text(b"length");
+    say(b"length");
     number(n as u64);
     let bytes = case_1();
     answer(DescriptorTag::parse(&bytes[0..n]));
@@ -86,9 +86,9 @@ fn checked(reserved: u8, checksum: u8) {
     let mut bytes = case_1();
     bytes[4] = checksum;
     bytes[5] = reserved;
-    text(b"reserved");
+    say(b"reserved");
     number(reserved as u64);
-    text(b" checksum");
+    say(b" checksum");
     number(checksum as u64);
     answer(DescriptorTag::parse(&bytes));
 }
@@ -99,7 +99,7 @@ pub(crate) fn checks() {
     checked(1, 6);
     checked(1, 7);
     let zeros = [0u8; 16];
-    text(b"sixteen zeros");
+    say(b"sixteen zeros");
     answer(DescriptorTag::parse(&zeros));
 }
 
@@ -141,9 +141,9 @@ fn changes_at(at: usize) -> u64
 fn show_changes(at: usize)
     requires { ⌜ at < 16 ⌝ }
 {
-    text(b"changes of byte");
+    say(b"changes of byte");
     number(at as u64);
-    text(b" refused:");
+    say(b" refused:");
     number(changes_at(at));
     end_line();
 }
@@ -157,9 +157,9 @@ pub(crate) fn changes() {
 }
 
 fn placed(sector: u64) {
-    text(b"location 256 at sector");
+    say(b"location 256 at sector");
     number(sector);
-    text(b":");
+    say(b":");
     yes_or_no(tag_with(2, 0, 0, 0).is_in_place(Sector(sector)));
     end_line();
 }

@@ -8,10 +8,12 @@ use lib.ListN.{length}
 use lib.Dec.{leb, eqb}
 use borrow.Author.Tests.{eq-eqb, ne-eqb, le-leb, lt-leb, eqb-true, leb-true}
 use Rattle.disc.specs.Choice.{pick}
+use Rattle.disc.specs.Ask.{Outcome}
+use Rattle.disc.specs.Ask.Outcome.{answered, refused}
 use Rattle.disc.specs.declared.refusals.Refusal.{Refusal}
 use Rattle.disc.specs.declared.refusals.Refusal.the-variants.{Malformed}
 use Rattle.records.specs.Bytes.{u32at}
-use Rattle.tags.specs.Tags.{accepted, tagOf, readTag, withId, readHead, aedAfter, readAed}
+use Rattle.tags.specs.Tags.{accepted, tagOf, readTag, withId, readHead, gated, aedAfter, readAed}
 use Rattle.tags.specs.declared.DescriptorTag.{DescriptorTag}
 use Rattle.tags.specs.declared.TagRead.{TagRead}
 use Rattle.tags.specs.declared.TagRead.the-variants.{Read, Refused}
@@ -94,6 +96,30 @@ module _ (s : List ℕ) (id size : ℕ) where
       told true (Read u) g k = same (eqb (u .id) id) u k
       told true (Refused w) g k = let p : w ≡ why = cc in tag-refused s (rw p at g)
       told false r g k = cc
+
+-- ---- behind the gate
+
+module _ {A : Type 0} (s : List ℕ) (id size : ℕ) (f : DescriptorTag → Outcome A) where
+  -- an answer: the gate was passed with a tag
+  pub record Behind (a : A) : Type 0 where
+    pub tag : DescriptorTag
+    pub head : Passed s id size tag
+    pub is : f tag ≡ answered a
+
+  pub gated-answered : {a : A} → gated (readHead s id size) f ≡ answered a → Behind a
+  gated-answered {a} e = told (readHead s id size) refl e
+    where
+      told : (h : TagRead) → readHead s id size ≡ h → gated h f ≡ answered a → Behind a
+      told (Read t) g k = record { tag = t; head = head-read s id size g; is = k }
+      told (Refused w) g k = absurd (let z : _≡_ {A = ℕ} 0 1 = cc in omega arith)
+
+  -- a refusal: it is `Malformed` where what stands behind refuses by nothing else
+  pub gated-refused : {why : Refusal} → ((t : DescriptorTag) → f t ≡ refused why → why ≡ Malformed) → gated (readHead s id size) f ≡ refused why → why ≡ Malformed
+  gated-refused {why} n e = told (readHead s id size) refl e
+    where
+      told : (h : TagRead) → readHead s id size ≡ h → gated h f ≡ refused why → why ≡ Malformed
+      told (Read t) g k = n t k
+      told (Refused w) g k = let p : w ≡ why = cc in head-refused s id size (rw p at g)
 
 -- ---- the header of an allocation extent
 

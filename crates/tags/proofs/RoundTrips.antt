@@ -9,6 +9,7 @@ use native.Mathlib.Omega.{arith}
 use borrow.Author.Tests.{le-leb, leb-true, eqb-true, eq-eqb, ne-eqb}
 use lib.Dec.{leb, eqb}
 use lib.ListN.{length, take}
+use Rattle.disc.proofs.ByteLaws.{Bytes}
 use Rattle.disc.proofs.PickLaws.{picked}
 use Rattle.disc.specs.declared.refusals.Refusal.the-variants.{Malformed}
 use Rattle.records.specs.Bytes.{byte, u16at, le32}
@@ -20,7 +21,7 @@ use Rattle.tags.specs.declared.TagRead.the-variants.{Read, Refused}
 use Rattle.tags.specs.declared.AllocationExtentDescriptor.{AllocationExtentDescriptor}
 use Rattle.tags.specs.declared.AedRead.the-variants.{Header, NoHeader}
 use Rattle.tags.proofs.HeadLaws.{head-read, aed-read}
-use Rattle.records.proofs.Numbers.{Bytes, u16-le16, u32-le32, le16-u16, le32-u32, from, from-take}
+use Rattle.records.proofs.Numbers.{u16-le16, u32-le32, le16-u16, le32-u32, from, from-take}
 
 -- ---- tag
 

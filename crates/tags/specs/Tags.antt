@@ -5,6 +5,8 @@ use mathlib.Core.List.{List, _∷_, _++_}
 use lib.ListN.{length}
 use lib.Dec.{leb, eqb}
 use Rattle.disc.specs.Choice.{pick}
+use Rattle.disc.specs.Ask.{Outcome}
+use Rattle.disc.specs.Ask.Outcome.{refused}
 use Rattle.disc.specs.declared.refusals.Refusal.the-variants.{Malformed}
 use Rattle.records.specs.Bytes.{byte, u16at, u32at, le16, le32, sum4}
 use Rattle.tags.specs.declared.DescriptorTag.{DescriptorTag}
@@ -68,6 +70,11 @@ withId id (Read t) = pick (eqb (t .id) id) (Read t) (Refused Malformed)
 -- the tag of the descriptor at the front of s, which has this id and at least this many bytes: too few bytes, the tag's own refusals, another id
 unfoldable pub readHead : List ℕ → ℕ → ℕ → TagRead
 readHead s id size = pick (leb size (length s)) (withId id (readTag s)) (Refused Malformed)
+
+-- what stands behind the gate: a refusal of the gate passes through
+abbrev pub gated : {A : Type 0} → TagRead → (DescriptorTag → Outcome A) → Outcome A
+gated (Refused r) f = refused r
+gated (Read t) f = f t
 
 -- ---- the header of an allocation extent: id 258, 24 bytes
 

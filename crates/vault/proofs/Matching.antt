@@ -41,9 +41,9 @@ both true b f g = sym (f refl)
 both false true f g = g refl
 both false false f g = refl
 
-same-matched : (o : Option (List ℕ)) (c c′ : List ℕ) → map lower c ≡ map lower c′ → matched o c ≡ matched o c′
-same-matched none c c′ h = refl
-same-matched (some name) c c′ h =
+same-matched : (o : Outcome (List ℕ)) (c c′ : List ℕ) → map lower c ≡ map lower c′ → matched o c ≡ matched o c′
+same-matched (refused why) c c′ h = refl
+same-matched (answered name) c c′ h =
     both (sameName name c) (sameName name c′)
     (λ e. same-folded name c′ .1 (same-folded name c .0 e ∙ h))
     (λ e. same-folded name c .1 (same-folded name c′ .0 e ∙ sym h))

@@ -35,18 +35,20 @@ use Rattle.descriptors.specs.Volumes.{readAnchor, readPartition, readPrimary, r
 use Rattle.descriptors.specs.FileSets.{readFileSet}
 use Rattle.descriptors.specs.declared.anchors.AnchorRead.{AnchorRead}
 use Rattle.descriptors.specs.declared.anchors.AnchorRead.the-variants.{Read as AnAnchor, Refused as NoAnchor}
+use Rattle.descriptors.specs.declared.primaries.PrimaryVolumeDescriptor.{PrimaryVolumeDescriptor}
+use Rattle.descriptors.specs.declared.logicals.LogicalVolumeDescriptor.{LogicalVolumeDescriptor}
+use Rattle.descriptors.specs.declared.file_sets.FileSetDescriptor.{FileSetDescriptor}
 use Rattle.descriptors.specs.declared.partitions.PartitionRead.{PartitionRead}
 use Rattle.descriptors.specs.declared.partitions.PartitionRead.the-variants.{Read as APartition, Refused as NoPartition}
-use Rattle.descriptors.proofs.AnswerLaws.{anchor-refused, partition-refused}
+use Rattle.descriptors.proofs.AnswerLaws.{anchor-refused, primary-refused, partition-refused, logical-refused, file-set-refused}
 use Rattle.entries.specs.FileEntries.{readEntry}
 use Rattle.entries.specs.declared.«file_entries».EntryRead.{EntryRead}
 use Rattle.entries.specs.declared.«file_entries».EntryRead.the-variants.{Read, Refused as NoEntry}
 use Rattle.entries.proofs.EntryLaws.{read-entry-refused}
 use Rattle.volumes.specs.declared.sequences.Kept.{Kept}
-use Rattle.volumes.specs.declared.openings.VolumeRecord.{VolumeRecord}
 use Rattle.volumes.specs.Sequences.{nothing, Parsed, keptOf, Says, primaryIn, partitionIn, logicalIn, saysIn, goOn, scan}
 use Rattle.volumes.specs.Sequences.Says.{found, passed, over, fails}
-use Rattle.volumes.specs.Openings.{fileSetIn, mounting, anchored, opening}
+use Rattle.volumes.specs.Openings.{fileSetIn, volumeIn, mounting, anchored, opening}
 use Rattle.volumes.specs.Labels.{labelling}
 use Rattle.chains.specs.Chains.{areaIn, nextArea, continued, areaFrom}
 use Rattle.files.specs.Reads.{joining, extentBytes, extentsBytes}
@@ -245,18 +247,22 @@ module _ (P : Refusal → Type 0) (malformed : P Malformed) (missing : P NotBlur
       fails-by : {q : Refusal} → _≡_ {A = Says} (fails q) (fails r) → P q → P r
       fails-by e p = subst P (let z : _ ≡ r = cc in z) p
 
-      read : (t : Bool) (d : Parsed) → pick t (found d) (fails Malformed) ≡ fails r → P r
-      read true d e = absurd (let z : _≡_ {A = ℕ} 0 1 = cc in omega arith)
-      read false d e = fails-by e malformed
+      first : (x : Outcome PrimaryVolumeDescriptor) → readPrimary b ≡ x → primaryIn x ≡ fails r → P r
+      first (answered d) h e = absurd (let z : _≡_ {A = ℕ} 0 1 = cc in omega arith)
+      first (refused q) h e = fails-by e (subst P (sym (primary-refused b h)) malformed)
+
+      whole : (x : Outcome LogicalVolumeDescriptor) → readLogical b ≡ x → logicalIn x ≡ fails r → P r
+      whole (answered d) h e = absurd (let z : _≡_ {A = ℕ} 0 1 = cc in omega arith)
+      whole (refused q) h e = fails-by e (subst P (sym (logical-refused b h)) malformed)
 
       parted : (x : PartitionRead) → x ≡ readPartition b → partitionIn x ≡ fails r → P r
       parted (APartition d) h e = absurd (let z : _≡_ {A = ℕ} 0 1 = cc in omega arith)
       parted (NoPartition q) h e = fails-by e (subst P (sym (partition-refused b h refl)) malformed)
 
       by : (t u v w : Bool) → pick t (primaryIn (readPrimary b)) (pick u (partitionIn (readPartition b)) (pick v (logicalIn (readLogical b)) (pick w over passed))) ≡ fails r → P r
-      by true u v w e = read (eqb (readPrimary b .answer) 0) _ e
+      by true u v w e = first (readPrimary b) refl e
       by false true v w e = parted (readPartition b) refl e
-      by false false true w e = read (eqb (readLogical b .answer) 0) _ e
+      by false false true w e = whole (readLogical b) refl e
       by false false false true e = absurd (let z : _≡_ {A = ℕ} 0 1 = cc in omega arith)
       by false false false false e = absurd (let z : _≡_ {A = ℕ} 0 1 = cc in omega arith)
 
@@ -272,15 +278,15 @@ module _ (P : Refusal → Type 0) (malformed : P Malformed) (missing : P NotBlur
       (pick-only (k .«has_partition»)
       (pick-only (k .«has_logical»)
       (pick-only (eqb (k .«block_size») 2048)
-      (standing-only P malformed unsupported (fileSetIn k) (λ s. ask-only (λ b. by (eqb (readFileSet b .answer) 0) _)))
+      (standing-only P malformed unsupported (fileSetIn k) (λ s. ask-only (λ b. by b (readFileSet b) refl)))
       (refuse-only unsupported))
       (refuse-only missing))
       (refuse-only missing))
       (refuse-only missing)
     where
-      by : (t : Bool) (v : VolumeRecord) → Refuses P Any (ended (pick t (answered v) (refused Malformed)))
-      by true v = done-only tt
-      by false v = refuse-only malformed
+      by : (b : List ℕ) (x : Outcome FileSetDescriptor) → readFileSet b ≡ x → Refuses P Any (ended (volumeIn k x))
+      by b (answered d) e = done-only tt
+      by b (refused r) e = refuse-only (subst P (sym (file-set-refused b e)) malformed)
 
   pub opening-only : Refuses P Any opening
   unfolding opening

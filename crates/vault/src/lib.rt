@@ -1,3 +1,2 @@
 // What a user calls: a volume, and what is asked of it.
-pub mod answers;
 pub mod volume;

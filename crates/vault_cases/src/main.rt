@@ -4,11 +4,19 @@
 // back all zero. Output and work space come full of A5. A byte that is no printable character is \ and two hex digits.
 //
 // What is expected are the original's answers, and where a path isn't UTF-8, which the original doesn't take, those of RULES 8.12.
-ghost use mathlib.Core.Path.{_≡_};
-ghost use Prim.Native.Nat.{_≤_, _<_, _^_};
+ghost use Prim.Native.Nat.{_<_};
 ghost use lib.ListN.{length};
+use disc::moves::least;
 use disc::replies::Reply;
 use libc::STDOUT_FILENO;
+use programs::lent::fill;
+use programs::lent::mebibyte;
+use programs::lent::part;
+use programs::lent::sum;
+use programs::lent::wide;
+use programs::words::say;
+use programs::words::say_answer;
+use programs::words::say_named;
 use records::allocations::LongAd;
 use records::allocations::long_at;
 use records::bytes::le16;
@@ -22,22 +30,7 @@ const LABEL: u16 = 0;
 
 const PATH: u16 = 1;
 
-fn say(text: &[u8]) {
-    io::write_all(STDOUT_FILENO, text);
-}
-
-fn say_number(name: &[u8], n: u64) {
-    say(name);
-    io::print_decimal(STDOUT_FILENO, n);
-}
-
-fn wide(b: u8) -> u64
-    ensures { λ r. ⌜ r < 2 ^ 8 ⌝ }
-{
-    b as u64
-}
-
-fn say_byte(b: u8) {
+fn say_character(b: u8) {
     if (b < 0x20) | (b > 0x7e) | (b == b'\\') {
         say(b"\\");
         io::print_hex(STDOUT_FILENO, wide(b), 2);
@@ -52,43 +45,7 @@ fn say_text(name: &[u8], text: &[u8]) {
     say(name);
     let mut i = 0;
     while i < text.len() {
-        say_byte(text[i]);
-        i += 1;
-    }
-}
-
-fn least(a: usize, b: usize) -> usize
-    ensures { λ r. ⌜ (r ≤ a) × (r ≤ b) ⌝ }
-{
-    if a < b { a } else { b }
-}
-
-// The bytes from a to e, or none where they aren't there.
-fn part(s: &[u8], a: usize, e: usize) -> &[u8] {
-    if s.len() < e {
-        return &s[0..0];
-    }
-    if e < a {
-        return &s[0..0];
-    }
-    &s[a..e]
-}
-
-// A sum that tells where each byte stands.
-fn sum(b: &[u8]) -> u64 {
-    let mut s: u64 = 0;
-    let mut i = 0;
-    while i < b.len() {
-        s = (s * 31 + wide(b[i])) % 4294967296;
-        i += 1;
-    }
-    s
-}
-
-fn fill(out: &mut [u8]) {
-    let mut i = 0;
-    while i < out.len() {
-        out[i] = 0xa5;
+        say_character(text[i]);
         i += 1;
     }
 }
@@ -105,15 +62,10 @@ fn say_zero(work: &[u8]) {
     say(b" zero\n");
 }
 
-fn say_answer(call: &[u8], answer: u64, count: u64) {
-    say_number(call, answer);
-    say_number(b" count ", count);
-}
-
 fn say_reply(call: &[u8], r: Reply, out: &[u8]) {
     say_answer(call, r.answer, r.count);
-    say_number(b" length ", r.length);
-    say_number(b" sum ", sum(out));
+    say_named(b" length ", r.length);
+    say_named(b" sum ", sum(out));
 }
 
 // ---- the calls
@@ -141,7 +93,7 @@ fn say_failed(v: Volume, image: &[u8], path: &[u8], work: &mut [u8]) {
     let mut count: u64 = 99;
     let component = v.failed(image, path, work, &mut answer, &mut count);
     say_answer(b"failed ", answer, count);
-    say_number(b" length ", component.len() as u64);
+    say_named(b" length ", component.len() as u64);
     say_text(b" component ", component);
     say_zero(work);
 }
@@ -174,8 +126,8 @@ fn say_part(v: Volume, image: &[u8], icb: LongAd) {
     let mut count: u64 = 99;
     let bytes = v.part(image, icb, &mut answer, &mut count);
     say_answer(b"part ", answer, count);
-    say_number(b" length ", bytes.len() as u64);
-    say_number(b" sum ", sum(bytes));
+    say_named(b" length ", bytes.len() as u64);
+    say_named(b" sum ", sum(bytes));
     say(b"\n");
 }
 
@@ -183,8 +135,8 @@ fn say_part(v: Volume, image: &[u8], icb: LongAd) {
 
 fn say_query(what: &[u8], text: &[u8], room: usize, space: usize) {
     say_text(what, text);
-    say_number(b" room ", room as u64);
-    say_number(b" work ", space as u64);
+    say_named(b" room ", room as u64);
+    say_named(b" work ", space as u64);
     say(b"\n");
 }
 
@@ -240,8 +192,8 @@ fn ask_all(image: &[u8], all: &[u8], out: &mut [u8], work: &mut [u8]) {
     let v = opened.volume;
     say_answer(b"open ", opened.answer, opened.count);
     let mount = v.mount;
-    say_number(b" start ", mount.start as u64);
-    say_number(b" partition ", mount.partition as u64);
+    say_named(b" start ", mount.start as u64);
+    say_named(b" partition ", mount.partition as u64);
     let root = v.root;
     let recorded = root.encode();
     say_text(b" root ", &recorded);
@@ -272,22 +224,15 @@ fn run_all(all: &[u8], image: &mut [u8], out: &mut [u8], work: &mut [u8]) {
     }
 }
 
-// Room for an image of 512 sectors, and for the file of images.
-fn space() -> [u8; 1048576]
-    ensures { λ r. ⌜ 1048576 ≡ length r ⌝ }
-{
-    [0; 1048576]
-}
-
 fn main() {
     let fd = os::open_read(b"images");
     if fd < 0 {
         os::fail(b"images");
         return;
     }
-    let mut all = space();
+    let mut all = mebibyte();
     let n = io::read_full(fd, &mut all);
-    let mut image = space();
+    let mut image = mebibyte();
     let mut out = io::large_buffer();
     let mut work = io::large_buffer();
     run_all(&all[..n], &mut image, &mut out, &mut work);

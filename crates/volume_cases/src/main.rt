@@ -1,12 +1,17 @@
 // Opens each image of the file `images`, writes its label and probes it, and prints what each call answers. The file has one record
 // after the other: the length of a name in 16 bits, the name, the length of a packed image in 32 bits (both little-endian), and the
 // packed image, as the crate `sparse` has it.
-ghost use mathlib.Core.Path.{_≡_};
 ghost use Prim.Native.Nat.{_≤_};
 ghost use lib.ListN.{length};
 use disc::replies::Reply;
-use libc::STDOUT_FILENO;
 use probes::probe;
+use programs::lent::front;
+use programs::lent::mebibyte;
+use programs::lent::part;
+use programs::words::say;
+use programs::words::say_answer;
+use programs::words::say_bytes;
+use programs::words::say_named;
 use records::allocations::LongAd;
 use records::bytes::le16;
 use records::bytes::le32;
@@ -16,60 +21,32 @@ use volumes::openings::Opened;
 use volumes::openings::VolumeRecord;
 use volumes::openings::open_volume;
 
-fn say(text: &[u8]) {
-    io::write_all(STDOUT_FILENO, text);
-}
-
-fn wide(b: u8) -> u64 {
-    b as u64
-}
-
-// A word, and a number behind it.
-fn say_number(word: &[u8], n: u64) {
-    say(word);
-    io::print_decimal(STDOUT_FILENO, n);
-}
-
-// A space and two hex digits for each of the first n bytes of b, or of all if it has fewer.
-fn say_bytes(b: &[u8], n: u64) {
-    let mut i = 0;
-    while i < b.len() {
-        if i as u64 == n {
-            return;
-        }
-        say(b" ");
-        io::print_hex(STDOUT_FILENO, wide(b[i]), 2);
-        i += 1;
-    }
-}
-
 fn say_root(root: LongAd) {
-    say_number(b"root ", root.length as u64);
-    say_number(b" type ", root.extent_type as u64);
-    say_number(b" block ", root.location.block as u64);
-    say_number(b" partition ", root.location.partition_ref as u64);
+    say_named(b"root ", root.length as u64);
+    say_named(b" type ", root.extent_type as u64);
+    say_named(b" block ", root.location.block as u64);
+    say_named(b" partition ", root.location.partition_ref as u64);
     let used = root.implementation_use;
     say(b" use");
-    say_bytes(&used, 6);
+    say_bytes(&used);
     say(b"\n");
 }
 
 fn say_volume(v: VolumeRecord) {
     let mount = v.mount;
-    say_number(b"start ", mount.start as u64);
-    say_number(b" partition ", mount.partition as u64);
+    say_named(b"start ", mount.start as u64);
+    say_named(b" partition ", mount.partition as u64);
     say(b"\n");
     let root = v.root;
     say_root(root);
     let field = v.label;
     say(b"field");
-    say_bytes(&field, 32);
+    say_bytes(&field);
     say(b"\n");
 }
 
 fn say_opened(opened: Opened) {
-    say_number(b"opened ", opened.answer);
-    say_number(b" count ", opened.count);
+    say_answer(b"opened ", opened.answer, opened.count);
     say(b"\n");
     let v = opened.volume;
     say_volume(v);
@@ -94,12 +71,11 @@ fn left(out: &[u8]) -> usize {
 }
 
 fn say_reply(word: &[u8], reply: Reply, out: &[u8]) {
-    say_number(word, reply.answer);
-    say_number(b" count ", reply.count);
-    say_number(b" length ", reply.length);
-    say_number(b" left ", left(out) as u64);
+    say_answer(word, reply.answer, reply.count);
+    say_named(b" length ", reply.length);
+    say_named(b" left ", left(out) as u64);
     say(b" bytes");
-    say_bytes(out, reply.length);
+    say_bytes(front(out, reply.length as usize));
     say(b"\n");
 }
 
@@ -151,15 +127,8 @@ fn say_image(image: &[u8]) {
 }
 
 // At most n bytes of s, from `from` on.
-fn part(s: &[u8], from: usize, n: usize) -> &[u8] {
-    if s.len() <= from {
-        return &s[0..0];
-    }
-    if s.len() - from < n {
-        return &s[from..];
-    }
-    let end = from + n;
-    &s[from..end]
+fn bytes_from(s: &[u8], from: usize, n: usize) -> &[u8] {
+    front(part(s, from, s.len()), n)
 }
 
 // The record at the front of s.
@@ -167,9 +136,9 @@ fn say_record(s: &[u8], image: &mut [u8]) {
     let name = le16(s, 0) as usize;
     let packed = le32(s, 2 + name) as usize;
     say(b"image ");
-    say(part(s, 2, name));
+    say(bytes_from(s, 2, name));
     say(b"\n");
-    let n = expand(part(s, 6 + name, packed), image);
+    let n = expand(bytes_from(s, 6 + name, packed), image);
     say_image(&image[..n]);
 }
 
@@ -193,17 +162,10 @@ fn say_records(s: &[u8], image: &mut [u8]) {
     }
 }
 
-// Room for an image of 512 sectors.
-fn space() -> [u8; 1048576]
-    ensures { λ r. ⌜ 1048576 ≡ length r ⌝ }
-{
-    [0; 1048576]
-}
-
 fn say_file(fd: i32) {
     let mut file = io::large_buffer();
     let n = io::read_full(fd, &mut file);
-    let mut image = space();
+    let mut image = mebibyte();
     say_records(&file[..n], &mut image);
 }
 

@@ -1,7 +1,6 @@
 -- Laws of the label: its size, its bytes, and how opening and writing are one call. Assumes nothing.
 use mathlib.Core.Path.{_≡_, refl, ap, sym, _∙_}
 use mathlib.Core.List.{List}
-use mathlib.Core.Option.{Option, none, some}
 use Prim.Native.Nat.{ℕ, _<_, _≤_}
 use native.Mathlib.Nat.{add-zero}
 use lib.ListN.{length}
@@ -30,9 +29,9 @@ use Rattle.volumes.specs.declared.openings.Opened.{Opened}
 
 -- ---- writing
 
-size-written : (name : Option (List ℕ)) → sizeIn (sizeOf name) ≡ length (written name)
-size-written none = refl
-size-written (some t) = refl
+size-written : (name : Outcome (List ℕ)) → sizeIn (sizeOf name) ≡ length (written name)
+size-written (refused why) = refl
+size-written (answered t) = refl
 
 module _ (o : Opened) {n : ℕ} {z : NameSize} (e : z ≡ sizeOf (nameOfField (o .volume .label))) (f : n ≡ sizeIn z) where
   size : n ≡ length (labelOf (o .volume))

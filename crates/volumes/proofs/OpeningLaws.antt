@@ -8,7 +8,6 @@ use Prim.Native.Nat.{ℕ, zero, suc, _+_, _-_, _*_, _/_, _<_, _≤_, _^_}
 use native.Mathlib.Omega.{arith}
 use lib.ListN.{length, replicate}
 use lib.Dec.{eqb}
-use borrow.Author.Tests.{eq-eqb, ne-eqb}
 use Rattle.disc.specs.Choice.{pick}
 use Rattle.disc.specs.Refusals.{number}
 use Rattle.disc.specs.Counts.{reported}
@@ -33,10 +32,11 @@ use Rattle.disc.proofs.ImageLaws.{held, missing}
 use Rattle.records.specs.Allocations.{noLong}
 use Rattle.records.specs.declared.allocations.LongAd.{LongAd}
 use Rattle.descriptors.specs.Volumes.{readAnchor}
-use Rattle.descriptors.specs.FileSets.{readFileSet}
+use Rattle.descriptors.specs.FileSets.{readFileSet, fileSetRead}
 use Rattle.descriptors.specs.declared.anchors.AnchorVolumeDescriptorPointer.{AnchorVolumeDescriptorPointer}
 use Rattle.descriptors.specs.declared.anchors.AnchorRead.{AnchorRead}
 use Rattle.descriptors.specs.declared.anchors.AnchorRead.the-variants.{Read as AnAnchor, Refused as NoAnchor}
+use Rattle.descriptors.specs.declared.file_sets.FileSetDescriptor.{FileSetDescriptor}
 use Rattle.descriptors.specs.declared.file_sets.FileSetRead.{FileSetRead}
 use Rattle.volumes.specs.Sequences.{nothing, Parsed, keptOf, Says, saysIn, goOn, scan, scannedBy, scannedOf}
 use Rattle.volumes.specs.Sequences.Says.{found, passed, over, fails}
@@ -53,9 +53,13 @@ volume-none e = rw e
 
 -- ---- the sector of the file set descriptor
 
-module _ (k : Kept) (b : List ℕ) (n : ℕ) {r : FileSetRead} (e : r ≡ readFileSet b) where
-  pub volume-not : {o : Opened} → (r .answer ≡ 0 → ⊥) → o ≡ record { answer = 2; count = n; volume = noVolume } → o ≡ openedBy n (volumeIn k (readFileSet b))
-  volume-not h q = rw (← e, ne-eqb (r .answer) 0 h) q
+module _ (k : Kept) (b : List ℕ) (n : ℕ) {r : FileSetRead} (e : r ≡ fileSetRead (readFileSet b)) where
+  pub volume-not : {o : Opened} → (r .answer ≡ 0 → ⊥) → o ≡ record { answer = r .answer; count = n; volume = noVolume } → o ≡ openedBy n (volumeIn k (readFileSet b))
+  volume-not {o} h q = told (readFileSet b) e
+    where
+      told : (d : Outcome FileSetDescriptor) → r ≡ fileSetRead d → o ≡ openedBy n (volumeIn k d)
+      told (answered d) p = absurd (h (ap (λ (x : FileSetRead). x .answer) p))
+      told (refused why) p = q ∙ rw p
 
   pub volume-is : {o : Opened} → r .answer ≡ 0
       → {m : Mount} → m ≡ mountIn k
@@ -65,7 +69,11 @@ module _ (k : Kept) (b : List ℕ) (n : ℕ) {r : FileSetRead} (e : r ≡ readFi
         volume = record { mount = m; root = r .descriptor .«root_directory_icb»; label = k .label };
       }
       → o ≡ openedBy n (volumeIn k (readFileSet b))
-  volume-is h {m} g q = rw (← e, eq-eqb (r .answer) 0 h, ← g) q
+  volume-is {o} h {m} g q = told (readFileSet b) e
+    where
+      told : (d : Outcome FileSetDescriptor) → r ≡ fileSetRead d → o ≡ openedBy n (volumeIn k d)
+      told (answered d) p = q ∙ rw (p, g)
+      told (refused why) p = absurd (refusal-numbered why (rw p at h))
 
 -- ---- what was kept, and what follows it
 

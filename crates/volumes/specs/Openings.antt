@@ -13,13 +13,13 @@ use Rattle.disc.specs.Ran.{Ran}
 use Rattle.disc.specs.Places.{placed, standing}
 use Rattle.disc.specs.declared.places.Mount.{Mount}
 use Rattle.disc.specs.declared.places.PartitionRef.the-variants.{Named}
-use Rattle.disc.specs.declared.refusals.Refusal.the-variants.{Malformed, NotBluray, Unsupported}
+use Rattle.disc.specs.declared.refusals.Refusal.the-variants.{NotBluray, Unsupported}
 use Rattle.records.specs.Allocations.{noLong}
 use Rattle.descriptors.specs.Volumes.{readAnchor}
 use Rattle.descriptors.specs.FileSets.{readFileSet}
 use Rattle.descriptors.specs.declared.anchors.AnchorRead.{AnchorRead}
 use Rattle.descriptors.specs.declared.anchors.AnchorRead.the-variants.{Read as AnAnchor, Refused as NoAnchor}
-use Rattle.descriptors.specs.declared.file_sets.FileSetRead.{FileSetRead}
+use Rattle.descriptors.specs.declared.file_sets.FileSetDescriptor.{FileSetDescriptor}
 use Rattle.volumes.specs.declared.sequences.Kept.{Kept}
 use Rattle.volumes.specs.declared.openings.VolumeRecord.{VolumeRecord}
 use Rattle.volumes.specs.declared.openings.Opened.{Opened}
@@ -36,11 +36,9 @@ abbrev pub fileSetIn : Kept → Option ℕ
 fileSetIn k = placed (mountIn k) (Named (k .«file_set» .location .«partition_ref»)) (k .«file_set» .location .block)
 
 -- the volume, once its file set descriptor is read
-abbrev pub volumeIn : Kept → FileSetRead → Outcome VolumeRecord
-volumeIn k r =
-    pick (eqb (r .answer) 0)
-    (answered (record { mount = mountIn k; root = r .descriptor .«root_directory_icb»; label = k .label }))
-    (refused Malformed)
+abbrev pub volumeIn : Kept → Outcome FileSetDescriptor → Outcome VolumeRecord
+volumeIn k (answered d) = answered (record { mount = mountIn k; root = d .«root_directory_icb»; label = k .label })
+volumeIn k (refused r) = refused r
 
 -- no PVD, no PD, no LVD; the block size; the file set descriptor's partition; its sector; its parse
 unfoldable pub mounting : Kept → Ask VolumeRecord

@@ -11,17 +11,14 @@ use Rattle.disc.specs.Ask.Ask.{done, refuse, ask}
 use Rattle.disc.specs.Ask.Outcome.{answered, refused}
 use Rattle.disc.specs.Ran.{Ran}
 use Rattle.disc.specs.declared.refusals.Refusal.{Refusal}
-use Rattle.disc.specs.declared.refusals.Refusal.the-variants.{Malformed}
 use Rattle.records.specs.Bytes.{u16at}
 use Rattle.records.specs.Allocations.{noLong}
 use Rattle.descriptors.specs.Volumes.{readPrimary, readPartition, readLogical}
 use Rattle.descriptors.specs.declared.primaries.PrimaryVolumeDescriptor.{PrimaryVolumeDescriptor}
-use Rattle.descriptors.specs.declared.primaries.PrimaryRead.{PrimaryRead}
 use Rattle.descriptors.specs.declared.partitions.PartitionDescriptor.{PartitionDescriptor}
 use Rattle.descriptors.specs.declared.partitions.PartitionRead.{PartitionRead}
 use Rattle.descriptors.specs.declared.partitions.PartitionRead.the-variants.{Read as APartition, Refused as NoPartition}
 use Rattle.descriptors.specs.declared.logicals.LogicalVolumeDescriptor.{LogicalVolumeDescriptor}
-use Rattle.descriptors.specs.declared.logicals.LogicalRead.{LogicalRead}
 use Rattle.volumes.specs.declared.sequences.Kept.{Kept}
 use Rattle.volumes.specs.declared.sequences.SectorTurn.{SectorTurn}
 use Rattle.volumes.specs.declared.sequences.Scanned.{Scanned}
@@ -93,15 +90,18 @@ pub data Says : Type 0 where
   over : Says
   fails : Refusal → Says
 
-abbrev pub primaryIn : PrimaryRead → Says
-primaryIn r = pick (eqb (r .answer) 0) (found (primary (r .descriptor))) (fails Malformed)
+-- a descriptor that was read is found; one that was refused refuses the scan
+abbrev pub primaryIn : Outcome PrimaryVolumeDescriptor → Says
+primaryIn (answered d) = found (primary d)
+primaryIn (refused r) = fails r
 
 abbrev pub partitionIn : PartitionRead → Says
 partitionIn (APartition d) = found (partition d)
 partitionIn (NoPartition r) = fails r
 
-abbrev pub logicalIn : LogicalRead → Says
-logicalIn r = pick (eqb (r .answer) 0) (found (logical (r .descriptor))) (fails Malformed)
+abbrev pub logicalIn : Outcome LogicalVolumeDescriptor → Says
+logicalIn (answered d) = found (logical d)
+logicalIn (refused r) = fails r
 
 -- by the id alone, of a sector's bytes b: 1, 5 and 6 are parsed, 8 ends the scan with no check of its tag, and all others are skipped unparsed
 unfoldable pub saysIn : List ℕ → Says

@@ -8,6 +8,7 @@ ghost use Rattle.volumes.specs.Labels.{labelling};
 ghost use Rattle.volumes.specs.inner.Steps.{sizeIn, Labels};
 use crate::openings::Opened;
 use crate::openings::open_volume;
+use disc::answers::NO_ROOM;
 use disc::replies::Reply;
 use disc::replies::refusal;
 use names::dstrings::NameSize;
@@ -19,7 +20,7 @@ fn size_in(size: NameSize) -> usize
 {
     match size {
         NameSize::Size(n) => n,
-        NameSize::Refused => 0,
+        NameSize::Refused(_) => 0,
     }
 }
 
@@ -30,7 +31,7 @@ fn put_label(opened: Opened, out: &mut [u8]) -> Reply
     let label = opened.volume.label;
     let n = size_in(field_size(&label));
     if out.len() < n {
-        return refusal(5, opened.count);
+        return refusal(NO_ROOM, opened.count);
     }
     put_field(&label, out);
     Reply {

@@ -11,6 +11,9 @@ use crate::sequences::scan_sequence;
 use descriptors::anchors::AnchorRead;
 use descriptors::anchors::AnchorVolumeDescriptorPointer;
 use descriptors::file_sets::FileSetDescriptor;
+use disc::answers::IO;
+use disc::answers::NOT_BLURAY;
+use disc::answers::UNSUPPORTED;
 use disc::images::held_from;
 use disc::images::sector_at;
 use disc::places::Block;
@@ -76,7 +79,7 @@ fn volume_in(kept: Kept, b: &[u8], count: u64) -> Opened
 {
     let r = FileSetDescriptor::parse(b);
     if r.answer != 0 {
-        return refused(2, count);
+        return refused(r.answer, count);
     }
     let d = r.descriptor;
     let root = d.root_directory_icb;
@@ -97,16 +100,16 @@ fn kept_answer(kept: Kept) -> u64
     ensures { λ r. ⌜ r ≡ mountable kept ⌝ }
 {
     if !kept.has_primary {
-        return 3;
+        return NOT_BLURAY;
     }
     if !kept.has_partition {
-        return 3;
+        return NOT_BLURAY;
     }
     if !kept.has_logical {
-        return 3;
+        return NOT_BLURAY;
     }
     if kept.block_size != 2048 {
-        return 4;
+        return UNSUPPORTED;
     }
     0
 }
@@ -117,7 +120,7 @@ fn mount_at(image: &[u8], kept: Kept, sector: Sector, count: u64) -> Opened
     ensures { λ r. ⌜ r ≡ openedOf (after count (ran (disc (now (image .entry))) (fileSetAt kept (sector .0)))) ⌝ }
 {
     if held_from(image, sector) == 0 {
-        return refused(1, count + 1);
+        return refused(IO, count + 1);
     }
     volume_in(kept, sector_at(image, sector), count + 1)
 }
@@ -134,7 +137,7 @@ fn mount(image: &[u8], kept: Kept, count: u64) -> Opened
     let place = kept.file_set.location;
     let m = mount_in(kept);
     match m.placed(PartitionRef::Named(place.partition_ref), Block(place.block)) {
-        Placed::Nowhere => refused(4, count),
+        Placed::Nowhere => refused(UNSUPPORTED, count),
         Placed::At(sector) => mount_at(image, kept, sector, count),
     }
 }
@@ -161,7 +164,7 @@ pub fn open_volume(image: &[u8]) -> Opened
     ensures { λ r. ⌜ r ≡ openedOf (ran (disc (now (image .entry))) opening) ⌝ }
 {
     if held_from(image, Sector(256)) == 0 {
-        return refused(1, 1);
+        return refused(IO, 1);
     }
     open_from(
         image,

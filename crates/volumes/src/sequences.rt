@@ -3,13 +3,13 @@ ghost use mathlib.Core.Path.{_≡_};
 ghost use mathlib.Core.Bool.{true, false};
 ghost use Rattle.disc.specs.Ran.{ran};
 ghost use Rattle.disc.specs.Images.{disc};
+ghost use Rattle.descriptors.specs.Volumes.{readPrimary, readLogical};
 ghost use Rattle.volumes.specs.Sequences.{nothing, primaryIn, partitionIn, logicalIn, saysIn, turnOf, scan, scannedOf};
-use descriptors::logicals::LogicalRead;
 use descriptors::logicals::LogicalVolumeDescriptor;
 use descriptors::partitions::PartitionDescriptor;
 use descriptors::partitions::PartitionRead;
-use descriptors::primaries::PrimaryRead;
 use descriptors::primaries::PrimaryVolumeDescriptor;
+use disc::answers::IO;
 use disc::images::held_from;
 use disc::images::sector_at;
 use disc::places::Sector;
@@ -79,11 +79,12 @@ fn fails(answer: u64) -> SectorTurn
     }
 }
 
-fn take_primary(k: Kept, r: PrimaryRead) -> SectorTurn
-    ensures { λ t. ⌜ t ≡ turnOf k (primaryIn r) ⌝ }
+fn take_primary(k: Kept, b: &[u8]) -> SectorTurn
+    ensures { λ t. ⌜ t ≡ turnOf k (primaryIn (readPrimary (now (b .entry)))) ⌝ }
 {
+    let r = PrimaryVolumeDescriptor::parse(b);
     if r.answer != 0 {
-        return fails(2);
+        return fails(r.answer);
     }
     let d = r.descriptor;
     let label = d.volume_identifier;
@@ -115,11 +116,12 @@ fn take_partition(k: Kept, r: PartitionRead) -> SectorTurn
     }
 }
 
-fn take_logical(k: Kept, r: LogicalRead) -> SectorTurn
-    ensures { λ t. ⌜ t ≡ turnOf k (logicalIn r) ⌝ }
+fn take_logical(k: Kept, b: &[u8]) -> SectorTurn
+    ensures { λ t. ⌜ t ≡ turnOf k (logicalIn (readLogical (now (b .entry)))) ⌝ }
 {
+    let r = LogicalVolumeDescriptor::parse(b);
     if r.answer != 0 {
-        return fails(2);
+        return fails(r.answer);
     }
     let d = r.descriptor;
     let label = k.label;
@@ -142,13 +144,13 @@ fn take_sector(k: Kept, b: &[u8]) -> SectorTurn
 {
     let id = le16(b, 0);
     if id == 1 {
-        return take_primary(k, PrimaryVolumeDescriptor::parse(b));
+        return take_primary(k, b);
     }
     if id == 5 {
         return take_partition(k, PartitionDescriptor::parse(b));
     }
     if id == 6 {
-        return take_logical(k, LogicalVolumeDescriptor::parse(b));
+        return take_logical(k, b);
     }
     if id == 8 {
         return SectorTurn {
@@ -179,7 +181,7 @@ pub fn scan_sequence(image: &[u8], first: u32, n: u32) -> Scanned
     while i < n {
         let at = first as u64 + i as u64;
         if held_from(image, Sector(at)) == 0 {
-            return scan_refused(1, i as u64 + 1);
+            return scan_refused(IO, i as u64 + 1);
         }
         let turn = take_sector(kept, sector_at(image, Sector(at)));
         let next = turn.kept;

@@ -1,7 +1,6 @@
 -- The worked table of the rules, its thirteen cases as one statement, by computation. Assumes nothing.
 use mathlib.Core.Path.{_≡_}
 use mathlib.Core.List.{[], _∷_}
-use mathlib.Core.Option.{none, some}
 use lib.ListN.{replicate, take}
 use Rattle.records.specs.Allocations.{readShort}
 use Rattle.records.specs.Answers.{shortAnswer}
@@ -10,6 +9,8 @@ use Rattle.tags.specs.Answers.{noTag, tagAnswer}
 use Rattle.areas.specs.Areas.{ended, continuation, areaAt}
 use Rattle.disc.specs.declared.places.PartitionRef.the-variants.{Named}
 use Rattle.areas.specs.declared.AdEnding.the-variants.{End, Continuation}
+use Rattle.disc.specs.Ask.Outcome.{answered, refused}
+use Rattle.disc.specs.declared.refusals.Refusal.the-variants.{Malformed}
 use Rattle.names.specs.Names.{nameOf}
 use Rattle.tags.proofs.Table.{row, table}
 use Rattle.areas.proofs.Table.{areas-worked}
@@ -28,10 +29,10 @@ pub worked-table :
     × (areaAt 0 (0x00 ∷ 0x00 ∷ 0x00 ∷ 0xc0 ∷ 0x07 ∷ 0x00 ∷ 0x00 ∷ 0x00 ∷ []) 0 8 ≡ ended End)
     × (areaAt 1 (0x18 ∷ 0x00 ∷ 0x00 ∷ 0xc0 ∷ 0x09 ∷ 0x00 ∷ 0x00 ∷ 0x00 ∷ 0x01 ∷ 0x00 ∷ replicate 6 0x00) 0 16
     ≡ ended (Continuation (continuation 24 (record { 0 = 9 }) (Named 1))))
-    × (nameOf (0x08 ∷ 0x41 ∷ 0x00 ∷ 0x42 ∷ []) ≡ some (0x41 ∷ []))
-    × (nameOf (0x10 ∷ 0x00 ∷ 0x41 ∷ 0xd8 ∷ 0x00 ∷ 0x00 ∷ 0x42 ∷ []) ≡ some (0x41 ∷ 0x42 ∷ []))
-    × (nameOf (0x10 ∷ 0x00 ∷ 0x41 ∷ 0x00 ∷ []) ≡ none)
-    × (nameOf (0x08 ∷ 0xe9 ∷ []) ≡ some (0xc3 ∷ 0xa9 ∷ []))
-    × (nameOf (0xfe ∷ []) ≡ none)
+    × (nameOf (0x08 ∷ 0x41 ∷ 0x00 ∷ 0x42 ∷ []) ≡ answered (0x41 ∷ []))
+    × (nameOf (0x10 ∷ 0x00 ∷ 0x41 ∷ 0xd8 ∷ 0x00 ∷ 0x00 ∷ 0x42 ∷ []) ≡ answered (0x41 ∷ 0x42 ∷ []))
+    × (nameOf (0x10 ∷ 0x00 ∷ 0x41 ∷ 0x00 ∷ []) ≡ refused Malformed)
+    × (nameOf (0x08 ∷ 0xe9 ∷ []) ≡ answered (0xc3 ∷ 0xa9 ∷ []))
+    × (nameOf (0xfe ∷ []) ≡ refused Malformed)
 worked-table =
     (table .0, table .1, table .2, table .3, table .4, table .5, areas-worked .0, areas-worked .1, worked .0, worked .1, worked .2, worked .3, worked .4)

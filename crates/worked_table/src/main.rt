@@ -3,37 +3,29 @@ use areas::AdContinuation;
 use areas::AdCursor;
 use areas::AdEnding;
 use areas::ending_of;
-use disc::places::PartitionRef;
 use disc::refusals::Refusal;
 use names::dstrings::NameSize;
 use names::dstrings::name_size;
 use names::dstrings::put_name;
+use programs::words::end_line;
+use programs::words::number;
+use programs::words::say;
+use programs::words::say_byte;
+use programs::words::say_decimal;
+use programs::words::say_partition;
+use programs::words::say_refusal;
 use records::allocations::ShortAd;
 use records::allocations::ShortRead;
 use tags::DescriptorTag;
 use tags::TagRead;
 
-fn text(s: &[u8]) {
-    io::write_all(1, s);
-}
-
-fn number(n: u64) {
-    io::write_all(1, b" ");
-    io::print_decimal(1, n);
-}
-
 fn case(n: u64) {
-    io::print_decimal(1, n);
-    text(b":");
-}
-
-fn end_line() {
-    text(b"\n");
+    say_decimal(n);
+    say(b":");
 }
 
 fn refused(why: Refusal) {
-    text(b" refused");
-    number(why.number());
+    say_refusal(why);
     end_line();
 }
 
@@ -100,25 +92,18 @@ fn show_short(r: ShortRead) {
     }
 }
 
-fn show_partition(p: PartitionRef) {
-    match p {
-        PartitionRef::Unnamed => text(b" none"),
-        PartitionRef::Named(n) => number(n as u64),
-    }
-}
-
 fn show_continuation(a: AdContinuation) {
-    text(b" continuation");
+    say(b" continuation");
     number(a.length as u64);
     number(a.block.0 as u64);
     let partition = a.partition_ref;
-    show_partition(partition);
+    say_partition(partition);
     end_line();
 }
 
 fn show_ending(e: AdEnding) {
     match e {
-        AdEnding::End => text(b" ends\n"),
+        AdEnding::End => say(b" ends\n"),
         AdEnding::Continuation(a) => show_continuation(a),
         AdEnding::Refused(why) => refused(why),
     }
@@ -153,28 +138,23 @@ fn allocations() {
     show_ending(ending_of(&continued, 1, AdCursor { at: 0, left: 16 }));
 }
 
-fn byte(b: u8) {
-    text(b" ");
-    io::print_hex(1, b as u64, 2);
-}
-
 // The first bytes of a name, which has at most three.
 fn show_bytes(n: usize, name: [u8; 3]) {
     if 0 < n {
-        byte(name[0]);
+        say_byte(name[0]);
     }
     if 1 < n {
-        byte(name[1]);
+        say_byte(name[1]);
     }
     if 2 < n {
-        byte(name[2]);
+        say_byte(name[2]);
     }
     end_line();
 }
 
 fn show_name(s: &[u8], size: NameSize) {
     match size {
-        NameSize::Refused => refused(Refusal::Malformed),
+        NameSize::Refused(why) => refused(why),
         NameSize::Size(n) => {
             let mut name = [0u8; 3];
             put_name(s, &mut name);

@@ -11,6 +11,7 @@ put-front-spec =
     (λ c. search needs)
     (λ c. simp length-take (omega arith))
     (λ c κs. search needs)
+    (λ c. search needs)
     (λ c κs. search needs)
     (λ c κs. search needs)
     (λ c. search needs)

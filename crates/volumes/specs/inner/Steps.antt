@@ -23,7 +23,7 @@ use Rattle.volumes.specs.Labels.{labelOf}
 -- a size as a number
 abbrev pub sizeIn : NameSize → ℕ
 sizeIn (Size n) = n
-sizeIn Refused = 0
+sizeIn (Refused why) = 0
 
 -- the label of an opened volume over the front of what was lent
 pub record Labels (o : Opened) (before after : List ℕ) (reply : Reply) : Type 0 where

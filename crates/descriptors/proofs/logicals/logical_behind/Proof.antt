@@ -1,12 +1,11 @@
 -- `descriptors::logicals::logical_behind` meets its contract: the label says which case of the definition holds, and each
 -- field is what the call that read it ensures. Assumes nothing.
 use borrow.Author.Needs.{needs}
-use borrow.Author.Tests.{not-true, not-false}
 use Rattle.descriptors.proofs.VolumeLaws.{logical-unnamed, logical-named}
 use Rattle.descriptors.proofs.logicals.logical_behind.Statement.{statement}
 use Rattle.descriptors.proofs.logicals.logical_behind.Tie as tie
 
-ruleset logicals = (logical-unnamed, logical-named, not-true, not-false, needs)
+ruleset logicals = (logical-unnamed, logical-named, needs)
 
 pub logical-behind-spec : {M : Type 1} → statement M
 logical-behind-spec =
@@ -14,9 +13,11 @@ logical-behind-spec =
     (λ c κs. search needs)
     (λ c. search needs)
     (λ c κs. search needs)
+    (λ c. search needs)
+    (λ c κs. search needs)
+    (λ c. search needs)
+    (λ c κs. search needs)
+    (λ c κs. search needs)
     (λ c κs. search needs)
     (λ c. search logicals)
-    (λ c κs. search needs)
-    (λ c κs. search needs)
-    (λ c κs. search needs)
     (λ c. search logicals))

@@ -11,9 +11,9 @@ returns : tie.Need-returns-3
 returns c =
     let copied = c .before .before in
     let headed = copied .before .before .before in
-    let fits = headed .before in
+    let fits = headed .before .before in
     let named = fits .before .before .before in
-    record-put _ _ _ _ (named .put-name .ensures) (search needs) (named .before .before .if1 .left) (fits .if2 .left) (headed .head .ensures) (copied .copy .ensures)
+    record-put _ _ _ _ (named .put-name .ensures) (search needs) (named .before .before .if1 .left) (fits .if2 .left) (headed .before .directory-bit .ensures) (headed .head .ensures) (copied .copy .ensures)
 
 pub put-record-spec : {M : Type 1} → statement M
 put-record-spec =
@@ -26,6 +26,7 @@ put-record-spec =
     (λ c. search records)
     (λ c. search records)
     (λ c. search records)
+    (λ c κs. search records)
     (λ c κs. search records)
     (λ c. search records)
     (λ c κs. search records)

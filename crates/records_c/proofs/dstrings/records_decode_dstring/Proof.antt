@@ -11,6 +11,7 @@ records-decode-dstring-spec =
     tie.close (tie.spec
     (λ c κs. search needs)
     (λ c. search needs)
+    (λ c κs. search needs)
     (λ c. search needs)
     (λ c. search arms)
     (λ c κs. search needs)

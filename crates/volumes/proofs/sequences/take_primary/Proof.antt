@@ -10,6 +10,7 @@ pub take-primary-spec : {M : Type 1} → statement M
 take-primary-spec =
     tie.close (tie.spec
     (λ c κs. search needs)
+    (λ c κs. search needs)
     (λ c. search turns)
     (λ c κs. search needs)
     (λ c. search turns))

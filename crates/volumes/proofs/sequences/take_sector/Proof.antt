@@ -11,12 +11,10 @@ take-sector-spec =
     tie.close (tie.spec
     (λ c κs. search needs)
     (λ c κs. search needs)
-    (λ c κs. search needs)
     (λ c. search ids)
     (λ c κs. search needs)
     (λ c κs. search needs)
     (λ c. search ids)
-    (λ c κs. search needs)
     (λ c κs. search needs)
     (λ c. search ids)
     (λ c. search ids)

@@ -1,0 +1,62 @@
+// Bytes that are lent, before a call and after it.
+ghost use mathlib.Core.Path.{_≡_};
+ghost use Prim.Native.Nat.{_<_, _^_};
+ghost use lib.ListN.{length};
+
+pub fn wide(b: u8) -> u64
+    ensures { λ r. ⌜ r < 2 ^ 8 ⌝ }
+{
+    b as u64
+}
+
+// The bytes from a to e, or none where they aren't there.
+pub fn part(s: &[u8], a: usize, e: usize) -> &[u8] {
+    if s.len() < e {
+        return &s[0..0];
+    }
+    if e < a {
+        return &s[0..0];
+    }
+    &s[a..e]
+}
+
+// The first n bytes, or all where there are fewer.
+pub fn front(s: &[u8], n: usize) -> &[u8] {
+    if s.len() < n {
+        return s;
+    }
+    &s[0..n]
+}
+
+// A byte that a call leaves alone is still A5.
+pub fn fill(out: &mut [u8]) {
+    let mut i = 0;
+    while i < out.len() {
+        out[i] = 0xa5;
+        i += 1;
+    }
+}
+
+// A sum that tells where each byte stands.
+pub fn sum(b: &[u8]) -> u64 {
+    let mut s: u64 = 0;
+    let mut i = 0;
+    while i < b.len() {
+        s = (s * 31 + wide(b[i])) % 4294967296;
+        i += 1;
+    }
+    s
+}
+
+// Room for an image of 512 sectors.
+pub fn mebibyte() -> [u8; 1048576]
+    ensures { λ r. ⌜ 1048576 ≡ length r ⌝ }
+{
+    [0; 1048576]
+}
+
+pub fn two_mebibytes() -> [u8; 2097152]
+    ensures { λ r. ⌜ 2097152 ≡ length r ⌝ }
+{
+    [0; 2097152]
+}
