@@ -27,7 +27,7 @@ use Rattle.areas.proofs.AreaLaws.{walks-end, walks-continuation, walks-refused,
 use Rattle.chains.specs.declared.cursors.ChainCursor.{ChainCursor}
 use Rattle.chains.specs.declared.cursors.ChainStep.{ChainStep}
 use Rattle.chains.specs.declared.cursors.ChainStep.the-variants.{Takes, Hops, Ends}
-use Rattle.chains.specs.Walks.{areaSize, beyond, left, weight, hopTo, hopping, stepped, stepOf}
+use Rattle.chains.specs.inner.Walks.{areaSize, beyond, left, weight, hopTo, hopping, stepped, stepOf}
 
 -- ---- the returns of `hop` and `advance`
 

@@ -1,4 +1,4 @@
--- What following a chain says, for the contracts. There is nothing to believe here but `Followed`: what the run of the chain's tree comes to.
+-- What following a chain says: `Followed`, which is what the run of the chain's tree comes to, and what it is made of.
 use Prim.Native.Nat.{ℕ, _+_, _*_, _≤_}
 use mathlib.Core.Path.{_≡_}
 use mathlib.Core.List.{List}
@@ -16,7 +16,7 @@ use Rattle.chains.specs.declared.continuations.NextArea.the-variants.{Fo
 use Rattle.chains.specs.declared.follows.Chain.{Chain}
 use Rattle.chains.specs.declared.follows.Chain.the-variants.{Whole, Refused as Broken}
 use Rattle.chains.specs.Chains.{areaFrom, nextArea, chain}
-use Rattle.chains.specs.Walks.{areaPlace, areaSize, nextThere, left}
+use Rattle.chains.specs.inner.Walks.{areaPlace, areaSize, nextThere, left}
 
 -- the next area, where it stands in the image
 pub record FoundArea (image : List ℕ) (m : Mount) (a : AdContinuation) (at size n : ℕ) : Type 0 where

@@ -3,7 +3,7 @@
 ghost use mathlib.Core.Path.{_≡_};
 ghost use mathlib.Core.Option.{some};
 ghost use Prim.Native.Nat.{_≤_, _<_, _^_};
-ghost use Rattle.chains.specs.Walks.{hopTo, hopping, stepOf};
+ghost use Rattle.chains.specs.inner.Walks.{hopTo, hopping, stepOf};
 use areas::AdContinuation;
 use areas::AdCursor;
 use areas::AdStep;

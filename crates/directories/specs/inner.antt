@@ -1,3 +1,3 @@
--- What the private functions alone cite: there is nothing to believe here.
+-- What contracts below the face alone cite.
 pub mod Spaces
 pub mod Walks

@@ -21,13 +21,13 @@ use Rattle.disc.specs.declared.places.Mount.{Mount}
 use Rattle.disc.specs.declared.refusals.Refusal.{Refusal}
 use Rattle.disc.proofs.PickLaws.{not-both}
 use Rattle.disc.proofs.MoveLaws.{over-fits, sets-append, sets-front}
-use Rattle.chains.specs.Walks.{weight}
+use Rattle.chains.specs.inner.Walks.{weight}
 use Rattle.chains.specs.declared.cursors.ChainCursor.{ChainCursor}
 use Rattle.files.specs.declared.pieces.Turn.{Turn}
 use Rattle.files.specs.declared.pieces.Turn.the-variants.{Piece, Hop, Refused as Stopped, End}
 use Rattle.files.specs.inner.Pieces.{beforeOutcome, inFront, restAt, PieceTurn, Turned}
 use Rattle.files.specs.inner.Passes.{Copied}
-use Rattle.chains.specs.Walks.{left}
+use Rattle.chains.specs.inner.Walks.{left}
 use Rattle.files.proofs.PieceLaws.{part-long}
 use Rattle.files.proofs.BoundLaws.{few-bytes}
 

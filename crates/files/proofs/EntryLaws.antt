@@ -30,7 +30,7 @@ use Rattle.entries.specs.declared.«file_entries».FileEntry.{FileEntry}
 use Rattle.entries.specs.declared.«file_entries».EntryRead.{EntryRead}
 use Rattle.entries.specs.declared.«file_entries».EntryRead.the-variants.{Read, Refused as NoEntry}
 use Rattle.entries.proofs.EntryLaws.{read-entry}
-use Rattle.chains.specs.Walks.{left}
+use Rattle.chains.specs.inner.Walks.{left}
 use Rattle.chains.specs.Follows.{chainAt, WholeChain, BrokenChain, Followed}
 use Rattle.chains.specs.declared.cursors.ChainCursor.{ChainCursor}
 use Rattle.chains.specs.declared.follows.Chain.{Chain}
@@ -42,7 +42,7 @@ use Rattle.files.specs.declared.icbs.PlaceRead.the-variants.{Found, Refu
 use Rattle.files.specs.Files.{Located, located, entryAt, resolved, fileAt}
 use Rattle.files.specs.Files.File.{chained}
 use Rattle.files.specs.inner.Places.{placeAt, placeBy, placeOf}
-use Rattle.files.specs.Wholes.{readBy, placeIn, frontOf, FoundPlace, Locates, EmbeddedFile, Resolves}
+use Rattle.files.specs.inner.Wholes.{readBy, placeIn, frontOf, FoundPlace, Locates, EmbeddedFile, Resolves}
 use Rattle.files.specs.declared.resolves.Resolved.the-variants.{Embedded, Chained, Refused as Unresolved}
 
 -- a part of a part

@@ -21,7 +21,7 @@ use Rattle.disc.specs.declared.refusals.Refusal.the-variants.{Io, Unsupported}
 use Rattle.disc.proofs.RanLaws.{ran-done, ran-refuse, ran-then}
 use Rattle.disc.proofs.ImageLaws.{split, same-answer}
 use Rattle.areas.specs.declared.AllocExtent.{AllocExtent}
-use Rattle.chains.specs.Walks.{stepOf}
+use Rattle.chains.specs.inner.Walks.{stepOf}
 use Rattle.chains.specs.declared.cursors.ChainCursor.{ChainCursor}
 use Rattle.chains.specs.declared.cursors.ChainStep.{ChainStep}
 use Rattle.chains.specs.declared.cursors.ChainStep.the-variants.{Takes, Hops, Ends}

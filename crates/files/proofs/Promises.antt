@@ -29,7 +29,7 @@ use Rattle.records.specs.declared.allocations.LongAd.{LongAd}
 use Rattle.disc.specs.declared.places.PartitionRef.the-variants.{Unnamed}
 use Rattle.areas.specs.declared.AllocExtent.{AllocExtent}
 use Rattle.areas.specs.declared.AdEnding.the-variants.{End}
-use Rattle.areas.specs.Areas.{Area, extent, areaAt, descriptors, descriptorAt, says, sizeOf}
+use Rattle.areas.specs.Areas.{Area, extent, areaAt, descriptors, descriptorAt, descriptorOf, sizeOf}
 use Rattle.areas.proofs.TotalLaws.{total, area-total}
 use Rattle.entries.specs.FileEntries.{readEntry}
 use Rattle.entries.specs.declared.«file_entries».EntryRead.{EntryRead}
@@ -176,7 +176,7 @@ example = extent 3000 0 10 Unnamed ∷ extent 100 0 20 Unnamed ∷ extent 5000 1
 
 pub example-area : areaAt 0 (0xb8 ∷ 0x0b ∷ 0 ∷ 0 ∷ 10 ∷ 0 ∷ 0 ∷ 0 ∷ 100 ∷ 0 ∷ 0 ∷ 0 ∷ 20 ∷ 0 ∷ 0 ∷ 0 ∷ 0x88 ∷ 0x13 ∷ 0 ∷ 0x40 ∷ 30 ∷ 0 ∷ 0 ∷ 0 ∷ []) 0 24
     ≡ record { extents = example; ending = End }
-unfolding areaAt descriptors descriptorAt says sizeOf
+unfolding areaAt descriptors descriptorAt descriptorOf sizeOf
 example-area = refl
 
 pub example-visits : (visited example 3050 ≡ 2) × (visited example 0 ≡ 1) × (visited example 3101 ≡ 3)

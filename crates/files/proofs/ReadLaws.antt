@@ -20,7 +20,7 @@ use Rattle.disc.specs.declared.replies.Reply.{Reply}
 use Rattle.disc.proofs.RanLaws.{ran-done, ran-then}
 use Rattle.disc.proofs.ReplyLaws.{reply-refused}
 use Rattle.records.specs.declared.allocations.LongAd.{LongAd}
-use Rattle.chains.specs.Walks.{left}
+use Rattle.chains.specs.inner.Walks.{left}
 use Rattle.chains.specs.declared.cursors.ChainCursor.{ChainCursor}
 use Rattle.files.specs.declared.icbs.Place.{Place}
 use Rattle.files.specs.declared.extents.Measured.{Measured}
@@ -28,7 +28,7 @@ use Rattle.files.specs.declared.extents.Measured.the-variants.{Sized, Re
 use Rattle.files.specs.Files.{fileBytes}
 use Rattle.files.specs.inner.Pieces.{restAt}
 use Rattle.files.specs.inner.Passes.{sizedBy, sized, Copied}
-use Rattle.files.specs.Wholes.{embeddedIn, embeddedRun, frontOf, EmbeddedFile, ChainedFile, Resolves}
+use Rattle.files.specs.inner.Wholes.{embeddedIn, embeddedRun, frontOf, EmbeddedFile, ChainedFile, Resolves}
 use Rattle.files.specs.declared.resolves.Resolved.{Resolved}
 use Rattle.files.specs.declared.resolves.Resolved.the-variants.{Embedded, Chained, Refused as Unresolved}
 use Rattle.files.proofs.BoundLaws.{same-bytes}

@@ -1,5 +1,4 @@
 -- What the contracts cite, lowest first.
 pub mod Reads
 pub mod Files
-pub mod Wholes
 pub mod inner

@@ -1,4 +1,5 @@
--- What private contracts alone cite.
+-- What contracts below the face alone cite.
+pub mod Wholes
 pub mod Pieces
 pub mod Passes
 pub mod Places

@@ -3,7 +3,7 @@ ghost use mathlib.Core.Path.{_≡_};
 ghost use Prim.Native.Nat.{_+_, _≤_, _<_, _^_};
 ghost use lib.ListN.{length};
 ghost use Rattle.files.specs.inner.Places.{placeOf};
-ghost use Rattle.files.specs.Wholes.{placeIn};
+ghost use Rattle.files.specs.inner.Wholes.{placeIn};
 use disc::images::held_from;
 use disc::images::sector_at;
 use disc::places::Block;

@@ -6,7 +6,7 @@ ghost use Rattle.disc.specs.Images.{disc};
 ghost use Rattle.disc.specs.Replies.{Replied};
 ghost use Rattle.files.specs.Files.{fileBytes};
 ghost use Rattle.files.specs.inner.Pieces.{restAt};
-ghost use Rattle.files.specs.Wholes.{embeddedRun};
+ghost use Rattle.files.specs.inner.Wholes.{embeddedRun};
 use crate::extents::Measured;
 use crate::extents::copy;
 use crate::extents::copy_piece;

@@ -1,6 +1,6 @@
 // A file's entry and its chain: what is read before anything is asked of the file.
 ghost use mathlib.Core.Path.{_≡_};
-ghost use Rattle.files.specs.Wholes.{frontOf, Resolves};
+ghost use Rattle.files.specs.inner.Wholes.{frontOf, Resolves};
 use crate::icbs::Place;
 use crate::icbs::PlaceRead;
 use crate::icbs::locate;

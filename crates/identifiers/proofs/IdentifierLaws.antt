@@ -31,7 +31,7 @@ use Rattle.names.proofs.Promises.{name-short, name-refused}
 use Rattle.identifiers.specs.declared.FileIdentifierDescriptor.{FileIdentifierDescriptor}
 use Rattle.identifiers.specs.declared.IdentifierRead.{IdentifierRead}
 use Rattle.identifiers.specs.Identifiers.{nameAt, nameEnd, recordedName, nextAt, identifierOf, identifierSized, identifierNamed, readIdentifier, identifierRead}
-use Rattle.identifiers.specs.Wholes.{Whole}
+use Rattle.identifiers.specs.inner.Wholes.{Whole}
 use Rattle.disc.proofs.RefusalLaws.{refusal-numbered}
 use Rattle.tags.proofs.HeadLaws.{Passed, gated-answered, gated-refused}
 

@@ -1,3 +1,3 @@
--- What the contracts cite: what a reader must believe, then what is proved of it for the contracts above.
+-- What the contracts cite.
 pub mod Identifiers
-pub mod Wholes
+pub mod inner

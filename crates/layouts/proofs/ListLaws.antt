@@ -31,13 +31,13 @@ use Rattle.areas.specs.declared.AllocExtent.{AllocExtent}
 use Rattle.chains.specs.declared.cursors.ChainCursor.{ChainCursor}
 use Rattle.chains.specs.declared.cursors.ChainStep.{ChainStep}
 use Rattle.chains.specs.declared.cursors.ChainStep.the-variants.{Takes, Hops, Ends}
-use Rattle.chains.specs.Walks.{left, weight, stepOf}
+use Rattle.chains.specs.inner.Walks.{left, weight, stepOf}
 use Rattle.chains.proofs.WalkLaws.{Taken, Hopped, Stepped, steps}
 use Rattle.files.specs.declared.icbs.Place.{Place}
 use Rattle.files.specs.Files.{fileExtents}
 use Rattle.files.specs.declared.resolves.Resolved.{Resolved}
 use Rattle.files.specs.declared.resolves.Resolved.the-variants.{Embedded, Chained, Refused as Unresolved}
-use Rattle.files.specs.Wholes.{frontOf, ChainedFile, Resolves}
+use Rattle.files.specs.inner.Wholes.{frontOf, ChainedFile, Resolves}
 use Rattle.layouts.specs.declared.lists.Extent.{Extent}
 use Rattle.layouts.specs.declared.lists.Listing.{Listing}
 use Rattle.layouts.specs.Calls.{referenceOf, extentOf, fieldsOf, wordsOf, Listed}

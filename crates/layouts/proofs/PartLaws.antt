@@ -32,7 +32,7 @@ use Rattle.files.specs.declared.icbs.PlaceRead.the-variants.{Found, Refused as 
 use Rattle.files.specs.Files.{Located, entryAt, isEmbedded, chainOf, fileAt, Part, noPart, partOf, filePart}
 use Rattle.files.specs.Files.File.{chained}
 use Rattle.files.specs.inner.Places.{placeOf}
-use Rattle.files.specs.Wholes.{embeddedIn, FoundPlace, Locates, EmbeddedFile, ChainedFile, NoFile, Resolves}
+use Rattle.files.specs.inner.Wholes.{embeddedIn, FoundPlace, Locates, EmbeddedFile, ChainedFile, NoFile, Resolves}
 use Rattle.files.proofs.EntryLaws.{found-kind, found-goes, found-embedded, locates}
 use Rattle.layouts.specs.Calls.{partIn, partReply, PartReplied}
 

@@ -5,7 +5,7 @@ ghost use Prim.Native.Nat.{_≤_};
 ghost use lib.ListN.{length};
 ghost use Rattle.disc.specs.Ran.{ran};
 ghost use Rattle.disc.specs.Images.{disc};
-ghost use Rattle.chains.specs.Walks.{left};
+ghost use Rattle.chains.specs.inner.Walks.{left};
 ghost use Rattle.files.specs.Files.{fileExtents};
 ghost use Rattle.layouts.specs.Calls.{referenceOf, extentOf, fieldsOf, wordsOf, Listed};
 ghost use Rattle.layouts.specs.inner.Lists.{Stands, Planned, listedRun};

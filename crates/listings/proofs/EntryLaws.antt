@@ -27,7 +27,7 @@ use Rattle.disc.proofs.ByteLaws.{Bytes}
 use Rattle.identifiers.specs.declared.FileIdentifierDescriptor.{FileIdentifierDescriptor}
 use Rattle.identifiers.specs.declared.IdentifierRead.{IdentifierRead}
 use Rattle.identifiers.specs.Identifiers.{readIdentifier, identifierRead, recordedName, nameAt, nameEnd, nextAt, bit, isDirectory}
-use Rattle.identifiers.specs.Wholes.{Whole}
+use Rattle.identifiers.specs.inner.Wholes.{Whole}
 use Rattle.identifiers.proofs.IdentifierLaws.{identifier-read, read-identifier}
 use Rattle.listings.specs.Entries.{Entry, entryOf, entryIn, entryRead, isSkipped, nameIn}
 use Rattle.listings.specs.Listings.{recordHead, shown, isLong, answersTo}

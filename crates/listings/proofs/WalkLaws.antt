@@ -28,7 +28,7 @@ use Rattle.disc.proofs.ReplyLaws.{reply-refused, reply-full, reply-done}
 use Rattle.identifiers.specs.declared.IdentifierRead.{IdentifierRead}
 use Rattle.disc.proofs.ByteLaws.{Bytes}
 use Rattle.identifiers.specs.Identifiers.{readIdentifier, identifierRead, nameAt, nameEnd, nextAt}
-use Rattle.identifiers.specs.Wholes.{Whole}
+use Rattle.identifiers.specs.inner.Wholes.{Whole}
 use Rattle.listings.specs.Entries.{Entry, entryOf, entryRead, isSkipped, inFront, entriesFrom, entries}
 use Rattle.listings.specs.Listings.{shown, records, isLong, anyLong, listing, answersTo, firstNamed, findIn, unnamed, namedTo, namedOf}
 use Rattle.listings.specs.inner.Passes.{tail, GoodAt, Comes, Puts, sizeOfListing, earlierOf}

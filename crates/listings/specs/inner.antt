@@ -1,2 +1,2 @@
--- What the private functions alone cite: there is nothing to believe here.
+-- What contracts below the face alone cite.
 pub mod Passes

@@ -7,7 +7,7 @@ ghost use lib.ListN.{length};
 ghost use Rattle.disc.specs.Choice.{pick};
 ghost use Rattle.names.specs.Names.{nameOf, written};
 ghost use Rattle.identifiers.specs.Identifiers.{bit};
-ghost use Rattle.identifiers.specs.Wholes.{Whole};
+ghost use Rattle.identifiers.specs.inner.Wholes.{Whole};
 ghost use Rattle.listings.specs.Entries.{entryOf, isSkipped};
 ghost use Rattle.listings.specs.Listings.{answersTo};
 ghost use Rattle.listings.specs.inner.Passes.{Comes, Recorded, Puts, headIn};

@@ -2,7 +2,7 @@
 ghost use mathlib.Core.Path.{_≡_};
 ghost use Prim.Native.Nat.{_+_, _≤_};
 ghost use lib.ListN.{length};
-ghost use Rattle.identifiers.specs.Wholes.{Whole};
+ghost use Rattle.identifiers.specs.inner.Wholes.{Whole};
 ghost use Rattle.listings.specs.Entries.{entryOf};
 ghost use Rattle.listings.specs.Listings.{findIn, namedOf, unnamed};
 ghost use Rattle.listings.specs.inner.Passes.{earlierOf};

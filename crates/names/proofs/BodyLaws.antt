@@ -16,7 +16,7 @@ use Rattle.disc.proofs.PickLaws.{pick-both}
 use Rattle.disc.specs.Choice.{pick}
 use Rattle.disc.proofs.MoveLaws.{sets-append}
 use Rattle.names.specs.Names.{Wrote, pairs, untilZero, surrogate, dropSurrogates, encode, utf8}
-use Rattle.names.specs.Units.{WroteAt, Body, units, textOf, unitAt, unitBytes}
+use Rattle.names.specs.inner.Units.{WroteAt, Body, units, textOf, unitAt, unitBytes}
 use Rattle.names.proofs.UnitLaws.{sets-over}
 
 -- The UTF-8 of units.

@@ -15,7 +15,7 @@ use Rattle.disc.proofs.MoveLaws.{over-fits, over-long}
 use Rattle.names.specs.declared.dstrings.Form.{Form}
 use Rattle.names.specs.declared.dstrings.Form.the-variants.{Empty, Units, Bad}
 use Rattle.names.specs.Names.{Wrote, nameOf, lower, sameName, matched, isNamed}
-use Rattle.names.specs.Units.{Formed, textOf}
+use Rattle.names.specs.inner.Units.{Formed, textOf}
 use Rattle.disc.proofs.ByteLaws.{Bytes}
 use Rattle.names.proofs.NameLaws.{found}
 use Rattle.names.proofs.Promises.{at-most-508}

@@ -15,7 +15,7 @@ use Rattle.names.specs.declared.dstrings.NameSize.the-variants.{Size, Re
 use Rattle.names.specs.declared.fields.FieldLength.{FieldLength}
 use Rattle.names.specs.declared.fields.FieldLength.the-variants.{Length, TooLong}
 use Rattle.names.specs.Names.{Wrote, nameOf, nameOfField, written, sizeOf}
-use Rattle.names.specs.Units.{Body, Formed, FieldMeasured, units, textOf, nameAs, frontName}
+use Rattle.names.specs.inner.Units.{Body, Formed, FieldMeasured, units, textOf, nameAs, frontName}
 use Rattle.disc.proofs.ByteLaws.{Bytes}
 use Rattle.names.proofs.Promises.{bytes-kept}
 

@@ -10,7 +10,7 @@ use lib.Seq.{set-out, sets}
 use borrow.Author.Tests.{lt-ltb, le-ltb}
 use Rattle.disc.specs.Moves.{over}
 use Rattle.names.specs.Names.{surrogate, encode}
-use Rattle.names.specs.Units.{WroteAt, unitBytes}
+use Rattle.names.specs.inner.Units.{WroteAt, unitBytes}
 
 -- ---- stores
 

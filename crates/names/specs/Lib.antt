@@ -1,3 +1,3 @@
--- What the contracts cite: what a reader must believe, then what the private functions alone cite.
+-- What the contracts cite.
 pub mod Names
-pub mod Units
+pub mod inner

@@ -6,7 +6,7 @@ use disc::refusals::Refusal;
 ghost use mathlib.Core.Path.{_≡_};
 ghost use lib.ListN.{length, drop};
 ghost use Rattle.names.specs.Names.{Wrote, nameOf, written, sizeOf};
-ghost use Rattle.names.specs.Units.{Body, Formed, textOf};
+ghost use Rattle.names.specs.inner.Units.{Body, Formed, textOf};
 
 // How many bytes of UTF-8 a recorded name has.
 pub enum NameSize {

@@ -6,7 +6,7 @@ use crate::units::wide;
 use disc::refusals::Refusal;
 ghost use mathlib.Core.Path.{_≡_};
 ghost use Rattle.names.specs.Names.{Wrote, nameOfField, written, sizeOf};
-ghost use Rattle.names.specs.Units.{FieldMeasured};
+ghost use Rattle.names.specs.inner.Units.{FieldMeasured};
 
 // How long the d-string of a field is.
 enum FieldLength {

@@ -3,7 +3,7 @@ ghost use mathlib.Core.Path.{_≡_};
 ghost use Prim.Native.Nat.{_+_, _≤_, _<_};
 ghost use lib.ListN.{length, set};
 ghost use Rattle.names.specs.Names.{surrogate};
-ghost use Rattle.names.specs.Units.{WroteAt, unitAt, unitBytes};
+ghost use Rattle.names.specs.inner.Units.{WroteAt, unitAt, unitBytes};
 
 pub(crate) fn wide(b: u8) -> u16
     ensures { λ r. ⌜ (r ≡ b) × (r < 256) ⌝ }

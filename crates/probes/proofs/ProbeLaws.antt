@@ -13,7 +13,7 @@ use Rattle.descriptors.specs.Recognition.{structureOf}
 use Rattle.descriptors.specs.declared.recognition.Structure.{Structure}
 use Rattle.descriptors.specs.declared.recognition.Structure.the-variants.{Beginning, Nsr, Terminating, Other, Unknown}
 use Rattle.probes.specs.Probes.{probedBy, probing, yes, probed}
-use Rattle.probes.specs.Steps.{stepOf}
+use Rattle.probes.specs.inner.Steps.{stepOf}
 use Rattle.probes.specs.declared.Seen.{Seen}
 
 -- ---- one sector

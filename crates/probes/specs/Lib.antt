@@ -1,3 +1,3 @@
--- What the contracts cite. `Steps` holds what a private contract cites: nothing to believe.
+-- What the contracts cite.
 pub mod Probes
-pub mod Steps
+pub mod inner

@@ -2,7 +2,7 @@
 ghost use mathlib.Core.Path.{_≡_};
 ghost use mathlib.Core.Bool.{true, false};
 ghost use Rattle.probes.specs.Probes.{probed};
-ghost use Rattle.probes.specs.Steps.{stepOf};
+ghost use Rattle.probes.specs.inner.Steps.{stepOf};
 use descriptors::recognition::Structure;
 use descriptors::recognition::structure_of;
 use disc::images::held_from;

@@ -1,4 +1,4 @@
--- What the contracts cite, lowest first. `Steps` holds what private contracts cite: nothing to believe.
+-- What the contracts cite, lowest first.
 pub mod Sequences
 pub mod Openings
 pub mod Labels

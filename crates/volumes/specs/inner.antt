@@ -1,2 +1,2 @@
--- What private contracts alone cite.
+-- What contracts below the face alone cite.
 pub mod Steps

@@ -12,7 +12,7 @@ use Rattle.disc.specs.Images.{disc, heldFrom, sectorsFor}
 use Rattle.disc.specs.declared.places.Mount.{Mount}
 use Rattle.disc.specs.declared.refusals.Refusal.the-variants.{Io}
 use Rattle.areas.specs.declared.AllocExtent.{AllocExtent}
-use Rattle.chains.specs.Walks.{left, weight}
+use Rattle.chains.specs.inner.Walks.{left, weight}
 use Rattle.chains.specs.declared.cursors.ChainCursor.{ChainCursor}
 use Rattle.files.specs.Reads.{extentsBytes}
 use Rattle.files.specs.declared.pieces.Piece.{Piece}

@@ -13,7 +13,7 @@ use Rattle.disc.specs.declared.places.Mount.{Mount}
 use Rattle.disc.specs.declared.refusals.Refusal.the-variants.{NoSlot}
 use Rattle.disc.specs.declared.replies.Reply.{Reply}
 use Rattle.areas.specs.declared.AllocExtent.{AllocExtent}
-use Rattle.chains.specs.Walks.{left}
+use Rattle.chains.specs.inner.Walks.{left}
 use Rattle.chains.specs.declared.cursors.ChainCursor.{ChainCursor}
 use Rattle.layouts.specs.Calls.{extentOf}
 use Rattle.layouts.specs.declared.lists.Listing.{Listing}

@@ -13,7 +13,7 @@ use Rattle.disc.specs.declared.refusals.Refusal.{Refusal}
 use Rattle.records.specs.Bytes.{byte, six, le16}
 use Rattle.names.specs.Names.{Wrote}
 use Rattle.identifiers.specs.Identifiers.{nextAt}
-use Rattle.identifiers.specs.Wholes.{Whole}
+use Rattle.identifiers.specs.inner.Wholes.{Whole}
 use Rattle.identifiers.specs.declared.FileIdentifierDescriptor.{FileIdentifierDescriptor}
 use Rattle.identifiers.specs.declared.IdentifierRead.{IdentifierRead}
 use Rattle.listings.specs.Entries.{Entry, entryOf, entryRead, inFront, entries}

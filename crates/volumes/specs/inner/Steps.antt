@@ -1,4 +1,4 @@
--- What the contracts of private functions cite: nothing to believe.
+-- What the contracts of private functions cite.
 use Prim.Native.Nat.{ℕ}
 use mathlib.Core.List.{List}
 use mathlib.Core.Path.{_≡_}

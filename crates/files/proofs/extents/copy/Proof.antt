@@ -1,6 +1,6 @@
 -- `files::extents::copy` meets its contract: what is stored and what the rest will store are what the whole stores. Assumes nothing.
 use borrow.Author.Needs.{needs}
-use Rattle.chains.specs.Walks.{weight}
+use Rattle.chains.specs.inner.Walks.{weight}
 use Rattle.files.proofs.CopyLaws.{Copying, copy-starts, copy-end, copy-refused, copy-hop, copy-hop-less, copy-less, copy-room, copy-adds, copy-source, copy-target, copy-enough, copy-next}
 use Rattle.files.proofs.extents.copy.Statement.{statement}
 use Rattle.files.proofs.extents.copy.Tie as tie

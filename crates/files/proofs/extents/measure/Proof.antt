@@ -1,6 +1,6 @@
 -- `files::extents::measure` meets its contract: what is measured and what the rest comes to are what the whole comes to. Assumes nothing.
 use borrow.Author.Needs.{needs}
-use Rattle.chains.specs.Walks.{weight}
+use Rattle.chains.specs.inner.Walks.{weight}
 use Rattle.files.proofs.MeasureLaws.{Measuring, measure-starts, measure-end, measure-refused, measure-hop, measure-hop-less, measure-adds, measure-less, measure-enough, measure-next}
 use Rattle.files.proofs.extents.measure.Statement.{statement}
 use Rattle.files.proofs.extents.measure.Tie as tie

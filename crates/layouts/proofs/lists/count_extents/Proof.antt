@@ -1,6 +1,6 @@
 -- `layouts::lists::count_extents` meets its contract: what is counted and what is left are all there is. Assumes nothing.
 use borrow.Author.Needs.{needs}
-use Rattle.chains.specs.Walks.{weight}
+use Rattle.chains.specs.inner.Walks.{weight}
 use Rattle.layouts.proofs.ListLaws.{Counting, count-starts, count-ends, count-hop, hop-less, take-less, count-adds, count-next}
 use Rattle.layouts.proofs.lists.count_extents.Statement.{statement}
 use Rattle.layouts.proofs.lists.count_extents.Tie as tie

@@ -61,7 +61,7 @@ use Rattle.records.specs.declared.allocations.LongAd.{LongAd}
 use Rattle.records.proofs.allocations.LongAd as I
 use Rattle.records.proofs.allocations.LongAd.Laws as I′
 use Rattle.areas.specs.declared.AllocExtent.{AllocExtent}
-use Rattle.chains.specs.Walks.{left}
+use Rattle.chains.specs.inner.Walks.{left}
 use Rattle.files.specs.Files.{fileExtents}
 use Rattle.layouts.specs.Calls.{extentOf, Listed}
 use Rattle.layouts.specs.inner.Lists.{Stands, Planned}

@@ -1,7 +1,7 @@
 -- `names::units::unit` meets its contract: its test is the definition's. Assumes nothing.
 use borrow.Author.Needs.{needs}
 use Rattle.disc.proofs.PickLaws.{picks}
-use Rattle.names.specs.Units.{unitAt}
+use Rattle.names.specs.inner.Units.{unitAt}
 use Rattle.names.proofs.UnitLaws.{pair-is}
 use Rattle.names.proofs.units.unit.Statement.{statement}
 use Rattle.names.proofs.units.unit.Tie as tie

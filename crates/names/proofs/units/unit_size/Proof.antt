@@ -2,7 +2,7 @@
 use borrow.Author.Needs.{needs}
 use Rattle.disc.proofs.PickLaws.{picks}
 use Rattle.names.specs.Names.{encode}
-use Rattle.names.specs.Units.{unitBytes}
+use Rattle.names.specs.inner.Units.{unitBytes}
 use Rattle.names.proofs.units.unit_size.Statement.{statement}
 use Rattle.names.proofs.units.unit_size.Tie as tie
 

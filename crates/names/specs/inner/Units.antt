@@ -1,5 +1,5 @@
--- What the private functions cite: a d-string's body unit by unit, and what is found of it first. There is nothing to believe here:
--- the public contracts cite `Names` alone.
+-- What the private functions cite: a d-string's body unit by unit, and what is found of it first. The public
+-- contracts cite `Names` alone.
 use Prim.Native.Nat.{ℕ, _≤_, _+_, _*_}
 use mathlib.Core.Path.{_≡_}
 use mathlib.Core.List.{List, []}

@@ -1,4 +1,4 @@
--- What the contract of a private function cites: nothing to believe.
+-- What the contract of a private function cites.
 use mathlib.Core.Bool.{Bool, true, false, _&&_}
 use Rattle.descriptors.specs.declared.recognition.Structure.{Structure}
 use Rattle.descriptors.specs.declared.recognition.Structure.the-variants.{Beginning, Nsr, Terminating, Other, Unknown}

@@ -1,4 +1,4 @@
--- What is proved of an identifier that was read, for the contracts above. There is nothing to believe here: it follows from the definitions
+-- What is proved of an identifier that was read, for the contracts above. It follows from the definitions
 -- (proofs/IdentifierLaws.antt).
 use Prim.Native.Nat.{ℕ, _+_, _*_, _≤_}
 use mathlib.Core.Path.{_≡_}

@@ -1,5 +1,5 @@
--- What a cursor stands for: the extents that are left of a chain, read off the image where its areas stand. There is nothing to believe here: that these
--- are the extents of a chain that is whole is proved (proofs/FollowLaws.antt).
+-- What a cursor stands for: the extents that are left of a chain, read off the image where its areas stand.
+-- That these are the extents of a chain that is whole is proved (proofs/FollowLaws.antt).
 use Prim.Native.Nat.{ℕ, zero, suc, _+_, _-_, _*_, _^_}
 use mathlib.Core.List.{List, [], _++_}
 use mathlib.Core.Option.{Option, none, some}

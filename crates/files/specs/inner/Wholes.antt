@@ -1,4 +1,4 @@
--- What the parts of a call come to on an image: for the contracts of private functions. There is nothing to believe here.
+-- What the parts of a call come to on an image: for the contracts of private functions.
 use Prim.Native.Nat.{ℕ, _+_, _*_, _≤_, min}
 use mathlib.Core.Path.{_≡_}
 use mathlib.Core.List.{List}
@@ -14,7 +14,7 @@ use Rattle.entries.specs.FileEntries.{readEntry}
 use Rattle.entries.specs.declared.«file_entries».EntryRead.{EntryRead}
 use Rattle.entries.specs.declared.«file_entries».EntryRead.the-variants.{Read, Refused as NoEntry}
 use Rattle.chains.specs.Chains.{mostContinuations}
-use Rattle.chains.specs.Walks.{left}
+use Rattle.chains.specs.inner.Walks.{left}
 use Rattle.chains.specs.declared.cursors.ChainCursor.{ChainCursor}
 use Rattle.files.specs.Files.{Located, entryAt, embeddedBytes, fileAt}
 use Rattle.files.specs.Files.File.{embedded, chained}
