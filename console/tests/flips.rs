@@ -79,13 +79,12 @@ fn ended_by_signal(runs: u32, words: &[&str]) -> (u32, Vec<i32>) {
     })
 }
 
-/// Run by hand, since it takes a while, and needs an archive that stays inside what it is lent when the image changes:
+/// With an archive that leaves what it is lent when the image changes, runs end by a signal. With their counts:
 ///
-///     cargo test --release --test flips -- --ignored --nocapture
+///     cargo test --release --test flips -- --nocapture
 ///
 /// VAULT_FLIP_RUNS is how many runs of each are made, 1,000 if nothing is said.
 #[test]
-#[ignore = "takes a while: run by hand"]
 fn a_mapped_image_that_changes_ends_no_run() {
     let runs = std::env::var("VAULT_FLIP_RUNS").map_or(1_000, |runs| runs.parse().unwrap());
     let counts = [["cat", "disc.img", "cat"], ["ls", "disc.img", "ls"]].map(|words| {
