@@ -9,8 +9,8 @@ use native.Mathlib.Nat.{add-sub-cancel-left}
 use native.Mathlib.Omega.{arith}
 use lib.ListN.{length, take, drop, length-append, length-drop}
 use lib.Seq.{take-add, drop-drop, take-append-le, drop-append-le}
-use lib.Dec.{leb, ltb}
-use borrow.Author.Tests.{leb-true, leb-false, le-leb, lt-leb, lt-ltb, le-ltb}
+use lib.Dec.{leb}
+use borrow.Author.Tests.{leb-true, leb-false, le-leb, lt-leb}
 use Rattle.disc.specs.declared.refusals.Refusal.the-variants.{Io}
 use Rattle.disc.specs.Choice.{pick}
 use Rattle.disc.specs.Ask.{Held, Disc, bytesIn, outcome, Grown}
@@ -38,13 +38,6 @@ held image s h = rw (le-leb _ _ h)
 pub missing : (image : List ℕ) (s : ℕ) → length image < 2048 * s + 2048 → disc image s ≡ lacks
 unfolding disc
 missing image s h = rw (lt-leb _ _ h)
-
--- what is there: a number below the number of whole sectors
-pub there-below : (image : List ℕ) (s : ℕ) → ltb s (length image / 2048) ≡ there image s
-there-below image s = ⊎-elim
-    (λ (h : 2048 * s + 2048 ≤ length image). rw (lt-ltb s (length image / 2048) (omega arith), le-leb _ _ h))
-    (λ (h : length image < 2048 * s + 2048). rw (le-ltb s (length image / 2048) (omega arith), lt-leb _ _ h))
-    (split (2048 * s + 2048) (length image))
 
 -- a sector's bytes as the code has them
 pub sector-missing : (image : List ℕ) (s : ℕ) → length image / 2048 ≤ s → [] ≡ bytesIn (disc image s)

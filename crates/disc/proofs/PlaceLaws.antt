@@ -35,10 +35,6 @@ pub place-icb : (m : Mount) (block : ℕ) {s : ℕ} → s ≡ sectorOf m block �
 unfolding icbPlaced
 place-icb m block e = e
 
-pub icb-low : (m : Mount) (block : ℕ) → m .start < 2 ^ 32 → block < 2 ^ 32 → icbPlaced m block < 2 ^ 33
-unfolding icbPlaced
-icb-low m block k l = omega arith
-
 -- ---- what that tells of the definition
 
 module _ (m : Mount) (r : PartitionRef) (block : ℕ) {p : Placed} (q : Stands m r block p) where

@@ -41,13 +41,6 @@ pub same-ran : {A : Type 0} (m : Ask A) (d e : Disc) → Agree d e (asked d m) �
 unfolding ran
 same-ran m d e h = λ i. record { outcome = same-outcome m d e h i; count = length (same-asked m d e h i) }
 
--- nothing more, and more twice
-pub after-none : {A : Type 0} (r : Ran A) → after 0 r ≡ r
-after-none r = simp zero-add
-
-pub after-twice : {A : Type 0} (m n : ℕ) (r : Ran A) → after m (after n r) ≡ after (m + n) r
-after-twice m n r = simp add-assoc
-
 then-step : {A B : Type 0} (d : Disc) (s : ℕ) (k : List ℕ → Ask A) (f : A → Ask B) (x : Held) → d s ≡ x
     → ((b : List ℕ) → ran d (then (k b) f) ≡ followed (ran d (k b)) (λ a. ran d (f a)))
     → ran d (ask s (λ b. then (k b) f)) ≡ followed (ran d (ask s k)) (λ a. ran d (f a))
