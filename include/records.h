@@ -13,7 +13,7 @@
  *
  * The numbers are those of vault.h. A call that is refused has zeros in every value, and leaves `out` as it came. Fields have the names
  * of ECMA-167's fields, and stand as they are recorded unless something else is said here. If `bytes` change during a call, the answer may
- * be that of no bytes, and a name may be written behind the answered length; the call stays inside the memory that it was lent.
+ * be that of no bytes; the call stays inside the memory that it was lent, and writes nothing behind the answered length.
  */
 #ifndef RECORDS_H
 #define RECORDS_H

@@ -1,37 +1,22 @@
 -- A directory listed, against its tree. Assumes nothing.
 use mathlib.Core.Path.{_≡_, refl}
-use mathlib.Core.Bool.{Bool, true, false}
 use mathlib.Core.List.{List}
 use Prim.Native.Nat.{ℕ, _-_}
 use lib.ListN.{length, take, drop}
-use lib.Dec.{leb}
 use Rattle.disc.specs.declared.places.Mount.{Mount}
-use Rattle.disc.specs.Choice.{pick}
-use Rattle.disc.specs.Refusals.{number}
 use Rattle.disc.specs.Counts.{reported}
 use Rattle.disc.specs.Ask.{Disc, Outcome, andThen}
 use Rattle.disc.specs.Ask.Outcome.{answered, refused}
 use Rattle.disc.specs.Ran.{Ran, ran, told}
-use Rattle.disc.specs.Replies.{replyBy, Replied}
-use Rattle.disc.specs.declared.refusals.Refusal.{Refusal}
+use Rattle.disc.specs.Replies.{Replied}
 use Rattle.disc.specs.declared.refusals.Refusal.the-variants.{NoRoom}
 use Rattle.disc.specs.declared.replies.Reply.{Reply}
+use Rattle.disc.proofs.ReplyLaws.{recount}
 use Rattle.records.specs.declared.allocations.LongAd.{LongAd}
 use Rattle.listings.specs.Listings.{listing}
 use Rattle.directories.specs.Directories.{directoryBytes, listingAt}
 use Rattle.directories.specs.inner.Spaces.{replyTo, Reads}
 use Rattle.directories.proofs.SpaceLaws.{ran-known, reads-count, reads-bytes}
-
--- the same reply with another count
-pub recount : (full : Refusal) (room a n : ℕ) (o : Outcome (List ℕ)) {l : Reply} → l ≡ replyBy full room a o
-    → _≡_ {A = Reply} (record { answer = l .answer; count = n; length = l .length }) (replyBy full room n o)
-recount full room a n (refused r) e = rw e
-recount full room a n (answered b) {l} e = by (leb (length b) room) e
-  where
-    by : (t : Bool) → l ≡ pick t (record { answer = 0; count = a; length = length b }) (record { answer = number full; count = a; length = 0 })
-        → _≡_ {A = Reply} (record { answer = l .answer; count = n; length = l .length }) (pick t (record { answer = 0; count = n; length = length b }) (record { answer = number full; count = n; length = 0 }))
-    by true e = rw e
-    by false e = rw e
 
 -- a read that was refused refuses what follows it
 refused-replied : (o : Outcome (List ℕ)) (n : ℕ) {reply : Reply} → reply ≡ replyTo o (reported n) → (reply .answer ≡ 0 → ⊥) → (f : List ℕ → Outcome (List ℕ)) (d : List ℕ)

@@ -23,7 +23,7 @@ use Rattle.disc.proofs.PartLaws.{part-slice}
 use Rattle.disc.proofs.CountLaws.{reported-sum}
 use Rattle.disc.proofs.RanLaws.{ran-then}
 use Rattle.disc.proofs.RefusalLaws.{refusal-numbered}
-use Rattle.disc.proofs.ReplyLaws.{reply-refused, reply-counts}
+use Rattle.disc.proofs.ReplyLaws.{reply-refused, reply-counts, recount}
 use Rattle.records.specs.declared.allocations.LongAd.{LongAd}
 use Rattle.files.specs.Files.{fileBytes}
 use Rattle.listings.specs.Paths.{Component}
@@ -33,7 +33,6 @@ use Rattle.directories.specs.declared.lookups.Found.{Found}
 use Rattle.directories.specs.declared.walks.PathPlace.{PathPlace}
 use Rattle.directories.proofs.PlaceLaws.{failed-stands}
 use Rattle.directories.proofs.SpaceLaws.{ran-known}
-use Rattle.directories.proofs.ListLaws.{recount}
 
 -- ---- a lookup, and the component that failed
 

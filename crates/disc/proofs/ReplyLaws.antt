@@ -37,6 +37,17 @@ reply-counts full room n (answered b) = by (leb (length b) room)
     by false = refl
 reply-counts full room n (refused r) = refl
 
+-- the same reply with another count
+pub recount : (full : Refusal) (room a n : ℕ) (o : Outcome (List ℕ)) {l : Reply} → l ≡ replyBy full room a o
+    → _≡_ {A = Reply} (record { answer = l .answer; count = n; length = l .length }) (replyBy full room n o)
+recount full room a n (refused r) e = rw e
+recount full room a n (answered b) {l} e = by (leb (length b) room) e
+  where
+    by : (t : Bool) → l ≡ pick t (record { answer = 0; count = a; length = length b }) (record { answer = number full; count = a; length = 0 })
+        → _≡_ {A = Reply} (record { answer = l .answer; count = n; length = l .length }) (pick t (record { answer = 0; count = n; length = length b }) (record { answer = number full; count = n; length = 0 }))
+    by true e = rw e
+    by false e = rw e
+
 -- ---- the ways a call comes to its reply
 
 module _ {full : Refusal} {lent : List ℕ} where

@@ -6,7 +6,7 @@ use names::dstrings::NameSize;
 use names::dstrings::name_size;
 use names::dstrings::put_name;
 use names::fields::field_size;
-use names::fields::put_field;
+use names::fields::write_field;
 use names::matching::is_named;
 use names::matching::same_name;
 use programs::lent::front;
@@ -51,7 +51,7 @@ fn name(s: &[u8]) {
 // The name in a d-string field.
 fn field(f: &[u8]) {
     let mut out = [0u8; 64];
-    put_field(f, &mut out);
+    write_field(f, &mut out);
     asked(b"field", f);
     say_name(field_size(f), &out);
 }

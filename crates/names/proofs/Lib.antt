@@ -3,4 +3,5 @@ pub mod UnitLaws
 pub mod BodyLaws
 pub mod Promises
 pub mod NameLaws
+pub mod WriteLaws
 pub mod MatchLaws

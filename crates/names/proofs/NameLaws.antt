@@ -7,7 +7,10 @@ use lib.ListN.{length, getD, take, drop, length-take}
 use lib.Dec.{lit≤}
 use borrow.Author.Tests.{eq-eqb, ne-eqb, lt-ltb, le-ltb}
 use Rattle.disc.specs.Moves.{over}
-use Rattle.disc.specs.declared.refusals.Refusal.the-variants.{Malformed}
+use Rattle.disc.specs.Ran.{told}
+use Rattle.disc.specs.Replies.{Replied}
+use Rattle.disc.specs.declared.refusals.Refusal.the-variants.{Malformed, NoRoom}
+use Rattle.disc.specs.declared.replies.Reply.{Reply}
 use Rattle.names.specs.declared.dstrings.Form.{Form}
 use Rattle.names.specs.declared.dstrings.Form.the-variants.{Empty, Units, Bad}
 use Rattle.names.specs.declared.dstrings.NameSize.{NameSize}
@@ -17,6 +20,7 @@ use Rattle.names.specs.declared.fields.FieldLength.the-variants.{Length,
 use Rattle.names.specs.Names.{Wrote, nameOf, nameOfField, written, sizeOf}
 use Rattle.names.specs.inner.Units.{Body, Formed, FieldMeasured, units, textOf, nameAs, frontName}
 use Rattle.disc.proofs.ByteLaws.{Bytes}
+use Rattle.disc.proofs.ReplyLaws.{reply-refused}
 use Rattle.names.proofs.Promises.{bytes-kept}
 
 -- ---- which form a d-string has
@@ -101,12 +105,12 @@ module _ {f : List ℕ} where
     field-front h = record { name = rw (← e) (simp (ne-eqb _ _ z, le-ltb _ _ h)); within = omega arith }
 
 -- Here r is what `measured` found of the field f.
-module _ {f : List ℕ} {r : FieldLength} (p : FieldMeasured f r) where
+module _ {f : List ℕ} {r : FieldLength} (m : FieldMeasured f r) where
   front : {q : FieldLength} → r ≡ q → nameOfField f ≡ frontName q f
-  front e = rw (← e) (p .name)
+  front e = rw (← e) (m .name)
 
   pub front-within : {n : ℕ} → r ≡ Length n → n ≤ length f
-  front-within e = rw e at (p .within)
+  front-within e = rw e at (m .within)
 
   pub front-long : {n : ℕ} → r ≡ Length n → n ≡ length (take n f)
   front-long e = let w = front-within e in simp length-take (omega arith)
@@ -117,9 +121,9 @@ module _ {f : List ℕ} {r : FieldLength} (p : FieldMeasured f r) where
   pub front-none : r ≡ TooLong → Refused Malformed ≡ sizeOf (nameOfField f)
   front-none e = rw (front e)
 
-  module _ {d : List ℕ} where
-    pub front-wrote : (n : ℕ) {m : ℕ} {d′ : List ℕ} → r ≡ Length n → Wrote (written (nameOf (take n f))) d d′ m → Wrote (written (nameOfField f)) d d′ m
+  module _ {d : List ℕ} {p : Reply} where
+    pub front-wrote : (n : ℕ) {d′ : List ℕ} → r ≡ Length n → Replied NoRoom (told (nameOf (take n f))) d d′ p → Replied NoRoom (told (nameOfField f)) d d′ p
     front-wrote n e w = rw (front e) w
 
-    pub front-left : r ≡ TooLong → Wrote (written (nameOfField f)) d d 0
-    front-left e = rw (front e) (record { count = refl; bytes = nothing-over d })
+    pub front-left : r ≡ TooLong → p ≡ record { answer = 2; count = 0; length = 0 } → Replied NoRoom (told (nameOfField f)) d d p
+    front-left e q = rw (front e) (reply-refused Malformed 0 0 refl q)

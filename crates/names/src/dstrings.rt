@@ -2,9 +2,15 @@
 use crate::units::put;
 use crate::units::unit;
 use crate::units::unit_size;
+use disc::answers::NO_ROOM;
 use disc::refusals::Refusal;
+use disc::replies::Reply;
+use disc::replies::refusal;
 ghost use mathlib.Core.Path.{_≡_};
 ghost use lib.ListN.{length, drop};
+ghost use Rattle.disc.specs.Ran.{told};
+ghost use Rattle.disc.specs.Replies.{Replied};
+ghost use Rattle.disc.specs.declared.refusals.Refusal.the-variants.{NoRoom};
 ghost use Rattle.names.specs.Names.{Wrote, nameOf, written, sizeOf};
 ghost use Rattle.names.specs.inner.Units.{Body, Formed, textOf};
 
@@ -101,5 +107,26 @@ pub fn put_name(s: &[u8], out: &mut [u8]) -> usize
         Form::Empty => 0,
         Form::Units(step) => put_text(s, step, out),
         Form::Bad => 0,
+    }
+}
+
+// Writes the name of the d-string s over the front of out: measured first, so that one that is refused or has no room writes nothing.
+// No more is lent than was measured, so that a d-string that changes meanwhile is not written behind the answered length.
+pub fn write_name(s: &[u8], out: &mut [u8]) -> Reply
+    ensures { λ r. ⌜ Replied NoRoom (told (nameOf (now (s .entry)))) (now (out .entry)) (now (out .exit)) r ⌝ }
+{
+    match name_size(s) {
+        NameSize::Refused(why) => refusal(why.number(), 0),
+        NameSize::Size(n) => {
+            if out.len() < n {
+                return refusal(NO_ROOM, 0);
+            }
+            put_name(s, &mut out[0..n]);
+            Reply {
+                answer: 0,
+                count: 0,
+                length: n as u64,
+            }
+        }
     }
 }

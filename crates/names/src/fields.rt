@@ -1,11 +1,17 @@
 // A d-string field: a d-string in a place of fixed size, whose last byte says how long the d-string is (ECMA-167 1/7.2.12).
 use crate::dstrings::NameSize;
 use crate::dstrings::name_size;
-use crate::dstrings::put_name;
+use crate::dstrings::write_name;
 use crate::units::wide;
+use disc::answers::MALFORMED;
 use disc::refusals::Refusal;
+use disc::replies::Reply;
+use disc::replies::refusal;
 ghost use mathlib.Core.Path.{_≡_};
-ghost use Rattle.names.specs.Names.{Wrote, nameOfField, written, sizeOf};
+ghost use Rattle.disc.specs.Ran.{told};
+ghost use Rattle.disc.specs.Replies.{Replied};
+ghost use Rattle.disc.specs.declared.refusals.Refusal.the-variants.{NoRoom};
+ghost use Rattle.names.specs.Names.{nameOfField, sizeOf};
 ghost use Rattle.names.specs.inner.Units.{FieldMeasured};
 
 // How long the d-string of a field is.
@@ -38,13 +44,12 @@ pub fn field_size(f: &[u8]) -> NameSize
     }
 }
 
-// Writes the name in the field f over the front of out, and returns how many bytes it has, with those that found no room. A field
-// that is refused writes nothing.
-pub fn put_field(f: &[u8], out: &mut [u8]) -> usize
-    ensures { λ r. ⌜ Wrote (written (nameOfField (now (f .entry)))) (now (out .entry)) (now (out .exit)) r ⌝ }
+// Writes the name in the field f over the front of out; one that is refused or has no room writes nothing.
+pub fn write_field(f: &[u8], out: &mut [u8]) -> Reply
+    ensures { λ r. ⌜ Replied NoRoom (told (nameOfField (now (f .entry)))) (now (out .entry)) (now (out .exit)) r ⌝ }
 {
     match measured(f) {
-        FieldLength::Length(n) => put_name(&f[..n], out),
-        FieldLength::TooLong => 0,
+        FieldLength::Length(n) => write_name(&f[..n], out),
+        FieldLength::TooLong => refusal(MALFORMED, 0),
     }
 }

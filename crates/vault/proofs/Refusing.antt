@@ -21,6 +21,7 @@ use Rattle.disc.specs.declared.refusals.Refusal.{Refusal}
 use Rattle.disc.specs.declared.refusals.Refusal.the-variants.{Io, Malformed, NotBluray, Unsupported, NoWork, LongName}
 use Rattle.records.specs.Bytes.{u16at}
 use Rattle.records.specs.declared.allocations.LongAd.{LongAd}
+use Rattle.names.proofs.Promises.{field-refused}
 use Rattle.tags.specs.Tags.{readAed}
 use Rattle.tags.specs.declared.AedRead.{AedRead}
 use Rattle.tags.specs.declared.AedRead.the-variants.{Header, NoHeader}
@@ -45,11 +46,12 @@ use Rattle.entries.specs.FileEntries.{readEntry}
 use Rattle.entries.specs.declared.«file_entries».EntryRead.{EntryRead}
 use Rattle.entries.specs.declared.«file_entries».EntryRead.the-variants.{Read, Refused as NoEntry}
 use Rattle.entries.proofs.EntryLaws.{read-entry-refused}
+use Rattle.volumes.specs.declared.openings.VolumeRecord.{VolumeRecord}
 use Rattle.volumes.specs.declared.sequences.Kept.{Kept}
 use Rattle.volumes.specs.Sequences.{nothing, Parsed, keptOf, Says, primaryIn, partitionIn, logicalIn, saysIn, goOn, scan}
 use Rattle.volumes.specs.Sequences.Says.{found, passed, over, fails}
 use Rattle.volumes.specs.Openings.{fileSetIn, volumeIn, mounting, anchored, opening}
-use Rattle.volumes.specs.Labels.{labelling}
+use Rattle.volumes.specs.Labels.{labelOf, labelling}
 use Rattle.chains.specs.Chains.{areaIn, nextArea, continued, areaFrom}
 use Rattle.files.specs.Reads.{joining, extentBytes, extentsBytes}
 use Rattle.files.specs.Files.{Located, located, entryAt, isEmbedded, chainOf, fileBytes, filePart, fileExtents, File, resolved, fileAt, contentOf}
@@ -298,7 +300,11 @@ module _ (P : Refusal → Type 0) (malformed : P Malformed) (missing : P NotBlur
 
   pub label-only : Refuses P Any labelling
   unfolding labelling
-  label-only = then-only opening-only (λ v q. done-only tt)
+  label-only = then-only opening-only (λ v q. by v (labelOf v) refl)
+    where
+      by : (v : VolumeRecord) (x : Outcome (List ℕ)) → labelOf v ≡ x → Refuses P Any (ended x)
+      by v (answered name) e = done-only tt
+      by v (refused r) e = refuse-only (subst P (sym (field-refused (v .label) e)) malformed)
 
 -- ---- directories, for any P that has 6 too
 

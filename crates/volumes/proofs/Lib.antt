@@ -3,4 +3,5 @@ pub mod TurnLaws
 pub mod SequenceLaws
 pub mod OpeningLaws
 pub mod LabelLaws
+pub mod NamedLaws
 pub mod Promises

@@ -6,13 +6,13 @@ use Prim.Native.Nat.{ℕ, _+_, _/_, _≤_}
 use native.Mathlib.Omega.{arith}
 use lib.ListN.{length}
 use Rattle.disc.specs.Counts.{reported}
-use Rattle.disc.specs.Ask.{Held, Disc, Outcome, outcome, asked, Agree}
-use Rattle.disc.specs.Ask.Ask.{done}
+use Rattle.disc.specs.Ask.{Held, Disc, Outcome, outcome, asked, ended, Agree}
 use Rattle.disc.specs.Ask.Held.{holds, lacks}
 use Rattle.disc.specs.Ask.Outcome.{answered, refused}
 use Rattle.disc.specs.Images.{disc}
 use Rattle.disc.specs.Ran.{Ran, ran}
 use Rattle.disc.specs.Replies.{Replied}
+use Rattle.disc.specs.declared.refusals.Refusal.{Refusal}
 use Rattle.disc.specs.declared.refusals.Refusal.the-variants.{NoRoom}
 use Rattle.disc.specs.declared.replies.Reply.{Reply}
 use Rattle.disc.proofs.AskLaws.{askedBehind, asked-then}
@@ -24,6 +24,7 @@ use Rattle.volumes.specs.Labels.{labelOf, labelling}
 use Rattle.volumes.specs.declared.openings.VolumeRecord.{VolumeRecord}
 use Rattle.volumes.specs.declared.openings.Opened.{Opened}
 use Rattle.volumes.proofs.OpeningLaws.{ask-count, mainLengthIn, anchored-count}
+use Rattle.volumes.proofs.NamedLaws.{refused-before, opening-named}
 
 -- ---- a contract leaves one result
 
@@ -51,14 +52,23 @@ pub label-same : (image other : List ℕ) → Agree (disc image) (disc other) (a
 label-same image other h e f = replied-one (same-replied labelling (disc image) (disc other) h e) f
 
 -- the label's list is opening's
-nothing-behind : (d : Disc) (o : Outcome VolumeRecord) → askedBehind d o (λ v. done (labelOf v)) ≡ []
+nothing-behind : (d : Disc) (o : Outcome VolumeRecord) → askedBehind d o (λ v. ended (labelOf v)) ≡ []
 unfolding asked
-nothing-behind d (answered v) = refl
 nothing-behind d (refused r) = refl
+nothing-behind d (answered v) = by (labelOf v)
+  where
+    by : (o : Outcome (List ℕ)) → asked d (ended o) ≡ []
+    by (answered name) = refl
+    by (refused why) = refl
 
 pub label-asks : (d : Disc) → asked d labelling ≡ asked d opening
 unfolding labelling
-label-asks d = asked-then d opening (λ v. done (labelOf v)) ∙ rw (nothing-behind d (outcome d opening)) (append-nil (asked d opening))
+label-asks d = asked-then d opening (λ v. ended (labelOf v)) ∙ rw (nothing-behind d (outcome d opening)) (append-nil (asked d opening))
+
+-- and its refusals are opening's, with 5 behind them: opening has refused a label that is no name
+pub label-refuses : (d : Disc) {why : Refusal} → outcome d labelling ≡ refused why → outcome d opening ≡ refused why
+unfolding labelling
+label-refuses d e = refused-before d opening labelOf opening-named e
 
 -- ---- how many sectors opening asks for
 

@@ -12,6 +12,7 @@ label-spec =
     (λ c κs. search needs)
     (λ c κs. search needs)
     (λ c. search labels)
+    (λ c. search needs)
     (λ c κs. search needs)
     (λ c. search needs)
     (λ c. search labels))
