@@ -133,20 +133,20 @@ module _ {s d₀ d : List ℕ} {n i : ℕ} (p : Copying s d₀ d n i) where
           rw (m, length-take-le (length d₀) s, drop-length, drop-of-length-le d₀ k))
           (split (length s) (length d₀))
 
--- ---- the loop that clears d₀ has come to i
+-- ---- the loop that fills d₀ with v has come to i
 
-pub record Clearing (d₀ d : List ℕ) (i : ℕ) : Type 0 where
+pub record Filling (v : ℕ) (d₀ d : List ℕ) (i : ℕ) : Type 0 where
   pub within : i ≤ length d₀
   pub long : length d ≡ length d₀
-  pub rest : sets d i (replicate (length d₀ - i) 0) ≡ replicate (length d₀) 0
+  pub rest : sets d i (replicate (length d₀ - i) v) ≡ replicate (length d₀) v
 
-pub clear-starts : (d : List ℕ) → Clearing d d 0
-clear-starts d =
-    record { within = omega arith; long = refl; rest = rw sub-zero (sets-whole (replicate (length d) 0) d (simp length-replicate)) }
+pub fill-starts : (v : ℕ) (d : List ℕ) → Filling v d d 0
+fill-starts v d =
+    record { within = omega arith; long = refl; rest = rw sub-zero (sets-whole (replicate (length d) v) d (simp length-replicate)) }
 
-module _ {d₀ d : List ℕ} {i : ℕ} (p : Clearing d₀ d i) where
-  pub clear-next : i < length d → Clearing d₀ (set d i 0) (i + 1)
-  clear-next h =
+module _ {v : ℕ} {d₀ d : List ℕ} {i : ℕ} (p : Filling v d₀ d i) where
+  pub fill-next : i < length d → Filling v d₀ (set d i v) (i + 1)
+  fill-next h =
       let e : length d₀ - i ≡ suc (length d₀ - (i + 1)) = omega arith in
       record {
         within = omega arith;
@@ -154,8 +154,8 @@ module _ {d₀ d : List ℕ} {i : ℕ} (p : Clearing d₀ d i) where
         rest = rw (← (rw e at (p .rest))) (rw add-one);
       }
 
-  pub clear-ends : length d ≤ i → d ≡ replicate (length d₀) 0
-  clear-ends h =
+  pub fill-ends : length d ≤ i → d ≡ replicate (length d₀) v
+  fill-ends h =
       let e : length d₀ - i ≡ 0 = omega arith in
       rw e at (p .rest)
 

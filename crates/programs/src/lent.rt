@@ -1,16 +1,19 @@
 // Bytes that are lent, before a call and after it.
 ghost use mathlib.Core.Path.{_≡_};
 ghost use Prim.Native.Nat.{_<_, _^_};
-ghost use lib.ListN.{length};
+ghost use lib.ListN.{length, take, replicate};
+ghost use Rattle.programs.specs.Lent.{partOf, summed};
 
 pub fn wide(b: u8) -> u64
-    ensures { λ r. ⌜ r < 2 ^ 8 ⌝ }
+    ensures { λ r. ⌜ (r ≡ b) × (r < 2 ^ 8) ⌝ }
 {
     b as u64
 }
 
 // The bytes from a to e, or none where they aren't there.
-pub fn part(s: &[u8], a: usize, e: usize) -> &[u8] {
+pub fn part(s: &[u8], a: usize, e: usize) -> &[u8]
+    ensures { λ r. ⌜ now r ≡ partOf (now (s .entry)) a e ⌝ }
+{
     if s.len() < e {
         return &s[0..0];
     }
@@ -21,7 +24,9 @@ pub fn part(s: &[u8], a: usize, e: usize) -> &[u8] {
 }
 
 // The first n bytes, or all where there are fewer.
-pub fn front(s: &[u8], n: usize) -> &[u8] {
+pub fn front(s: &[u8], n: usize) -> &[u8]
+    ensures { λ r. ⌜ now r ≡ take n (now (s .entry)) ⌝ }
+{
     if s.len() < n {
         return s;
     }
@@ -29,7 +34,9 @@ pub fn front(s: &[u8], n: usize) -> &[u8] {
 }
 
 // A byte that a call leaves alone is still A5.
-pub fn fill(out: &mut [u8]) {
+pub fn fill(out: &mut [u8])
+    ensures { λ _. ⌜ now (out .exit) ≡ replicate (length (now (out .entry))) 0xa5 ⌝ }
+{
     let mut i = 0;
     while i < out.len() {
         out[i] = 0xa5;
@@ -38,7 +45,9 @@ pub fn fill(out: &mut [u8]) {
 }
 
 // A sum that tells where each byte stands.
-pub fn sum(b: &[u8]) -> u64 {
+pub fn sum(b: &[u8]) -> u64
+    ensures { λ r. ⌜ r ≡ summed 0 (now (b .entry)) ⌝ }
+{
     let mut s: u64 = 0;
     let mut i = 0;
     while i < b.len() {
