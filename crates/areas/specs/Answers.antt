@@ -1,7 +1,7 @@
 -- The answer number and the values of each answer that is an enum: 0 and what was read, or the refusal's number and zeros. RULES 12.3.
 use mathlib.Core.Option.{Option, none, some}
 use Rattle.disc.specs.Refusals.{number}
-use Rattle.records.specs.Answers.{Answer}
+use Rattle.disc.specs.Replies.{Answer}
 use Rattle.areas.specs.declared.AllocExtent.{AllocExtent}
 use Rattle.areas.specs.declared.AdContinuation.{AdContinuation}
 use Rattle.areas.specs.declared.AdStep.{AdStep}

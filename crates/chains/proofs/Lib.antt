@@ -3,3 +3,4 @@ pub mod WalkLaws
 pub mod FollowLaws
 pub mod AskedLaws
 pub mod TotalLaws
+pub mod Promises

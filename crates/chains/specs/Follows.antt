@@ -5,6 +5,8 @@ use mathlib.Core.List.{List}
 use Rattle.disc.specs.Ask.Outcome.{answered, refused}
 use Rattle.disc.specs.Ran.{Ran, ran}
 use Rattle.disc.specs.Images.{disc}
+use Rattle.disc.specs.Refusals.{number}
+use Rattle.disc.specs.Replies.{Answer}
 use Rattle.disc.specs.declared.places.Mount.{Mount}
 use Rattle.disc.specs.declared.refusals.Refusal.{Refusal}
 use Rattle.areas.specs.declared.AllocExtent.{AllocExtent}
@@ -63,3 +65,8 @@ pub record BrokenChain (image : List ℕ) (m : Mount) (kind : ℕ) (c : ChainCur
 abbrev pub Followed : List ℕ → Mount → ℕ → ChainCursor → Chain → Type 0
 Followed image m kind c (Whole n) = WholeChain image m kind c n
 Followed image m kind c (Broken r n) = BrokenChain image m kind c r n
+
+-- the answer number and how many sectors were asked for: RULES 12.3
+abbrev pub chainAnswer : Chain → Answer ℕ
+chainAnswer (Whole n) = record { number = 0; value = n }
+chainAnswer (Broken r n) = record { number = number r; value = n }

@@ -2,6 +2,7 @@
 ghost use mathlib.Core.Path.{_≡_};
 ghost use Rattle.disc.specs.Ask.Outcome.{refused};
 ghost use Rattle.descriptors.specs.FileSets.{readFileSet, fileSetRead};
+use disc::answers::DONE;
 use disc::refusals::Refusal;
 use records::allocations::LongAd;
 use records::allocations::long_at;
@@ -48,7 +49,7 @@ impl FileSetDescriptor {
         match read_head(s, ID, SIZE) {
             TagRead::Refused(why) => no_file_set(why),
             TagRead::Read(t) => FileSetRead {
-                answer: 0,
+                answer: DONE,
                 descriptor: FileSetDescriptor {
                     tag: t,
                     root_directory_icb: long_at(s, 400),

@@ -5,6 +5,7 @@ ghost use lib.ListN.{length};
 ghost use Rattle.disc.specs.Ask.Outcome.{refused};
 ghost use Rattle.descriptors.specs.Volumes.{logicalBehind, readLogical, logicalRead};
 use crate::labels::logical_label;
+use disc::answers::DONE;
 use disc::refusals::Refusal;
 use names::dstrings::NameSize;
 use names::fields::field_size;
@@ -63,7 +64,7 @@ fn logical_behind(s: &[u8], t: DescriptorTag) -> LogicalRead
     match field_size(&label) {
         NameSize::Refused(why) => no_logical(why),
         NameSize::Size(_) => LogicalRead {
-            answer: 0,
+            answer: DONE,
             descriptor: LogicalVolumeDescriptor {
                 tag: t,
                 volume_descriptor_sequence_number: le32(s, 16),

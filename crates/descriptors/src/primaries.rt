@@ -5,6 +5,7 @@ ghost use lib.ListN.{length};
 ghost use Rattle.disc.specs.Ask.Outcome.{refused};
 ghost use Rattle.descriptors.specs.Volumes.{primaryBehind, readPrimary, primaryRead};
 use crate::labels::volume_label;
+use disc::answers::DONE;
 use disc::refusals::Refusal;
 use names::dstrings::NameSize;
 use names::fields::field_size;
@@ -58,7 +59,7 @@ fn primary_behind(s: &[u8], t: DescriptorTag) -> PrimaryRead
     match field_size(&label) {
         NameSize::Refused(why) => no_primary(why),
         NameSize::Size(_) => PrimaryRead {
-            answer: 0,
+            answer: DONE,
             descriptor: PrimaryVolumeDescriptor {
                 tag: t,
                 volume_descriptor_sequence_number: le32(s, 16),

@@ -7,6 +7,7 @@ ghost use Rattle.disc.specs.Replies.{Replied};
 ghost use Rattle.disc.specs.declared.refusals.Refusal.the-variants.{NoRoom};
 ghost use Rattle.directories.specs.Directories.{listingAt};
 use crate::spaces::read_directory;
+use disc::answers::DONE;
 use disc::moves::clear;
 use disc::places::Mount;
 use disc::replies::Reply;
@@ -18,7 +19,7 @@ fn list_read(image: &[u8], mount: Mount, icb: LongAd, out: &mut [u8], work: &mut
     ensures { λ r. ⌜ Replied NoRoom (ran (disc (now (image .entry))) (listingAt mount (length (now (work .entry))) icb)) (now (out .entry)) (now (out .exit)) r ⌝ }
 {
     let read = read_directory(image, mount, icb, work);
-    if read.answer != 0 {
+    if read.answer != DONE {
         return read;
     }
     let n = read.length as usize;

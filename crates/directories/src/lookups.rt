@@ -7,6 +7,7 @@ ghost use Rattle.disc.specs.Replies.{Replied};
 ghost use Rattle.disc.specs.declared.refusals.Refusal.the-variants.{NoRoom};
 ghost use Rattle.directories.specs.Lookups.{seekPath, lookupOf, readPathOf, foundOf, failedOf, failedReply};
 use crate::walks::walk;
+use disc::answers::DONE;
 use disc::counts::add_counts;
 use disc::moves::clear;
 use disc::places::Mount;
@@ -99,7 +100,7 @@ pub fn read_path(
     ensures { λ _. ⌜ now (work .exit) ≡ replicate (length (now (work .entry))) 0 ⌝ }
 {
     let found = lookup(image, mount, root, path, work);
-    if found.answer != 0 {
+    if found.answer != DONE {
         return refusal(found.answer, found.count);
     }
     let icb = found.icb;

@@ -7,6 +7,7 @@ ghost use Rattle.disc.specs.Images.{disc};
 ghost use Rattle.directories.specs.Lookups.{entering};
 ghost use Rattle.directories.specs.inner.Walks.{enteredOf, stoppedAt, lostAt, beyondOf, On, Steps, Walks};
 use crate::spaces::read_directory;
+use disc::answers::DONE;
 use disc::counts::add_counts;
 use disc::places::Mount;
 use disc::refusals::Refusal;
@@ -41,7 +42,7 @@ fn enter(image: &[u8], mount: Mount, icb: LongAd, component: &[u8], work: &mut [
     ensures { λ r. ⌜ r ≡ enteredOf (ran (disc (now (image .entry))) (entering mount (length (now (work .entry))) icb (now (component .entry)))) ⌝ }
 {
     let read = read_directory(image, mount, icb, work);
-    if read.answer != 0 {
+    if read.answer != DONE {
         return Entered {
             entry: no_entry(read.answer),
             count: read.count,
@@ -81,7 +82,7 @@ fn lost(count: u64, from: usize, end: usize) -> PathPlace
 fn beyond(path: &[u8], entry: Named, count: u64, from: usize, end: usize) -> PathPlace
     ensures { λ r. ⌜ r ≡ beyondOf (now (path .entry)) entry count from end ⌝ }
 {
-    if entry.answer != 0 {
+    if entry.answer != DONE {
         return stopped(entry.answer, no_long(), count, 0, 0);
     }
     if !entry.found {
@@ -90,7 +91,7 @@ fn beyond(path: &[u8], entry: Named, count: u64, from: usize, end: usize) -> Pat
     let icb = entry.icb;
     PathPlace {
         going: true,
-        answer: 0,
+        answer: DONE,
         icb,
         directory: entry.directory,
         count,
@@ -130,7 +131,7 @@ pub(crate) fn walk(
 {
     let mut p = PathPlace {
         going: true,
-        answer: 0,
+        answer: DONE,
         icb: root,
         directory: true,
         count: 0,

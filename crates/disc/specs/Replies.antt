@@ -13,10 +13,20 @@ use Rattle.disc.specs.Ran.{Ran}
 use Rattle.disc.specs.declared.refusals.Refusal.{Refusal}
 use Rattle.disc.specs.declared.replies.Reply.{Reply}
 
+-- an answer by its number (RULES 1.1) and its value
+pub record Answer (A : Type 0) : Type 0 where
+  pub number : ℕ
+  pub value : A
+
 -- the answer number of an outcome
 abbrev pub answerOf : {A : Type 0} → Outcome A → ℕ
 answerOf (answered a) = 0
 answerOf (refused r) = number r
+
+-- and its value, or what stands for none
+abbrev pub answerIn : {A : Type 0} → A → Outcome A → Answer A
+answerIn nothing (answered a) = record { number = 0; value = a }
+answerIn nothing (refused r) = record { number = number r; value = nothing }
 
 -- where there is room for so many elements, bytes or slots: `full` is the refusal of more, given after every other
 abbrev pub replyBy : {A : Type 0} → Refusal → ℕ → ℕ → Outcome (List A) → Reply

@@ -6,4 +6,5 @@ pub mod MeasureLaws
 pub mod CopyLaws
 pub mod EntryLaws
 pub mod ReadLaws
+pub mod ResolveLaws
 pub mod Promises

@@ -1,4 +1,5 @@
 -- What contracts below the face alone cite.
+pub mod Answers
 pub mod Wholes
 pub mod Pieces
 pub mod Passes

@@ -13,7 +13,7 @@ use disc::places::Mount;
 use disc::refusals::Refusal;
 
 // What the extents come to: their bytes and the sectors asked for, or a refusal and the sectors asked for.
-pub enum Measured {
+pub(crate) enum Measured {
     Sized(u64, u64),
     Refused(Refusal, u64),
 }

@@ -15,13 +15,13 @@ use disc::places::Sector;
 use disc::refusals::Refusal;
 
 // What an extent gives: where it stands in the image, the sectors read and the bytes; or a refusal and the sectors asked for.
-pub enum Piece {
+pub(crate) enum Piece {
     Held { from: u64, sectors: u64, bytes: u64 },
     Refused(Refusal, u64),
 }
 
 // What a turn of a walk gives.
-pub enum Turn {
+pub(crate) enum Turn {
     Piece {
         from: u64,
         sectors: u64,

@@ -16,6 +16,7 @@ use crate::resolves::Resolved;
 use crate::resolves::front_of;
 use crate::resolves::resolve;
 use chains::cursors::ChainCursor;
+use disc::answers::DONE;
 use disc::counts::add_counts;
 use disc::counts::lesser;
 use disc::places::Mount;
@@ -35,7 +36,7 @@ fn read_embedded(image: &[u8], p: Place, out: &mut [u8], full: Refusal) -> Reply
     }
     copy_piece(image, p.at as u64, n, out);
     Reply {
-        answer: 0,
+        answer: DONE,
         count: 1,
         length: n,
     }
@@ -63,7 +64,7 @@ fn read_whole(
             }
             copy(image, mount, kind, first, size, out);
             Reply {
-                answer: 0,
+                answer: DONE,
                 count: count,
                 length: size,
             }

@@ -3,6 +3,7 @@ ghost use mathlib.Core.Path.{_≡_};
 ghost use Prim.Native.Nat.{_+_, _/_, _%_, _<_};
 ghost use Rattle.disc.specs.Ask.Outcome.{refused};
 ghost use Rattle.identifiers.specs.Identifiers.{nameAt, identifierOf, identifierSized, identifierNamed, readIdentifier, identifierRead, bit, isDeleted, isDirectory, isParent};
+use disc::answers::DONE;
 use disc::refusals::Refusal;
 use names::dstrings::NameSize;
 use names::dstrings::name_size;
@@ -105,7 +106,7 @@ fn identifier_sized(
     match size {
         NameSize::Refused(why) => refused_by(why),
         NameSize::Size(k) => IdentifierRead {
-            answer: 0,
+            answer: DONE,
             descriptor: identifier_of(s, t, at, n, k),
         },
     }

@@ -13,6 +13,7 @@ use areas::AllocExtent;
 use chains::cursors::ChainCursor;
 use chains::cursors::ChainStep;
 use chains::cursors::advance;
+use disc::answers::DONE;
 use disc::places::Mount;
 use disc::places::PartitionRef;
 use disc::refusals::Refusal;
@@ -171,7 +172,7 @@ fn list_whole(
         kind,
         first,
         Reply {
-            answer: 0,
+            answer: DONE,
             count: n,
             length: m,
         },
@@ -185,7 +186,7 @@ fn plan(image: &[u8], mount: Mount, icb: LongAd, room: usize) -> Listing
     match resolve(image, mount, icb) {
         Resolved::Refused(why, n) => empty(refusal(why.number(), n)),
         Resolved::Embedded(_) => empty(Reply {
-            answer: 0,
+            answer: DONE,
             count: 1,
             length: 0,
         }),

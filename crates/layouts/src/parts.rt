@@ -4,6 +4,7 @@ ghost use Rattle.disc.specs.Ran.{ran};
 ghost use Rattle.disc.specs.Images.{disc};
 ghost use Rattle.files.specs.Files.{filePart};
 ghost use Rattle.layouts.specs.Calls.{partIn, partReply, PartReplied};
+use disc::answers::DONE;
 use disc::counts::lesser;
 use disc::places::Mount;
 use disc::replies::Reply;
@@ -21,14 +22,14 @@ pub fn part_at(image: &[u8], mount: Mount, icb: LongAd, at: &mut usize) -> Reply
     match resolve(image, mount, icb) {
         Resolved::Refused(why, n) => refusal(why.number(), n),
         Resolved::Chained(_, n) => Reply {
-            answer: 0,
+            answer: DONE,
             count: n,
             length: 0,
         },
         Resolved::Embedded(p) => {
             *at = p.at;
             Reply {
-                answer: 0,
+                answer: DONE,
                 count: 1,
                 length: lesser(p.size as u64, p.information),
             }

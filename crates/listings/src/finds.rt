@@ -8,6 +8,7 @@ ghost use Rattle.listings.specs.Listings.{findIn, namedOf, unnamed};
 ghost use Rattle.listings.specs.inner.Passes.{earlierOf};
 use crate::directory_entries::answers_to;
 use crate::directory_entries::entry_at;
+use disc::answers::DONE;
 use identifiers::FileIdentifierDescriptor;
 use identifiers::LEAST_SIZE;
 use records::allocations::LongAd;
@@ -43,7 +44,7 @@ fn earlier(found: Named, s: &[u8], f: FileIdentifierDescriptor, component: &[u8]
     if answers_to(s, f, component) {
         let icb = f.icb;
         return Named {
-            answer: 0,
+            answer: DONE,
             found: true,
             icb,
             directory: f.is_directory(),
@@ -60,7 +61,7 @@ pub fn find(raw: &[u8], component: &[u8]) -> Named
     let mut at: usize = 0;
     while at + LEAST_SIZE <= raw.len() {
         let r = entry_at(raw, at);
-        if r.answer != 0 {
+        if r.answer != DONE {
             return no_entry(r.answer);
         }
         let f = r.descriptor;

@@ -13,6 +13,7 @@ use crate::directory_entries::entry_at;
 use crate::directory_entries::is_long;
 use crate::directory_entries::put_entry;
 use crate::directory_entries::record_size;
+use disc::answers::DONE;
 use disc::refusals::Refusal;
 use disc::replies::Reply;
 use disc::replies::refusal;
@@ -33,7 +34,7 @@ fn measure(raw: &[u8]) -> ListingSize
     let mut at: usize = 0;
     while at + LEAST_SIZE <= raw.len() {
         let r = entry_at(raw, at);
-        if r.answer != 0 {
+        if r.answer != DONE {
             return ListingSize {
                 answer: r.answer,
                 long: false,
@@ -46,7 +47,7 @@ fn measure(raw: &[u8]) -> ListingSize
         at += f.total_size;
     }
     ListingSize {
-        answer: 0,
+        answer: DONE,
         long,
         size: n,
     }
@@ -71,7 +72,7 @@ pub fn list(raw: &[u8], out: &mut [u8]) -> Reply
     ensures { λ r. ⌜ Replied NoRoom (told (listing (now (raw .entry)))) (now (out .entry)) (now (out .exit)) r ⌝ }
 {
     let m = measure(raw);
-    if m.answer != 0 {
+    if m.answer != DONE {
         return refusal(m.answer, 0);
     }
     if m.long {
@@ -83,7 +84,7 @@ pub fn list(raw: &[u8], out: &mut [u8]) -> Reply
     }
     put_entries(raw, &mut out[0..size]);
     Reply {
-        answer: 0,
+        answer: DONE,
         count: 0,
         length: size as u64,
     }

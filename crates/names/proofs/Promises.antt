@@ -18,7 +18,7 @@ use Rattle.disc.specs.declared.refusals.Refusal.{Refusal}
 use Rattle.disc.specs.declared.refusals.Refusal.the-variants.{Malformed}
 use Rattle.names.specs.declared.dstrings.NameSize.{NameSize}
 use Rattle.names.specs.declared.dstrings.NameSize.the-variants.{Size}
-use Rattle.names.specs.Names.{Wrote, pairs, untilZero, surrogate, dropSurrogates, encode, utf8, nameOf, nameOfField, written, sizeOf, lower, sameName}
+use Rattle.names.specs.Names.{Wrote, pairs, untilZero, surrogate, dropSurrogates, encode, utf8, nameOf, nameOfField, written, sizeOf, lower, sameName, nameAnswer, sizeAnswer}
 use Rattle.names.proofs.BodyLaws.{short-bytes, short-pairs}
 
 -- ---- d-strings
@@ -143,12 +143,18 @@ same-transitive a b c e f = same-from a c (same-to a b e ∙ same-to b c f)
 
 -- ---- the worked table
 
--- Cases 9 to 13, together.
+-- Cases 9 to 13, together, by the answer number and the name.
 pub worked :
-    (nameOf (0x08 ∷ 0x41 ∷ 0x00 ∷ 0x42 ∷ []) ≡ answered (0x41 ∷ []))
-    × (nameOf (0x10 ∷ 0x00 ∷ 0x41 ∷ 0xd8 ∷ 0x00 ∷ 0x00 ∷ 0x42 ∷ []) ≡ answered (0x41 ∷ 0x42 ∷ []))
-    × (nameOf (0x10 ∷ 0x00 ∷ 0x41 ∷ 0x00 ∷ []) ≡ refused Malformed)
-    × (nameOf (0x08 ∷ 0xe9 ∷ []) ≡ answered (0xc3 ∷ 0xa9 ∷ []))
-    × (nameOf (0xfe ∷ []) ≡ refused Malformed)
+    (nameAnswer (nameOf (0x08 ∷ 0x41 ∷ 0x00 ∷ 0x42 ∷ [])) ≡ record { number = 0; value = 0x41 ∷ [] })
+    × (nameAnswer (nameOf (0x10 ∷ 0x00 ∷ 0x41 ∷ 0xd8 ∷ 0x00 ∷ 0x00 ∷ 0x42 ∷ [])) ≡ record { number = 0; value = 0x41 ∷ 0x42 ∷ [] })
+    × (nameAnswer (nameOf (0x10 ∷ 0x00 ∷ 0x41 ∷ 0x00 ∷ [])) ≡ record { number = 2; value = [] })
+    × (nameAnswer (nameOf (0x08 ∷ 0xe9 ∷ [])) ≡ record { number = 0; value = 0xc3 ∷ 0xa9 ∷ [] })
+    × (nameAnswer (nameOf (0xfe ∷ [])) ≡ record { number = 2; value = [] })
 unfolding pairs untilZero surrogate dropSurrogates encode utf8 nameOf
 worked = (refl, refl, refl, refl, refl)
+
+-- ---- a size that is told has the name's number, and is the name's length
+
+pub size-answers : (o : Outcome (List ℕ)) → sizeAnswer (sizeOf o) ≡ record { number = nameAnswer o .number; value = length (nameAnswer o .value) }
+size-answers (answered name) = refl
+size-answers (refused why) = refl

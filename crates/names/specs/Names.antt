@@ -11,6 +11,8 @@ use Rattle.disc.specs.Moves.{over}
 use Rattle.disc.specs.Ask.{Outcome}
 use Rattle.disc.specs.Ask.Outcome.{answered, refused}
 use Rattle.disc.specs.Images.{bytesOf}
+use Rattle.disc.specs.Refusals.{number}
+use Rattle.disc.specs.Replies.{Answer, answerIn}
 use Rattle.disc.specs.declared.refusals.Refusal.the-variants.{Malformed}
 use Rattle.names.specs.declared.dstrings.NameSize.{NameSize}
 use Rattle.names.specs.declared.dstrings.NameSize.the-variants.{Size, Refused}
@@ -77,6 +79,14 @@ written name = bytesOf name
 abbrev pub sizeOf : Outcome (List ℕ) → NameSize
 sizeOf (refused why) = Refused why
 sizeOf (answered name) = Size (length name)
+
+-- The answer number with the name, or with its size: RULES 12.3.
+abbrev pub nameAnswer : Outcome (List ℕ) → Answer (List ℕ)
+nameAnswer o = answerIn [] o
+
+abbrev pub sizeAnswer : NameSize → Answer ℕ
+sizeAnswer (Size n) = record { number = 0; value = n }
+sizeAnswer (Refused why) = record { number = number why; value = 0 }
 
 -- A text was written over the front of what was lent, and its length was returned.
 pub record Wrote (text before after : List ℕ) (r : ℕ) : Type 0 where

@@ -2,6 +2,7 @@
 use crate::units::put;
 use crate::units::unit;
 use crate::units::unit_size;
+use disc::answers::DONE;
 use disc::answers::NO_ROOM;
 use disc::refusals::Refusal;
 use disc::replies::Reply;
@@ -123,7 +124,7 @@ pub fn write_name(s: &[u8], out: &mut [u8]) -> Reply
             }
             put_name(s, &mut out[0..n]);
             Reply {
-                answer: 0,
+                answer: DONE,
                 count: 0,
                 length: n as u64,
             }

@@ -1,6 +1,6 @@
 -- The answer number and the values of each answer that is an enum: 0 and what was read, or the refusal's number and zeros. RULES 12.3.
-use Prim.Native.Nat.{ℕ}
 use Rattle.disc.specs.Refusals.{number}
+use Rattle.disc.specs.Replies.{Answer}
 use Rattle.records.specs.declared.allocations.ExtentAd.{ExtentAd}
 use Rattle.records.specs.declared.allocations.ExtentRead.{ExtentRead}
 use Rattle.records.specs.declared.allocations.ExtentRead.the-variants.{Read as AnExtent, Refused as NoExtent}
@@ -10,11 +10,6 @@ use Rattle.records.specs.declared.allocations.ShortRead.the-variants.{Re
 use Rattle.records.specs.declared.allocations.LbAddr.{LbAddr}
 use Rattle.records.specs.declared.allocations.LbAddrRead.{LbAddrRead}
 use Rattle.records.specs.declared.allocations.LbAddrRead.the-variants.{Read as AnAddress, Refused as NoAddress}
-
--- an answer by its number (RULES 1.1) and its value
-pub record Answer (A : Type 0) : Type 0 where
-  pub number : ℕ
-  pub value : A
 
 abbrev pub extentAnswer : ExtentRead → Answer ExtentAd
 extentAnswer (AnExtent a) = record { number = 0; value = a }

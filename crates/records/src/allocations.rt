@@ -7,6 +7,7 @@ ghost use Rattle.records.specs.Allocations.{extentOf, readExtent, encode
 use crate::bytes::byte_at;
 use crate::bytes::le16;
 use crate::bytes::le32;
+use disc::answers::DONE;
 use disc::answers::MALFORMED;
 use disc::refusals::Refusal;
 
@@ -236,7 +237,7 @@ impl LongAd {
             }
         } else {
             LongRead {
-                answer: 0,
+                answer: DONE,
                 ad: long_at(s, 0),
             }
         }
@@ -338,7 +339,7 @@ impl ExtAd {
             }
         } else {
             ExtRead {
-                answer: 0,
+                answer: DONE,
                 ad: ext_at(s, 0),
             }
         }

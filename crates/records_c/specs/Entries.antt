@@ -1,7 +1,7 @@
 -- The entry of a file as it crosses: an enum can't.
 use Prim.Native.Nat.{ℕ}
 use mathlib.Core.Bool.{Bool, true, false}
-use Rattle.records.specs.Answers.{Answer}
+use Rattle.disc.specs.Replies.{Answer}
 use Rattle.entries.specs.Answers.{noEntry}
 use Rattle.entries.specs.declared.«file_entries».FileEntry.{FileEntry}
 use Rattle.entries.specs.declared.«file_entries».ObjectSize.{ObjectSize}

@@ -2,6 +2,7 @@
 ghost use mathlib.Core.Path.{_≡_};
 ghost use Rattle.records.specs.Allocations.{readExtent, encodeExtent, readShort, encodeShort, readAddress, encodeAddress, readLong, encodeLong, readExt, encodeExt};
 ghost use Rattle.records.specs.Answers.{extentAnswer, shortAnswer, addressAnswer};
+use disc::answers::DONE;
 use records::allocations::ExtAd;
 use records::allocations::ExtRead;
 use records::allocations::ExtentAd;
@@ -63,7 +64,10 @@ pub extern "C" fn records_parse_extent_ad(bytes: &[u8]) -> ExtentAnswer
     ensures { λ r. ⌜ record { number = r .answer; value = r .value } ≡ extentAnswer (readExtent (now (bytes .entry))) ⌝ }
 {
     match ExtentAd::parse(bytes) {
-        ExtentRead::Read(value) => ExtentAnswer { answer: 0, value },
+        ExtentRead::Read(value) => ExtentAnswer {
+            answer: DONE,
+            value,
+        },
         ExtentRead::Refused(why) => ExtentAnswer {
             answer: why.number(),
             value: ExtentAd {
@@ -88,7 +92,10 @@ pub extern "C" fn records_parse_short_ad(bytes: &[u8]) -> ShortAnswer
     ensures { λ r. ⌜ record { number = r .answer; value = r .value } ≡ shortAnswer (readShort (now (bytes .entry))) ⌝ }
 {
     match ShortAd::parse(bytes) {
-        ShortRead::Read(value) => ShortAnswer { answer: 0, value },
+        ShortRead::Read(value) => ShortAnswer {
+            answer: DONE,
+            value,
+        },
         ShortRead::Refused(why) => ShortAnswer {
             answer: why.number(),
             value: ShortAd {
@@ -114,7 +121,10 @@ pub extern "C" fn records_parse_lb_addr(bytes: &[u8]) -> AddressAnswer
     ensures { λ r. ⌜ record { number = r .answer; value = r .value } ≡ addressAnswer (readAddress (now (bytes .entry))) ⌝ }
 {
     match LbAddr::parse(bytes) {
-        LbAddrRead::Read(value) => AddressAnswer { answer: 0, value },
+        LbAddrRead::Read(value) => AddressAnswer {
+            answer: DONE,
+            value,
+        },
         LbAddrRead::Refused(why) => AddressAnswer {
             answer: why.number(),
             value: LbAddr {

@@ -5,6 +5,7 @@ ghost use Rattle.entries.specs.FileEntries.{readEntry};
 ghost use Rattle.entries.specs.IcbTags.{readIcbTag};
 ghost use Rattle.identifiers.specs.Identifiers.{readIdentifier, identifierRead};
 ghost use Rattle.records_c.specs.Entries.{hasSize, sizeIn, fieldsOf, noFields, shown};
+use disc::answers::DONE;
 use entries::file_entries::EntryRead;
 use entries::file_entries::FileEntry;
 use entries::file_entries::ObjectSize;
@@ -44,7 +45,10 @@ pub extern "C" fn records_parse_icb_tag(bytes: &[u8]) -> IcbTagAnswer
     ensures { λ r. ⌜ record { number = r .answer; value = r .value } ≡ icbTagAnswer (readIcbTag (now (bytes .entry))) ⌝ }
 {
     match IcbTag::parse(bytes) {
-        IcbTagRead::Read(value) => IcbTagAnswer { answer: 0, value },
+        IcbTagRead::Read(value) => IcbTagAnswer {
+            answer: DONE,
+            value,
+        },
         IcbTagRead::Refused(why) => IcbTagAnswer {
             answer: why.number(),
             value: no_icb_tag(),
@@ -158,7 +162,7 @@ pub extern "C" fn records_parse_file_entry(bytes: &[u8]) -> EntryAnswer
 {
     match FileEntry::parse(bytes) {
         EntryRead::Read(e) => EntryAnswer {
-            answer: 0,
+            answer: DONE,
             value: fields_of(e),
         },
         EntryRead::Refused(why) => EntryAnswer {

@@ -2,6 +2,7 @@
 ghost use mathlib.Core.Path.{_≡_};
 ghost use Rattle.tags.specs.Answers.{tagAnswer, aedAnswer};
 ghost use Rattle.tags.specs.Tags.{readTag, encodeTag, readAed, encodeAed};
+use disc::answers::DONE;
 use tags::AedRead;
 use tags::AllocationExtentDescriptor;
 use tags::DescriptorTag;
@@ -35,7 +36,10 @@ pub extern "C" fn records_parse_tag(bytes: &[u8]) -> TagAnswer
     ensures { λ r. ⌜ record { number = r .answer; value = r .value } ≡ tagAnswer (readTag (now (bytes .entry))) ⌝ }
 {
     match DescriptorTag::parse(bytes) {
-        TagRead::Read(value) => TagAnswer { answer: 0, value },
+        TagRead::Read(value) => TagAnswer {
+            answer: DONE,
+            value,
+        },
         TagRead::Refused(why) => TagAnswer {
             answer: why.number(),
             value: no_tag(),
@@ -57,7 +61,10 @@ pub extern "C" fn records_parse_aed(bytes: &[u8]) -> AedAnswer
     ensures { λ r. ⌜ record { number = r .answer; value = r .value } ≡ aedAnswer (readAed (now (bytes .entry))) ⌝ }
 {
     match AllocationExtentDescriptor::parse(bytes) {
-        AedRead::Header(value) => AedAnswer { answer: 0, value },
+        AedRead::Header(value) => AedAnswer {
+            answer: DONE,
+            value,
+        },
         AedRead::NoHeader(why) => AedAnswer {
             answer: why.number(),
             value: AllocationExtentDescriptor {

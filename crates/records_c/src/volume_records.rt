@@ -13,6 +13,7 @@ use descriptors::partitions::PartitionDescriptor;
 use descriptors::partitions::PartitionRead;
 use descriptors::primaries::PrimaryRead;
 use descriptors::primaries::PrimaryVolumeDescriptor;
+use disc::answers::DONE;
 use records::allocations::ExtentAd;
 use tags::no_tag;
 
@@ -33,7 +34,10 @@ pub extern "C" fn records_parse_anchor(bytes: &[u8]) -> AnchorAnswer
     ensures { λ r. ⌜ record { number = r .answer; value = r .value } ≡ anchorAnswer (readAnchor (now (bytes .entry))) ⌝ }
 {
     match AnchorVolumeDescriptorPointer::parse(bytes) {
-        AnchorRead::Read(value) => AnchorAnswer { answer: 0, value },
+        AnchorRead::Read(value) => AnchorAnswer {
+            answer: DONE,
+            value,
+        },
         AnchorRead::Refused(why) => AnchorAnswer {
             answer: why.number(),
             value: AnchorVolumeDescriptorPointer {
@@ -63,7 +67,10 @@ pub extern "C" fn records_parse_partition(bytes: &[u8]) -> PartitionAnswer
     ensures { λ r. ⌜ record { number = r .answer; value = r .value } ≡ partitionAnswer (readPartition (now (bytes .entry))) ⌝ }
 {
     match PartitionDescriptor::parse(bytes) {
-        PartitionRead::Read(value) => PartitionAnswer { answer: 0, value },
+        PartitionRead::Read(value) => PartitionAnswer {
+            answer: DONE,
+            value,
+        },
         PartitionRead::Refused(why) => PartitionAnswer {
             answer: why.number(),
             value: PartitionDescriptor {

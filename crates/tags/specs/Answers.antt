@@ -1,6 +1,6 @@
 -- The answer number and the values of each answer that is an enum: 0 and what was read, or the refusal's number and zeros. RULES 12.3.
 use Rattle.disc.specs.Refusals.{number}
-use Rattle.records.specs.Answers.{Answer}
+use Rattle.disc.specs.Replies.{Answer}
 use Rattle.tags.specs.declared.DescriptorTag.{DescriptorTag}
 use Rattle.tags.specs.declared.TagRead.{TagRead}
 use Rattle.tags.specs.declared.TagRead.the-variants.{Read as ATag, Refused as NoTag}

@@ -6,6 +6,7 @@ ghost use Rattle.disc.specs.Images.{disc};
 ghost use Rattle.disc.specs.Replies.{Replied};
 ghost use Rattle.volumes.specs.Labels.{labelling};
 use crate::openings::open_volume;
+use disc::answers::DONE;
 use disc::replies::Reply;
 use disc::replies::refusal;
 use names::fields::write_field;
@@ -15,7 +16,7 @@ pub fn label(image: &[u8], out: &mut [u8]) -> Reply
     ensures { λ r. ⌜ Replied NoRoom (ran (disc (now (image .entry))) labelling) (now (out .entry)) (now (out .exit)) r ⌝ }
 {
     let opened = open_volume(image);
-    if opened.answer != 0 {
+    if opened.answer != DONE {
         return refusal(opened.answer, opened.count);
     }
     let label = opened.volume.label;

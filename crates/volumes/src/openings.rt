@@ -11,6 +11,7 @@ use crate::sequences::scan_sequence;
 use descriptors::anchors::AnchorRead;
 use descriptors::anchors::AnchorVolumeDescriptorPointer;
 use descriptors::file_sets::FileSetDescriptor;
+use disc::answers::DONE;
 use disc::answers::IO;
 use disc::answers::NOT_BLURAY;
 use disc::answers::UNSUPPORTED;
@@ -78,14 +79,14 @@ fn volume_in(kept: Kept, b: &[u8], count: u64) -> Opened
     ensures { λ r. ⌜ r ≡ openedBy count (volumeIn kept (readFileSet (now (b .entry)))) ⌝ }
 {
     let r = FileSetDescriptor::parse(b);
-    if r.answer != 0 {
+    if r.answer != DONE {
         return refused(r.answer, count);
     }
     let d = r.descriptor;
     let root = d.root_directory_icb;
     let label = kept.label;
     Opened {
-        answer: 0,
+        answer: DONE,
         count,
         volume: VolumeRecord {
             mount: mount_in(kept),
@@ -131,7 +132,7 @@ fn mount(image: &[u8], kept: Kept, count: u64) -> Opened
     ensures { λ r. ⌜ r ≡ openedOf (after count (ran (disc (now (image .entry))) (mounting kept))) ⌝ }
 {
     let answer = kept_answer(kept);
-    if answer != 0 {
+    if answer != DONE {
         return refused(answer, count);
     }
     let place = kept.file_set.location;
@@ -151,7 +152,7 @@ fn open_from(image: &[u8], anchor: AnchorRead) -> Opened
         AnchorRead::Read(a) => {
             let main = a.main_volume_descriptor_sequence;
             let scanned = scan_sequence(image, main.location, main.length / 2048);
-            if scanned.answer != 0 {
+            if scanned.answer != DONE {
                 return refused(scanned.answer, scanned.count + 1);
             }
             mount(image, scanned.kept, scanned.count + 1)

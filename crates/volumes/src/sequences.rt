@@ -9,6 +9,7 @@ use descriptors::logicals::LogicalVolumeDescriptor;
 use descriptors::partitions::PartitionDescriptor;
 use descriptors::partitions::PartitionRead;
 use descriptors::primaries::PrimaryVolumeDescriptor;
+use disc::answers::DONE;
 use disc::answers::IO;
 use disc::images::held_from;
 use disc::images::sector_at;
@@ -64,7 +65,7 @@ fn goes_on(k: Kept) -> SectorTurn
 {
     SectorTurn {
         going: true,
-        answer: 0,
+        answer: DONE,
         kept: k,
     }
 }
@@ -83,7 +84,7 @@ fn take_primary(k: Kept, b: &[u8]) -> SectorTurn
     ensures { λ t. ⌜ t ≡ turnOf k (primaryIn (readPrimary (now (b .entry)))) ⌝ }
 {
     let r = PrimaryVolumeDescriptor::parse(b);
-    if r.answer != 0 {
+    if r.answer != DONE {
         return fails(r.answer);
     }
     let d = r.descriptor;
@@ -120,7 +121,7 @@ fn take_logical(k: Kept, b: &[u8]) -> SectorTurn
     ensures { λ t. ⌜ t ≡ turnOf k (logicalIn (readLogical (now (b .entry)))) ⌝ }
 {
     let r = LogicalVolumeDescriptor::parse(b);
-    if r.answer != 0 {
+    if r.answer != DONE {
         return fails(r.answer);
     }
     let d = r.descriptor;
@@ -155,7 +156,7 @@ fn take_sector(k: Kept, b: &[u8]) -> SectorTurn
     if id == 8 {
         return SectorTurn {
             going: false,
-            answer: 0,
+            answer: DONE,
             kept: k,
         };
     }
@@ -196,7 +197,7 @@ pub fn scan_sequence(image: &[u8], first: u32, n: u32) -> Scanned
         i += 1;
     }
     Scanned {
-        answer: 0,
+        answer: DONE,
         count: n as u64,
         kept,
     }
