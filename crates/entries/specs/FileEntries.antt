@@ -19,7 +19,7 @@ use Rattle.entries.specs.declared.«file_entries».FileEntry.{FileEntry}
 use Rattle.entries.specs.declared.«file_entries».EntryRead.{EntryRead}
 use Rattle.entries.specs.declared.«file_entries».EntryRead.the-variants.{Read, Refused}
 
--- the fields from 64 on of a plain entry (4/14.9.11 to 14.9.21) and of an extended one (4/14.17.11 to 14.17.24)
+-- the fields from 64 on of a plain entry (4/14.9.11 to 14.9.20) and of an extended one (4/14.17.11 to 14.17.24)
 unfoldable pub plainTail : List ℕ → EntryTail
 plainTail s = record {
   prefix = 176;

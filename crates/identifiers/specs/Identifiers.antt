@@ -22,7 +22,7 @@ use Rattle.identifiers.specs.declared.IdentifierRead.{IdentifierRead}
 
 -- ---- the name
 
--- it stands behind the implementation use, whose length is at 36 (4/14.4.7 to 14.4.9); its own length is at 19 (4/14.4.4)
+-- it stands behind the implementation use, whose length is at 36 (4/14.4.6 to 14.4.8); its own length is at 19 (4/14.4.4)
 unfoldable pub nameAt : List ℕ → ℕ
 nameAt s = 38 + u16at s 36
 
