@@ -23,12 +23,13 @@ const ID: u16 = 6;
 
 const SIZE: usize = 440;
 
-// The identifier is the label's field as recorded. The block size is in bytes.
+// The identifier is the label's field as recorded.
 #[repr(C)]
 pub struct LogicalVolumeDescriptor {
     pub tag: DescriptorTag,
     pub volume_descriptor_sequence_number: u32,
     pub logical_volume_identifier: [u8; 128],
+    // In bytes.
     pub logical_block_size: u32,
     pub file_set_descriptor_location: LongAd,
 }

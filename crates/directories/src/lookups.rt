@@ -17,11 +17,14 @@ use disc::replies::refusal;
 use files::reads::read_file;
 use records::allocations::LongAd;
 
-// The answer number, the count of sectors, and the ICB that a path names; zeros where the lookup was refused.
+// The answer number, the count of sectors, and the ICB that a path names.
 #[repr(C)]
 pub struct Found {
+    // A number of the table.
     pub answer: u64,
+    // The sectors asked for.
     pub count: u64,
+    // Zeros where the lookup was refused.
     pub icb: LongAd,
 }
 

@@ -1,26 +1,28 @@
 // The answer numbers by name: 0, and each refusal, whose number is its name's (`Refusal::number`).
+
+// Done.
 pub const DONE: u64 = 0;
 
 // A sector asked for isn't wholly inside the image.
 pub const IO: u64 = 1;
 
-// A descriptor, a name or a length is not what it must be.
+// Too few bytes, or a descriptor, a tag, a name or a length that is not what it must be.
 pub const MALFORMED: u64 = 2;
 
 // No volume, or no such path.
 pub const NOT_BLURAY: u64 = 3;
 
-// A form that isn't read: another block size or partition, an extent that isn't recorded.
+// A form that isn't read: another block size or partition, a compressed or unrecorded extent.
 pub const UNSUPPORTED: u64 = 4;
 
-// The answer has more bytes than the output holds.
+// The answer has more bytes than `out` holds.
 pub const NO_ROOM: u64 = 5;
 
-// A directory's bytes exceed the work space.
+// A directory has more bytes than `work` holds.
 pub const NO_WORK: u64 = 6;
 
 // There are more extents than slots.
 pub const NO_SLOT: u64 = 7;
 
-// A listed name exceeds 65,535 bytes.
+// A listed name has more than 65,535 bytes.
 pub const LONG_NAME: u64 = 8;

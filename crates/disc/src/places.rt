@@ -17,7 +17,9 @@ pub enum PartitionRef {
 // How a volume is read: where its partition starts, and the partition's number.
 #[repr(C)]
 pub struct Mount {
+    // The sector in which the partition starts.
     pub start: u32,
+    // The partition's number.
     pub partition: u16,
 }
 

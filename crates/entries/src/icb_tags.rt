@@ -15,6 +15,7 @@ pub struct IcbTag {
     pub strategy_type: u16,
     pub strategy_parameter: u16,
     pub max_entries: u16,
+    // 4: a directory.
     pub file_type: u8,
     pub parent_icb: LbAddr,
     pub flags: u16,

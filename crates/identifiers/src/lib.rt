@@ -23,12 +23,13 @@ const ID: u16 = 257;
 // What an identifier has at least: all before its implementation use and its name.
 pub const LEAST_SIZE: usize = 38;
 
-// The recorded name, a d-string of `name_length` bytes, stands at `name_at`; as UTF-8 it has `name_size` bytes. The next identifier
-// starts `total_size` bytes on.
+// An entry of a directory (id 257). Its name, a d-string of `name_length` bytes, stands at `name_at`; as UTF-8 it has `name_size` bytes.
+// The next entry starts `total_size` bytes on.
 #[repr(C)]
 pub struct FileIdentifierDescriptor {
     pub tag: DescriptorTag,
     pub file_version_number: u16,
+    // 2: a directory; 4: deleted; 8: the parent.
     pub file_characteristics: u8,
     pub icb: LongAd,
     pub name_at: usize,

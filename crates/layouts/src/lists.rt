@@ -24,12 +24,16 @@ use files::resolves::front_of;
 use files::resolves::resolve;
 use records::allocations::LongAd;
 
-// What a slot says of an extent: its effective length, type, block and partition reference, 65,536 where it names none.
+// What a slot of the extent list says of an extent.
 #[repr(C)]
 pub struct Extent {
+    // The effective length: the bytes that the extent gives to its file.
     pub length: u32,
+    // 0: recorded.
     pub extent_type: u32,
+    // Counted from the partition's start.
     pub block: u32,
+    // 65,536 where the descriptor names none.
     pub partition: u32,
 }
 

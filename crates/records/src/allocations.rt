@@ -124,9 +124,12 @@ impl ShortAd {
     }
 }
 
+// A block of a partition.
 #[repr(C)]
 pub struct LbAddr {
+    // Counted from the partition's start.
     pub block: u32,
+    // The partition.
     pub partition_ref: u16,
 }
 
@@ -163,11 +166,16 @@ impl LbAddr {
     }
 }
 
+// Where something stands, and on which partition: the ICB of a file or a directory is one.
 #[repr(C)]
 pub struct LongAd {
+    // In bytes, below 2^30 where it was read.
     pub length: u32,
+    // 0 to 3 where it was read: 0 is recorded.
     pub extent_type: u8,
+    // The first block.
     pub location: LbAddr,
+    // As recorded.
     pub implementation_use: [u8; 6],
 }
 
@@ -272,6 +280,7 @@ impl LongAd {
 pub struct ExtAd {
     pub length: u32,
     pub extent_type: u8,
+    // 30 bits of what is recorded.
     pub recorded_length: u32,
     pub information_length: u32,
     pub location: LbAddr,

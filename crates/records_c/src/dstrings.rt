@@ -1,4 +1,7 @@
-// D-strings and d-string fields as UTF-8.
+// Names: d-strings and d-string fields as UTF-8.
+//
+// The name of a d-string, which is the whole of `bytes`, or of a d-string field, whose last byte says how long its d-string is. It is written
+// to the front of `out`, as UTF-8 with no zero behind it; `length` is the name's.
 ghost use mathlib.Core.Path.{_≡_};
 ghost use Rattle.names.specs.Names.{nameOf, nameOfField};
 ghost use Rattle.records_c.specs.Decoded.{decoded};

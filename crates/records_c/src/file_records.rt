@@ -1,4 +1,4 @@
-// The ICB tag, the entry of a file, and the file identifier.
+// File structure: the ICB tag, the entry of a file, and the entry of a directory.
 ghost use mathlib.Core.Path.{_≡_};
 ghost use Rattle.entries.specs.Answers.{noIcbTag, icbTagAnswer, entryAnswer};
 ghost use Rattle.entries.specs.FileEntries.{readEntry};
@@ -56,7 +56,8 @@ pub extern "C" fn records_parse_icb_tag(bytes: &[u8]) -> IcbTagAnswer
     }
 }
 
-// An entry's fields. The object size is an enum in the entry: here a bool says whether there is one, and it is 0 where there is none.
+// A file entry (id 261) or an extended one (266). The area of allocation descriptors, or the embedded file, stands in `bytes` from `area_at` on;
+// it lies within them, and isn't looked at here. The object size, an enum in the entry, crosses as a bool and a number.
 #[repr(C)]
 pub struct EntryFields {
     pub tag: DescriptorTag,
@@ -70,10 +71,13 @@ pub struct EntryFields {
     pub record_length: u32,
     pub information_length: u64,
     pub logical_blocks_recorded: u64,
+    // An extended entry has one.
     pub has_object_size: bool,
+    // 0 where there is none.
     pub object_size: u64,
     pub length_of_extended_attributes: u32,
     pub length_of_allocation_descriptors: u32,
+    // Of the area: 0 short_ad, 1 long_ad, 2 ext_ad, 3 the file itself.
     pub kind: u8,
     pub area_at: usize,
     pub area_length: usize,

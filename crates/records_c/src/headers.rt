@@ -1,4 +1,7 @@
 // The descriptor tag, and the header of an allocation extent.
+//
+// A tag is refused unless its id is 1 to 9 or 256 to 266, its reserved byte 0 and its checksum right; the CRC isn't checked. Encoding takes
+// any id, and makes the checksum. A header is a tag with id 258 and two numbers.
 ghost use mathlib.Core.Path.{_≡_};
 ghost use Rattle.tags.specs.Answers.{tagAnswer, aedAnswer};
 ghost use Rattle.tags.specs.Tags.{readTag, encodeTag, readAed, encodeAed};

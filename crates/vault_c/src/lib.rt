@@ -1,4 +1,17 @@
-// The vault reader for C: each function is the call of crate vault with the same contract. A slice is a pointer and a length.
+// UDF discs (ECMA-167, OSTA UDF) read from memory, for C.
+//
+// Link target/staticlib/libvault_c.a, which `rt staticlib vault_c` makes from the proved sources. Each call has the contract of the call of
+// crate vault that it passes on.
+//
+// Nothing here allocates, keeps or frees memory: the caller lends the image, the output and the work space for the length of the call, each as a
+// pointer and a length. Lent pieces must not overlap. A piece of length 0 needs a pointer that isn't null. If the image changes during a call,
+// the answer may be that of no image; the call still ends, with a number of the table, and stays inside the memory that it was lent.
+//
+// Every call on an image but the probe answers with a number, which has its name below, and with a count of the sectors of 2,048 bytes that it
+// asked for. A call that is refused (any number but 0) has zeros in every value but the count, and leaves `out` and the slots as they came. A call
+// that is done writes the front of `out` and nothing behind it. `work` is all zero on return from every call, refused or not.
+//
+// Any volume and any ICB may be handed in, also one made by hand. They are taken as they are: a length of 2^30 is not 0.
 ghost use mathlib.Core.Path.{_≡_};
 ghost use Rattle.layouts.specs.Calls.{wordsOf};
 ghost use Rattle.probes.specs.Probes.{probed};
@@ -11,7 +24,7 @@ use vault::volume::label;
 use vault::volume::probe;
 use volumes::openings::Opened;
 
-// Whether the image has a volume recognition sequence.
+// Whether the image has a volume recognition sequence. Opening doesn't depend on it.
 #[no_mangle]
 pub extern "C" fn vault_probe(image: &[u8]) -> bool
     ensures { λ r. ⌜ r ≡ probed (now (image .entry)) ⌝ }
@@ -19,7 +32,7 @@ pub extern "C" fn vault_probe(image: &[u8]) -> bool
     probe(image)
 }
 
-// Opens the volume that an image holds.
+// Opens the volume of an image.
 #[no_mangle]
 pub extern "C" fn vault_open(image: &[u8]) -> Opened
     ensures { λ r. ⌜ r ≡ opens (now (image .entry)) ⌝ }
@@ -27,7 +40,7 @@ pub extern "C" fn vault_open(image: &[u8]) -> Opened
     Volume::open(image)
 }
 
-// The name in an image's label, as UTF-8.
+// Opens an image and writes its label to `out`, as UTF-8 with no zero behind it; `length` is the label's.
 #[no_mangle]
 pub extern "C" fn vault_label(image: &[u8], out: &mut [u8]) -> Reply
     ensures { λ r. ⌜ record { reply = r; out = now (out .exit) } ≡ labels (now (image .entry)) (now (out .entry)) ⌝ }
@@ -35,7 +48,8 @@ pub extern "C" fn vault_label(image: &[u8], out: &mut [u8]) -> Reply
     label(image, out)
 }
 
-// The ICB that a path names.
+// The ICB that a path names. Components stand between slashes, empty ones are dropped, and ASCII case is ignored; the empty path names the
+// root. A component that isn't there, or that stands under a file, is VAULT_NOT_BLURAY.
 #[no_mangle]
 pub extern "C" fn vault_lookup(volume: Volume, image: &[u8], path: &[u8], work: &mut [u8]) -> Found
     ensures { λ r. ⌜ record { found = r; work = now (work .exit) } ≡ finds (now (image .entry)) (volume .0) (now (path .entry)) (now (work .entry)) ⌝ }
@@ -43,7 +57,8 @@ pub extern "C" fn vault_lookup(volume: Volume, image: &[u8], path: &[u8], work: 
     volume.lookup(image, path, work)
 }
 
-// The component that failed: its length, and its place in the path.
+// The component at which that lookup is refused by VAULT_NOT_BLURAY: `length` is the component's, and its place in the path goes to
+// `*component_at`. Both are 0 where no component was refused so. The answer and the count are the lookup's.
 #[no_mangle]
 pub extern "C" fn vault_failed(
     volume: Volume,
@@ -57,7 +72,9 @@ pub extern "C" fn vault_failed(
     volume.failed_at(image, path, work, component_at)
 }
 
-// The listing of the directory at icb.
+// Lists a directory: a record for each entry that is neither deleted nor the parent, one behind the other:
+//
+//     44 45   1 for a directory, else 0   the ICB's 16 bytes as recorded   the name's length (2 bytes, little-endian)   the name, as UTF-8
 #[no_mangle]
 pub extern "C" fn vault_list(
     volume: Volume,
@@ -71,7 +88,7 @@ pub extern "C" fn vault_list(
     volume.list(image, icb, out, work)
 }
 
-// The bytes of the file at icb.
+// Reads a file, or a directory's own bytes, to `out`.
 #[no_mangle]
 pub extern "C" fn vault_read(volume: Volume, image: &[u8], icb: LongAd, out: &mut [u8]) -> Reply
     ensures { λ r. ⌜ record { reply = r; out = now (out .exit) } ≡ reads (now (image .entry)) (volume .0) icb (now (out .entry)) ⌝ }
@@ -79,7 +96,8 @@ pub extern "C" fn vault_read(volume: Volume, image: &[u8], icb: LongAd, out: &mu
     volume.read(image, icb, out)
 }
 
-// The bytes of an embedded file: how many, and their place in the image.
+// The bytes of an embedded file where they stand: `length` of them, from `*part_at` on in the image. For any other file that can be read the
+// answer is VAULT_DONE, and both are 0, as they are where the call is refused. An embedded file of no bytes has a place all the same.
 #[no_mangle]
 pub extern "C" fn vault_part(
     volume: Volume,
@@ -92,7 +110,7 @@ pub extern "C" fn vault_part(
     volume.part_at(image, icb, part_at)
 }
 
-// The extents of a file, four numbers to a slot.
+// The extents of a file, in the order in which they are read, one to a slot of `row`; `length` is how many. An embedded file has none.
 #[no_mangle]
 pub extern "C" fn vault_extents(
     volume: Volume,
@@ -105,7 +123,7 @@ pub extern "C" fn vault_extents(
     volume.extent_words(image, icb, row)
 }
 
-// The bytes of the file that a path names.
+// Looks a path up and reads what it names to `out`; the count is that of both.
 #[no_mangle]
 pub extern "C" fn vault_read_path(
     volume: Volume,

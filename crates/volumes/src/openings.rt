@@ -25,19 +25,25 @@ use disc::places::Sector;
 use records::allocations::LongAd;
 use records::allocations::no_long;
 
-// What is known of an opened volume: how it is read, its root directory and its label as recorded.
+// An opened volume. It holds no pointer: copy it, keep it, or make one by hand.
 #[repr(C)]
 pub struct VolumeRecord {
+    // How it is read.
     pub mount: Mount,
+    // The root directory.
     pub root: LongAd,
+    // The label's field as recorded.
     pub label: [u8; 32],
 }
 
-// The answer number, the count of sectors, and the volume: zeros where it was refused.
+// The answer number, the count of sectors, and the volume.
 #[repr(C)]
 pub struct Opened {
+    // A number of the table.
     pub answer: u64,
+    // The sectors asked for.
     pub count: u64,
+    // Zeros where opening was refused.
     pub volume: VolumeRecord,
 }
 
