@@ -141,7 +141,7 @@ static vault_long_ad take_icb(void) {
     a.length = (uint32_t)take_number(4);
     a.extent_type = (uint8_t)take_number(1);
     a.location.block = (uint32_t)take_number(4);
-    a.location.partition = (uint16_t)take_number(2);
+    a.location.partition_ref = (uint16_t)take_number(2);
     if (!take(a.implementation_use, 6)) exit(5);
     return a;
 }
@@ -150,22 +150,22 @@ static void give_icb(vault_long_ad a) {
     give_number(a.length, 4);
     give_number(a.extent_type, 1);
     give_number(a.location.block, 4);
-    give_number(a.location.partition, 2);
+    give_number(a.location.partition_ref, 2);
     give(a.implementation_use, 6);
 }
 
 static vault_volume take_volume(void) {
     vault_volume v;
-    v.start = (uint32_t)take_number(4);
-    v.partition = (uint16_t)take_number(2);
+    v.mount.start = (uint32_t)take_number(4);
+    v.mount.partition = (uint16_t)take_number(2);
     v.root = take_icb();
     if (!take(v.label, 32)) exit(5);
     return v;
 }
 
 static void give_volume(vault_volume v) {
-    give_number(v.start, 4);
-    give_number(v.partition, 2);
+    give_number(v.mount.start, 4);
+    give_number(v.mount.partition, 2);
     give_icb(v.root);
     give(v.label, 32);
 }

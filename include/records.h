@@ -1,20 +1,20 @@
-/* records.h: the raw records of a UDF disc (ECMA-167, OSTA UDF), parsed and encoded.
+/* records.h: The raw records of a UDF disc (ECMA-167, OSTA UDF), parsed and encoded, for C.
  *
- * Link target/staticlib/librecords_c.a, which `rt staticlib records_c` makes from the proved sources.
+ * Link target/staticlib/librecords_c.a, which `rt staticlib records_c` makes from the proved sources. Each call has
+ * the contract of the call of the crate below that it passes on.
  *
- * Nothing here allocates, keeps or frees memory. A piece of length 0 needs a pointer that isn't null; lent pieces must not overlap.
+ * Nothing here allocates, keeps or frees memory. A piece of length 0 needs a pointer that isn't null; lent pieces
+ * must not overlap.
  *
- * A record is parsed at the front of `bytes`, and what stands behind it isn't looked at. Every call that parses or decodes answers with a
- * number:
+ * A record is parsed at the front of `bytes`, and what stands behind it isn't looked at. Every call that parses or
+ * decodes answers with a number. A call that is refused has zeros in every value, and leaves `out` as it came.
+ * Fields have the names of ECMA-167's fields, and stand as they are recorded unless something else is said here. If
+ * `bytes` change during a call, the answer may be that of no bytes; the call stays inside the memory that it was
+ * lent, and writes nothing behind the answered length.
  *
- *     RECORDS_DONE       0   done
- *     RECORDS_MALFORMED  2   too few bytes, or a tag, a name or a length that is not what it must be
- *     RECORDS_NO_ROOM    5   the name has more bytes than `out`
+ * The numbers are those of vault.h. Given are: RECORDS_DONE, RECORDS_MALFORMED, RECORDS_NO_ROOM.
  *
- * The numbers are those of vault.h. A call that is refused has zeros in every value, and leaves `out` as it came. Fields have the names
- * of ECMA-167's fields, and stand as they are recorded unless something else is said here. If `bytes` change during a call, the answer may
- * be that of no bytes; the call stays inside the memory that it was lent, and writes nothing behind the answered length.
- */
+ * Made by tools/faces.py from the comments and declarations of crates/records_c. */
 #ifndef RECORDS_H
 #define RECORDS_H
 
@@ -26,14 +26,20 @@
 extern "C" {
 #endif
 
-enum { RECORDS_DONE = 0, RECORDS_MALFORMED = 2, RECORDS_NO_ROOM = 5 };
+enum {
+    RECORDS_DONE = 0, /* Done. */
+    RECORDS_MALFORMED = 2, /* Too few bytes, or a descriptor, a tag, a name or a length that is not what it must be. */
+    RECORDS_NO_ROOM = 5, /* The answer has more bytes than `out` holds. */
+};
 
-/* ---- allocation descriptors
+/* ---- Allocation descriptors: extent_ad, short_ad, lb_addr, long_ad and ext_ad.
  *
- * A raw length is 30 bits of length below 2 bits of type. Encoding keeps so many bits of either, and 30 of an ext_ad's recorded length. */
+ * A raw length is 30 bits of length below 2 bits of type. Encoding keeps so many bits of either, and 30 of an
+ * ext_ad's recorded length. */
 
 typedef struct {
-    uint32_t length, location;
+    uint32_t length;
+    uint32_t location;
 } records_extent_ad;
 
 typedef struct {
@@ -42,22 +48,24 @@ typedef struct {
     uint32_t block_location;
 } records_short_ad;
 
+/* A block of a partition. */
 typedef struct {
-    uint32_t block;
-    uint16_t partition_ref;
+    uint32_t block; /* Counted from the partition's start. */
+    uint16_t partition_ref; /* The partition. */
 } records_lb_addr;
 
+/* Where something stands, and on which partition: the ICB of a file or a directory is one. */
 typedef struct {
-    uint32_t length;
-    uint8_t extent_type;
-    records_lb_addr location;
-    uint8_t implementation_use[6];
+    uint32_t length; /* In bytes, below 2^30 where it was read. */
+    uint8_t extent_type; /* 0 to 3 where it was read: 0 is recorded. */
+    records_lb_addr location; /* The first block. */
+    uint8_t implementation_use[6]; /* As recorded. */
 } records_long_ad;
 
 typedef struct {
     uint32_t length;
     uint8_t extent_type;
-    uint32_t recorded_length; /* 30 bits of what is recorded */
+    uint32_t recorded_length; /* 30 bits of what is recorded. */
     uint32_t information_length;
     records_lb_addr location;
     uint8_t implementation_use[2];
@@ -90,7 +98,11 @@ typedef struct {
 
 typedef struct {
     uint8_t bytes[8];
-} records_extent_ad_bytes, records_short_ad_bytes;
+} records_extent_ad_bytes;
+
+typedef struct {
+    uint8_t bytes[8];
+} records_short_ad_bytes;
 
 typedef struct {
     uint8_t bytes[6];
@@ -104,31 +116,54 @@ typedef struct {
     uint8_t bytes[20];
 } records_ext_ad_bytes;
 
-records_extent_ad_answer records_parse_extent_ad(const uint8_t *bytes, size_t length);
-records_short_ad_answer records_parse_short_ad(const uint8_t *bytes, size_t length);
-records_lb_addr_answer records_parse_lb_addr(const uint8_t *bytes, size_t length);
-records_long_ad_answer records_parse_long_ad(const uint8_t *bytes, size_t length);
-records_ext_ad_answer records_parse_ext_ad(const uint8_t *bytes, size_t length);
-
+records_extent_ad_answer records_parse_extent_ad(const uint8_t *bytes, size_t bytes_length);
 records_extent_ad_bytes records_encode_extent_ad(records_extent_ad value);
+records_short_ad_answer records_parse_short_ad(const uint8_t *bytes, size_t bytes_length);
 records_short_ad_bytes records_encode_short_ad(records_short_ad value);
+records_lb_addr_answer records_parse_lb_addr(const uint8_t *bytes, size_t bytes_length);
 records_lb_addr_bytes records_encode_lb_addr(records_lb_addr value);
+records_long_ad_answer records_parse_long_ad(const uint8_t *bytes, size_t bytes_length);
 records_long_ad_bytes records_encode_long_ad(records_long_ad value);
+records_ext_ad_answer records_parse_ext_ad(const uint8_t *bytes, size_t bytes_length);
 records_ext_ad_bytes records_encode_ext_ad(records_ext_ad value);
 
-/* ---- the descriptor tag, and the header of an allocation extent
+/* ---- Names: d-strings and d-string fields as UTF-8.
  *
- * A tag is refused unless its id is 1 to 9 or 256 to 266, its reserved byte 0 and its checksum right; the CRC isn't checked. Encoding
- * takes any id, and makes the checksum. A header is a tag with id 258 and two numbers. */
+ * The name of a d-string, which is the whole of `bytes`, or of a d-string field, whose last byte says how long its
+ * d-string is. It is written to the front of `out`, as UTF-8 with no zero behind it; `length` is the name's. */
 
+/* The answer number, and how many bytes were written: 0 where it is a refusal. */
 typedef struct {
-    uint16_t id, descriptor_version, serial_number, crc, crc_length;
+    uint64_t answer;
+    uint64_t length;
+} records_written;
+
+/* Writes the name of the d-string over the front of out. */
+records_written records_decode_dstring(const uint8_t *bytes, size_t bytes_length, uint8_t *out, size_t out_length);
+
+/* Writes the name in the d-string field over the front of out. */
+records_written records_decode_dstring_field(const uint8_t *bytes, size_t bytes_length, uint8_t *out,
+                                             size_t out_length);
+
+/* ---- The descriptor tag, and the header of an allocation extent.
+ *
+ * A tag is refused unless its id is 1 to 9 or 256 to 266, its reserved byte 0 and its checksum right; the CRC isn't
+ * checked. Encoding takes any id, and makes the checksum. A header is a tag with id 258 and two numbers. */
+
+/* The id is a number, which reading keeps within the listed ones. */
+typedef struct {
+    uint16_t id;
+    uint16_t descriptor_version;
+    uint16_t serial_number;
+    uint16_t crc;
+    uint16_t crc_length;
     uint32_t location;
 } records_tag;
 
 typedef struct {
     records_tag tag;
-    uint32_t previous_allocation_extent_location, length_of_allocation_descriptors;
+    uint32_t previous_allocation_extent_location;
+    uint32_t length_of_allocation_descriptors;
 } records_aed;
 
 typedef struct {
@@ -149,52 +184,114 @@ typedef struct {
     uint8_t bytes[24];
 } records_aed_bytes;
 
-records_tag_answer records_parse_tag(const uint8_t *bytes, size_t length);
-records_aed_answer records_parse_aed(const uint8_t *bytes, size_t length);
-
+records_tag_answer records_parse_tag(const uint8_t *bytes, size_t bytes_length);
 records_tag_bytes records_encode_tag(records_tag value);
+records_aed_answer records_parse_aed(const uint8_t *bytes, size_t bytes_length);
 records_aed_bytes records_encode_aed(records_aed value);
 
-/* ---- names
- *
- * The name of a d-string, which is the whole of `bytes`, or of a d-string field, whose last byte says how long its d-string is. It is
- * written to the front of `out`, as UTF-8 with no zero behind it; `length` is the name's. */
+/* ---- File structure: the ICB tag, the entry of a file, and the entry of a directory. */
 
 typedef struct {
-    uint64_t answer, length;
-} records_written;
+    uint32_t prior_recorded_entries;
+    uint16_t strategy_type;
+    uint16_t strategy_parameter;
+    uint16_t max_entries;
+    uint8_t file_type; /* 4: a directory. */
+    records_lb_addr parent_icb;
+    uint16_t flags;
+} records_icb_tag;
 
-records_written records_decode_dstring(const uint8_t *bytes, size_t length, uint8_t *out, size_t out_length);
-records_written records_decode_dstring_field(const uint8_t *bytes, size_t length, uint8_t *out, size_t out_length);
+/* A file entry (id 261) or an extended one (266). The area of allocation descriptors, or the embedded file, stands
+ * in `bytes` from `area_at` on; it lies within them, and isn't looked at here. The object size, an enum in the
+ * entry, crosses as a bool and a number. */
+typedef struct {
+    records_tag tag;
+    records_icb_tag icb_tag;
+    uint32_t uid;
+    uint32_t gid;
+    uint32_t permissions;
+    uint16_t file_link_count;
+    uint8_t record_format;
+    uint8_t record_display_attributes;
+    uint32_t record_length;
+    uint64_t information_length;
+    uint64_t logical_blocks_recorded;
+    bool has_object_size; /* An extended entry has one. */
+    uint64_t object_size; /* 0 where there is none. */
+    uint32_t length_of_extended_attributes;
+    uint32_t length_of_allocation_descriptors;
+    uint8_t kind; /* Of the area: 0 short_ad, 1 long_ad, 2 ext_ad, 3 the file itself. */
+    size_t area_at;
+    size_t area_length;
+} records_file_entry;
 
-/* ---- volume structure
+/* An entry of a directory (id 257). Its name, a d-string of `name_length` bytes, stands at `name_at`; as UTF-8 it
+ * has `name_size` bytes. The next entry starts `total_size` bytes on. */
+typedef struct {
+    records_tag tag;
+    uint16_t file_version_number;
+    uint8_t file_characteristics; /* 2: a directory; 4: deleted; 8: the parent. */
+    records_long_ad icb;
+    size_t name_at;
+    size_t name_length;
+    size_t name_size;
+    size_t total_size;
+} records_file_identifier;
+
+typedef struct {
+    uint64_t answer;
+    records_icb_tag value;
+} records_icb_tag_answer;
+
+typedef struct {
+    uint64_t answer;
+    records_file_entry value;
+} records_file_entry_answer;
+
+typedef struct {
+    uint64_t answer;
+    records_file_identifier value;
+} records_file_identifier_answer;
+
+records_icb_tag_answer records_parse_icb_tag(const uint8_t *bytes, size_t bytes_length);
+records_file_entry_answer records_parse_file_entry(const uint8_t *bytes, size_t bytes_length);
+records_file_identifier_answer records_parse_file_identifier(const uint8_t *bytes, size_t bytes_length);
+
+/* ---- Volume structure: the anchor, the descriptors of a volume descriptor sequence, and the file set descriptor.
  *
- * Each begins with a tag that has its id (2, 1, 5, 6, 256). The identifiers are d-string fields as they are recorded; one that can't be
- * decoded is refused. */
+ * Each begins with a tag that has its id (2, 1, 5, 6, 256). The identifiers are d-string fields as they are
+ * recorded; one that can't be decoded is refused. */
 
 typedef struct {
     records_tag tag;
-    records_extent_ad main_volume_descriptor_sequence, reserve_volume_descriptor_sequence;
+    records_extent_ad main_volume_descriptor_sequence;
+    records_extent_ad reserve_volume_descriptor_sequence;
 } records_anchor;
 
-typedef struct {
-    records_tag tag;
-    uint32_t volume_descriptor_sequence_number, primary_volume_descriptor_number;
-    uint8_t volume_identifier[32];
-} records_primary_volume;
-
+/* The volume identifier is the label's field as recorded. */
 typedef struct {
     records_tag tag;
     uint32_t volume_descriptor_sequence_number;
-    uint16_t partition_flags, partition_number;
-    uint32_t partition_starting_location, partition_length; /* in sectors */
+    uint32_t primary_volume_descriptor_number;
+    uint8_t volume_identifier[32];
+} records_primary_volume;
+
+/* The start and the length are in logical sectors. */
+typedef struct {
+    records_tag tag;
+    uint32_t volume_descriptor_sequence_number;
+    uint16_t partition_flags;
+    uint16_t partition_number;
+    uint32_t partition_starting_location;
+    uint32_t partition_length;
 } records_partition;
 
+/* The identifier is the label's field as recorded. */
 typedef struct {
     records_tag tag;
     uint32_t volume_descriptor_sequence_number;
     uint8_t logical_volume_identifier[128];
-    uint32_t logical_block_size; /* in bytes */
+    uint32_t logical_block_size; /* In bytes. */
     records_long_ad file_set_descriptor_location;
 } records_logical_volume;
 
@@ -228,67 +325,11 @@ typedef struct {
     records_file_set value;
 } records_file_set_answer;
 
-records_anchor_answer records_parse_anchor(const uint8_t *bytes, size_t length);
-records_primary_volume_answer records_parse_primary_volume(const uint8_t *bytes, size_t length);
-records_partition_answer records_parse_partition(const uint8_t *bytes, size_t length);
-records_logical_volume_answer records_parse_logical_volume(const uint8_t *bytes, size_t length);
-records_file_set_answer records_parse_file_set(const uint8_t *bytes, size_t length);
-
-/* ---- file structure */
-
-typedef struct {
-    uint32_t prior_recorded_entries;
-    uint16_t strategy_type, strategy_parameter, max_entries;
-    uint8_t file_type; /* 4: a directory */
-    records_lb_addr parent_icb;
-    uint16_t flags;
-} records_icb_tag;
-
-/* A file entry (id 261) or an extended one (266). The area of allocation descriptors, or the embedded file, stands in `bytes` from
- * area_at on; it lies within them, and isn't looked at here. */
-typedef struct {
-    records_tag tag;
-    records_icb_tag icb_tag;
-    uint32_t uid, gid, permissions;
-    uint16_t file_link_count;
-    uint8_t record_format, record_display_attributes;
-    uint32_t record_length;
-    uint64_t information_length, logical_blocks_recorded;
-    bool has_object_size; /* an extended entry has one */
-    uint64_t object_size; /* 0 where there is none */
-    uint32_t length_of_extended_attributes, length_of_allocation_descriptors;
-    uint8_t kind; /* of the area: 0 short_ad, 1 long_ad, 2 ext_ad, 3 the file itself */
-    size_t area_at, area_length;
-} records_file_entry;
-
-/* An entry of a directory (id 257). Its name is a d-string of name_length bytes at name_at, and has name_size bytes as UTF-8; the next
- * entry starts total_size bytes on. */
-typedef struct {
-    records_tag tag;
-    uint16_t file_version_number;
-    uint8_t file_characteristics; /* 2: a directory; 4: deleted; 8: the parent */
-    records_long_ad icb;
-    size_t name_at, name_length, name_size, total_size;
-} records_file_identifier;
-
-typedef struct {
-    uint64_t answer;
-    records_icb_tag value;
-} records_icb_tag_answer;
-
-typedef struct {
-    uint64_t answer;
-    records_file_entry value;
-} records_file_entry_answer;
-
-typedef struct {
-    uint64_t answer;
-    records_file_identifier value;
-} records_file_identifier_answer;
-
-records_icb_tag_answer records_parse_icb_tag(const uint8_t *bytes, size_t length);
-records_file_entry_answer records_parse_file_entry(const uint8_t *bytes, size_t length);
-records_file_identifier_answer records_parse_file_identifier(const uint8_t *bytes, size_t length);
+records_anchor_answer records_parse_anchor(const uint8_t *bytes, size_t bytes_length);
+records_primary_volume_answer records_parse_primary_volume(const uint8_t *bytes, size_t bytes_length);
+records_partition_answer records_parse_partition(const uint8_t *bytes, size_t bytes_length);
+records_logical_volume_answer records_parse_logical_volume(const uint8_t *bytes, size_t bytes_length);
+records_file_set_answer records_parse_file_set(const uint8_t *bytes, size_t bytes_length);
 
 #ifdef __cplusplus
 }

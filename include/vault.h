@@ -1,26 +1,23 @@
-/* vault.h: read UDF discs (ECMA-167, OSTA UDF) from memory.
+/* vault.h: UDF discs (ECMA-167, OSTA UDF) read from memory, for C.
  *
- * Link target/staticlib/libvault_c.a, which `rt staticlib vault_c` makes from the proved sources.
+ * Link target/staticlib/libvault_c.a, which `rt staticlib vault_c` makes from the proved sources. Each call has the
+ * contract of the call of crate vault that it passes on.
  *
- * Nothing here allocates, keeps or frees memory: the caller lends the image, the output and the work space for the length of the call.
- * Lent pieces must not overlap. A piece of length 0 needs a pointer that isn't null. If the image changes during a call, the answer may be
- * that of no image; the call still ends, with a number of the table, and stays inside the memory that it was lent.
+ * Nothing here allocates, keeps or frees memory: the caller lends the image, the output and the work space for the
+ * length of the call, each as a pointer and a length. Lent pieces must not overlap. A piece of length 0 needs a
+ * pointer that isn't null. If the image changes during a call, the answer may be that of no image; the call still
+ * ends, with a number of the table, and stays inside the memory that it was lent.
  *
- * Every call on an image but the probe answers with a number and with a count of the sectors of 2,048 bytes that it asked for:
+ * Every call on an image but the probe answers with a number, which has its name below, and with a count of the
+ * sectors of 2,048 bytes that it asked for. A call that is refused (any number but 0) has zeros in every value but
+ * the count, where vault_failed has the component at VAULT_NOT_BLURAY, and leaves `out` and the slots as they came.
+ * A call that is done writes the front of `out` and nothing behind it. `work` is all zero on return from every call,
+ * refused or not.
  *
- *     VAULT_DONE         0   done
- *     VAULT_IO           1   a sector asked for isn't wholly inside the image
- *     VAULT_MALFORMED    2   a descriptor, a name or a length is not what it must be
- *     VAULT_NOT_BLURAY   3   no volume, or no such path
- *     VAULT_UNSUPPORTED  4   a form that isn't read: another block size or partition, a compressed or unrecorded extent
- *     VAULT_NO_ROOM      5   the answer has more bytes than `out`
- *     VAULT_NO_WORK      6   a directory has more bytes than `work`
- *     VAULT_NO_SLOT      7   there are more extents than slots
- *     VAULT_LONG_NAME    8   a listed name has more than 65,535 bytes
+ * Any volume and any ICB may be handed in, also one made by hand. They are taken as they are: a length of 2^30 is
+ * not 0.
  *
- * A call that is refused (any number but 0) has zeros in every value but the count, and leaves `out` and the slots as they came. A call
- * that is done writes the front of `out` and nothing behind it. `work` is all zero on return from every call, refused or not.
- */
+ * Made by tools/faces.py from the comments and declarations of crates/vault_c. */
 #ifndef VAULT_H
 #define VAULT_H
 
@@ -33,59 +30,72 @@ extern "C" {
 #endif
 
 enum {
-    VAULT_DONE = 0,
-    VAULT_IO = 1,
-    VAULT_MALFORMED = 2,
-    VAULT_NOT_BLURAY = 3,
+    VAULT_DONE = 0, /* Done. */
+    VAULT_IO = 1, /* A sector asked for isn't wholly inside the image. */
+    VAULT_MALFORMED = 2, /* Too few bytes, or a descriptor, a tag, a name or a length that is not what it must be. */
+    VAULT_NOT_BLURAY = 3, /* No volume, or no such path. */
+    /* A form that isn't read: another block size or partition, a compressed or unrecorded extent. */
     VAULT_UNSUPPORTED = 4,
-    VAULT_NO_ROOM = 5,
-    VAULT_NO_WORK = 6,
-    VAULT_NO_SLOT = 7,
-    VAULT_LONG_NAME = 8
+    VAULT_NO_ROOM = 5, /* The answer has more bytes than `out` holds. */
+    VAULT_NO_WORK = 6, /* A directory has more bytes than `work` holds. */
+    VAULT_NO_SLOT = 7, /* There are more extents than slots. */
+    VAULT_LONG_NAME = 8, /* A listed name has more than 65,535 bytes. */
 };
+
+/* How a volume is read: where its partition starts, and the partition's number. */
+typedef struct {
+    uint32_t start; /* The sector in which the partition starts. */
+    uint16_t partition; /* The partition's number. */
+} vault_mount;
 
 /* A block of a partition. */
 typedef struct {
-    uint32_t block;
-    uint16_t partition;
+    uint32_t block; /* Counted from the partition's start. */
+    uint16_t partition_ref; /* The partition. */
 } vault_lb_addr;
 
-/* Where something stands: the ICB of a file or a directory. */
+/* Where something stands, and on which partition: the ICB of a file or a directory is one. */
 typedef struct {
-    uint32_t length;     /* bytes, below 2^30 */
-    uint8_t extent_type; /* 0 to 3 */
-    vault_lb_addr location;
-    uint8_t implementation_use[6];
+    uint32_t length; /* In bytes, below 2^30 where it was read. */
+    uint8_t extent_type; /* 0 to 3 where it was read: 0 is recorded. */
+    vault_lb_addr location; /* The first block. */
+    uint8_t implementation_use[6]; /* As recorded. */
 } vault_long_ad;
 
 /* An opened volume. It holds no pointer: copy it, keep it, or make one by hand. */
 typedef struct {
-    uint32_t start;     /* the sector in which the partition starts */
-    uint16_t partition; /* the partition's number */
-    vault_long_ad root; /* the root directory */
-    uint8_t label[32];  /* the label as it is recorded; vault_label has it as UTF-8 */
+    vault_mount mount; /* How it is read. */
+    vault_long_ad root; /* The root directory. */
+    uint8_t label[32]; /* The label's field as recorded. */
 } vault_volume;
 
+/* The answer number, the count of sectors, and the volume. */
 typedef struct {
-    uint64_t answer, count;
-    vault_volume volume;
+    uint64_t answer; /* A number of the table. */
+    uint64_t count; /* The sectors asked for. */
+    vault_volume volume; /* Zeros where opening was refused. */
 } vault_opened;
 
+/* The answer number, the count of sectors, and a length. */
 typedef struct {
-    uint64_t answer, count;
-    vault_long_ad icb;
-} vault_found;
-
-typedef struct {
-    uint64_t answer, count, length;
+    uint64_t answer; /* A number of the table. */
+    uint64_t count; /* The sectors asked for. */
+    uint64_t length; /* How many bytes or slots the answer has: 0 where the call was refused. */
 } vault_reply;
 
-/* A slot of the extent list. */
+/* The answer number, the count of sectors, and the ICB that a path names. */
 typedef struct {
-    uint32_t length;      /* the bytes that the extent gives to its file */
-    uint32_t extent_type; /* 0: recorded */
-    uint32_t block;
-    uint32_t partition;   /* 65,536 where the descriptor names none */
+    uint64_t answer; /* A number of the table. */
+    uint64_t count; /* The sectors asked for. */
+    vault_long_ad icb; /* Zeros where the lookup was refused. */
+} vault_found;
+
+/* What a slot of the extent list says of an extent. */
+typedef struct {
+    uint32_t length; /* The effective length: the bytes that the extent gives to its file. */
+    uint32_t extent_type; /* 0: recorded. */
+    uint32_t block; /* Counted from the partition's start. */
+    uint32_t partition; /* 65,536 where the descriptor names none. */
 } vault_extent;
 
 /* Whether the image has a volume recognition sequence. Opening doesn't depend on it. */
@@ -97,36 +107,44 @@ vault_opened vault_open(const uint8_t *image, size_t image_length);
 /* Opens an image and writes its label to `out`, as UTF-8 with no zero behind it; `length` is the label's. */
 vault_reply vault_label(const uint8_t *image, size_t image_length, uint8_t *out, size_t out_length);
 
-/* The ICB that a path names. Components stand between slashes, empty ones are dropped, and ASCII case is ignored; the empty path names
- * the root. A component that isn't there, or that stands under a file, is VAULT_NOT_BLURAY. */
-vault_found vault_lookup(vault_volume volume, const uint8_t *image, size_t image_length, const uint8_t *path, size_t path_length,
-                         uint8_t *work, size_t work_length);
+/* The ICB that a path names. Components stand between slashes, empty ones are dropped, and ASCII case is ignored;
+ * the empty path names the root. A component that isn't there, or that stands under a file, is VAULT_NOT_BLURAY. */
+vault_found vault_lookup(vault_volume volume, const uint8_t *image, size_t image_length, const uint8_t *path,
+                         size_t path_length, uint8_t *work, size_t work_length);
 
-/* The component at which that lookup is refused by VAULT_NOT_BLURAY: `length` is the component's, and its place in the path goes to
- * *component_at. Both are 0 where no component was refused so. The answer and the count are the lookup's. */
-vault_reply vault_failed(vault_volume volume, const uint8_t *image, size_t image_length, const uint8_t *path, size_t path_length,
-                         uint8_t *work, size_t work_length, size_t *component_at);
+/* The component at which that lookup is refused by VAULT_NOT_BLURAY: `length` is the component's, and its place in
+ * the path goes to `*component_at`. Both are 0 where no component was refused so. The answer and the count are the
+ * lookup's. */
+vault_reply vault_failed(vault_volume volume, const uint8_t *image, size_t image_length, const uint8_t *path,
+                         size_t path_length, uint8_t *work, size_t work_length, size_t *component_at);
 
-/* Lists a directory: a record for each entry that is neither deleted nor the parent, one behind the other:
+/* Lists a directory: a record for each entry that is neither deleted nor the parent, one behind the other, each in
+ * this order:
  *
- *     44 45   1 for a directory, else 0   the ICB's 16 bytes as recorded   the name's length (2 bytes, little-endian)   the name, as UTF-8
+ *     44 45   1 for a directory, else 0   the ICB's 16 bytes as recorded
+ *     the name's length (2 bytes, little-endian)   the name, as UTF-8
  */
-vault_reply vault_list(vault_volume volume, const uint8_t *image, size_t image_length, vault_long_ad icb, uint8_t *out, size_t out_length,
-                       uint8_t *work, size_t work_length);
+vault_reply vault_list(vault_volume volume, const uint8_t *image, size_t image_length, vault_long_ad icb, uint8_t *out,
+                       size_t out_length, uint8_t *work, size_t work_length);
 
-/* Reads a file (or a directory's own bytes) to `out`. */
-vault_reply vault_read(vault_volume volume, const uint8_t *image, size_t image_length, vault_long_ad icb, uint8_t *out, size_t out_length);
+/* Reads a file, or a directory's own bytes, to `out`. */
+vault_reply vault_read(vault_volume volume, const uint8_t *image, size_t image_length, vault_long_ad icb, uint8_t *out,
+                       size_t out_length);
 
-/* The bytes of an embedded file where they stand: `length` of them, from *part_at on in the image. For any other file that can be read
- * the answer is VAULT_DONE, and both are 0. */
-vault_reply vault_part(vault_volume volume, const uint8_t *image, size_t image_length, vault_long_ad icb, size_t *part_at);
+/* The bytes of an embedded file where they stand: `length` of them, from `*part_at` on in the image. For any other
+ * file that can be read the answer is VAULT_DONE, and both are 0, as they are where the call is refused. An embedded
+ * file of no bytes has a place all the same. */
+vault_reply vault_part(vault_volume volume, const uint8_t *image, size_t image_length, vault_long_ad icb,
+                       size_t *part_at);
 
-/* The extents of a file, in the order in which they are read, one to a slot of `row`; `length` is how many. An embedded file has none. */
-vault_reply vault_extents(vault_volume volume, const uint8_t *image, size_t image_length, vault_long_ad icb, vault_extent *row, size_t slots);
+/* The extents of a file, in the order in which they are read, one to a slot of `row`; `length` is how many. An
+ * embedded file has none. */
+vault_reply vault_extents(vault_volume volume, const uint8_t *image, size_t image_length, vault_long_ad icb,
+                          vault_extent *row, size_t row_slots);
 
 /* Looks a path up and reads what it names to `out`; the count is that of both. */
-vault_reply vault_read_path(vault_volume volume, const uint8_t *image, size_t image_length, const uint8_t *path, size_t path_length,
-                            uint8_t *out, size_t out_length, uint8_t *work, size_t work_length);
+vault_reply vault_read_path(vault_volume volume, const uint8_t *image, size_t image_length, const uint8_t *path,
+                            size_t path_length, uint8_t *out, size_t out_length, uint8_t *work, size_t work_length);
 
 #ifdef __cplusplus
 }

@@ -8,7 +8,7 @@ fn lent(i: Icb) -> LongAd {
     LongAd {
         length: i.length,
         extent_type: i.extent_type,
-        location: LbAddr { block: i.block, partition: i.partition },
+        location: LbAddr { block: i.block, partition_ref: i.partition },
         implementation_use: i.implementation_use,
     }
 }
@@ -18,7 +18,7 @@ fn given(l: LongAd) -> Icb {
         length: l.length,
         extent_type: l.extent_type,
         block: l.location.block,
-        partition: l.location.partition,
+        partition: l.location.partition_ref,
         implementation_use: l.implementation_use,
     }
 }
@@ -42,7 +42,8 @@ pub struct Lends {
 ///
 /// The header's word: lent pieces are as long as said, and don't overlap.
 pub unsafe fn make(q: &Query, lends: Lends) -> Values {
-    let v = face::Volume { start: q.volume.start, partition: q.volume.partition, root: lent(q.volume.root), label: q.volume.label };
+    let mount = Mount { start: q.volume.start, partition: q.volume.partition };
+    let v = face::Volume { mount, root: lent(q.volume.root), label: q.volume.label };
     let Lends { image: d, image_length: n, path: p, out, work, place } = lends;
     let (icb, m, mut values) = (lent(q.icb), q.path.len(), Values::default());
     // SAFETY: the caller's word; and a place is a number that was lent.
@@ -51,7 +52,7 @@ pub unsafe fn make(q: &Query, lends: Lends) -> Values {
             Call::Probe => Reply { answer: vault_probe(d, n) as u64, count: 0, length: 0 },
             Call::Open => {
                 let o = vault_open(d, n);
-                let face::Volume { start, partition, root, label } = o.volume;
+                let face::Volume { mount: Mount { start, partition }, root, label } = o.volume;
                 values.volume = Volume { start, partition, root: given(root), label };
                 Reply { answer: o.answer, count: o.count, length: 0 }
             }

@@ -40,14 +40,14 @@ impl LongAd {
     /// From the form in which it crosses the interface.
     pub(crate) fn of_c(l: face::LongAd) -> LongAd {
         let face::LongAd { length, extent_type, location, implementation_use } = l;
-        let location = LbAddr { block: location.block, partition_ref: location.partition };
+        let location = LbAddr { block: location.block, partition_ref: location.partition_ref };
         LongAd { length, extent_type, location, implementation_use }
     }
 
     /// The form in which it crosses the interface.
     pub(crate) fn to_c(self) -> face::LongAd {
         let LongAd { length, extent_type, location, implementation_use } = self;
-        let location = face::LbAddr { block: location.block, partition: location.partition_ref };
+        let location = face::LbAddr { block: location.block, partition_ref: location.partition_ref };
         face::LongAd { length, extent_type, location, implementation_use }
     }
 }

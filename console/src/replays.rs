@@ -8,15 +8,15 @@ use crate::calls;
 use crate::input::Input;
 use crate::records::LongAd;
 use strandlodge_sys::sparse::expand;
-use strandlodge_sys::vault::{Extent, Volume};
+use strandlodge_sys::vault::{Extent, Mount, Volume};
 
 impl Input<'_> {
     fn long_ad(&mut self) -> LongAd {
         LongAd::recorded(self.take(16).try_into().unwrap())
     }
 
-    fn place(&mut self) -> (u32, u16) {
-        (self.number(4) as u32, self.number(2) as u16)
+    fn mount(&mut self) -> Mount {
+        Mount { start: self.number(4) as u32, partition: self.number(2) as u16 }
     }
 
     fn image(&mut self) -> Vec<u8> {
@@ -24,8 +24,7 @@ impl Input<'_> {
     }
 
     fn volume(&mut self) -> Volume {
-        let (start, partition) = self.place();
-        Volume { start, partition, root: self.long_ad().to_c(), label: [0; 32] }
+        Volume { mount: self.mount(), root: self.long_ad().to_c(), label: [0; 32] }
     }
 }
 
@@ -41,6 +40,10 @@ fn sum_lent(out: &[u8], room: usize) -> u64 {
 fn sum_icb(icb: LongAd) -> u64 {
     let (place, raw) = (icb.location, icb.length | u32::from(icb.extent_type) << 30);
     sum([&raw.to_le_bytes()[..], &place.block.to_le_bytes(), &place.partition_ref.to_le_bytes(), &icb.implementation_use].concat())
+}
+
+fn sum_mount(mount: Mount) -> u64 {
+    u64::from(mount.start) << 16 | u64::from(mount.partition)
 }
 
 /// An empty vector with room for exactly n.
@@ -75,7 +78,7 @@ fn ask(call: u8, v: Volume, image: &[u8], q: &Lends) -> String {
     let written = |out: &[u8]| (out.len() as u64, sum_lent(out, q.room));
     match call {
         0 => format!("probe {} 0 0 0", u8::from(calls::probe(image))),
-        1 => line("open", &calls::open(image), 0, |v| (u64::from(v.start) << 16 | u64::from(v.partition), sum_icb(LongAd::of_c(v.root)))),
+        1 => line("open", &calls::open(image), 0, |v| (sum_mount(v.mount), sum_icb(LongAd::of_c(v.root)))),
         2 => line("label", &calls::label(image, &mut out), as_it_came, |()| written(&out)),
         3 => line("lookup", &calls::lookup(v, image, q.path, &mut work), 0, |icb| (0, sum_icb(*icb))),
         4 => failed(&calls::failed(v, image, q.path, &mut work)),
@@ -157,10 +160,10 @@ fn the_files_of_the_gate() {
         assert_eq!(expected.next().unwrap().as_bytes(), all.sized(2));
         let image = all.image();
         for _ in 0..all.number(2) {
-            let (start, partition) = all.place();
+            let mount = all.mount();
             let (icb, lent, slots) = (all.long_ad(), all.number(4), all.number(2));
             let what = expected.next().unwrap();
-            let v = Volume { start, partition, root: icb.to_c(), label: [0; 32] };
+            let v = Volume { mount, root: icb.to_c(), label: [0; 32] };
             for given in file_case(v, &image, icb, lent, slots) {
                 assert_eq!(given, expected.next().unwrap(), "{what}");
             }

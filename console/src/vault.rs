@@ -64,12 +64,12 @@ impl<'a> Vault<'a> {
 
     /// The sector in which the partition starts.
     pub fn partition_start_sector(&self) -> u64 {
-        self.volume.start.into()
+        self.volume.mount.start.into()
     }
 
     /// The partition's number.
     pub fn partition_number(&self) -> u16 {
-        self.volume.partition
+        self.volume.mount.partition
     }
 
     /// The root directory.

@@ -1,18 +1,37 @@
-//! include/vault.h: a UDF disc read from memory.
+//! include/vault.h: UDF discs (ECMA-167, OSTA UDF) read from memory, for C.
+//!
+//! Link target/staticlib/libvault_c.a, which `rt staticlib vault_c` makes from the proved sources. Each call has the
+//! contract of the call of crate vault that it passes on.
+//!
+//! Nothing here allocates, keeps or frees memory: the caller lends the image, the output and the work space for the
+//! length of the call, each as a pointer and a length. Lent pieces must not overlap. A piece of length 0 needs a
+//! pointer that isn't null. If the image changes during a call, the answer may be that of no image; the call still
+//! ends, with a number of the table, and stays inside the memory that it was lent.
+//!
+//! Every call on an image but the probe answers with a number, which has its name below, and with a count of the
+//! sectors of 2,048 bytes that it asked for. A call that is refused (any number but 0) has zeros in every value but the
+//! count, where vault_failed has the component at VAULT_NOT_BLURAY, and leaves `out` and the slots as they came. A call
+//! that is done writes the front of `out` and nothing behind it. `work` is all zero on return from every call, refused
+//! or not.
+//!
+//! Any volume and any ICB may be handed in, also one made by hand. They are taken as they are: a length of 2^30 is not
+//! 0.
+//!
+//! Made by tools/faces.py from the comments and declarations of crates/vault_c.
 
 /// Done.
 pub const DONE: u64 = 0;
 /// A sector asked for isn't wholly inside the image.
 pub const IO: u64 = 1;
-/// A descriptor, a name or a length is not what it must be.
+/// Too few bytes, or a descriptor, a tag, a name or a length that is not what it must be.
 pub const MALFORMED: u64 = 2;
 /// No volume, or no such path.
 pub const NOT_BLURAY: u64 = 3;
-/// A form that isn't read.
+/// A form that isn't read: another block size or partition, a compressed or unrecorded extent.
 pub const UNSUPPORTED: u64 = 4;
-/// The answer has more bytes than the output.
+/// The answer has more bytes than `out` holds.
 pub const NO_ROOM: u64 = 5;
-/// A directory has more bytes than the work space.
+/// A directory has more bytes than `work` holds.
 pub const NO_WORK: u64 = 6;
 /// There are more extents than slots.
 pub const NO_SLOT: u64 = 7;
@@ -20,21 +39,27 @@ pub const NO_SLOT: u64 = 7;
 pub const LONG_NAME: u64 = 8;
 
 structs! {
-    STRUCTS:
+    /// How a volume is read: where its partition starts, and the partition's number.
+    vault_mount as Mount, 8 aligned to 4 {
+        /// The sector in which the partition starts.
+        0 start: u32,
+        /// The partition's number.
+        4 partition: u16,
+    }
 
     /// A block of a partition.
     vault_lb_addr as LbAddr, 8 aligned to 4 {
         /// Counted from the partition's start.
         0 block: u32,
         /// The partition.
-        4 partition: u16,
+        4 partition_ref: u16,
     }
 
-    /// Where something stands: the ICB of a file or a directory.
+    /// Where something stands, and on which partition: the ICB of a file or a directory is one.
     vault_long_ad as LongAd, 24 aligned to 4 {
-        /// In bytes, below 2^30 where it was read from a disc.
+        /// In bytes, below 2^30 where it was read.
         0 length: u32,
-        /// 0 to 3 where it was read from a disc.
+        /// 0 to 3 where it was read: 0 is recorded.
         4 extent_type: u8,
         /// The first block.
         8 location: LbAddr,
@@ -44,49 +69,47 @@ structs! {
 
     /// An opened volume. It holds no pointer: copy it, keep it, or make one by hand.
     vault_volume as Volume, 64 aligned to 4 {
-        /// The sector in which the partition starts.
-        0 start: u32,
-        /// The partition's number.
-        4 partition: u16,
+        /// How it is read.
+        0 mount: Mount,
         /// The root directory.
         8 root: LongAd,
-        /// The label as it is recorded.
+        /// The label's field as recorded.
         32 label: [u8; 32],
     }
 
-    /// What opening answers.
+    /// The answer number, the count of sectors, and the volume.
     vault_opened as Opened, 80 aligned to 8 {
         /// A number of the table.
         0 answer: u64,
         /// The sectors asked for.
         8 count: u64,
-        /// Zeros where it was refused.
+        /// Zeros where opening was refused.
         16 volume: Volume,
     }
 
-    /// What a lookup answers.
-    vault_found as Found, 40 aligned to 8 {
-        /// A number of the table.
-        0 answer: u64,
-        /// The sectors asked for.
-        8 count: u64,
-        /// Zeros where it was refused.
-        16 icb: LongAd,
-    }
-
-    /// What every other call on an image answers.
+    /// The answer number, the count of sectors, and a length.
     vault_reply as Reply, 24 aligned to 8 {
         /// A number of the table.
         0 answer: u64,
         /// The sectors asked for.
         8 count: u64,
-        /// How many bytes, or slots; 0 where it was refused.
+        /// How many bytes or slots the answer has: 0 where the call was refused.
         16 length: u64,
     }
 
-    /// A slot of the extent list.
+    /// The answer number, the count of sectors, and the ICB that a path names.
+    vault_found as Found, 40 aligned to 8 {
+        /// A number of the table.
+        0 answer: u64,
+        /// The sectors asked for.
+        8 count: u64,
+        /// Zeros where the lookup was refused.
+        16 icb: LongAd,
+    }
+
+    /// What a slot of the extent list says of an extent.
     vault_extent as Extent, 16 aligned to 4 {
-        /// The bytes that the extent gives to its file.
+        /// The effective length: the bytes that the extent gives to its file.
         0 length: u32,
         /// 0: recorded.
         4 extent_type: u32,
@@ -97,73 +120,80 @@ structs! {
     }
 }
 
-type Bytes = *const u8;
-type Lent = *mut u8;
-
 unsafe extern "C" {
-    /// Whether the image has a volume recognition sequence.
-    pub fn vault_probe(image: Bytes, image_length: usize) -> bool;
+    /// Whether the image has a volume recognition sequence. Opening doesn't depend on it.
+    pub fn vault_probe(image: *const u8, image_length: usize) -> bool;
 
     /// Opens the volume of an image.
-    pub fn vault_open(image: Bytes, image_length: usize) -> Opened;
+    pub fn vault_open(image: *const u8, image_length: usize) -> Opened;
 
-    /// Opens an image and writes its label to `out`.
-    pub fn vault_label(image: Bytes, image_length: usize, out: Lent, out_length: usize) -> Reply;
+    /// Opens an image and writes its label to `out`, as UTF-8 with no zero behind it; `length` is the label's.
+    pub fn vault_label(image: *const u8, image_length: usize, out: *mut u8, out_length: usize) -> Reply;
 
-    /// The ICB that a path names.
+    /// The ICB that a path names. Components stand between slashes, empty ones are dropped, and ASCII case is ignored;
+    /// the empty path names the root. A component that isn't there, or that stands under a file, is VAULT_NOT_BLURAY.
     pub fn vault_lookup(
         volume: Volume,
-        image: Bytes,
+        image: *const u8,
         image_length: usize,
-        path: Bytes,
+        path: *const u8,
         path_length: usize,
-        work: Lent,
+        work: *mut u8,
         work_length: usize,
     ) -> Found;
 
-    /// The component at which that lookup is refused by 3: its length, and its place in the path.
+    /// The component at which that lookup is refused by VAULT_NOT_BLURAY: `length` is the component's, and its place in
+    /// the path goes to `*component_at`. Both are 0 where no component was refused so. The answer and the count are the
+    /// lookup's.
     pub fn vault_failed(
         volume: Volume,
-        image: Bytes,
+        image: *const u8,
         image_length: usize,
-        path: Bytes,
+        path: *const u8,
         path_length: usize,
-        work: Lent,
+        work: *mut u8,
         work_length: usize,
         component_at: *mut usize,
     ) -> Reply;
 
-    /// Lists a directory.
+    /// Lists a directory: a record for each entry that is neither deleted nor the parent, one behind the other, each in
+    /// this order:
+    ///
+    ///     44 45   1 for a directory, else 0   the ICB's 16 bytes as recorded
+    ///     the name's length (2 bytes, little-endian)   the name, as UTF-8
     pub fn vault_list(
         volume: Volume,
-        image: Bytes,
+        image: *const u8,
         image_length: usize,
         icb: LongAd,
-        out: Lent,
+        out: *mut u8,
         out_length: usize,
-        work: Lent,
+        work: *mut u8,
         work_length: usize,
     ) -> Reply;
 
     /// Reads a file, or a directory's own bytes, to `out`.
-    pub fn vault_read(volume: Volume, image: Bytes, image_length: usize, icb: LongAd, out: Lent, out_length: usize) -> Reply;
+    pub fn vault_read(volume: Volume, image: *const u8, image_length: usize, icb: LongAd, out: *mut u8, out_length: usize) -> Reply;
 
-    /// The bytes of an embedded file where they stand: how many, and their place in the image.
-    pub fn vault_part(volume: Volume, image: Bytes, image_length: usize, icb: LongAd, part_at: *mut usize) -> Reply;
+    /// The bytes of an embedded file where they stand: `length` of them, from `*part_at` on in the image. For any other
+    /// file that can be read the answer is VAULT_DONE, and both are 0, as they are where the call is refused. An
+    /// embedded file of no bytes has a place all the same.
+    pub fn vault_part(volume: Volume, image: *const u8, image_length: usize, icb: LongAd, part_at: *mut usize) -> Reply;
 
-    /// The extents of a file, one to a slot.
-    pub fn vault_extents(volume: Volume, image: Bytes, image_length: usize, icb: LongAd, row: *mut Extent, slots: usize) -> Reply;
+    /// The extents of a file, in the order in which they are read, one to a slot of `row`; `length` is how many. An
+    /// embedded file has none.
+    pub fn vault_extents(volume: Volume, image: *const u8, image_length: usize, icb: LongAd, row: *mut Extent, row_slots: usize) -> Reply;
 
-    /// Looks a path up and reads what it names to `out`.
+    /// Looks a path up and reads what it names to `out`; the count is that of both.
     pub fn vault_read_path(
         volume: Volume,
-        image: Bytes,
+        image: *const u8,
         image_length: usize,
-        path: Bytes,
+        path: *const u8,
         path_length: usize,
-        out: Lent,
+        out: *mut u8,
         out_length: usize,
-        work: Lent,
+        work: *mut u8,
         work_length: usize,
     ) -> Reply;
 }

@@ -7,8 +7,8 @@
 //
 // A record is parsed at the front of `bytes`, and what stands behind it isn't looked at. Every call that parses or decodes answers with a
 // number. A call that is refused has zeros in every value, and leaves `out` as it came. Fields have the names of ECMA-167's fields, and stand
-// as they are recorded unless something else is said here. If `bytes` change during a call, the answer may be that of no bytes, and a name may
-// be written behind the answered length; the call stays inside the memory that it was lent.
+// as they are recorded unless something else is said here. If `bytes` change during a call, the answer may be that of no bytes; the call stays inside the memory
+// that it was lent, and writes nothing behind the answered length.
 //
 // The numbers are those of vault.h. Given are: RECORDS_DONE, RECORDS_MALFORMED, RECORDS_NO_ROOM.
 pub mod allocations;

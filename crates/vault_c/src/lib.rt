@@ -8,8 +8,9 @@
 // the answer may be that of no image; the call still ends, with a number of the table, and stays inside the memory that it was lent.
 //
 // Every call on an image but the probe answers with a number, which has its name below, and with a count of the sectors of 2,048 bytes that it
-// asked for. A call that is refused (any number but 0) has zeros in every value but the count, and leaves `out` and the slots as they came. A call
-// that is done writes the front of `out` and nothing behind it. `work` is all zero on return from every call, refused or not.
+// asked for. A call that is refused (any number but 0) has zeros in every value but the count, where vault_failed has the component at
+// VAULT_NOT_BLURAY, and leaves `out` and the slots as they came. A call that is done writes the front of `out` and nothing behind it. `work` is
+// all zero on return from every call, refused or not.
 //
 // Any volume and any ICB may be handed in, also one made by hand. They are taken as they are: a length of 2^30 is not 0.
 ghost use mathlib.Core.Path.{_≡_};
@@ -72,9 +73,10 @@ pub extern "C" fn vault_failed(
     volume.failed_at(image, path, work, component_at)
 }
 
-// Lists a directory: a record for each entry that is neither deleted nor the parent, one behind the other:
+// Lists a directory: a record for each entry that is neither deleted nor the parent, one behind the other, each in this order:
 //
-//     44 45   1 for a directory, else 0   the ICB's 16 bytes as recorded   the name's length (2 bytes, little-endian)   the name, as UTF-8
+//     44 45   1 for a directory, else 0   the ICB's 16 bytes as recorded
+//     the name's length (2 bytes, little-endian)   the name, as UTF-8
 #[no_mangle]
 pub extern "C" fn vault_list(
     volume: Volume,

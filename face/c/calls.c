@@ -1,0 +1,173 @@
+/* calls.c: every call of vault.h once, on the small show of crates/first_cue, which comes packed on standard input.
+ *
+ * What is expected is read off tools/show_image.py, which lays the show out: the partition starts at sector 288 and has number 5; the root is in
+ * its block 3, SHOW in 4; the cues 9, 10.1A, 10.1a and 11 have their entries in 5, 7, 9 and 11 and their bytes in the block behind. No two pieces
+ * of memory that a call is lent have the same length, so that an argument in another's place is seen. Ends with 0, or says what isn't so. */
+#include "vault.h"
+
+/* What is used of the C library, declared here: the toolchain has its code for x86-64, and no headers. */
+extern long read(int fd, void *to, size_t n);
+extern long write(int fd, const void *from, size_t n);
+extern void *memset(void *to, int byte, size_t n);
+extern void *memcpy(void *to, const void *from, size_t n);
+extern int memcmp(const void *one, const void *other, size_t n);
+extern size_t strlen(const char *text);
+extern _Noreturn void exit(int status);
+
+enum { SECTOR = 2048, START = 288, PARTITION = 5, IMAGE = (START + 16) * SECTOR, ENTRY = 176 };
+enum { OUT = 1500, WORK = 2100, SLOTS = 3, FREE = 0xa5 };
+
+static const char cue[] = "cue 10.1A\nfront wash 80, blue backs 40, follow 6 seconds\n";
+static uint8_t image[IMAGE], out[OUT], work[WORK];
+static vault_extent row[SLOTS];
+
+static void say(const char *text) {
+    if (write(2, text, strlen(text)) < 0) exit(2);
+}
+
+#define EXPECT(fact) \
+    do { \
+        if (!(fact)) { \
+            say("calls.c: not so: " #fact "\n"); \
+            exit(1); \
+        } \
+    } while (0)
+
+static uint32_t number(const uint8_t *at) { return at[0] | (uint32_t)at[1] << 8 | (uint32_t)at[2] << 16 | (uint32_t)at[3] << 24; }
+
+static void unpack(void) {
+    static uint8_t packed[4096];
+    size_t n = 0, at = 8;
+    for (long got; n < sizeof packed && (got = read(0, packed + n, sizeof packed - n)) > 0;) n += (size_t)got;
+    EXPECT(n > 8 && number(packed) == IMAGE);
+    for (uint32_t runs = number(packed + 4); runs; runs--) {
+        uint32_t to = number(packed + at), length = number(packed + at + 4);
+        EXPECT(length <= n - at - 8 && to <= IMAGE && length <= IMAGE - to);
+        memcpy(image + to, packed + at + 8, length);
+        at += 8 + length;
+    }
+}
+
+static void lend(void) {
+    memset(out, FREE, OUT);
+    memset(work, FREE, WORK);
+    memset(row, FREE, sizeof row);
+}
+
+static bool is_all(const void *from, size_t n, uint8_t byte) {
+    for (size_t i = 0; i < n; i++)
+        if (((const uint8_t *)from)[i] != byte) return false;
+    return true;
+}
+
+/* Whether the output holds this and is as it came behind it. */
+static bool holds(const void *bytes, size_t n) { return !memcmp(out, bytes, n) && is_all(out + n, OUT - n, FREE); }
+
+static bool is_reply(vault_reply r, uint64_t answer, uint64_t count, uint64_t length) {
+    return r.answer == answer && r.count == count && r.length == length;
+}
+
+static bool is_icb(vault_long_ad icb, uint32_t block) {
+    static const uint8_t use[6] = {1, 2, 3, 4, 5, 6};
+    return icb.length == SECTOR && icb.extent_type == 0 && icb.location.block == block && icb.location.partition_ref == PARTITION &&
+           !memcmp(icb.implementation_use, use, 6);
+}
+
+static void probe(void) {
+    static const char *const sequence[] = {"BEA01", "NSR02", "TEA01"};
+    EXPECT(!vault_probe(image, IMAGE));
+    for (size_t i = 0; i < 3; i++) memcpy(image + (16 + i) * SECTOR + 1, sequence[i], 5);
+    EXPECT(vault_probe(image, IMAGE));
+    EXPECT(!vault_probe(image, 18 * SECTOR));
+}
+
+/* The anchor, four sectors of the sequence, and the file set. */
+static vault_volume opened(void) {
+    vault_opened r = vault_open(image, IMAGE);
+    EXPECT(r.answer == VAULT_DONE && r.count == 6);
+    EXPECT(r.volume.mount.start == START && r.volume.mount.partition == PARTITION && is_icb(r.volume.root, 3));
+    EXPECT(!memcmp(r.volume.label, "\x08SHOW 1", 7) && is_all(r.volume.label + 7, 24, 0) && r.volume.label[31] == 7);
+    r = vault_open(image, START * SECTOR);
+    EXPECT(r.answer == VAULT_IO && r.count == 6 && r.volume.mount.start == 0 && is_all(r.volume.label, 32, 0));
+    return vault_open(image, IMAGE).volume;
+}
+
+static void label(void) {
+    lend();
+    EXPECT(is_reply(vault_label(image, IMAGE, out, OUT), VAULT_DONE, 6, 6) && holds("SHOW 1", 6));
+    lend();
+    EXPECT(is_reply(vault_label(image, IMAGE, out, 5), VAULT_NO_ROOM, 6, 0) && holds("", 0));
+}
+
+static vault_long_ad found(vault_volume v, const char *path, uint64_t count, uint32_t block) {
+    lend();
+    vault_found r = vault_lookup(v, image, IMAGE, (const uint8_t *)path, strlen(path), work, WORK);
+    EXPECT(r.answer == VAULT_DONE && r.count == count && is_icb(r.icb, block));
+    EXPECT(is_all(work, WORK, 0) && holds("", 0));
+    return r.icb;
+}
+
+static void failed(vault_volume v) {
+    size_t at = 99;
+    lend();
+    EXPECT(is_reply(vault_failed(v, image, IMAGE, (const uint8_t *)"SHOW/12.5", 9, work, WORK, &at), VAULT_NOT_BLURAY, 2, 4));
+    EXPECT(at == 5 && is_all(work, WORK, 0));
+    lend();
+    EXPECT(is_reply(vault_failed(v, image, IMAGE, (const uint8_t *)"SHOW/11", 7, work, 8, &at), VAULT_NO_WORK, 1, 0));
+    EXPECT(at == 0 && is_all(work, 8, 0) && is_all(work + 8, WORK - 8, FREE));
+}
+
+/* A record of each cue: 44 45 0, the ICB, the name's length, the name. */
+static void list(vault_volume v, vault_long_ad directory) {
+    static const char *const names[] = {"9", "10.1A", "10.1a", "11"};
+    size_t at = 0;
+    lend();
+    vault_reply r = vault_list(v, image, IMAGE, directory, out, OUT, work, WORK);
+    for (uint32_t i = 0; i < 4; i++) {
+        size_t n = strlen(names[i]);
+        EXPECT(out[at] == 0x44 && out[at + 1] == 0x45 && out[at + 2] == 0);
+        EXPECT(number(out + at + 3) == SECTOR && number(out + at + 7) == 5 + 2 * i && out[at + 11] == PARTITION);
+        EXPECT(out[at + 19] == n && out[at + 20] == 0 && !memcmp(out + at + 21, names[i], n));
+        at += 21 + n;
+    }
+    EXPECT(is_reply(r, VAULT_DONE, 1, at) && is_all(out + at, OUT - at, FREE) && is_all(work, WORK, 0));
+}
+
+static void read_cue(vault_volume v, vault_long_ad icb) {
+    size_t n = sizeof cue - 1;
+    lend();
+    EXPECT(is_reply(vault_read(v, image, IMAGE, icb, out, OUT), VAULT_DONE, 2, n) && holds(cue, n));
+    lend();
+    EXPECT(is_reply(vault_read_path(v, image, IMAGE, (const uint8_t *)"/show/10.1a", 11, out, OUT, work, WORK), VAULT_DONE, 4, n));
+    EXPECT(holds(cue, n) && is_all(work, WORK, 0));
+}
+
+/* A directory of this show is embedded in its entry; a cue is not. */
+static void part(vault_volume v, vault_long_ad directory, vault_long_ad icb) {
+    size_t at = 99, n = number(image + (START + 4) * SECTOR + ENTRY - 4);
+    EXPECT(is_reply(vault_part(v, image, IMAGE, directory, &at), VAULT_DONE, 1, n) && at == (START + 4) * SECTOR + ENTRY);
+    EXPECT(is_reply(vault_part(v, image, IMAGE, icb, &at), VAULT_DONE, 1, 0) && at == 0);
+}
+
+static void extents(vault_volume v, vault_long_ad icb) {
+    lend();
+    EXPECT(is_reply(vault_extents(v, image, IMAGE, icb, row, SLOTS), VAULT_DONE, 1, 1));
+    EXPECT(row[0].length == sizeof cue - 1 && row[0].extent_type == 0 && row[0].block == 8 && row[0].partition == 65536);
+    EXPECT(is_all(row + 1, 2 * sizeof *row, FREE));
+    lend();
+    EXPECT(is_reply(vault_extents(v, image, IMAGE, icb, row, 0), VAULT_NO_SLOT, 1, 0) && is_all(row, sizeof row, FREE));
+}
+
+int main(void) {
+    unpack();
+    probe();
+    vault_volume v = opened();
+    label();
+    vault_long_ad directory = found(v, "SHOW", 1, 4), icb = found(v, "SHOW/10.1A", 2, 7);
+    failed(v);
+    list(v, directory);
+    read_cue(v, icb);
+    part(v, directory, icb);
+    extents(v, icb);
+    return 0;
+}

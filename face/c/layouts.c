@@ -1,0 +1,267 @@
+/* Holds the headers to the sources: size and alignment of every struct, offset, size and type of every field, and every number.
+ *
+ * Made by tools/faces.py. Nothing here is run: it is compiled as C11 and as C++17 (face/c/run). */
+#include "vault.h"
+#include "records.h"
+
+#ifdef __cplusplus
+#include <type_traits>
+#define HOLDS(fact) static_assert(fact, #fact)
+#define ALIGN(name) alignof(name)
+#define IS(name, field, pointer) std::is_same<decltype(&((name *)0)->field), pointer>::value
+#else
+#define HOLDS(fact) _Static_assert(fact, #fact)
+#define ALIGN(name) _Alignof(name)
+#define IS(name, field, pointer) _Generic(&((name *)0)->field, pointer: 1, default: 0)
+#endif
+#define FIELD(name, field, at, size, pointer) \
+    HOLDS(offsetof(name, field) == at && sizeof(((name *)0)->field) == size && IS(name, field, pointer))
+
+
+HOLDS(VAULT_DONE == 0);
+HOLDS(VAULT_IO == 1);
+HOLDS(VAULT_MALFORMED == 2);
+HOLDS(VAULT_NOT_BLURAY == 3);
+HOLDS(VAULT_UNSUPPORTED == 4);
+HOLDS(VAULT_NO_ROOM == 5);
+HOLDS(VAULT_NO_WORK == 6);
+HOLDS(VAULT_NO_SLOT == 7);
+HOLDS(VAULT_LONG_NAME == 8);
+
+HOLDS(sizeof(vault_mount) == 8 && ALIGN(vault_mount) == 4);
+FIELD(vault_mount, start, 0, 4, uint32_t *);
+FIELD(vault_mount, partition, 4, 2, uint16_t *);
+
+HOLDS(sizeof(vault_lb_addr) == 8 && ALIGN(vault_lb_addr) == 4);
+FIELD(vault_lb_addr, block, 0, 4, uint32_t *);
+FIELD(vault_lb_addr, partition_ref, 4, 2, uint16_t *);
+
+HOLDS(sizeof(vault_long_ad) == 24 && ALIGN(vault_long_ad) == 4);
+FIELD(vault_long_ad, length, 0, 4, uint32_t *);
+FIELD(vault_long_ad, extent_type, 4, 1, uint8_t *);
+FIELD(vault_long_ad, location, 8, 8, vault_lb_addr *);
+FIELD(vault_long_ad, implementation_use, 16, 6, uint8_t (*)[6]);
+
+HOLDS(sizeof(vault_volume) == 64 && ALIGN(vault_volume) == 4);
+FIELD(vault_volume, mount, 0, 8, vault_mount *);
+FIELD(vault_volume, root, 8, 24, vault_long_ad *);
+FIELD(vault_volume, label, 32, 32, uint8_t (*)[32]);
+
+HOLDS(sizeof(vault_opened) == 80 && ALIGN(vault_opened) == 8);
+FIELD(vault_opened, answer, 0, 8, uint64_t *);
+FIELD(vault_opened, count, 8, 8, uint64_t *);
+FIELD(vault_opened, volume, 16, 64, vault_volume *);
+
+HOLDS(sizeof(vault_reply) == 24 && ALIGN(vault_reply) == 8);
+FIELD(vault_reply, answer, 0, 8, uint64_t *);
+FIELD(vault_reply, count, 8, 8, uint64_t *);
+FIELD(vault_reply, length, 16, 8, uint64_t *);
+
+HOLDS(sizeof(vault_found) == 40 && ALIGN(vault_found) == 8);
+FIELD(vault_found, answer, 0, 8, uint64_t *);
+FIELD(vault_found, count, 8, 8, uint64_t *);
+FIELD(vault_found, icb, 16, 24, vault_long_ad *);
+
+HOLDS(sizeof(vault_extent) == 16 && ALIGN(vault_extent) == 4);
+FIELD(vault_extent, length, 0, 4, uint32_t *);
+FIELD(vault_extent, extent_type, 4, 4, uint32_t *);
+FIELD(vault_extent, block, 8, 4, uint32_t *);
+FIELD(vault_extent, partition, 12, 4, uint32_t *);
+
+HOLDS(RECORDS_DONE == 0);
+HOLDS(RECORDS_MALFORMED == 2);
+HOLDS(RECORDS_NO_ROOM == 5);
+
+HOLDS(sizeof(records_extent_ad) == 8 && ALIGN(records_extent_ad) == 4);
+FIELD(records_extent_ad, length, 0, 4, uint32_t *);
+FIELD(records_extent_ad, location, 4, 4, uint32_t *);
+
+HOLDS(sizeof(records_short_ad) == 12 && ALIGN(records_short_ad) == 4);
+FIELD(records_short_ad, length, 0, 4, uint32_t *);
+FIELD(records_short_ad, extent_type, 4, 1, uint8_t *);
+FIELD(records_short_ad, block_location, 8, 4, uint32_t *);
+
+HOLDS(sizeof(records_lb_addr) == 8 && ALIGN(records_lb_addr) == 4);
+FIELD(records_lb_addr, block, 0, 4, uint32_t *);
+FIELD(records_lb_addr, partition_ref, 4, 2, uint16_t *);
+
+HOLDS(sizeof(records_long_ad) == 24 && ALIGN(records_long_ad) == 4);
+FIELD(records_long_ad, length, 0, 4, uint32_t *);
+FIELD(records_long_ad, extent_type, 4, 1, uint8_t *);
+FIELD(records_long_ad, location, 8, 8, records_lb_addr *);
+FIELD(records_long_ad, implementation_use, 16, 6, uint8_t (*)[6]);
+
+HOLDS(sizeof(records_ext_ad) == 28 && ALIGN(records_ext_ad) == 4);
+FIELD(records_ext_ad, length, 0, 4, uint32_t *);
+FIELD(records_ext_ad, extent_type, 4, 1, uint8_t *);
+FIELD(records_ext_ad, recorded_length, 8, 4, uint32_t *);
+FIELD(records_ext_ad, information_length, 12, 4, uint32_t *);
+FIELD(records_ext_ad, location, 16, 8, records_lb_addr *);
+FIELD(records_ext_ad, implementation_use, 24, 2, uint8_t (*)[2]);
+
+HOLDS(sizeof(records_extent_ad_answer) == 16 && ALIGN(records_extent_ad_answer) == 8);
+FIELD(records_extent_ad_answer, answer, 0, 8, uint64_t *);
+FIELD(records_extent_ad_answer, value, 8, 8, records_extent_ad *);
+
+HOLDS(sizeof(records_short_ad_answer) == 24 && ALIGN(records_short_ad_answer) == 8);
+FIELD(records_short_ad_answer, answer, 0, 8, uint64_t *);
+FIELD(records_short_ad_answer, value, 8, 12, records_short_ad *);
+
+HOLDS(sizeof(records_lb_addr_answer) == 16 && ALIGN(records_lb_addr_answer) == 8);
+FIELD(records_lb_addr_answer, answer, 0, 8, uint64_t *);
+FIELD(records_lb_addr_answer, value, 8, 8, records_lb_addr *);
+
+HOLDS(sizeof(records_long_ad_answer) == 32 && ALIGN(records_long_ad_answer) == 8);
+FIELD(records_long_ad_answer, answer, 0, 8, uint64_t *);
+FIELD(records_long_ad_answer, value, 8, 24, records_long_ad *);
+
+HOLDS(sizeof(records_ext_ad_answer) == 40 && ALIGN(records_ext_ad_answer) == 8);
+FIELD(records_ext_ad_answer, answer, 0, 8, uint64_t *);
+FIELD(records_ext_ad_answer, value, 8, 28, records_ext_ad *);
+
+HOLDS(sizeof(records_extent_ad_bytes) == 8 && ALIGN(records_extent_ad_bytes) == 1);
+FIELD(records_extent_ad_bytes, bytes, 0, 8, uint8_t (*)[8]);
+
+HOLDS(sizeof(records_short_ad_bytes) == 8 && ALIGN(records_short_ad_bytes) == 1);
+FIELD(records_short_ad_bytes, bytes, 0, 8, uint8_t (*)[8]);
+
+HOLDS(sizeof(records_lb_addr_bytes) == 6 && ALIGN(records_lb_addr_bytes) == 1);
+FIELD(records_lb_addr_bytes, bytes, 0, 6, uint8_t (*)[6]);
+
+HOLDS(sizeof(records_long_ad_bytes) == 16 && ALIGN(records_long_ad_bytes) == 1);
+FIELD(records_long_ad_bytes, bytes, 0, 16, uint8_t (*)[16]);
+
+HOLDS(sizeof(records_ext_ad_bytes) == 20 && ALIGN(records_ext_ad_bytes) == 1);
+FIELD(records_ext_ad_bytes, bytes, 0, 20, uint8_t (*)[20]);
+
+HOLDS(sizeof(records_written) == 16 && ALIGN(records_written) == 8);
+FIELD(records_written, answer, 0, 8, uint64_t *);
+FIELD(records_written, length, 8, 8, uint64_t *);
+
+HOLDS(sizeof(records_tag) == 16 && ALIGN(records_tag) == 4);
+FIELD(records_tag, id, 0, 2, uint16_t *);
+FIELD(records_tag, descriptor_version, 2, 2, uint16_t *);
+FIELD(records_tag, serial_number, 4, 2, uint16_t *);
+FIELD(records_tag, crc, 6, 2, uint16_t *);
+FIELD(records_tag, crc_length, 8, 2, uint16_t *);
+FIELD(records_tag, location, 12, 4, uint32_t *);
+
+HOLDS(sizeof(records_aed) == 24 && ALIGN(records_aed) == 4);
+FIELD(records_aed, tag, 0, 16, records_tag *);
+FIELD(records_aed, previous_allocation_extent_location, 16, 4, uint32_t *);
+FIELD(records_aed, length_of_allocation_descriptors, 20, 4, uint32_t *);
+
+HOLDS(sizeof(records_tag_answer) == 24 && ALIGN(records_tag_answer) == 8);
+FIELD(records_tag_answer, answer, 0, 8, uint64_t *);
+FIELD(records_tag_answer, value, 8, 16, records_tag *);
+
+HOLDS(sizeof(records_aed_answer) == 32 && ALIGN(records_aed_answer) == 8);
+FIELD(records_aed_answer, answer, 0, 8, uint64_t *);
+FIELD(records_aed_answer, value, 8, 24, records_aed *);
+
+HOLDS(sizeof(records_tag_bytes) == 16 && ALIGN(records_tag_bytes) == 1);
+FIELD(records_tag_bytes, bytes, 0, 16, uint8_t (*)[16]);
+
+HOLDS(sizeof(records_aed_bytes) == 24 && ALIGN(records_aed_bytes) == 1);
+FIELD(records_aed_bytes, bytes, 0, 24, uint8_t (*)[24]);
+
+HOLDS(sizeof(records_icb_tag) == 24 && ALIGN(records_icb_tag) == 4);
+FIELD(records_icb_tag, prior_recorded_entries, 0, 4, uint32_t *);
+FIELD(records_icb_tag, strategy_type, 4, 2, uint16_t *);
+FIELD(records_icb_tag, strategy_parameter, 6, 2, uint16_t *);
+FIELD(records_icb_tag, max_entries, 8, 2, uint16_t *);
+FIELD(records_icb_tag, file_type, 10, 1, uint8_t *);
+FIELD(records_icb_tag, parent_icb, 12, 8, records_lb_addr *);
+FIELD(records_icb_tag, flags, 20, 2, uint16_t *);
+
+HOLDS(sizeof(records_file_entry) == 128 && ALIGN(records_file_entry) == 8);
+FIELD(records_file_entry, tag, 0, 16, records_tag *);
+FIELD(records_file_entry, icb_tag, 16, 24, records_icb_tag *);
+FIELD(records_file_entry, uid, 40, 4, uint32_t *);
+FIELD(records_file_entry, gid, 44, 4, uint32_t *);
+FIELD(records_file_entry, permissions, 48, 4, uint32_t *);
+FIELD(records_file_entry, file_link_count, 52, 2, uint16_t *);
+FIELD(records_file_entry, record_format, 54, 1, uint8_t *);
+FIELD(records_file_entry, record_display_attributes, 55, 1, uint8_t *);
+FIELD(records_file_entry, record_length, 56, 4, uint32_t *);
+FIELD(records_file_entry, information_length, 64, 8, uint64_t *);
+FIELD(records_file_entry, logical_blocks_recorded, 72, 8, uint64_t *);
+FIELD(records_file_entry, has_object_size, 80, 1, bool *);
+FIELD(records_file_entry, object_size, 88, 8, uint64_t *);
+FIELD(records_file_entry, length_of_extended_attributes, 96, 4, uint32_t *);
+FIELD(records_file_entry, length_of_allocation_descriptors, 100, 4, uint32_t *);
+FIELD(records_file_entry, kind, 104, 1, uint8_t *);
+FIELD(records_file_entry, area_at, 112, 8, size_t *);
+FIELD(records_file_entry, area_length, 120, 8, size_t *);
+
+HOLDS(sizeof(records_file_identifier) == 80 && ALIGN(records_file_identifier) == 8);
+FIELD(records_file_identifier, tag, 0, 16, records_tag *);
+FIELD(records_file_identifier, file_version_number, 16, 2, uint16_t *);
+FIELD(records_file_identifier, file_characteristics, 18, 1, uint8_t *);
+FIELD(records_file_identifier, icb, 20, 24, records_long_ad *);
+FIELD(records_file_identifier, name_at, 48, 8, size_t *);
+FIELD(records_file_identifier, name_length, 56, 8, size_t *);
+FIELD(records_file_identifier, name_size, 64, 8, size_t *);
+FIELD(records_file_identifier, total_size, 72, 8, size_t *);
+
+HOLDS(sizeof(records_icb_tag_answer) == 32 && ALIGN(records_icb_tag_answer) == 8);
+FIELD(records_icb_tag_answer, answer, 0, 8, uint64_t *);
+FIELD(records_icb_tag_answer, value, 8, 24, records_icb_tag *);
+
+HOLDS(sizeof(records_file_entry_answer) == 136 && ALIGN(records_file_entry_answer) == 8);
+FIELD(records_file_entry_answer, answer, 0, 8, uint64_t *);
+FIELD(records_file_entry_answer, value, 8, 128, records_file_entry *);
+
+HOLDS(sizeof(records_file_identifier_answer) == 88 && ALIGN(records_file_identifier_answer) == 8);
+FIELD(records_file_identifier_answer, answer, 0, 8, uint64_t *);
+FIELD(records_file_identifier_answer, value, 8, 80, records_file_identifier *);
+
+HOLDS(sizeof(records_anchor) == 32 && ALIGN(records_anchor) == 4);
+FIELD(records_anchor, tag, 0, 16, records_tag *);
+FIELD(records_anchor, main_volume_descriptor_sequence, 16, 8, records_extent_ad *);
+FIELD(records_anchor, reserve_volume_descriptor_sequence, 24, 8, records_extent_ad *);
+
+HOLDS(sizeof(records_primary_volume) == 56 && ALIGN(records_primary_volume) == 4);
+FIELD(records_primary_volume, tag, 0, 16, records_tag *);
+FIELD(records_primary_volume, volume_descriptor_sequence_number, 16, 4, uint32_t *);
+FIELD(records_primary_volume, primary_volume_descriptor_number, 20, 4, uint32_t *);
+FIELD(records_primary_volume, volume_identifier, 24, 32, uint8_t (*)[32]);
+
+HOLDS(sizeof(records_partition) == 32 && ALIGN(records_partition) == 4);
+FIELD(records_partition, tag, 0, 16, records_tag *);
+FIELD(records_partition, volume_descriptor_sequence_number, 16, 4, uint32_t *);
+FIELD(records_partition, partition_flags, 20, 2, uint16_t *);
+FIELD(records_partition, partition_number, 22, 2, uint16_t *);
+FIELD(records_partition, partition_starting_location, 24, 4, uint32_t *);
+FIELD(records_partition, partition_length, 28, 4, uint32_t *);
+
+HOLDS(sizeof(records_logical_volume) == 176 && ALIGN(records_logical_volume) == 4);
+FIELD(records_logical_volume, tag, 0, 16, records_tag *);
+FIELD(records_logical_volume, volume_descriptor_sequence_number, 16, 4, uint32_t *);
+FIELD(records_logical_volume, logical_volume_identifier, 20, 128, uint8_t (*)[128]);
+FIELD(records_logical_volume, logical_block_size, 148, 4, uint32_t *);
+FIELD(records_logical_volume, file_set_descriptor_location, 152, 24, records_long_ad *);
+
+HOLDS(sizeof(records_file_set) == 40 && ALIGN(records_file_set) == 4);
+FIELD(records_file_set, tag, 0, 16, records_tag *);
+FIELD(records_file_set, root_directory_icb, 16, 24, records_long_ad *);
+
+HOLDS(sizeof(records_anchor_answer) == 40 && ALIGN(records_anchor_answer) == 8);
+FIELD(records_anchor_answer, answer, 0, 8, uint64_t *);
+FIELD(records_anchor_answer, value, 8, 32, records_anchor *);
+
+HOLDS(sizeof(records_primary_volume_answer) == 64 && ALIGN(records_primary_volume_answer) == 8);
+FIELD(records_primary_volume_answer, answer, 0, 8, uint64_t *);
+FIELD(records_primary_volume_answer, value, 8, 56, records_primary_volume *);
+
+HOLDS(sizeof(records_partition_answer) == 40 && ALIGN(records_partition_answer) == 8);
+FIELD(records_partition_answer, answer, 0, 8, uint64_t *);
+FIELD(records_partition_answer, value, 8, 32, records_partition *);
+
+HOLDS(sizeof(records_logical_volume_answer) == 184 && ALIGN(records_logical_volume_answer) == 8);
+FIELD(records_logical_volume_answer, answer, 0, 8, uint64_t *);
+FIELD(records_logical_volume_answer, value, 8, 176, records_logical_volume *);
+
+HOLDS(sizeof(records_file_set_answer) == 48 && ALIGN(records_file_set_answer) == 8);
+FIELD(records_file_set_answer, answer, 0, 8, uint64_t *);
+FIELD(records_file_set_answer, value, 8, 40, records_file_set *);
