@@ -1,0 +1,50 @@
+"""The toolchain's own compiler, linker and loader, as ./run and compare/build.rs use them: its programs and archives are x86-64 code, which is compiled
+on every machine, and where that is another is run under the toolchain's emulator."""
+import functools
+import os
+import pathlib
+import subprocess
+
+ROOT = pathlib.Path(__file__).resolve().parents[1]
+STRICT = ["-Wall", "-Wextra", "-Werror", "-pedantic", "-I", str(ROOT / "include")]
+TARGET = "x86_64-unknown-linux-gnu"
+
+
+class Failed(Exception):
+    """A command that ended otherwise than with 0, with what it said."""
+
+
+def did(*words, **more):
+    """What a command wrote to its standard output."""
+    done = subprocess.run([str(word) for word in words], capture_output=True, **more)
+    if done.returncode:
+        said = (done.stdout + done.stderr).decode(errors="replace")
+        raise Failed(f"{words[0]} ended with {done.returncode}: {said}")
+    return done.stdout
+
+
+@functools.cache
+def kit():
+    return pathlib.Path(did("rt", "doc").decode().strip()).parents[1]
+
+
+def own():
+    """What the kit has for this machine."""
+    return kit() / "on" / os.uname().machine
+
+
+def linked(source, archives, program):
+    """Compiles a C source and links it with archives, as rt links a program. The kit has no headers: stdint.h and its like are cc's."""
+    tools, object = own() / "toolchain", f"{program}.o"
+    headers = did("cc", "-print-file-name=include").decode().strip()
+    plain = ["-std=c11", "-O1", "-fPIE", "-ffreestanding", "-nostdinc", "-isystem", headers]
+    did(tools / "bin/clang", "-target", TARGET, *plain, *STRICT, "-c", source, "-o", object)
+    did(own() / "bin/rattle-link", "--target", TARGET, "--toolchain", tools, "-o", program, object, *archives)
+
+
+def ran(program, input=b""):
+    """What a program writes to its standard output, given this on its standard input."""
+    tools = own() / "toolchain"
+    emulator = tools / "bin/qemu-x86_64"
+    front = [emulator] if emulator.exists() else []
+    return did(*front, tools / "lib/ld-linux-x86-64.so.2", "--library-path", tools / "lib", program, input=input)
