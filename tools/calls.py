@@ -1,43 +1,117 @@
 #!/usr/bin/env python3
 """Holds the headers to C, and the archive to include/vault.h.
 
-    tools/calls.py
+    tools/calls.py              needs target/staticlib/libvault_c.a (`rt staticlib vault_c`)
+    tools/calls.py --self-test  plants faults in copies of the sources of the archive, each of which must be seen
 
 Compiles face/c/layouts.c, which asserts every size, offset, type and number of the two headers, as C11 and as C++17; then builds face/c/calls.c,
-which makes every call of vault.h on a small show, over target/staticlib/libvault_c.a (`rt staticlib vault_c`), and runs it. Needs cc and c++.
+which makes every call of vault.h on a small show, over the archive, and runs it. Needs cc and c++.
 """
+import pathlib
 import re
+import shutil
 import sys
 import tempfile
 
 sys.dont_write_bytecode = True
-from kit import ROOT, STRICT, Failed, did, linked, ran
+from kit import ROOT, STRICT, Failed, did, linked, ran, unproved
+
+FACE, SHOW = "vault_c/src/lib.rt", ROOT / "crates/first_cue/stdin"
+OUT, WORK, IMAGE, PATH = r"out: &mut \[u8\]", r"work: &mut \[u8\]", r"image: &\[u8\]", r"path: &\[u8\]"
+
+
+def turned(call, one, other):
+    """Two parameters of a call the other way round."""
+    return f"{call}: {one} and {other}", FACE, rf"(fn {call}\([^)]*?)({one}),(\s+[^)]*?)({other})", r"\1\4,\3\2"
+
+
+# What it is, the file, a pattern that stands there once, and what takes its place. An ICB and a number beside it the other way round are no fault: a
+# struct so large is passed on the stack, and the number in a register.
+FAULTS = (
+    turned("vault_list", OUT, WORK),
+    turned("vault_read_path", OUT, WORK),
+    turned("vault_read_path", PATH, OUT),
+    turned("vault_read_path", IMAGE, PATH),
+    turned("vault_lookup", PATH, WORK),
+    turned("vault_failed", WORK, "component_at: &mut usize"),
+    turned("vault_label", IMAGE, OUT),
+    ("count before answer", "volumes/src/openings.rt", r"(pub struct Opened \{.*?)(pub answer: u64,)(.*?)(pub count: u64,)", r"\1\4\3\2"),
+    ("length before count", "disc/src/replies.rt", r"(pub struct Reply \{.*?)(pub count: u64,)(.*?)(pub length: u64,)", r"\1\4\3\2"),
+    ("root before mount", "volumes/src/openings.rt", r"(pub mount: Mount,)(\s+// The root directory.\s+)(pub root: LongAd,)", r"\3\2\1"),
+    ("partition before block", "records/src/allocations.rt", r"(pub block: u32,)(\s+// The partition.\s+)(pub partition_ref: u16,)", r"\3\2\1"),
+    ("a number that is another", "disc/src/answers.rt", r"NO_ROOM: u64 = 5", "NO_ROOM: u64 = 15"),
+)
 
 
 def uncalled():
-    """The calls of vault.h that calls.c doesn't make."""
+    """The calls of vault.h, and those of them that calls.c doesn't make."""
     declared = re.findall(r"^\w+ (vault_\w+)\(", (ROOT / "include/vault.h").read_text(), re.M)
-    made = (ROOT / "face/c/calls.c").read_text()
-    return declared, [name for name in declared if f" {name}(" not in made and f"({name}(" not in made and f"!{name}(" not in made]
+    made = re.findall(r"\b(vault_\w+)\(", (ROOT / "face/c/calls.c").read_text())
+    return declared, [name for name in declared if name not in made]
 
 
-def main():
+def made(archive, folder):
+    """Makes the calls over an archive."""
+    linked(ROOT / "face/c/calls.c", [archive], f"{folder}/calls")
+    ran(f"{folder}/calls", SHOW.read_bytes())
+
+
+def is_seen(fault, crates, folder):
+    """Whether calls.c sees a fault in a copy of the sources."""
+    _, name, old, new = fault
+    text = (crates / name).read_text(encoding="utf-8")
+    changed, times = re.subn(old, new, text, flags=re.S)
+    if times != 1 or changed == text:
+        raise Failed(f"the fault has no place in {name}: {old}")
+    (crates / name).write_text(changed, encoding="utf-8")
+    unproved("vault_c", crates / FACE, crates, folder / "wrong.a")
+    (crates / name).write_text(text, encoding="utf-8")
+    try:
+        made(folder / "wrong.a", folder)
+        return False
+    except Failed:
+        return True
+
+
+def self_test():
+    with tempfile.TemporaryDirectory() as there:
+        folder = pathlib.Path(there)
+        crates = folder / "crates"
+        for source in (ROOT / "crates").glob("*/src"):
+            shutil.copytree(source, crates / source.parent.name / "src")
+        unproved("vault_c", crates / FACE, crates, folder / "right.a")
+        made(folder / "right.a", folder)
+        missed = [fault[0] for fault in FAULTS if not is_seen(fault, crates, folder)]
+    for what in missed:
+        print(f"calls: not seen: {what}")
+    print(f"calls: {len(FAULTS)} faults planted in copies of the sources: {'FAILED' if missed else 'all seen'}")
+    return 1 if missed else 0
+
+
+def check():
     declared, missing = uncalled()
     if missing or not declared:
-        print(f"calls: face/c/calls.c doesn't call {', '.join(missing) or 'anything'}")
-        return 1
-    try:
-        did("cc", "-std=c11", *STRICT, "-fsyntax-only", ROOT / "face/c/layouts.c")
-        did("c++", "-std=c++17", *STRICT, "-fsyntax-only", "-x", "c++", ROOT / "face/c/layouts.c")
-        with tempfile.TemporaryDirectory() as folder:
-            linked(ROOT / "face/c/calls.c", [ROOT / "target/staticlib/libvault_c.a"], f"{folder}/calls")
-            ran(f"{folder}/calls", (ROOT / "crates/first_cue/stdin").read_bytes())
-    except Failed as why:
-        print(f"calls: {why}")
-        return 1
+        raise Failed(f"face/c/calls.c doesn't call {', '.join(missing) or 'anything'}")
+    did("cc", "-std=c11", *STRICT, "-fsyntax-only", ROOT / "face/c/layouts.c")
+    did("c++", "-std=c++17", *STRICT, "-fsyntax-only", "-x", "c++", ROOT / "face/c/layouts.c")
+    with tempfile.TemporaryDirectory() as folder:
+        made(ROOT / "target/staticlib/libvault_c.a", folder)
     print(f"calls: the {len(declared)} calls of include/vault.h, made from C; the layouts of both headers, as C11 and as C++17")
     return 0
 
 
+def main(words):
+    try:
+        if words == ["--self-test"]:
+            return self_test()
+        if words:
+            print(__doc__, file=sys.stderr)
+            return 2
+        return check()
+    except Failed as why:
+        print(f"calls: {why}")
+        return 1
+
+
 if __name__ == "__main__":
-    sys.exit(main())
+    sys.exit(main(sys.argv[1:]))

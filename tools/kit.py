@@ -3,6 +3,7 @@ on every machine, and where that is another is run under the toolchain's emulato
 import functools
 import os
 import pathlib
+import re
 import subprocess
 
 ROOT = pathlib.Path(__file__).resolve().parents[1]
@@ -48,3 +49,16 @@ def ran(program, input=b""):
     emulator = tools / "bin/qemu-x86_64"
     front = [emulator] if emulator.exists() else []
     return did(*front, tools / "lib/ld-linux-x86-64.so.2", "--library-path", tools / "lib", program, input=input)
+
+
+def below(crate):
+    """The crates of the repository that a crate stands on, by crates.txt."""
+    return re.search(rf"^{crate}:(.*)$", (ROOT / "crates.txt").read_text(), re.M)[1].split()
+
+
+def unproved(crate, source, crates, archive):
+    """An archive of a crate's source that isn't proved, over the crates in a folder: what `rt staticlib` makes of one that is. The program of the
+    kit that does it is the one that `rt try` runs."""
+    libraries = [f"std={kit()}/libs/std/src/lib.rt", *(f"{name}={crates}/{name}/src/lib.rt" for name in below("vault") + ["vault"])]
+    words = [word for library in libraries for word in ("--lib", library)]
+    did(own() / "bin/rattle-cases", "--toolchain", own() / "toolchain", "--staticlib", archive, source, "--crate-name", crate, *words)

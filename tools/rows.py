@@ -16,11 +16,10 @@ import sys
 import tempfile
 
 sys.dont_write_bytecode = True
-from kit import ROOT, Failed, did, kit, linked, own, ran
+from kit import ROOT, Failed, linked, ran, unproved
 
 CRATES = ROOT / "crates"
 HERE = ROOT / "tools/rows"
-TOP = "vault"  # lib.rattle stands on it, and on what it stands on.
 FEW = 7  # Slots, where no answer is stored.
 
 
@@ -124,21 +123,13 @@ def of_volume_cases():
         yield name, packed, [(query(struct.pack("<IH", start, partition), icb, FEW), None, None)]
 
 
-def below(crate):
-    """The crates that a crate stands on, by crates.txt."""
-    text = (ROOT / "crates.txt").read_text()
-    return re.search(rf"^{crate}:(.*)$", text, re.M)[1].split()
-
-
 def built(folder):
     """rows.c over the proved archive and over what is compiled for it."""
     source = folder / "src/lib.rt"
     source.parent.mkdir()
     source.write_text((HERE / "lib.rattle").read_text(encoding="utf-8"), encoding="utf-8")
-    libraries = [f"std={kit()}/libs/std/src/lib.rt", *(f"{name}={CRATES}/{name}/src/lib.rt" for name in [*below(TOP), TOP])]
-    words = [word for library in libraries for word in ("--lib", library)]
     archive = folder / "librows.a"
-    did(own() / "bin/rattle-cases", "--toolchain", own() / "toolchain", "--staticlib", archive, source, "--crate-name", "rows", *words)
+    unproved("rows", source, CRATES, archive)
     linked(HERE / "rows.c", [archive, ROOT / "target/staticlib/libvault_c.a"], folder / "rows")
     return folder / "rows"
 
