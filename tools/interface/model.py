@@ -276,7 +276,7 @@ class Maker:
         if not row or re.fullmatch(r"\[[^\[\]]+; [^;\]]+\]", inner):
             return Lent(self.type(source, inner), written)
         item = self.slot(source, row[1])
-        behind = "slots" if isinstance(item, Record) else "length" if item.c == "uint8_t" else "places"
+        behind = "slots" if isinstance(item, Record) else "length" if item == Number("u8") else "places"
         return Lent(item, written, f"{name}_{behind}")
 
     # ---- the whole

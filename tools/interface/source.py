@@ -114,7 +114,8 @@ def read_uses(path):
 
 
 def read_function(text, at, marks, about, where):
-    name = re.match(r'pub extern "C" fn (\w+)\(', text[at:])
+    if not (name := re.match(r'pub extern "C" fn (\w+)(?:<[^>]*>)?\(', text[at:])):
+        raise Unread(f"{where}: a function that isn't understood")
     opens = at + name.end() - 1
     end = closing(text, opens)
     takes = []

@@ -63,8 +63,9 @@ pub extern "C" fn vault_version() -> u32
 
 // Reads many.
 #[no_mangle]
-pub extern "C" fn vault_read_all(
-    volume: Volume, paths: &[u8], matching: u32, wide: u64, narrow: u16, lengths: &mut [u64], answers: &mut [u32], at: &mut u32, only: &[u16],
+pub extern "C" fn vault_read_all<'a>(
+    volume: Volume, paths: &'a [u8], matching: u32, wide: u64, narrow: u16, lengths: &mut [u64], answers: &mut [u32], at: &mut u32, only: &[u16],
+    pairs: &mut [[u64; 2]],
 )
     ensures { λ _. ⌜ wide ≡ wide ⌝ }
 {
@@ -84,7 +85,8 @@ EXPECTED = (
     "#define VAULT_FAR UINT64_C(1099511627776)",
     "uint32_t vault_version(void);",
     "void vault_read_all(vault_volume volume, const uint8_t *paths, size_t paths_length, uint32_t matching, uint64_t wide, uint16_t narrow, "
-    "uint64_t *lengths, size_t lengths_places, uint32_t *answers, size_t answers_places, uint32_t *at, const uint16_t *only, size_t only_places);",
+    "uint64_t *lengths, size_t lengths_places, uint32_t *answers, size_t answers_places, uint32_t *at, const uint16_t *only, size_t only_places, "
+    "uint64_t (*pairs)[2], size_t pairs_places);",
     "uint32_t checked; /* Any number but 0: bodies are checked. */ uint16_t numbers[4]; uint32_t starts[4]; } vault_mount;",
 )
 
