@@ -5,3 +5,4 @@ pub mod ListLaws
 pub mod WalkLaws
 pub mod LookupLaws
 pub mod Promises
+pub mod PathLaws

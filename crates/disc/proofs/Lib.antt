@@ -7,6 +7,7 @@ pub mod AskLaws
 pub mod RanLaws
 pub mod CountLaws
 pub mod ImageLaws
+pub mod OnlyLaws
 pub mod MoveLaws
 pub mod PartLaws
 pub mod ReplyLaws

@@ -111,7 +111,7 @@ unfolding recordHead
 head-length d icb n = refl
 
 -- the ICB as it is recorded is what encoding it gives
-icb-recorded : (s : List ℕ) → Bytes s → encodeLong (longOf s 20) ≡ icbIn s
+pub icb-recorded : (s : List ℕ) → Bytes s → encodeLong (longOf s 20) ≡ icbIn s
 icb-recorded s b =
     ap (λ (n : ℕ). le32 n ++ le32 (u32at s 24) ++ le16 (u16at s 28) ++ six s 30) (raw-whole (u32at s 20) (u32-fits s b 20))
     ∙ (λ i. le32-u32 s b 20 i ++ le32-u32 s b 24 i ++ le16-u16 s b 28 i ++ six s 30)

@@ -3,3 +3,4 @@ pub mod PathLaws
 pub mod EntryLaws
 pub mod WalkLaws
 pub mod Promises
+pub mod RecordLaws

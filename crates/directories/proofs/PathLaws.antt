@@ -1,0 +1,270 @@
+-- Where the components of a path lead, what the last of them takes there, and at which of them the work space is too small. Assumes nothing.
+use mathlib.Core.Path.{_≡_, refl, sym, ap, _∙_}
+use mathlib.Core.Bool.{Bool, true, false}
+use mathlib.Core.List.{List, [], _∷_, _++_}
+use mathlib.Core.Option.{Option, none, some}
+use Prim.Native.Nat.{ℕ, _+_, _<_}
+use native.Mathlib.Nat.{zero-add, add-assoc, add-zero}
+use native.Mathlib.Omega.{arith}
+use lib.ListN.{length}
+use lib.Dec.{leb}
+use borrow.Author.Tests.{leb-false}
+use Rattle.disc.specs.declared.places.Mount.{Mount}
+use Rattle.disc.specs.Choice.{pick}
+use Rattle.disc.specs.Ask.{Disc, Outcome, andThen}
+use Rattle.disc.specs.Ask.Outcome.{answered, refused}
+use Rattle.disc.specs.Ran.{Ran, ran, after, onward}
+use Rattle.disc.specs.declared.refusals.Refusal.the-variants.{NoWork}
+use Rattle.disc.proofs.RanLaws.{ran-done, ran-then, never}
+use Rattle.records.specs.declared.allocations.LongAd.{LongAd}
+use Rattle.identifiers.specs.Identifiers.{isDirectory}
+use Rattle.files.specs.Files.{fileBytes}
+use Rattle.listings.specs.Entries.{Entry, entries}
+use Rattle.listings.specs.Listings.{answersTo, firstNamed, findIn}
+use Rattle.listings.specs.Paths.{Component}
+use Rattle.listings.proofs.Promises.{NoneAnswers, first-wins, entries-refused}
+use Rattle.directories.specs.Directories.{within, directoryBytes}
+use Rattle.directories.specs.Lookups.{Sought, entering, orLost, seeking}
+use Rattle.directories.specs.Lookups.Sought.{reached, lost}
+use Rattle.directories.proofs.SpaceLaws.{ran-known}
+use Rattle.directories.proofs.Promises.{no-work}
+
+-- ---- the words
+
+-- e is what a name takes in the directory at icb: the directory is read into the work space, all of its entries are parsed, and e is the first
+-- of them that answers to the name
+pub record Takes (d : Disc) (v : Mount) (work : ℕ) (icb : LongAd) (name : List ℕ) (e : Entry) : Type 0 where
+  pub bytes : List ℕ
+  pub read : ran d (directoryBytes v work icb) .outcome ≡ answered bytes
+  pub all : List Entry
+  pub parsed : entries bytes ≡ answered all
+  pub first : firstNamed name all ≡ some e
+
+-- what it takes is a directory, with whose ICB the next goes on
+pub record Enters (d : Disc) (v : Mount) (work : ℕ) (icb : LongAd) (name : List ℕ) (next : LongAd → Type 0) : Type 0 where
+  pub entry : Entry
+  pub takes : Takes d v work icb name entry
+  pub directory : isDirectory (entry .identifier) ≡ true
+  pub on : next (entry .identifier .icb)
+
+-- components lead from the directory at one ICB to that at another, from directory to directory
+unfoldable pub Leads : Disc → Mount → ℕ → List Component → LongAd → LongAd → Type 0
+Leads d v work [] from to = from ≡ to
+Leads d v work (c ∷ cs) from to = Enters d v work from (c .bytes) (λ icb. Leads d v work cs icb to)
+
+-- a directory that a part of the components leads to, and in which the next is to be found, reads as more bytes than the work space has
+pub record Overflows (d : Disc) (v : Mount) (work : ℕ) (cs : List Component) (from : LongAd) : Type 0 where
+  pub before : List Component
+  pub next : Component
+  pub others : List Component
+  pub parts : cs ≡ before ++ next ∷ others
+  pub directory : LongAd
+  pub led : Leads d v work before from directory
+  pub bytes : List ℕ
+  pub read : ran d (fileBytes v directory) .outcome ≡ answered bytes
+  pub exceeds : work < length bytes
+
+-- the components of cs lead to a directory
+pub record Led (d : Disc) (v : Mount) (work : ℕ) (cs : List Component) (from : LongAd) : Type 0 where
+  pub to : LongAd
+  pub leads : Leads d v work cs from to
+
+-- a name takes an entry whose ICB is i
+pub record TakesIcb (d : Disc) (v : Mount) (work : ℕ) (icb : LongAd) (name : List ℕ) (i : LongAd) : Type 0 where
+  pub taken : Entry
+  pub takes : Takes d v work icb name taken
+  pub is : i ≡ taken .identifier .icb
+
+-- ---- one component
+
+module _ (d : Disc) (v : Mount) (work : ℕ) (icb : LongAd) (name : List ℕ) where
+  -- the first entry of a name wins
+  pub first-takes : {b : List ℕ} → ran d (directoryBytes v work icb) .outcome ≡ answered b
+      → (before : List Entry) (e : Entry) (rest : List Entry) → entries b ≡ answered (before ++ e ∷ rest) → NoneAnswers name before → answersTo name e ≡ true
+      → Takes d v work icb name e
+  first-takes {b} r before e rest k n h = record { bytes = b; read = r; all = before ++ e ∷ rest; parsed = k; first = first-wins name before e rest n h }
+
+  entering-is : ran d (entering v work icb name) .outcome ≡ andThen (ran d (directoryBytes v work icb) .outcome) (findIn name)
+  unfolding entering
+  entering-is = ap (λ (r : Ran (Option Entry)). r .outcome) (ran-known d (directoryBytes v work icb) (findIn name))
+
+  takes-enters : {e : Entry} → Takes d v work icb name e → ran d (entering v work icb name) ≡ record { outcome = answered (some e); count = ran d (directoryBytes v work icb) .count }
+  unfolding entering findIn
+  takes-enters t = ran-known d (directoryBytes v work icb) (findIn name) ∙ rw (t .read, t .parsed, t .first)
+
+  enters-takes : {e : Entry} → ran d (entering v work icb name) .outcome ≡ answered (some e) → Takes d v work icb name e
+  unfolding findIn
+  enters-takes {e} h = by-bytes (ran d (directoryBytes v work icb) .outcome) refl (sym entering-is ∙ h)
+    where
+      by-entries : (b : List ℕ) → ran d (directoryBytes v work icb) .outcome ≡ answered b → (o : Outcome (List Entry)) → entries b ≡ o
+          → andThen o (λ es. answered (firstNamed name es)) ≡ answered (some e) → Takes d v work icb name e
+      by-entries b r (answered es) p k = record { bytes = b; read = r; all = es; parsed = p; first = cc }
+      by-entries b r (refused why) p k = never k
+
+      by-bytes : (o : Outcome (List ℕ)) → ran d (directoryBytes v work icb) .outcome ≡ o → andThen o (findIn name) ≡ answered (some e) → Takes d v work icb name e
+      by-bytes (answered b) r k = by-entries b r (entries b) refl k
+      by-bytes (refused why) r k = never k
+
+-- ---- one component and those behind it
+
+module _ (d : Disc) (v : Mount) (work : ℕ) where
+  abbrev walk : List Component → LongAd → Bool → Ran Sought
+  walk cs icb directory = ran d (seeking v work cs icb directory)
+
+  abbrev on : Component → List Component → Option Entry → Ran Sought
+  on c cs o = ran d (orLost c o (λ e. seeking v work cs (e .identifier .icb) (isDirectory (e .identifier))))
+
+  walk-is : (c : Component) (cs : List Component) (icb : LongAd)
+      → walk (c ∷ cs) icb true ≡ onward (ran d (entering v work icb (c .bytes)) .outcome) (ran d (entering v work icb (c .bytes)) .count) (on c cs)
+  unfolding seeking
+  walk-is c cs icb = ran-then d (entering v work icb (c .bytes)) (λ o. orLost c o (λ e. seeking v work cs (e .identifier .icb) (isDirectory (e .identifier))))
+
+  -- it goes on with what the first takes
+  pub seek-takes : (c : Component) (cs : List Component) (icb : LongAd) {e : Entry} → Takes d v work icb (c .bytes) e
+      → walk (c ∷ cs) icb true ≡ after (ran d (directoryBytes v work icb) .count) (walk cs (e .identifier .icb) (isDirectory (e .identifier)))
+  seek-takes c cs icb t = walk-is c cs icb ∙ rw (takes-enters d v work icb (c .bytes) t)
+
+  -- a component under a file is not reached
+  under : (cs : List Component) (c : Component) (others : List Component) (icb : LongAd) {x : Sought} {A : Type 0} → walk (cs ++ c ∷ others) icb false .outcome ≡ answered x
+      → ((y : Component) → x ≡ lost y → A) → A
+  unfolding seeking
+  under [] c others icb h f = f c (let z = rw ran-done at h in cc)
+  under (x ∷ cs) c others icb h f = f x (let z = rw ran-done at h in cc)
+
+  -- ---- where components lead
+
+  -- the walk goes on behind them, counts added
+  pub leads-on : (cs more : List Component) (from to : LongAd) → Leads d v work cs from to → walk (cs ++ more) from true ≡ after (walk cs from true .count) (walk more to true)
+  unfolding Leads seeking
+  leads-on [] more from to l = rw (l, ran-done, zero-add)
+  leads-on (c ∷ cs) more from to l =
+      let i = l .entry .identifier .icb in
+      seek-takes c (cs ++ more) from (l .takes)
+      ∙ rw (l .directory, leads-on cs more i to (l .on), seek-takes c cs from (l .takes), l .directory, add-assoc)
+
+  -- and they themselves reach that directory
+  pub leads-reached : (cs : List Component) (from to : LongAd) → Leads d v work cs from to → walk cs from true .outcome ≡ answered (reached to)
+  unfolding Leads seeking
+  leads-reached [] from to l = rw (l, ran-done)
+  leads-reached (c ∷ cs) from to l = rw (seek-takes c cs from (l .takes), l .directory) (leads-reached cs (l .entry .identifier .icb) to (l .on))
+
+  -- what stands behind a component that is reached stands in a directory
+  pub reached-led : (cs : List Component) (c : Component) (others : List Component) (from : LongAd) {i : LongAd} → walk (cs ++ c ∷ others) from true .outcome ≡ answered (reached i)
+      → Led d v work cs from
+  unfolding Leads
+  reached-led [] c others from h = record { to = from; leads = refl }
+  reached-led (x ∷ cs) c others from {i} h =
+      by (ran d (entering v work from (x .bytes)) .outcome) (ran d (entering v work from (x .bytes)) .count) refl (λ icb k. reached-led cs c others icb k)
+      (sym (ap (λ (r : Ran Sought). r .outcome) (walk-is x (cs ++ c ∷ others) from)) ∙ h)
+    where
+      into : (e : Entry) → ran d (entering v work from (x .bytes)) .outcome ≡ answered (some e) → ((icb : LongAd) → walk (cs ++ c ∷ others) icb true .outcome ≡ answered (reached i) → Led d v work cs icb)
+          → (t : Bool) → isDirectory (e .identifier) ≡ t → walk (cs ++ c ∷ others) (e .identifier .icb) t .outcome ≡ answered (reached i) → Led d v work (x ∷ cs) from
+      into e q ih true t k =
+          let l = ih (e .identifier .icb) k in
+          record { to = l .to; leads = record { entry = e; takes = enters-takes d v work from (x .bytes) q; directory = t; on = l .leads } }
+      into e q ih false t k = under cs c others (e .identifier .icb) k (λ y z. absurd (let w : _≡_ {A = ℕ} 0 1 = cc in omega arith))
+
+      by : (o : Outcome (Option Entry)) (n : ℕ) → ran d (entering v work from (x .bytes)) .outcome ≡ o → ((icb : LongAd) → walk (cs ++ c ∷ others) icb true .outcome ≡ answered (reached i) → Led d v work cs icb)
+          → onward o n (on x (cs ++ c ∷ others)) .outcome ≡ answered (reached i) → Led d v work (x ∷ cs) from
+      by (refused why) n q ih k = never k
+      by (answered none) n q ih k = absurd (let z = rw ran-done at k in let w : _≡_ {A = ℕ} 0 1 = cc in omega arith)
+      by (answered (some e)) n q ih k = into e q ih (isDirectory (e .identifier)) refl k
+
+  -- ---- the last component
+
+  -- the walk comes to the first entry of its name in the directory that the others lead to, or it is lost there
+  abbrev pub lastOf : Component → Option Entry → Sought
+  lastOf c none = lost c
+  lastOf c (some e) = reached (e .identifier .icb)
+
+  pub last-sought : (cs : List Component) (c : Component) (from to : LongAd) → Leads d v work cs from to
+      → {b : List ℕ} → ran d (directoryBytes v work to) .outcome ≡ answered b → {es : List Entry} → entries b ≡ answered es
+      → walk (cs ++ c ∷ []) from true ≡ record { outcome = answered (lastOf c (firstNamed (c .bytes) es)); count = walk cs from true .count + ran d (directoryBytes v work to) .count }
+  unfolding entering findIn seeking
+  last-sought cs c from to l {b} r {es} p =
+      leads-on cs (c ∷ []) from to l
+      ∙ ap (after (walk cs from true .count))
+      (walk-is c [] to ∙ rw (ran-known d (directoryBytes v work to) (findIn (c .bytes)), r, p) (by (firstNamed (c .bytes) es) (ran d (directoryBytes v work to) .count)))
+    where
+      by : (o : Option Entry) (n : ℕ) → onward (answered o) n (on c []) ≡ record { outcome = answered (lastOf c o); count = n }
+      by none n = rw (ran-done, add-zero)
+      by (some e) n = rw (ran-done, add-zero)
+
+  -- one that was reached was taken there
+  pub last-taken : (c : Component) (icb : LongAd) {i : LongAd} → walk (c ∷ []) icb true .outcome ≡ answered (reached i) → TakesIcb d v work icb (c .bytes) i
+  unfolding seeking
+  last-taken c icb {i} h =
+      by (ran d (entering v work icb (c .bytes)) .outcome) (ran d (entering v work icb (c .bytes)) .count) refl
+      (sym (ap (λ (r : Ran Sought). r .outcome) (walk-is c [] icb)) ∙ h)
+    where
+      by : (o : Outcome (Option Entry)) (n : ℕ) → ran d (entering v work icb (c .bytes)) .outcome ≡ o → onward o n (on c []) .outcome ≡ answered (reached i) → TakesIcb d v work icb (c .bytes) i
+      by (refused why) n q k = never k
+      by (answered none) n q k = absurd (let z = rw ran-done at k in let w : _≡_ {A = ℕ} 0 1 = cc in omega arith)
+      by (answered (some e)) n q k = record { taken = e; takes = enters-takes d v work icb (c .bytes) q; is = (let z = rw ran-done at k in cc) }
+
+  -- ---- a work space that is too small
+
+  -- the first directory on the way that exceeds it refuses the walk, after the sectors of its read
+  pub overflows-refused : (cs : List Component) (from : LongAd) (o : Overflows d v work cs from)
+      → walk cs from true ≡ record { outcome = refused NoWork; count = walk (o .before) from true .count + ran d (fileBytes v (o .directory)) .count }
+  unfolding entering
+  overflows-refused cs from o =
+      rw (o .parts) (leads-on (o .before) (o .next ∷ o .others) from (o .directory) (o .led))
+      ∙ ap (after (walk (o .before) from true .count))
+      (walk-is (o .next) (o .others) (o .directory)
+      ∙ rw (ran-known d (directoryBytes v work (o .directory)) (findIn (o .next .bytes)), no-work d v work (o .directory) (o .read) (o .exceeds)))
+
+  -- and nothing else does, where no read is refused so by itself
+  module _ (other : (icb : LongAd) → ran d (fileBytes v icb) .outcome ≡ refused NoWork → ⊥) where
+    full-here : (c : Component) (others : List Component) (icb : LongAd) → ran d (entering v work icb (c .bytes)) .outcome ≡ refused NoWork → Overflows d v work (c ∷ others) icb
+    unfolding directoryBytes within findIn Leads
+    full-here c others icb h =
+        by (ran d (fileBytes v icb) .outcome) refl
+        (sym (ap (λ (r : Ran (List ℕ)). andThen (r .outcome) (findIn (c .bytes))) (ran-known d (fileBytes v icb) (within work))) ∙ sym (entering-is d v work icb (c .bytes)) ∙ h)
+      where
+        listed : {A : Type 0} (b : List ℕ) (p : Outcome (List Entry)) → entries b ≡ p → andThen p (λ es. answered (firstNamed (c .bytes) es)) ≡ refused NoWork → A
+        listed b (answered es) e k = never (sym k)
+        listed b (refused why) e k = absurd (let m = entries-refused b e in let z : _≡_ {A = ℕ} 0 1 = cc in omega arith)
+
+        fits : (b : List ℕ) (t : Bool) → leb (length b) work ≡ t → ran d (fileBytes v icb) .outcome ≡ answered b
+            → andThen (pick t (answered b) (refused NoWork)) (findIn (c .bytes)) ≡ refused NoWork → Overflows d v work (c ∷ others) icb
+        fits b true t r k = listed b (entries b) refl k
+        fits b false t r k = record { before = []; next = c; others = others; parts = refl; directory = icb; led = refl; bytes = b; read = r; exceeds = leb-false (length b) work t }
+
+        by : (o : Outcome (List ℕ)) → ran d (fileBytes v icb) .outcome ≡ o → andThen (andThen o (within work)) (findIn (c .bytes)) ≡ refused NoWork → Overflows d v work (c ∷ others) icb
+        by (answered b) r k = fits b (leb (length b) work) refl r k
+        by (refused why) r k = absurd (other icb (let z : why ≡ NoWork = cc in rw z at r))
+
+    pub refused-overflows : (cs : List Component) (from : LongAd) → walk cs from true .outcome ≡ refused NoWork → Overflows d v work cs from
+    unfolding seeking Leads
+    refused-overflows [] from h = never (let z = rw ran-done at h in sym z)
+    refused-overflows (c ∷ cs) from h =
+        by (ran d (entering v work from (c .bytes)) .outcome) (ran d (entering v work from (c .bytes)) .count) refl (λ icb k. refused-overflows cs icb k)
+        (sym (ap (λ (r : Ran Sought). r .outcome) (walk-is c cs from)) ∙ h)
+      where
+        file : {A : Type 0} (ds : List Component) (icb : LongAd) → walk ds icb false .outcome ≡ refused NoWork → A
+        file [] icb k = never (let z = rw ran-done at k in sym z)
+        file (x ∷ ds) icb k = never (let z = rw ran-done at k in sym z)
+
+        into : (e : Entry) → ran d (entering v work from (c .bytes)) .outcome ≡ answered (some e) → ((icb : LongAd) → walk cs icb true .outcome ≡ refused NoWork → Overflows d v work cs icb)
+            → (t : Bool) → isDirectory (e .identifier) ≡ t → walk cs (e .identifier .icb) t .outcome ≡ refused NoWork → Overflows d v work (c ∷ cs) from
+        into e q ih true t k =
+            let o = ih (e .identifier .icb) k in
+            record {
+              before = c ∷ o .before;
+              next = o .next;
+              others = o .others;
+              parts = ap (λ (x : List Component). c ∷ x) (o .parts);
+              directory = o .directory;
+              led = record { entry = e; takes = enters-takes d v work from (c .bytes) q; directory = t; on = o .led };
+              bytes = o .bytes;
+              read = o .read;
+              exceeds = o .exceeds;
+            }
+        into e q ih false t k = file cs (e .identifier .icb) k
+
+        by : (o : Outcome (Option Entry)) (n : ℕ) → ran d (entering v work from (c .bytes)) .outcome ≡ o → ((icb : LongAd) → walk cs icb true .outcome ≡ refused NoWork → Overflows d v work cs icb)
+            → onward o n (on c cs) .outcome ≡ refused NoWork → Overflows d v work (c ∷ cs) from
+        by (refused why) n q ih k = full-here c cs from (let z : why ≡ NoWork = cc in rw z at q)
+        by (answered none) n q ih k = never (let z = rw ran-done at k in sym z)
+        by (answered (some e)) n q ih k = into e q ih (isDirectory (e .identifier)) refl k

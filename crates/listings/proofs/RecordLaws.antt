@@ -1,0 +1,111 @@
+-- Entries that were read from bytes: which names they answer to, and that the ICB in an entry's record of a listing is the entry's. Assumes nothing.
+use mathlib.Core.Path.{_≡_, refl, sym, ap, _∙_}
+use mathlib.Core.Bool.{Bool, true, false}
+use mathlib.Core.List.{List, [], _∷_, _++_, map, append-assoc}
+use Prim.Native.Nat.{ℕ, zero, suc, _-_, _≤_}
+use native.Mathlib.Omega.{arith}
+use lib.ListN.{length, take, drop, length-take}
+use lib.Dec.{ltb}
+use borrow.Author.Tests.{le-ltb}
+use Rattle.disc.specs.Choice.{pick}
+use Rattle.disc.specs.Ask.{Outcome, andThen}
+use Rattle.disc.specs.Ask.Outcome.{answered, refused}
+use Rattle.disc.proofs.ByteLaws.{Bytes}
+use Rattle.disc.proofs.RanLaws.{never}
+use Rattle.records.specs.Bytes.{byte}
+use Rattle.records.specs.Allocations.{longOf, encodeLong}
+use Rattle.names.specs.Names.{nameOf, written, sizeOf, lower, matched, isNamed}
+use Rattle.names.specs.declared.dstrings.NameSize.the-variants.{Size}
+use Rattle.names.proofs.Promises.{same-folded}
+use Rattle.identifiers.specs.Identifiers.{recordedName, nameAt, nextAt}
+use Rattle.listings.specs.Entries.{Entry, entryRead, inFront, isSkipped, nameIn, entriesFrom, entries}
+use Rattle.listings.specs.Listings.{recordHead, shown, records, isLong, anyLong, listing, answersTo}
+use Rattle.listings.specs.inner.Passes.{icbIn}
+use Rattle.listings.proofs.EntryLaws.{Known, known, long-is, icb-recorded}
+
+-- ---- every entry of a directory stands at the front of some bytes
+
+pub record WasRead (e : Entry) : Type 0 where
+  pub raw : List ℕ
+  pub are : Bytes raw
+  pub is : entryRead raw ≡ answered e
+
+unfoldable pub EachRead : List Entry → Type 0
+EachRead [] = Unit {0}
+EachRead (e ∷ es) = WasRead e × EachRead es
+
+each-from : (k : ℕ) (s : List ℕ) → Bytes s → {es : List Entry} → entriesFrom k s ≡ answered es → EachRead es
+unfolding entriesFrom EachRead
+each-from k [] b {es} h = let z : es ≡ [] = cc in rw z tt
+each-from (suc k) (x ∷ s) b h = each-from k s (λ i. b (suc i)) h
+each-from zero (x ∷ s) b {es} h = by (λ fs q. each-from (nextAt (x ∷ s) - 1) s (λ i. b (suc i)) q) (ltb (length (x ∷ s)) 38) (entryRead (x ∷ s)) refl h
+  where
+    others : (e : Entry) → WasRead e → (o : Outcome (List Entry)) → ((fs : List Entry) → o ≡ answered fs → EachRead fs) → inFront e o ≡ answered es → EachRead es
+    others e w (answered fs) ih q = let z : es ≡ e ∷ fs = cc in rw z (w, ih fs refl)
+    others e w (refused why) ih q = never q
+
+    by : ((fs : List Entry) → entriesFrom (nextAt (x ∷ s) - 1) s ≡ answered fs → EachRead fs) → (t : Bool) (o : Outcome Entry) → entryRead (x ∷ s) ≡ o
+        → pick t (answered []) (andThen o (λ e. inFront e (entriesFrom (nextAt (x ∷ s) - 1) s))) ≡ answered es → EachRead es
+    by ih true o k q = let z : es ≡ [] = cc in rw z tt
+    by ih false (answered e) k q = others e (record { raw = x ∷ s; are = b; is = k }) (entriesFrom (nextAt (x ∷ s) - 1) s) ih q
+    by ih false (refused why) k q = never q
+
+pub each-read : (s : List ℕ) → Bytes s → {es : List Entry} → entries s ≡ answered es → EachRead es
+unfolding entries
+each-read s b h = each-from 0 s b h
+
+pub each-at : (before : List Entry) (e : Entry) (rest : List Entry) → EachRead (before ++ e ∷ rest) → WasRead e
+unfolding EachRead
+each-at [] e rest w = w .0
+each-at (x ∷ before) e rest w = each-at before e rest (w .1)
+
+-- ---- one that was read
+
+module _ {e : Entry} (w : WasRead e) where
+  stands : Known (w .raw) e
+  stands = known (w .raw) (w .are) (w .is)
+
+  recorded-there : e .recorded ≡ recordedName (w .raw)
+  recorded-there = ap (λ (x : Entry). x .recorded) (stands .is)
+
+  -- its name is of at most 508 bytes
+  not-long : isLong e ≡ false
+  not-long = ap isLong (stands .is) ∙ long-is (stands .whole) ∙ by (isSkipped (e .identifier))
+    where
+      by : (t : Bool) → pick t false (ltb 65535 (e .identifier .«name_size»)) ≡ false
+      by true = refl
+      by false = le-ltb 65535 (e .identifier .«name_size») (omega (arith, stands .whole .brief))
+
+  module _ (s : isSkipped (e .identifier) ≡ false) where
+    -- and it answers to that name, ASCII case ignored
+    pub named-answers : (c : List ℕ) → map lower (nameIn e) ≡ map lower c → answersTo c e ≡ true
+    unfolding answersTo isNamed nameIn recordedName
+    named-answers c h = rw (s, le-ltb 255 (length (e .recorded)) few) (by (nameOf (e .recorded)) {n = e .identifier .«name_size»} (rw recorded-there (stands .whole .named)) h)
+      where
+        few : length (e .recorded) ≤ 255
+        few = rw (recorded-there, length-take) (omega (arith, stands .whole .few, stands .whole .recorded))
+
+        by : (o : Outcome (List ℕ)) {n : ℕ} → sizeOf o ≡ Size n → map lower (written o) ≡ map lower c → matched o c ≡ true
+        by (answered name) z h = same-folded name c .1 h
+        by (refused why) z h = absurd (let y : _≡_ {A = ℕ} 0 1 = cc in omega arith)
+
+    -- its record in a listing has its ICB behind the mark and the flag
+    pub shown-icb : (more : List ℕ) → longOf (shown e ++ more) 3 ≡ e .identifier .icb
+    unfolding shown recordHead
+    shown-icb more = rw s (rw (stands .whole .icb) (ap (λ (x : List ℕ). longOf x 0) (icb-recorded (w .raw) (w .are))))
+
+-- ---- a listing has the records of its entries one behind the other
+
+pub records-joined : (before after : List Entry) → records (before ++ after) ≡ records before ++ records after
+unfolding records
+records-joined [] after = refl
+records-joined (e ∷ before) after = rw (records-joined before after, append-assoc)
+
+none-long : (es : List Entry) → EachRead es → anyLong es ≡ false
+unfolding anyLong EachRead
+none-long [] w = refl
+none-long (e ∷ es) w = rw (not-long (w .0)) (none-long es (w .1))
+
+pub all-listed : (s : List ℕ) → Bytes s → {es : List Entry} → entries s ≡ answered es → listing s ≡ answered (records es)
+unfolding listing
+all-listed s b {es} h = rw (h, none-long es (each-read s b h))
