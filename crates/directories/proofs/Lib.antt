@@ -6,3 +6,4 @@ pub mod WalkLaws
 pub mod LookupLaws
 pub mod Promises
 pub mod PathLaws
+pub mod CaseLaws

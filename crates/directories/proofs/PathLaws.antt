@@ -75,6 +75,11 @@ pub record TakesIcb (d : Disc) (v : Mount) (work : ℕ) (icb : LongAd) (name : L
   pub takes : Takes d v work icb name taken
   pub is : i ≡ taken .identifier .icb
 
+-- where a walk ends that comes with its last component to an entry, or to none
+abbrev pub lastOf : Component → Option Entry → Sought
+lastOf c none = lost c
+lastOf c (some e) = reached (e .identifier .icb)
+
 -- ---- one component
 
 module _ (d : Disc) (v : Mount) (work : ℕ) (icb : LongAd) (name : List ℕ) where
@@ -123,6 +128,12 @@ module _ (d : Disc) (v : Mount) (work : ℕ) where
   pub seek-takes : (c : Component) (cs : List Component) (icb : LongAd) {e : Entry} → Takes d v work icb (c .bytes) e
       → walk (c ∷ cs) icb true ≡ after (ran d (directoryBytes v work icb) .count) (walk cs (e .identifier .icb) (isDirectory (e .identifier)))
   seek-takes c cs icb t = walk-is c cs icb ∙ rw (takes-enters d v work icb (c .bytes) t)
+
+  -- the first entry of its name wins, whatever stands behind it
+  pub seek-first : (icb : LongAd) (c : Component) {b : List ℕ} → ran d (directoryBytes v work icb) .outcome ≡ answered b
+      → (before : List Entry) (e : Entry) (rest : List Entry) → entries b ≡ answered (before ++ e ∷ rest) → NoneAnswers (c .bytes) before → answersTo (c .bytes) e ≡ true
+      → (cs : List Component) → walk (c ∷ cs) icb true ≡ after (ran d (directoryBytes v work icb) .count) (walk cs (e .identifier .icb) (isDirectory (e .identifier)))
+  seek-first icb c r before e rest k n h cs = seek-takes c cs icb (first-takes d v work icb (c .bytes) r before e rest k n h)
 
   -- a component under a file is not reached
   under : (cs : List Component) (c : Component) (others : List Component) (icb : LongAd) {x : Sought} {A : Type 0} → walk (cs ++ c ∷ others) icb false .outcome ≡ answered x
@@ -173,10 +184,6 @@ module _ (d : Disc) (v : Mount) (work : ℕ) where
   -- ---- the last component
 
   -- the walk comes to the first entry of its name in the directory that the others lead to, or it is lost there
-  abbrev pub lastOf : Component → Option Entry → Sought
-  lastOf c none = lost c
-  lastOf c (some e) = reached (e .identifier .icb)
-
   pub last-sought : (cs : List Component) (c : Component) (from to : LongAd) → Leads d v work cs from to
       → {b : List ℕ} → ran d (directoryBytes v work to) .outcome ≡ answered b → {es : List Entry} → entries b ≡ answered es
       → walk (cs ++ c ∷ []) from true ≡ record { outcome = answered (lastOf c (firstNamed (c .bytes) es)); count = walk cs from true .count + ran d (directoryBytes v work to) .count }

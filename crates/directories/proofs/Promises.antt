@@ -1,21 +1,26 @@
 -- What is proved of directories and paths: what the call for the component that failed asks for, that the first entry of a name wins, and what
--- the ends of a path come to. Assumes nothing.
-use mathlib.Core.Path.{_≡_, refl, ap, _∙_}
-use mathlib.Core.Bool.{true, false}
+-- the ends of a path come to; that a directory's bytes are bytes. Assumes nothing.
+use mathlib.Core.Path.{_≡_, refl, ap, sym, _∙_}
+use mathlib.Core.Bool.{Bool, true, false}
 use mathlib.Core.List.{List, [], _∷_, _++_, append-nil}
 use mathlib.Core.Option.{some}
 use Prim.Native.Nat.{ℕ, _<_}
 use lib.ListN.{length}
+use lib.Dec.{leb}
 use borrow.Author.Tests.{lt-leb}
 use Rattle.disc.specs.declared.places.Mount.{Mount}
-use Rattle.disc.specs.Ask.{Disc, Ask, Outcome, outcome, asked, then, ended}
+use Rattle.disc.specs.Choice.{pick}
+use Rattle.disc.specs.Ask.{Disc, Ask, Outcome, outcome, asked, then, ended, andThen}
 use Rattle.disc.specs.Ask.Outcome.{answered, refused}
-use Rattle.disc.specs.Ran.{ran}
+use Rattle.disc.specs.Images.{disc}
+use Rattle.disc.specs.Ran.{Ran, ran}
 use Rattle.disc.specs.declared.refusals.Refusal.the-variants.{NoWork}
 use Rattle.disc.proofs.AskLaws.{asked-then, askedBehind}
-use Rattle.disc.proofs.RanLaws.{ran-done}
+use Rattle.disc.proofs.ByteLaws.{Bytes}
+use Rattle.disc.proofs.RanLaws.{ran-done, never}
 use Rattle.records.specs.declared.allocations.LongAd.{LongAd}
 use Rattle.files.specs.Files.{fileBytes}
+use Rattle.files.proofs.ContentLaws.{content-bytes}
 use Rattle.listings.specs.Entries.{Entry, entries}
 use Rattle.listings.specs.Listings.{answersTo, findIn}
 use Rattle.listings.specs.Paths.{Component, front, behind, componentsFrom, components}
@@ -73,3 +78,19 @@ module _ (d : Disc) (v : Mount) (work : ℕ) where
   pub empty-path : (root : LongAd) → ran d (lookupOf v work root []) ≡ record { outcome = answered root; count = 0 }
   unfolding lookupOf seekPath seeking components componentsFrom front behind
   empty-path root = ran-known d (seekPath v work root []) icbOf ∙ rw (ran-done d (reached root))
+
+-- ---- a directory's bytes are bytes where the image's are
+
+pub directory-bytes : (image : List ℕ) → Bytes image → (v : Mount) (work : ℕ) (icb : LongAd) {b : List ℕ} → ran (disc image) (directoryBytes v work icb) .outcome ≡ answered b → Bytes b
+unfolding directoryBytes within
+directory-bytes image h v work icb {b} e =
+    content-bytes image h v icb
+    (by (ran (disc image) (fileBytes v icb) .outcome) (sym (ap (λ (r : Ran (List ℕ)). r .outcome) (ran-known (disc image) (fileBytes v icb) (within work))) ∙ e))
+  where
+    fits : (x : List ℕ) (t : Bool) → pick t (answered x) (refused NoWork) ≡ answered b → answered x ≡ answered b
+    fits x true e = e
+    fits x false e = never e
+
+    by : (o : Outcome (List ℕ)) → andThen o (within work) ≡ answered b → o ≡ answered b
+    by (answered x) e = fits x (leb (length x) work) e
+    by (refused why) e = never e

@@ -8,3 +8,4 @@ pub mod EntryLaws
 pub mod ReadLaws
 pub mod ResolveLaws
 pub mod Promises
+pub mod ContentLaws

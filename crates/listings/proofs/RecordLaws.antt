@@ -1,7 +1,8 @@
--- Entries that were read from bytes: which names they answer to, and that the ICB in an entry's record of a listing is the entry's. Assumes nothing.
+-- Which names an entry that was read answers to, with ASCII case ignored, and what its record in a listing says. Assumes nothing.
 use mathlib.Core.Path.{_≡_, refl, sym, ap, _∙_}
 use mathlib.Core.Bool.{Bool, true, false}
 use mathlib.Core.List.{List, [], _∷_, _++_, map, append-assoc}
+use mathlib.Core.Option.{some}
 use Prim.Native.Nat.{ℕ, zero, suc, _-_, _≤_}
 use native.Mathlib.Omega.{arith}
 use lib.ListN.{length, take, drop, length-take}
@@ -14,12 +15,13 @@ use Rattle.disc.proofs.ByteLaws.{Bytes}
 use Rattle.disc.proofs.RanLaws.{never}
 use Rattle.records.specs.Bytes.{byte}
 use Rattle.records.specs.Allocations.{longOf, encodeLong}
-use Rattle.names.specs.Names.{nameOf, written, sizeOf, lower, matched, isNamed}
+use Rattle.names.specs.Names.{nameOf, written, sizeOf, lower, sameName, matched, isNamed}
 use Rattle.names.specs.declared.dstrings.NameSize.the-variants.{Size}
 use Rattle.names.proofs.Promises.{same-folded}
 use Rattle.identifiers.specs.Identifiers.{recordedName, nameAt, nextAt}
 use Rattle.listings.specs.Entries.{Entry, entryRead, inFront, isSkipped, nameIn, entriesFrom, entries}
-use Rattle.listings.specs.Listings.{recordHead, shown, records, isLong, anyLong, listing, answersTo}
+use Rattle.listings.specs.Listings.{recordHead, shown, records, isLong, anyLong, listing, answersTo, firstNamed}
+use Rattle.listings.specs.Paths.{Component}
 use Rattle.listings.specs.inner.Passes.{icbIn}
 use Rattle.listings.proofs.EntryLaws.{Known, known, long-is, icb-recorded}
 
@@ -93,6 +95,46 @@ module _ {e : Entry} (w : WasRead e) where
     pub shown-icb : (more : List ℕ) → longOf (shown e ++ more) 3 ≡ e .identifier .icb
     unfolding shown recordHead
     shown-icb more = rw s (rw (stands .whole .icb) (ap (λ (x : List ℕ). longOf x 0) (icb-recorded (w .raw) (w .are))))
+
+-- ---- the entry of a name
+
+-- an entry that is found answers to its name
+pub found-answers : (c : List ℕ) (es : List Entry) {e : Entry} → firstNamed c es ≡ some e → answersTo c e ≡ true
+unfolding firstNamed
+found-answers c [] q = absurd (let z : _≡_ {A = ℕ} 0 1 = cc in omega arith)
+found-answers c (x ∷ es) {e} q = by (answersTo c x) refl (λ r. found-answers c es r) q
+  where
+    by : (t : Bool) → answersTo c x ≡ t → (firstNamed c es ≡ some e → answersTo c e ≡ true) → pick t (some x) (firstNamed c es) ≡ some e → answersTo c e ≡ true
+    by true k f q = let z : x ≡ e = cc in rw z at k
+    by false k f q = f q
+
+-- ---- ASCII case is ignored
+
+-- a component with A to Z as a to z, wherever it stands
+abbrev pub folded : Component → List ℕ
+folded c = map lower (c .bytes)
+
+both : (a b : Bool) → (a ≡ true → b ≡ true) → (b ≡ true → a ≡ true) → a ≡ b
+both true b f g = sym (f refl)
+both false true f g = g refl
+both false false f g = refl
+
+same-matched : (o : Outcome (List ℕ)) (c c′ : List ℕ) → map lower c ≡ map lower c′ → matched o c ≡ matched o c′
+same-matched (refused why) c c′ h = refl
+same-matched (answered name) c c′ h =
+    both (sameName name c) (sameName name c′)
+    (λ e. same-folded name c′ .1 (same-folded name c .0 e ∙ h))
+    (λ e. same-folded name c .1 (same-folded name c′ .0 e ∙ sym h))
+
+same-answers : (c c′ : List ℕ) → map lower c ≡ map lower c′ → (e : Entry) → answersTo c e ≡ answersTo c′ e
+unfolding answersTo isNamed
+same-answers c c′ h e = ap (λ t. pick (isSkipped (e .identifier)) false (pick (ltb 255 (length (e .recorded))) false t)) (same-matched (nameOf (e .recorded)) c c′ h)
+
+-- components that are equal once folded have the same first entry
+pub same-first : (c c′ : Component) → folded c ≡ folded c′ → (es : List Entry) → firstNamed (c .bytes) es ≡ firstNamed (c′ .bytes) es
+unfolding firstNamed
+same-first c c′ h [] = refl
+same-first c c′ h (e ∷ es) = rw (same-answers (c .bytes) (c′ .bytes) h e, same-first c c′ h es)
 
 -- ---- a listing has the records of its entries one behind the other
 

@@ -1,6 +1,6 @@
 -- The table says "given exactly when". Memory aside, a call is refused by 1 to 4 alone; so 5 is given exactly when the answer has more bytes than the
 -- output holds, 6 by a listing exactly when the directory's bytes exceed the work space, and 7 exactly when there are more extents than slots.
--- Assumes nothing.
+-- Of 1, and of 6 along a path: Missing, Overflowing. Assumes nothing.
 use mathlib.Core.Path.{_≡_, refl, ap, _∙_}
 use mathlib.Core.Bool.{Bool, true, false, not}
 use mathlib.Core.List.{List}
@@ -19,6 +19,7 @@ use Rattle.disc.specs.Replies.{replyBy}
 use Rattle.disc.specs.declared.refusals.Refusal.{Refusal}
 use Rattle.disc.specs.declared.refusals.Refusal.the-variants.{Io, Malformed, NotBluray, Unsupported, NoRoom}
 use Rattle.disc.specs.declared.replies.Reply.{Reply}
+use Rattle.disc.proofs.OnlyLaws.{Within, refuses-within}
 use Rattle.records.specs.declared.allocations.LongAd.{LongAd}
 use Rattle.areas.specs.declared.AllocExtent.{AllocExtent}
 use Rattle.volumes.specs.Openings.{opening}
@@ -29,7 +30,7 @@ use Rattle.listings.proofs.Promises.{entries-refused}
 use Rattle.vault.specs.Calls.{reading, parting, extentListing, listing, finding, pathReading, labels, reads, lists, readsPath, extents}
 use Rattle.volumes.specs.declared.openings.VolumeRecord.{VolumeRecord}
 use Rattle.vault.proofs.Orders.{entriesAnswer, listingAnswer, slotted, extents-order, list-order}
-use Rattle.vault.proofs.Refusing.{Within, refuses-within, bytes-only, part-only, list-only, opening-only, label-only, lookup-only, path-only, listing-only}
+use Rattle.vault.proofs.Refusing.{bytes-only, part-only, list-only, opening-only, label-only, lookup-only, path-only, listing-only}
 
 -- ---- memory aside, 1 to 4
 

@@ -5,4 +5,7 @@ pub mod Sectors
 pub mod Orders
 pub mod Refusing
 pub mod Exactly
+pub mod Missing
+pub mod Overflowing
 pub mod Matching
+pub mod Cues

@@ -1,5 +1,5 @@
--- Which refusals a tree of questions can come to: those of the original, 1 to 4, and 6 where a directory is read into the work space. So 5 and 7
--- are given exactly when memory is short. Assumes nothing.
+-- Which refusals the tree of each call says by itself: 2, 3 and 4, 6 where a directory is read into the work space, and 8 in a listing. So 1 is given
+-- exactly when a sector is missing, and 5 and 7 exactly when memory is short. Assumes nothing.
 use mathlib.Core.Path.{_≡_, refl, sym, subst}
 use mathlib.Core.Bool.{Bool, true, false}
 use mathlib.Core.List.{List, [], _∷_}
@@ -12,13 +12,12 @@ use Rattle.files.specs.Files.File.{embedded, chained}
 use Rattle.disc.specs.declared.places.Mount.{Mount}
 use Rattle.disc.specs.Places.{placed, icbPlaced, standing}
 use Rattle.disc.specs.Choice.{pick}
-use Rattle.disc.specs.Ask.{Disc, Held, Ask, Outcome, outcome, then, given, ended, andThen}
-use Rattle.disc.specs.Ask.Held.{holds, lacks}
-use Rattle.disc.specs.Ask.Ask.{done, refuse, ask}
+use Rattle.disc.specs.Ask.{Ask, Outcome, ended, andThen}
 use Rattle.disc.specs.Ask.Outcome.{answered, refused}
 use Rattle.disc.specs.Images.{sectors, sectorsFor}
 use Rattle.disc.specs.declared.refusals.Refusal.{Refusal}
-use Rattle.disc.specs.declared.refusals.Refusal.the-variants.{Io, Malformed, NotBluray, Unsupported, NoWork, LongName}
+use Rattle.disc.specs.declared.refusals.Refusal.the-variants.{Malformed, NotBluray, Unsupported, NoWork, LongName}
+use Rattle.disc.proofs.OnlyLaws.{Refuses, done-only, refuse-only, ask-only, pick-only, then-only, Any}
 use Rattle.records.specs.Bytes.{u16at}
 use Rattle.records.specs.declared.allocations.LongAd.{LongAd}
 use Rattle.names.proofs.Promises.{field-refused}
@@ -63,66 +62,6 @@ use Rattle.identifiers.specs.Identifiers.{isDirectory}
 use Rattle.directories.specs.Directories.{within, directoryBytes, listingAt}
 use Rattle.directories.specs.Lookups.{Sought, entering, orLost, seeking, seekPath, icbOf, lookupOf, readPathOf}
 use Rattle.directories.specs.Lookups.Sought.{reached, lost}
-
--- ---- a tree that refuses by P alone, and answers with what is Q
-
-unfoldable pub Only : {A : Type 0} → (Refusal → Type 0) → (A → Type 0) → Ask A → Type 0
-Only P Q (done a) = Q a
-Only P Q (refuse r) = P r
-Only P Q (ask s k) = (b : List ℕ) → Only P Q (k b)
-
-pub record Refuses {A : Type 0} (P : Refusal → Type 0) (Q : A → Type 0) (m : Ask A) : Type 0 where
-  pub only : Only P Q m
-
--- an outcome that is no refusal but by P
-unfoldable pub Within : {A : Type 0} → (Refusal → Type 0) → Outcome A → Type 0
-Within P (answered a) = Unit {0}
-Within P (refused r) = P r
-
-only-within : {A : Type 0} (P : Refusal → Type 0) (Q : A → Type 0) → P Io → (d : Disc) (m : Ask A) → Only P Q m → Within P (outcome d m)
-unfolding Only Within outcome
-only-within P Q io d (done a) p = tt
-only-within P Q io d (refuse r) p = p
-only-within P Q io d (ask s k) p = by (d s) (λ b. only-within P Q io d (k b) (p b))
-  where
-    by : (h : Held) → ((b : List ℕ) → Within P (outcome d (k b))) → Within P (given h (λ b. outcome d (k b)) (refused Io))
-    by (holds b) f = f b
-    by lacks f = io
-
-pub refuses-within : {A : Type 0} (P : Refusal → Type 0) {Q : A → Type 0} → P Io → (d : Disc) {m : Ask A} → Refuses P Q m → Within P (outcome d m)
-refuses-within P {Q} io d {m} p = only-within P Q io d m (p .only)
-
--- ---- the forms that trees are made of
-
-only-then : {A B : Type 0} (P : Refusal → Type 0) (Q : A → Type 0) (R : B → Type 0) (m : Ask A) (f : A → Ask B) → Only P Q m → ((a : A) → Q a → Only P R (f a)) → Only P R (then m f)
-unfolding Only then
-only-then P Q R (done a) f p q = q a p
-only-then P Q R (refuse r) f p q = p
-only-then P Q R (ask s k) f p q = λ b. only-then P Q R (k b) f (p b) q
-
-module _ {A : Type 0} {P : Refusal → Type 0} {Q : A → Type 0} where
-  done-only : {a : A} → Q a → Refuses P Q (done a)
-  unfolding Only
-  done-only q = record { only = q }
-
-  refuse-only : {r : Refusal} → P r → Refuses P Q (refuse r)
-  unfolding Only
-  refuse-only p = record { only = p }
-
-  ask-only : {s : ℕ} {k : List ℕ → Ask A} → ((b : List ℕ) → Refuses P Q (k b)) → Refuses P Q (ask s k)
-  unfolding Only
-  ask-only f = record { only = λ b. f b .only }
-
-  pick-only : (t : Bool) {m n : Ask A} → Refuses P Q m → Refuses P Q n → Refuses P Q (pick t m n)
-  pick-only true p q = p
-  pick-only false p q = q
-
-  then-only : {B : Type 0} {R : B → Type 0} {m : Ask A} {f : A → Ask B} → Refuses P Q m → ((a : A) → Q a → Refuses P R (f a)) → Refuses P R (then m f)
-  then-only {R = R} {m} {f} p q = record { only = only-then P Q R m f (p .only) (λ a h. q a h .only) }
-
--- anything
-abbrev Any : {A : Type 0} → A → Type 0
-Any a = Unit {0}
 
 -- how an area ends
 unfoldable pub EndsBy : (Refusal → Type 0) → AdEnding → Type 0

@@ -1,0 +1,93 @@
+-- Two entries of one directory whose names differ in ASCII case alone, as cue 10.1A and cue 10.1a: the listing has both, each with its ICB, by which it
+-- is read; a path with either name takes the one that stands first. Assumes nothing.
+use mathlib.Core.Path.{_≡_, refl, ap, sym, _∙_}
+use mathlib.Core.Bool.{false}
+use mathlib.Core.List.{List, [], _∷_, _++_, map, append-assoc}
+use Prim.Native.Nat.{ℕ, _≤_}
+use lib.ListN.{length, drop}
+use lib.Seq.{drop-at}
+use borrow.Author.Tests.{le-leb}
+use Rattle.disc.specs.Counts.{reported}
+use Rattle.disc.specs.Ask.Outcome.{answered}
+use Rattle.disc.specs.Images.{disc}
+use Rattle.disc.specs.Ran.{Ran, ran}
+use Rattle.disc.specs.declared.replies.Reply.{Reply}
+use Rattle.disc.proofs.ByteLaws.{Bytes}
+use Rattle.records.specs.Allocations.{longOf}
+use Rattle.records.specs.declared.allocations.LongAd.{LongAd}
+use Rattle.names.specs.Names.{lower}
+use Rattle.listings.specs.Entries.{Entry, isSkipped, nameIn, entries}
+use Rattle.listings.specs.Listings.{shown, records, listing as listingOf}
+use Rattle.listings.specs.Paths.{Component, components}
+use Rattle.listings.proofs.Promises.{NoneAnswers}
+use Rattle.listings.proofs.RecordLaws.{each-read, each-at, named-answers, shown-icb, records-joined, all-listed}
+use Rattle.directories.specs.Directories.{directoryBytes, listingAt}
+use Rattle.directories.proofs.SpaceLaws.{ran-known}
+use Rattle.directories.proofs.Promises.{directory-bytes}
+use Rattle.volumes.specs.declared.openings.VolumeRecord.{VolumeRecord}
+use Rattle.vault.specs.Calls.{listing, worked, lists, reads, finds}
+use Rattle.vault.proofs.Matching.{LeadTo, directoryRead, sectorsTo, lookup-first}
+
+-- the ICB in the record of a listing that starts at `at`
+abbrev pub icbAt : List ℕ → ℕ → LongAd
+icbAt listing at = longOf (drop at listing) 3
+
+-- where an entry's record starts behind those of others
+abbrev pub placeBehind : List Entry → ℕ
+placeBehind before = length (records before)
+
+-- a listing with room for the records of the directory at icb, whose entries are `before`, e and those behind e: the record of e stands behind
+-- those before it, and a read by the ICB in it is a read by the ICB of e
+pub record Shown (image : List ℕ) (v : VolumeRecord) (icb : LongAd) (out work : List ℕ) (before : List Entry) (e : Entry) (rest : List Entry) : Type 0 where
+  pub says : lists image v icb out work .reply ≡ record { answer = 0; count = reported (directoryRead image v work icb .count); length = length (records (before ++ e ∷ rest)) }
+  pub listing : lists image v icb out work .out ≡ records before ++ shown e ++ records rest ++ drop (length (records (before ++ e ∷ rest))) out
+  pub its : icbAt (lists image v icb out work .out) (placeBehind before) ≡ e .identifier .icb
+  pub reading : (into : List ℕ) → reads image v (icbAt (lists image v icb out work .out) (placeBehind before)) into ≡ reads image v (e .identifier .icb) into
+
+module _ (image : List ℕ) (v : VolumeRecord) (icb : LongAd) (work : List ℕ) {b : List ℕ} (r : directoryRead image v work icb .outcome ≡ answered b) (whole : Bytes image) where
+  u : Bytes b
+  u = directory-bytes image whole (v .mount) (length work) icb r
+
+  -- every entry that is listed is listed so
+  pub one-shown : (before : List Entry) (e : Entry) (rest : List Entry) → entries b ≡ answered (before ++ e ∷ rest) → isSkipped (e .identifier) ≡ false
+      → (out : List ℕ) → length (records (before ++ e ∷ rest)) ≤ length out → Shown image v icb out work before e rest
+  unfolding listingAt records
+  one-shown before e rest k s out room =
+      let all = before ++ e ∷ rest in
+      let n = directoryRead image v work icb .count in
+      let behind = drop (length (records all)) out in
+      let l : ran (disc image) (listing v (length work) icb) ≡ record { outcome = answered (records all); count = n } =
+      ran-known (disc image) (directoryBytes (v .mount) (length work) icb) listingOf ∙ rw (r, all-listed b u k) in
+      let says : lists image v icb out work .reply ≡ record { answer = 0; count = reported n; length = length (records all) } = rw (l, le-leb _ _ room) in
+      let is : lists image v icb out work .out ≡ records before ++ shown e ++ records rest ++ drop (length (records all)) out =
+      rw (l, le-leb _ _ room) (ap (λ x. x ++ behind) (records-joined before (e ∷ rest) ∙ sym (append-assoc (records before) (shown e) (records rest)))) in
+      let its : icbAt (lists image v icb out work .out) (placeBehind before) ≡ e .identifier .icb =
+      ap (λ x. icbAt x (placeBehind before)) (is ∙ append-assoc (records before ++ shown e) (records rest) behind ∙ append-assoc (records before) (shown e) (records rest ++ behind))
+      ∙ ap (λ x. longOf x 3) (drop-at (records before) (shown e ++ (records rest ++ behind)) (length (records before)) refl)
+      ∙ shown-icb (each-at before e rest (each-read b u k)) s (records rest ++ behind) in
+      record { says = says; listing = is; its = its; reading = λ into. ap (λ i. reads image v i into) its }
+
+  module _ (before : List Entry) (e : Entry) (between : List Entry) (f : Entry) (rest : List Entry) (k : entries b ≡ answered (before ++ e ∷ between ++ f ∷ rest))
+      (se : isSkipped (e .identifier) ≡ false) (sf : isSkipped (f .identifier) ≡ false) (alike : map lower (nameIn e) ≡ map lower (nameIn f)) where
+    j : before ++ e ∷ between ++ f ∷ rest ≡ before ++ e ∷ (between ++ f ∷ rest)
+    j = append-assoc before (e ∷ between) (f ∷ rest)
+
+    k′ : entries b ≡ answered (before ++ e ∷ (between ++ f ∷ rest))
+    k′ = rw j at k
+
+    -- the listing shows both
+    pub two-cues : (out : List ℕ) → length (records (before ++ e ∷ between ++ f ∷ rest)) ≤ length out
+        → Shown image v icb out work before e (between ++ f ∷ rest) × Shown image v icb out work (before ++ e ∷ between) f rest
+    two-cues out room =
+        (one-shown before e (between ++ f ∷ rest) k′ se out (rw j at room), one-shown (before ++ e ∷ between) f rest k sf out room)
+
+    -- a path with the name of either takes e, if nothing before it answers
+    module _ (path : List ℕ) (cs : List Component) (c : Component) (p : components path ≡ cs ++ c ∷ []) (l : LeadTo image v work cs icb) (n : NoneAnswers (c .bytes) before) where
+      takes-first : map lower (nameIn e) ≡ map lower (c .bytes) → finds image v path work .found ≡ record { answer = 0; count = reported (sectorsTo image v work cs icb); icb = e .identifier .icb }
+      takes-first h = lookup-first image v path work cs c p icb l r before e (between ++ f ∷ rest) k′ n (named-answers (each-at before e (between ++ f ∷ rest) (each-read b u k′)) se (c .bytes) h)
+
+      pub first-cue : c .bytes ≡ nameIn e → finds image v path work .found ≡ record { answer = 0; count = reported (sectorsTo image v work cs icb); icb = e .identifier .icb }
+      first-cue h = takes-first (rw h)
+
+      pub other-cue : c .bytes ≡ nameIn f → finds image v path work .found ≡ record { answer = 0; count = reported (sectorsTo image v work cs icb); icb = e .identifier .icb }
+      other-cue h = takes-first (rw (alike, h))

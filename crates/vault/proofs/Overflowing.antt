@@ -1,0 +1,125 @@
+-- 6 of the calls that take a path: given exactly when components of the path lead to a directory in which the next one is to be found, and the
+-- directory reads, without another refusal, as more bytes than the work space has. Those before it fit, for they were walked. Assumes nothing.
+use mathlib.Core.Path.{_≡_, refl, ap, sym, _∙_}
+use mathlib.Core.Bool.{Bool, true, false}
+use mathlib.Core.List.{List, []}
+use Prim.Native.Nat.{ℕ, _+_, _≤_}
+use native.Mathlib.Omega.{arith}
+use lib.ListN.{length}
+use lib.Dec.{leb}
+use Rattle.disc.specs.Choice.{pick}
+use Rattle.disc.specs.Refusals.{number}
+use Rattle.disc.specs.Counts.{reported}
+use Rattle.disc.specs.Ask.{Outcome, outcome, andThen}
+use Rattle.disc.specs.Ask.Outcome.{answered, refused}
+use Rattle.disc.specs.Images.{disc}
+use Rattle.disc.specs.Ran.{Ran, ran, followed}
+use Rattle.disc.specs.Replies.{answerOf}
+use Rattle.disc.specs.declared.refusals.Refusal.{Refusal}
+use Rattle.disc.specs.declared.refusals.Refusal.the-variants.{Io, Malformed, NotBluray, Unsupported, NoRoom, NoWork, NoSlot, LongName}
+use Rattle.disc.proofs.OnlyLaws.{Within}
+use Rattle.disc.proofs.RanLaws.{ran-then}
+use Rattle.records.specs.Allocations.{noLong}
+use Rattle.records.specs.declared.allocations.LongAd.{LongAd}
+use Rattle.listings.specs.Paths.{components}
+use Rattle.directories.specs.Lookups.{Sought, seeking, seekPath, icbOf, lookupOf, readPathOf}
+use Rattle.directories.specs.Lookups.Sought.{reached, lost}
+use Rattle.directories.proofs.LookupLaws.{look-is}
+use Rattle.directories.proofs.PathLaws.{Overflows, overflows-refused, refused-overflows}
+use Rattle.volumes.specs.declared.openings.VolumeRecord.{VolumeRecord}
+use Rattle.vault.specs.Calls.{reading, finding, pathReading, cleared, worked, readsPath, looked, finds, lost as lostBy, fails, lostPlace, failsAt}
+use Rattle.vault.proofs.Exactly.{read-original}
+use Rattle.vault.proofs.Orders.{roomed, pathAnswer, read-path-order}
+use Rattle.vault.proofs.Soundness.{failed-sound}
+
+-- a directory along the path exceeds the work space
+abbrev pub Exceeds : List ℕ → VolumeRecord → List ℕ → List ℕ → Type 0
+Exceeds image v path work = Overflows (disc image) (v .mount) (length work) (components path) (v .root)
+
+-- ---- which refusal has number 6
+
+six-is : (why : Refusal) → number why ≡ 6 → why ≡ NoWork
+six-is Io e = absurd (omega arith)
+six-is Malformed e = absurd (omega arith)
+six-is NotBluray e = absurd (omega arith)
+six-is Unsupported e = absurd (omega arith)
+six-is NoRoom e = absurd (omega arith)
+six-is NoWork e = refl
+six-is NoSlot e = absurd (omega arith)
+six-is LongName e = absurd (omega arith)
+
+six-walk : (o : Outcome Sought) → answerOf (andThen o icbOf) ≡ 6 → o ≡ refused NoWork
+six-walk (answered (reached icb)) e = absurd (omega arith)
+six-walk (answered (lost c)) e = absurd (omega arith)
+six-walk (refused why) e = ap refused (six-is why e)
+
+-- a read that needs no work space isn't refused so
+module _ (image : List ℕ) (v : VolumeRecord) where
+  never-six : (icb : LongAd) → ran (disc image) (reading v icb) .outcome ≡ refused NoWork → ⊥
+  unfolding ran Within
+  never-six icb h = by (outcome (disc image) (reading v icb)) h (read-original (disc image) v icb)
+    where
+      by : (o : Outcome (List ℕ)) → o ≡ refused NoWork → Within (λ why. number why ≤ 4) o → ⊥
+      by (answered b) h w = let z : _≡_ {A = ℕ} 0 1 = cc in omega arith
+      by (refused why) h w = let z : why ≡ NoWork = cc in let y = rw z at w in omega arith
+
+  module _ (path work : List ℕ) where
+    -- ---- 6 only then
+
+    pub lookup-6 : finds image v path work .found .answer ≡ 6 → Exceeds image v path work
+    unfolding seekPath
+    lookup-6 h =
+        refused-overflows (disc image) (v .mount) (length work) never-six (components path) (v .root)
+        (six-walk _ (sym (ap (λ (r : Ran LongAd). answerOf (r .outcome)) (look-is (disc image) (v .mount) (length work) (v .root) path)) ∙ h))
+
+    pub failed-6 : fails image v path work .answer ≡ 6 → Exceeds image v path work
+    failed-6 h = lookup-6 (sym (failed-sound image v path work .0) ∙ h)
+
+    pub failed-at-6 : failsAt image v path work .reply .answer ≡ 6 → Exceeds image v path work
+    failed-at-6 h = failed-6 h
+
+    pub read-path-6 : (out : List ℕ) → readsPath image v path out work .reply .answer ≡ 6 → Exceeds image v path work
+    unfolding ran Within
+    read-path-6 out h =
+        lookup-6 (by (outcome (disc image) (finding v (length work) path)) (sym (read-path-order image v path out work) ∙ h))
+      where
+        room : (o : Outcome (List ℕ)) → Within (λ why. number why ≤ 4) o → roomed (length out) o ≡ 6 → ⊥
+        room (refused why) w k = omega arith
+        room (answered b) w k = fits (leb (length b) (length out)) k
+          where
+            fits : (t : Bool) → _≡_ {A = ℕ} (pick t 0 5) 6 → ⊥
+            fits true k = omega arith
+            fits false k = omega arith
+
+        by : (o : Outcome LongAd) → pathAnswer (length out) o (λ icb. outcome (disc image) (reading v icb)) ≡ 6 → answerOf o ≡ 6
+        by (refused why) k = k
+        by (answered icb) k = absurd (room (outcome (disc image) (reading v icb)) (read-original (disc image) v icb) k)
+
+    -- ---- and always then, after the sectors of the way to the directory and of its read; all else is as a refusal has it
+
+    module _ (o : Exceeds image v path work) where
+      abbrev pub sectorsOf : ℕ
+      sectorsOf = ran (disc image) (seeking (v .mount) (length work) (o .before) (v .root) true) .count + ran (disc image) (reading v (o .directory)) .count
+
+      walked : ran (disc image) (seekPath (v .mount) (length work) (v .root) path) ≡ record { outcome = refused NoWork; count = sectorsOf }
+      unfolding seekPath
+      walked = overflows-refused (disc image) (v .mount) (length work) (components path) (v .root) o
+
+      looked-up : ran (disc image) (finding v (length work) path) ≡ record { outcome = refused NoWork; count = sectorsOf }
+      looked-up = look-is (disc image) (v .mount) (length work) (v .root) path ∙ rw walked
+
+      pub exceeds-lookup : finds image v path work ≡ record { found = record { answer = 6; count = reported sectorsOf; icb = noLong }; work = cleared work }
+      exceeds-lookup = ap (looked work) looked-up
+
+      pub exceeds-failed : fails image v path work ≡ record { component = []; answer = 6; count = reported sectorsOf; work = cleared work }
+      exceeds-failed = ap (lostBy work) walked
+
+      pub exceeds-failed-at : failsAt image v path work ≡ record { reply = record { answer = 6; count = reported sectorsOf; length = 0 }; at = 0; work = cleared work }
+      exceeds-failed-at = ap (lostPlace work) walked
+
+      pub exceeds-read-path : (out : List ℕ) → readsPath image v path out work ≡ record { reply = record { answer = 6; count = reported sectorsOf; length = 0 }; out = out; work = cleared work }
+      unfolding readPathOf
+      exceeds-read-path out =
+          let g : ran (disc image) (pathReading v (length work) path) ≡ record { outcome = refused NoWork; count = sectorsOf } =
+          ran-then (disc image) (finding v (length work) path) (λ icb. reading v icb) ∙ rw looked-up in
+          ap (worked out work) g
