@@ -1,5 +1,5 @@
 -- A file's bytes are bytes where the image's are. Assumes nothing.
-use mathlib.Core.Path.{_≡_, refl, sym, ap, _∙_}
+use mathlib.Core.Path.{_≡_, refl}
 use mathlib.Core.Bool.{Bool, true, false}
 use mathlib.Core.List.{List, [], _∷_, _++_}
 use mathlib.Core.Option.{Option, none, some}
@@ -13,7 +13,7 @@ use mir.Facts.{fits-lit}
 use Rattle.disc.specs.declared.places.Mount.{Mount}
 use Rattle.disc.specs.Choice.{pick}
 use Rattle.disc.specs.Places.{placed, icbPlaced, standing}
-use Rattle.disc.specs.Ask.{Disc, Held, Ask, Outcome, outcome, then, given}
+use Rattle.disc.specs.Ask.{Disc, Held, Ask, outcome, then, given}
 use Rattle.disc.specs.Ask.Held.{holds, lacks}
 use Rattle.disc.specs.Ask.Ask.{done, refuse, ask}
 use Rattle.disc.specs.Ask.Outcome.{answered, refused}

@@ -5,7 +5,7 @@ use mathlib.Core.List.{List, [], _∷_, _++_, map, append-assoc}
 use mathlib.Core.Option.{some}
 use Prim.Native.Nat.{ℕ, zero, suc, _-_, _≤_}
 use native.Mathlib.Omega.{arith}
-use lib.ListN.{length, take, drop, length-take}
+use lib.ListN.{length, length-take}
 use lib.Dec.{ltb}
 use borrow.Author.Tests.{le-ltb}
 use Rattle.disc.specs.Choice.{pick}
@@ -13,16 +13,14 @@ use Rattle.disc.specs.Ask.{Outcome, andThen}
 use Rattle.disc.specs.Ask.Outcome.{answered, refused}
 use Rattle.disc.proofs.ByteLaws.{Bytes}
 use Rattle.disc.proofs.RanLaws.{never}
-use Rattle.records.specs.Bytes.{byte}
-use Rattle.records.specs.Allocations.{longOf, encodeLong}
+use Rattle.records.specs.Allocations.{longOf}
 use Rattle.names.specs.Names.{nameOf, written, sizeOf, lower, sameName, matched, isNamed}
 use Rattle.names.specs.declared.dstrings.NameSize.the-variants.{Size}
 use Rattle.names.proofs.Promises.{same-folded}
-use Rattle.identifiers.specs.Identifiers.{recordedName, nameAt, nextAt}
+use Rattle.identifiers.specs.Identifiers.{recordedName, nextAt}
 use Rattle.listings.specs.Entries.{Entry, entryRead, inFront, isSkipped, nameIn, entriesFrom, entries}
 use Rattle.listings.specs.Listings.{recordHead, shown, records, isLong, anyLong, listing, answersTo, firstNamed}
 use Rattle.listings.specs.Paths.{Component}
-use Rattle.listings.specs.inner.Passes.{icbIn}
 use Rattle.listings.proofs.EntryLaws.{Known, known, long-is, icb-recorded}
 
 -- ---- every entry of a directory stands at the front of some bytes

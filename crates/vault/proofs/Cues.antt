@@ -3,6 +3,7 @@
 use mathlib.Core.Path.{_≡_, refl, ap, sym, _∙_}
 use mathlib.Core.Bool.{false}
 use mathlib.Core.List.{List, [], _∷_, _++_, map, append-assoc}
+use mathlib.Core.Logic.{_⊎_, inl, inr}
 use Prim.Native.Nat.{ℕ, _≤_}
 use lib.ListN.{length, drop}
 use lib.Seq.{drop-at}
@@ -10,8 +11,7 @@ use borrow.Author.Tests.{le-leb}
 use Rattle.disc.specs.Counts.{reported}
 use Rattle.disc.specs.Ask.Outcome.{answered}
 use Rattle.disc.specs.Images.{disc}
-use Rattle.disc.specs.Ran.{Ran, ran}
-use Rattle.disc.specs.declared.replies.Reply.{Reply}
+use Rattle.disc.specs.Ran.{ran}
 use Rattle.disc.proofs.ByteLaws.{Bytes}
 use Rattle.records.specs.Allocations.{longOf}
 use Rattle.records.specs.declared.allocations.LongAd.{LongAd}
@@ -25,7 +25,7 @@ use Rattle.directories.specs.Directories.{directoryBytes, listingAt}
 use Rattle.directories.proofs.SpaceLaws.{ran-known}
 use Rattle.directories.proofs.Promises.{directory-bytes}
 use Rattle.volumes.specs.declared.openings.VolumeRecord.{VolumeRecord}
-use Rattle.vault.specs.Calls.{listing, worked, lists, reads, finds}
+use Rattle.vault.specs.Calls.{listing, lists, reads, finds}
 use Rattle.vault.proofs.Matching.{LeadTo, directoryRead, sectorsTo, lookup-first}
 
 -- the ICB in the record of a listing that starts at `at`
@@ -43,6 +43,15 @@ pub record Shown (image : List ℕ) (v : VolumeRecord) (icb : LongAd) (out work 
   pub listing : lists image v icb out work .out ≡ records before ++ shown e ++ records rest ++ drop (length (records (before ++ e ∷ rest))) out
   pub its : icbAt (lists image v icb out work .out) (placeBehind before) ≡ e .identifier .icb
   pub reading : (into : List ℕ) → reads image v (icbAt (lists image v icb out work .out) (placeBehind before)) into ≡ reads image v (e .identifier .icb) into
+
+-- e and, behind it, f: the listing has both, and a path whose last component is the name of either, in this directory, takes e, if nothing before e
+-- answers to it
+pub record Cues (image : List ℕ) (v : VolumeRecord) (icb : LongAd) (out work : List ℕ) (before : List Entry) (e : Entry) (between : List Entry) (f : Entry) (rest : List Entry) : Type 0 where
+  pub first : Shown image v icb out work before e (between ++ f ∷ rest)
+  pub other : Shown image v icb out work (before ++ e ∷ between) f rest
+  pub either : (path : List ℕ) (cs : List Component) (c : Component) → components path ≡ cs ++ c ∷ [] → LeadTo image v work cs icb
+      → (c .bytes ≡ nameIn e) ⊎ (c .bytes ≡ nameIn f) → NoneAnswers (c .bytes) before
+      → finds image v path work .found ≡ record { answer = 0; count = reported (sectorsTo image v work cs icb); icb = e .identifier .icb }
 
 module _ (image : List ℕ) (v : VolumeRecord) (icb : LongAd) (work : List ℕ) {b : List ℕ} (r : directoryRead image v work icb .outcome ≡ answered b) (whole : Bytes image) where
   u : Bytes b
@@ -67,27 +76,20 @@ module _ (image : List ℕ) (v : VolumeRecord) (icb : LongAd) (work : List ℕ) 
       ∙ shown-icb (each-at before e rest (each-read b u k)) s (records rest ++ behind) in
       record { says = says; listing = is; its = its; reading = λ into. ap (λ i. reads image v i into) its }
 
-  module _ (before : List Entry) (e : Entry) (between : List Entry) (f : Entry) (rest : List Entry) (k : entries b ≡ answered (before ++ e ∷ between ++ f ∷ rest))
-      (se : isSkipped (e .identifier) ≡ false) (sf : isSkipped (f .identifier) ≡ false) (alike : map lower (nameIn e) ≡ map lower (nameIn f)) where
-    j : before ++ e ∷ between ++ f ∷ rest ≡ before ++ e ∷ (between ++ f ∷ rest)
-    j = append-assoc before (e ∷ between) (f ∷ rest)
-
-    k′ : entries b ≡ answered (before ++ e ∷ (between ++ f ∷ rest))
-    k′ = rw j at k
-
-    -- the listing shows both
-    pub two-cues : (out : List ℕ) → length (records (before ++ e ∷ between ++ f ∷ rest)) ≤ length out
-        → Shown image v icb out work before e (between ++ f ∷ rest) × Shown image v icb out work (before ++ e ∷ between) f rest
-    two-cues out room =
-        (one-shown before e (between ++ f ∷ rest) k′ se out (rw j at room), one-shown (before ++ e ∷ between) f rest k sf out room)
-
-    -- a path with the name of either takes e, if nothing before it answers
-    module _ (path : List ℕ) (cs : List Component) (c : Component) (p : components path ≡ cs ++ c ∷ []) (l : LeadTo image v work cs icb) (n : NoneAnswers (c .bytes) before) where
-      takes-first : map lower (nameIn e) ≡ map lower (c .bytes) → finds image v path work .found ≡ record { answer = 0; count = reported (sectorsTo image v work cs icb); icb = e .identifier .icb }
-      takes-first h = lookup-first image v path work cs c p icb l r before e (between ++ f ∷ rest) k′ n (named-answers (each-at before e (between ++ f ∷ rest) (each-read b u k′)) se (c .bytes) h)
-
-      pub first-cue : c .bytes ≡ nameIn e → finds image v path work .found ≡ record { answer = 0; count = reported (sectorsTo image v work cs icb); icb = e .identifier .icb }
-      first-cue h = takes-first (rw h)
-
-      pub other-cue : c .bytes ≡ nameIn f → finds image v path work .found ≡ record { answer = 0; count = reported (sectorsTo image v work cs icb); icb = e .identifier .icb }
-      other-cue h = takes-first (rw (alike, h))
+  -- two entries of one name, case aside
+  pub two-cues : (before : List Entry) (e : Entry) (between : List Entry) (f : Entry) (rest : List Entry) → entries b ≡ answered (before ++ e ∷ between ++ f ∷ rest)
+      → isSkipped (e .identifier) ≡ false → isSkipped (f .identifier) ≡ false → map lower (nameIn e) ≡ map lower (nameIn f)
+      → (out : List ℕ) → length (records (before ++ e ∷ between ++ f ∷ rest)) ≤ length out → Cues image v icb out work before e between f rest
+  two-cues before e between f rest k se sf alike out room =
+      let j : before ++ e ∷ between ++ f ∷ rest ≡ before ++ e ∷ (between ++ f ∷ rest) = append-assoc before (e ∷ between) (f ∷ rest) in
+      let k′ : entries b ≡ answered (before ++ e ∷ (between ++ f ∷ rest)) = rw j at k in
+      let w = each-at before e (between ++ f ∷ rest) (each-read b u k′) in
+      record {
+        first = one-shown before e (between ++ f ∷ rest) k′ se out (rw j at room);
+        other = one-shown (before ++ e ∷ between) f rest k sf out room;
+        either = λ path cs c p l h n. lookup-first image v path work cs c p icb l r before e (between ++ f ∷ rest) k′ n (named-answers w se (c .bytes) (named alike h));
+      }
+    where
+      named : {c e f : List ℕ} → map lower e ≡ map lower f → (c ≡ e) ⊎ (c ≡ f) → map lower e ≡ map lower c
+      named alike (inl h) = rw h
+      named alike (inr h) = rw (alike, h)

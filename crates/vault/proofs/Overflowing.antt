@@ -13,7 +13,7 @@ use Rattle.disc.specs.Counts.{reported}
 use Rattle.disc.specs.Ask.{Outcome, outcome, andThen}
 use Rattle.disc.specs.Ask.Outcome.{answered, refused}
 use Rattle.disc.specs.Images.{disc}
-use Rattle.disc.specs.Ran.{Ran, ran, followed}
+use Rattle.disc.specs.Ran.{Ran, ran}
 use Rattle.disc.specs.Replies.{answerOf}
 use Rattle.disc.specs.declared.refusals.Refusal.{Refusal}
 use Rattle.disc.specs.declared.refusals.Refusal.the-variants.{Io, Malformed, NotBluray, Unsupported, NoRoom, NoWork, NoSlot, LongName}
@@ -22,7 +22,7 @@ use Rattle.disc.proofs.RanLaws.{ran-then}
 use Rattle.records.specs.Allocations.{noLong}
 use Rattle.records.specs.declared.allocations.LongAd.{LongAd}
 use Rattle.listings.specs.Paths.{components}
-use Rattle.directories.specs.Lookups.{Sought, seeking, seekPath, icbOf, lookupOf, readPathOf}
+use Rattle.directories.specs.Lookups.{Sought, seeking, seekPath, icbOf, readPathOf}
 use Rattle.directories.specs.Lookups.Sought.{reached, lost}
 use Rattle.directories.proofs.LookupLaws.{look-is}
 use Rattle.directories.proofs.PathLaws.{Overflows, overflows-refused, refused-overflows}
