@@ -1,4 +1,4 @@
--- Laws of directories: one read into the work space, its listing, the walk along a path, and what is asked of a path.
+-- Laws of directories: one read into the work space, its listing, the walk along a path, what is asked of a path, and where its components lead.
 pub mod PlaceLaws
 pub mod SpaceLaws
 pub mod ListLaws
@@ -6,4 +6,5 @@ pub mod WalkLaws
 pub mod LookupLaws
 pub mod Promises
 pub mod PathLaws
+pub mod OverflowLaws
 pub mod CaseLaws

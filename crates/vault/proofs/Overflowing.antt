@@ -25,7 +25,7 @@ use Rattle.listings.specs.Paths.{components}
 use Rattle.directories.specs.Lookups.{Sought, seeking, seekPath, icbOf, readPathOf}
 use Rattle.directories.specs.Lookups.Sought.{reached, lost}
 use Rattle.directories.proofs.LookupLaws.{look-is}
-use Rattle.directories.proofs.PathLaws.{Overflows, overflows-refused, refused-overflows}
+use Rattle.directories.proofs.OverflowLaws.{Overflows, overflows-refused, refused-overflows}
 use Rattle.volumes.specs.declared.openings.VolumeRecord.{VolumeRecord}
 use Rattle.vault.specs.Calls.{reading, finding, pathReading, cleared, worked, readsPath, looked, finds, lost as lostBy, fails, lostPlace, failsAt}
 use Rattle.vault.proofs.Exactly.{read-original}
