@@ -50,7 +50,7 @@ refuses-within P {Q} io d {m} p = only-within P Q io d m (p .only)
 
 -- ---- the forms that trees are made of
 
-only-then : {A B : Type 0} (P : Refusal → Type 0) (Q : A → Type 0) (R : B → Type 0) (m : Ask A) (f : A → Ask B) → Only P Q m → ((a : A) → Q a → Only P R (f a)) → Only P R (then m f)
+pub only-then : {A B : Type 0} (P : Refusal → Type 0) (Q : A → Type 0) (R : B → Type 0) (m : Ask A) (f : A → Ask B) → Only P Q m → ((a : A) → Q a → Only P R (f a)) → Only P R (then m f)
 unfolding Only then
 only-then P Q R (done a) f p q = q a p
 only-then P Q R (refuse r) f p q = p

@@ -14,6 +14,7 @@ use Rattle.disc.specs.Ask.Outcome.{answered, refused}
 use Rattle.disc.specs.Places.{standing}
 use Rattle.disc.specs.declared.refusals.Refusal.{Refusal}
 use Rattle.disc.specs.declared.refusals.Refusal.the-variants.{Io, NotBluray, Unsupported}
+use Rattle.disc.proofs.OnlyLaws.{Only, only-then}
 use Rattle.records.specs.Bytes.{u16at}
 use Rattle.names.specs.Names.{nameOf, nameOfField}
 use Rattle.descriptors.specs.Volumes.{readAnchor, readPartition, readPrimary, readLogical}
@@ -35,16 +36,8 @@ use Rattle.volumes.specs.Openings.{fileSetIn, volumeIn, mounting, anchor
 
 -- ---- a tree that answers with nothing but what is Q
 
-unfoldable pub Answers : {A : Type 0} → (A → Type 0) → Ask A → Type 0
-Answers Q (done a) = Q a
-Answers Q (refuse r) = Unit {0}
-Answers Q (ask s k) = (b : List ℕ) → Answers Q (k b)
-
-answers-then : {A B : Type 0} (Q : A → Type 0) (R : B → Type 0) (m : Ask A) (f : A → Ask B) → Answers Q m → ((a : A) → Q a → Answers R (f a)) → Answers R (then m f)
-unfolding Answers then
-answers-then Q R (done a) f p q = q a p
-answers-then Q R (refuse r) f p q = tt
-answers-then Q R (ask s k) f p q = λ b. answers-then Q R (k b) f (p b) q
+abbrev pub Answers : {A : Type 0} → (A → Type 0) → Ask A → Type 0
+Answers Q m = Only (λ why. Unit {0}) Q m
 
 pub record IsAnswered {A : Type 0} (o : Outcome A) : Type 0 where
   pub value : A
@@ -53,7 +46,7 @@ pub record IsAnswered {A : Type 0} (o : Outcome A) : Type 0 where
 -- what follows without a question, and refuses nothing, refuses as what it follows
 pub refused-before : {A B : Type 0} (d : Disc) (m : Ask A) (f : A → Outcome B) {r : Refusal} → Answers (λ a. IsAnswered (f a)) m
     → outcome d (then m (λ a. ended (f a))) ≡ refused r → outcome d m ≡ refused r
-unfolding Answers then outcome
+unfolding Only then outcome
 refused-before d (done a) f p e = absurd (let h = rw (p .is) at e in let z : _≡_ {A = ℕ} 0 1 = cc in omega arith)
 refused-before d (refuse q) f {r} p e = let z : q ≡ r = cc in rw z
 refused-before {A} {B} d (ask s k) f {r} p e = by (d s) (λ b. refused-before d (k b) f (p b)) e
@@ -120,12 +113,12 @@ says-labelled b {p} = by (eqb (u16at b 0) 1) (eqb (u16at b 0) 5) (eqb (u16at b 0
     by false false false false e = absurd (let z : _≡_ {A = ℕ} 0 1 = cc in omega arith)
 
 scan-labelled : (n at : ℕ) → Answers AllLabelled (scan n at)
-unfolding Answers scan AllLabelled
+unfolding Only scan AllLabelled
 scan-labelled zero at = tt
 scan-labelled (suc n) at = λ b. by b (saysIn b) refl (scan-labelled n (at + 1))
   where
     by : (b : List ℕ) (x : Says) → saysIn b ≡ x → Answers AllLabelled (scan n (at + 1)) → Answers AllLabelled (goOn x (scan n (at + 1)))
-    by b (found p) e h = answers-then AllLabelled AllLabelled (scan n (at + 1)) (λ ps. done (p ∷ ps)) h (λ ps l. (says-labelled b e, l))
+    by b (found p) e h = only-then (λ why. Unit {0}) AllLabelled AllLabelled (scan n (at + 1)) (λ ps. done (p ∷ ps)) h (λ ps l. (says-labelled b e, l))
     by b passed e h = h
     by b over e h = tt
     by b (fails r) e h = tt
@@ -136,7 +129,7 @@ abbrev pub Titled : VolumeRecord → Type 0
 Titled v = Named (v .label)
 
 mounting-named : (k : Kept) → Named (k .label) → Answers Titled (mounting k)
-unfolding Answers mounting
+unfolding Only mounting
 mounting-named k h = by (k .«has_primary») (k .«has_partition») (k .«has_logical») (eqb (k .«block_size») 2048)
   where
     set : (x : Outcome FileSetDescriptor) → Answers Titled (ended (volumeIn k x))
@@ -155,11 +148,11 @@ mounting-named k h = by (k .«has_primary») (k .«has_partition») (k .«has_lo
     by false u v w = tt
 
 pub opening-named : Answers Titled opening
-unfolding Answers opening
+unfolding Only opening
 opening-named = λ b. by (readAnchor b)
   where
     by : (x : AnchorRead) → Answers Titled (anchored x)
     by (NoAnchor r) = tt
     by (AnAnchor a) =
-        answers-then AllLabelled Titled (scan _ _) (λ ps. mounting (keptOf nothing ps)) (scan-labelled _ _)
+        only-then (λ why. Unit {0}) AllLabelled Titled (scan _ _) (λ ps. mounting (keptOf nothing ps)) (scan-labelled _ _)
         (λ ps l. mounting-named (keptOf nothing ps) (kept-named nothing ps nothing-named l))
