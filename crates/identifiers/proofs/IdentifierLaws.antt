@@ -4,13 +4,9 @@ use mathlib.Core.Bool.{Bool, true, false}
 use mathlib.Core.List.{List}
 use Prim.Native.Nat.{ℕ, _+_, _-_, _*_, _/_, _≤_, _<_}
 use native.Mathlib.Omega.{arith}
-use lib.ListN.{length, getD, take, drop, length-take, List·getD-eq-default}
-use lib.Seq.{getD-take, getD-drop}
+use lib.ListN.{length, take, drop, length-take}
 use lib.Dec.{ltb}
-use mir.Syntax.{w8}
-use mir.Val.{Fits}
-use mir.Facts.{fits-lit}
-use borrow.Author.Tests.{lt-ltb, le-ltb, ltb-true, ltb-false}
+use borrow.Author.Tests.{lt-ltb, le-ltb, ltb-false}
 use Rattle.disc.specs.Choice.{pick}
 use Rattle.disc.specs.Ask.{Outcome}
 use Rattle.disc.specs.Ask.Outcome.{answered, refused}
@@ -26,7 +22,7 @@ use Rattle.tags.specs.declared.TagRead.the-variants.{Read as ATag, Refused as N
 use Rattle.names.specs.Names.{nameOf, written, sizeOf}
 use Rattle.names.specs.declared.dstrings.NameSize.{NameSize}
 use Rattle.names.specs.declared.dstrings.NameSize.the-variants.{Size, Refused as NoName}
-use Rattle.disc.proofs.ByteLaws.{Bytes}
+use Rattle.disc.proofs.ByteLaws.{Bytes, bytes-taken, bytes-dropped}
 use Rattle.names.proofs.Promises.{name-short, name-refused}
 use Rattle.identifiers.specs.declared.FileIdentifierDescriptor.{FileIdentifierDescriptor}
 use Rattle.identifiers.specs.declared.IdentifierRead.{IdentifierRead}
@@ -87,16 +83,6 @@ module _ (s : List ℕ) where
 
 -- ---- what was read
 
--- a part of bytes is bytes
-part-bytes : (s : List ℕ) (n m : ℕ) → Bytes s → Bytes (take n (drop m s))
-part-bytes s n m b i = told (ltb i n) refl
-  where
-    told : (x : Bool) → ltb i n ≡ x → Fits w8 (getD (take n (drop m s)) i 0)
-    told true e = rw (getD-take n (drop m s) i 0 (ltb-true i n e), getD-drop m s i 0) (b (m + i))
-    told false e =
-        let l : length (take n (drop m s)) ≤ i = rw length-take (omega (arith, ltb-false i n e)) in
-        rw (List·getD-eq-default (take n (drop m s)) 0 l) (fits-lit tt)
-
 sized-is : (o : Outcome (List ℕ)) {n : ℕ} → sizeOf o ≡ Size n → n ≡ length (written o)
 sized-is (refused why) e = absurd (let z : _≡_ {A = ℕ} 0 1 = cc in omega arith)
 sized-is (answered name) e = cc
@@ -110,7 +96,7 @@ module _ (s : List ℕ) (b : Bytes s) {f : FileIdentifierDescriptor} where
       let i : identifierOf s t (nameAt s) (byte s 19) n ≡ f = cc in
       let name : List ℕ = take (byte s 19) (drop (nameAt s) s) in
       let size : n ≡ length (written (nameOf name)) = sized-is (nameOf name) z in
-      let least : length (written (nameOf name)) ≤ 2 * (length name - 1) = name-short name (part-bytes s (byte s 19) (nameAt s) b) in
+      let least : length (written (nameOf name)) ≤ 2 * (length name - 1) = name-short name (bytes-taken (byte s 19) (drop (nameAt s) s) (bytes-dropped (nameAt s) s b)) in
       let long : length name ≤ byte s 19 = rw length-take (omega arith) in
       let few : byte s 19 < 256 = b 19 .fits in
       rw (← i)
