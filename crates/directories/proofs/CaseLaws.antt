@@ -9,7 +9,7 @@ use Rattle.disc.specs.declared.places.Mount.{Mount}
 use Rattle.disc.specs.Ask.{Disc, Outcome, andThen}
 use Rattle.disc.specs.Ask.Outcome.{answered, refused}
 use Rattle.disc.specs.Ran.{Ran, ran, onward}
-use Rattle.disc.proofs.RanLaws.{ran-done, ran-then}
+use Rattle.disc.proofs.RanLaws.{ran-done}
 use Rattle.records.specs.declared.allocations.LongAd.{LongAd}
 use Rattle.identifiers.specs.Identifiers.{isDirectory}
 use Rattle.listings.specs.Entries.{Entry, entries}
@@ -17,9 +17,10 @@ use Rattle.listings.specs.Listings.{firstNamed, findIn}
 use Rattle.listings.specs.Paths.{Component, components}
 use Rattle.listings.proofs.RecordLaws.{folded, same-first}
 use Rattle.directories.specs.Directories.{directoryBytes}
-use Rattle.directories.specs.Lookups.{Sought, entering, orLost, seeking, seekPath, icbOf, lookupOf}
+use Rattle.directories.specs.Lookups.{Sought, entering, seeking, seekPath, icbOf, lookupOf}
 use Rattle.directories.proofs.SpaceLaws.{ran-known}
 use Rattle.directories.proofs.LookupLaws.{look-is}
+use Rattle.directories.proofs.PathLaws.{walk, on, walk-is}
 
 same-entering : (d : Disc) (v : Mount) (work : ℕ) (icb : LongAd) (c c′ : Component) → folded c ≡ folded c′ → ran d (entering v work icb (c .bytes)) ≡ ran d (entering v work icb (c′ .bytes))
 unfolding entering findIn
@@ -50,19 +51,13 @@ alike-onward (answered x) n f f′ h = record { to = h x .to; sectors = ap (λ m
 alike-onward (refused why) n f f′ h = record { to = refl; sectors = refl }
 
 module _ (d : Disc) (v : Mount) (work : ℕ) where
-  walk : List Component → LongAd → Bool → Ran Sought
-  walk cs icb directory = ran d (seeking v work cs icb directory)
-
-  on : List Component → Component → Option Entry → Ran Sought
-  on cs c o = ran d (orLost c o (λ e. seeking v work cs (e .identifier .icb) (isDirectory (e .identifier))))
-
-  alike-on : (cs cs′ : List Component) (c c′ : Component) → ((icb : LongAd) (directory : Bool) → Alike (walk cs icb directory) (walk cs′ icb directory)) → (o : Option Entry) → Alike (on cs c o) (on cs′ c′ o)
-  unfolding walk on
+  alike-on : (cs cs′ : List Component) (c c′ : Component) → ((icb : LongAd) (directory : Bool) → Alike (walk d v work cs icb directory) (walk d v work cs′ icb directory))
+      → (o : Option Entry) → Alike (on d v work c cs o) (on d v work c′ cs′ o)
   alike-on cs cs′ c c′ h none = rw (ran-done, ran-done) (record { to = refl; sectors = refl })
   alike-on cs cs′ c c′ h (some e) = h (e .identifier .icb) (isDirectory (e .identifier))
 
-  alike : (cs cs′ : List Component) → map folded cs ≡ map folded cs′ → (icb : LongAd) (directory : Bool) → Alike (walk cs icb directory) (walk cs′ icb directory)
-  unfolding walk on seeking
+  alike : (cs cs′ : List Component) → map folded cs ≡ map folded cs′ → (icb : LongAd) (directory : Bool) → Alike (walk d v work cs icb directory) (walk d v work cs′ icb directory)
+  unfolding seeking
   alike [] [] h icb directory = record { to = refl; sectors = refl }
   alike [] (c′ ∷ cs′) h icb directory = absurd (let z : _≡_ {A = ℕ} 0 1 = cc in omega arith)
   alike (c ∷ cs) [] h icb directory = absurd (let z : _≡_ {A = ℕ} 0 1 = cc in omega arith)
@@ -70,18 +65,14 @@ module _ (d : Disc) (v : Mount) (work : ℕ) where
   alike (c ∷ cs) (c′ ∷ cs′) h icb true =
       let p : folded c ≡ folded c′ = cc in
       let q : map folded cs ≡ map folded cs′ = cc in
-      rw (
-        ran-then d (entering v work icb (c .bytes)) (λ o. orLost c o (λ e. seeking v work cs (e .identifier .icb) (isDirectory (e .identifier)))),
-        ran-then d (entering v work icb (c′ .bytes)) (λ o. orLost c′ o (λ e. seeking v work cs′ (e .identifier .icb) (isDirectory (e .identifier)))),
-        same-entering d v work icb c c′ p,
-      )
-      (alike-onward (ran d (entering v work icb (c′ .bytes)) .outcome) (ran d (entering v work icb (c′ .bytes)) .count) (on cs c) (on cs′ c′)
-      (alike-on cs cs′ c c′ (λ i t. alike cs cs′ q i t)))
+      let r = ran d (entering v work icb (c′ .bytes)) in
+      rw (walk-is d v work c cs icb, walk-is d v work c′ cs′ icb, same-entering d v work icb c c′ p)
+      (alike-onward (r .outcome) (r .count) (on d v work c cs) (on d v work c′ cs′) (alike-on cs cs′ c c′ (λ i t. alike cs cs′ q i t)))
 
 -- paths whose components are equal with ASCII case ignored come to the same
 pub look-case : (d : Disc) (v : Mount) (work : ℕ) (root : LongAd) (path path′ : List ℕ) → map folded (components path) ≡ map folded (components path′)
     → ran d (lookupOf v work root path) ≡ ran d (lookupOf v work root path′)
-unfolding walk seekPath
+unfolding seekPath
 look-case d v work root path path′ h =
     look-is d v work root path
     ∙ alike-is (ran d (seekPath v work root path)) (ran d (seekPath v work root path′)) (alike d v work (components path) (components path′) h root true)

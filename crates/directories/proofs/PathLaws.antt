@@ -94,6 +94,7 @@ module _ (d : Disc) (v : Mount) (work : ℕ) (icb : LongAd) (name : List ℕ) wh
 -- ---- one component and those behind it
 
 module _ (d : Disc) (v : Mount) (work : ℕ) where
+  -- the walk of components, and what follows once the first of them is found, or isn't
   abbrev pub walk : List Component → LongAd → Bool → Ran Sought
   walk cs icb directory = ran d (seeking v work cs icb directory)
 

@@ -1,4 +1,4 @@
--- 1 is given exactly when a sector of the call's list isn't wholly inside the image. Assumes nothing.
+-- The table of RULES 1.1, of 1: it is given exactly when a sector of the call's list isn't wholly inside the image. Assumes nothing.
 use mathlib.Core.Path.{_≡_, refl, ap, _∙_}
 use mathlib.Core.Bool.{Bool, true, false}
 use mathlib.Core.List.{List}

@@ -1,5 +1,6 @@
--- 6 of the calls that take a path: given exactly when components of the path lead to a directory in which the next one is to be found, and the
--- directory reads, without another refusal, as more bytes than the work space has. Those before it fit, for they were walked. Assumes nothing.
+-- The table of RULES 1.1, of 6 in the calls that take a path: it is given exactly when components of the path lead to a directory in which the next
+-- one is to be found, and the directory reads, without another refusal, as more bytes than the work space has. Those before it fit, for they were
+-- walked. Assumes nothing.
 use mathlib.Core.Path.{_≡_, refl, ap, sym, _∙_}
 use mathlib.Core.Bool.{Bool, true, false}
 use mathlib.Core.List.{List, []}
