@@ -135,7 +135,7 @@ module _ {s : List ℕ} {f : FileIdentifierDescriptor} (w : Whole s f) where
   unfolding recordedName
   recorded-is = rw (add-sub-cancel-left, w .from, w .recorded)
 
-  size-is : length (nameIn (entryOf s f)) ≡ f .«name_size»
+  pub size-is : length (nameIn (entryOf s f)) ≡ f .«name_size»
   unfolding nameIn
   size-is = sym (w .size)
 

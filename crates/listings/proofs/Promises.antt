@@ -1,22 +1,25 @@
--- What is proved of a directory's bytes: the first entry of a name wins, what it is to have the name, that each contract leaves one result,
--- and worked cases. Assumes nothing.
-use mathlib.Core.Path.{_≡_, refl, sym, _∙_}
+-- What is proved of a directory's bytes: the first entry of a name wins, what it is to have the name, that no name is too long for its
+-- record, that each contract leaves one result, and worked cases. Assumes nothing.
+use mathlib.Core.Path.{_≡_, refl, sym, ap, _∙_}
 use mathlib.Core.Bool.{Bool, true, false}
 use mathlib.Core.List.{List, [], _∷_, _++_, map}
 use mathlib.Core.Option.{Option, none, some}
-use Prim.Native.Nat.{ℕ, zero, suc, _-_}
+use Prim.Native.Nat.{ℕ, zero, suc, _-_, _≤_}
 use native.Mathlib.Omega.{arith}
 use lib.ListN.{length}
 use lib.Dec.{ltb, eqb}
 use Rattle.disc.specs.Ran.{told}
 use Rattle.disc.specs.Choice.{pick}
+use Rattle.disc.specs.Refusals.{number}
 use Rattle.disc.specs.Ask.{Outcome, andThen}
 use Rattle.disc.specs.Ask.Outcome.{answered, refused}
 use Rattle.disc.specs.Replies.{Replied}
 use Rattle.disc.specs.declared.refusals.Refusal.{Refusal}
-use Rattle.disc.specs.declared.refusals.Refusal.the-variants.{Malformed, NoRoom}
+use Rattle.disc.specs.declared.refusals.Refusal.the-variants.{Malformed, NoRoom, LongName}
 use Rattle.disc.specs.declared.replies.Reply.{Reply}
+use Rattle.disc.proofs.ByteLaws.{Bytes}
 use Rattle.disc.proofs.PickLaws.{not-both}
+use Rattle.disc.proofs.RanLaws.{never}
 use Rattle.disc.proofs.ReplyLaws.{replied-one}
 use Rattle.names.specs.Names.{pairs, untilZero, surrogate, dropSurrogates, encode, utf8, nameOf, written, lower, matched, isNamed}
 use Rattle.names.proofs.Promises.{same-folded}
@@ -28,6 +31,7 @@ use Rattle.listings.specs.Entries.{Entry, entryIn, entryRead, inFront, i
 use Rattle.listings.specs.Listings.{recordHead, shown, records, isLong, anyLong, listing, answersTo, firstNamed, findIn, namedOf}
 use Rattle.listings.specs.Paths.{front, behind, componentsFrom, components}
 use Rattle.listings.specs.declared.finds.Named.{Named}
+use Rattle.listings.proofs.RecordLaws.{each-read, each-at, name-brief, all-listed}
 
 -- ---- the first entry of a name
 
@@ -89,6 +93,24 @@ from-refused zero (b ∷ s) {why} e = by (λ w q. from-refused (nextAt (b ∷ s)
 pub entries-refused : (s : List ℕ) {why : Refusal} → entries s ≡ refused why → why ≡ Malformed
 unfolding entries
 entries-refused s e = from-refused 0 s e
+
+-- ---- no name is too long
+
+-- no directory's bytes have an entry whose name exceeds 508 bytes
+pub entry-brief : (s : List ℕ) → Bytes s → (before : List Entry) (e : Entry) (rest : List Entry) → entries s ≡ answered (before ++ e ∷ rest) → length (nameIn e) ≤ 508
+entry-brief s b before e rest h = name-brief (each-at before e rest (each-read s b h))
+
+-- so no listing is refused by 8
+pub never-long : (s : List ℕ) → Bytes s → listing s ≡ refused LongName → ⊥
+unfolding listing
+never-long s b h = by (entries s) refl
+  where
+    by : (o : Outcome (List Entry)) → entries s ≡ o → ⊥
+    by (answered es) k = never (sym h ∙ all-listed s b k)
+    by (refused why) k =
+        let z : why ≡ LongName = let y : listing s ≡ refused why = rw k in cc in
+        let n : number Malformed ≡ number LongName = ap number (sym (entries-refused s k) ∙ z) in
+        omega (arith, n)
 
 -- ---- each contract leaves one result
 

@@ -21,7 +21,7 @@ use Rattle.identifiers.specs.Identifiers.{recordedName, nextAt}
 use Rattle.listings.specs.Entries.{Entry, entryRead, inFront, isSkipped, nameIn, entriesFrom, entries}
 use Rattle.listings.specs.Listings.{recordHead, shown, records, isLong, anyLong, listing, answersTo, firstNamed}
 use Rattle.listings.specs.Paths.{Component}
-use Rattle.listings.proofs.EntryLaws.{Known, known, long-is, icb-recorded}
+use Rattle.listings.proofs.EntryLaws.{Known, known, size-is, icb-recorded}
 
 -- ---- every entry of a directory stands at the front of some bytes
 
@@ -68,13 +68,19 @@ module _ {e : Entry} (w : WasRead e) where
   recorded-there : e .recorded ≡ recordedName (w .raw)
   recorded-there = ap (λ (x : Entry). x .recorded) (stands .is)
 
-  -- its name is of at most 508 bytes
+  -- its name has at most 508 bytes
+  pub name-brief : length (nameIn e) ≤ 508
+  name-brief =
+      let z : length (nameIn e) ≡ e .identifier .«name_size» = ap (λ (x : Entry). length (nameIn x)) (stands .is) ∙ size-is (stands .whole) in
+      omega (arith, z, stands .whole .brief)
+
   not-long : isLong e ≡ false
-  not-long = ap isLong (stands .is) ∙ long-is (stands .whole) ∙ by (isSkipped (e .identifier))
+  unfolding isLong
+  not-long = by (isSkipped (e .identifier))
     where
-      by : (t : Bool) → pick t false (ltb 65535 (e .identifier .«name_size»)) ≡ false
+      by : (t : Bool) → pick t false (ltb 65535 (length (nameIn e))) ≡ false
       by true = refl
-      by false = le-ltb 65535 (e .identifier .«name_size») (omega (arith, stands .whole .brief))
+      by false = le-ltb 65535 (length (nameIn e)) (omega (arith, name-brief))
 
   module _ (s : isSkipped (e .identifier) ≡ false) where
     -- and it answers to that name, ASCII case ignored
@@ -141,7 +147,7 @@ unfolding records
 records-joined [] after = refl
 records-joined (e ∷ before) after = rw (records-joined before after, append-assoc)
 
-none-long : (es : List Entry) → EachRead es → anyLong es ≡ false
+pub none-long : (es : List Entry) → EachRead es → anyLong es ≡ false
 unfolding anyLong EachRead
 none-long [] w = refl
 none-long (e ∷ es) w = rw (not-long (w .0)) (none-long es (w .1))
