@@ -39,7 +39,6 @@ enum {
     VAULT_NO_ROOM = 5, /* The answer has more bytes than `out` holds. */
     VAULT_NO_WORK = 6, /* A directory has more bytes than `work` holds. */
     VAULT_NO_SLOT = 7, /* There are more extents than slots. */
-    VAULT_LONG_NAME = 8, /* A listed name has more than 65,535 bytes. */
 };
 
 /* How a volume is read: where its partition starts, and the partition's number. */

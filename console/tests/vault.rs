@@ -214,10 +214,10 @@ fn an_absurd_disc_is_refused_by_its_number() {
 #[test]
 fn refusals_have_their_numbers_and_a_sentence_each() {
     use Refusal::*;
-    let all = [Io, Malformed, NotBluray, Unsupported, NoRoom, NoWork, NoSlot, LongName];
-    assert_eq!(all.map(Refusal::number), [1, 2, 3, 4, 5, 6, 7, 8]);
+    let all = [Io, Malformed, NotBluray, Unsupported, NoRoom, NoWork, NoSlot];
+    assert_eq!(all.map(Refusal::number), [1, 2, 3, 4, 5, 6, 7]);
     let sentences: std::collections::HashSet<String> = all.iter().map(|why| why.to_string()).collect();
-    assert_eq!(sentences.len(), 8);
+    assert_eq!(sentences.len(), all.len());
     let refused = Refused { why: Io, sectors: 1 };
     assert_eq!((refused.to_string(), refused.number()), (Io.to_string(), 1));
     assert_eq!(Refusal::from(refused), Io);

@@ -26,7 +26,6 @@ HOLDS(VAULT_UNSUPPORTED == 4);
 HOLDS(VAULT_NO_ROOM == 5);
 HOLDS(VAULT_NO_WORK == 6);
 HOLDS(VAULT_NO_SLOT == 7);
-HOLDS(VAULT_LONG_NAME == 8);
 
 HOLDS(sizeof(vault_mount) == 8 && ALIGN(vault_mount) == 4);
 FIELD(vault_mount, start, 0, 4, uint32_t *);

@@ -35,8 +35,6 @@ pub const NO_ROOM: u64 = 5;
 pub const NO_WORK: u64 = 6;
 /// There are more extents than slots.
 pub const NO_SLOT: u64 = 7;
-/// A listed name has more than 65,535 bytes.
-pub const LONG_NAME: u64 = 8;
 
 structs! {
     /// How a volume is read: where its partition starts, and the partition's number.

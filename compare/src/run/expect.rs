@@ -93,7 +93,7 @@ fn listing(image: &[u8], q: &Query) -> Expected {
             for entry in entries {
                 all.extend([0x44, 0x45, entry.is_directory as u8]);
                 all.extend(icb(entry.icb).recorded());
-                // No name reaches 65,536 bytes: a name is recorded in 255 at most. So refusal 8 is never seen.
+                // A name has at most 508 bytes: it is recorded in 255 at most.
                 all.extend((entry.name.len() as u16).to_le_bytes());
                 all.extend(entry.name.as_bytes());
             }

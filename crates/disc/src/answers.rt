@@ -1,4 +1,5 @@
-// The answer numbers by name: 0, and each refusal, whose number is its name's (`Refusal::number`).
+// The answer numbers by name: 0, and each refusal, whose number is its name's (`Refusal::number`). 8 is struck, and no
+// other refusal has it.
 
 // Done.
 pub const DONE: u64 = 0;
@@ -23,6 +24,3 @@ pub const NO_WORK: u64 = 6;
 
 // There are more extents than slots.
 pub const NO_SLOT: u64 = 7;
-
-// A listed name has more than 65,535 bytes.
-pub const LONG_NAME: u64 = 8;

@@ -2,7 +2,6 @@
 ghost use mathlib.Core.Path.{_≡_};
 ghost use Rattle.disc.specs.Refusals.{number};
 use crate::answers::IO;
-use crate::answers::LONG_NAME;
 use crate::answers::MALFORMED;
 use crate::answers::NO_ROOM;
 use crate::answers::NO_SLOT;
@@ -22,8 +21,6 @@ pub enum Refusal {
     NoWork,
     // There are more extents than slots.
     NoSlot,
-    // A listed name exceeds 65,535 bytes.
-    LongName,
 }
 
 impl Refusal {
@@ -39,7 +36,6 @@ impl Refusal {
             Refusal::NoRoom => NO_ROOM,
             Refusal::NoWork => NO_WORK,
             Refusal::NoSlot => NO_SLOT,
-            Refusal::LongName => LONG_NAME,
         }
     }
 }

@@ -7,7 +7,6 @@ use native.Mathlib.Nat.{add-sub-cancel-left}
 use native.Mathlib.Omega.{arith}
 use lib.ListN.{length, take, drop, length-append, length-drop, drop-of-length-le}
 use lib.Seq.{take-all, drop-drop, drop-at, length-take-le, sets, length-sets, sets-eq}
-use lib.Dec.{ltb, eqb}
 use borrow.Author.Tests.{eqb-true, eqb-false}
 use borrow.Rule.Slice.PartMut.{midOf, putMid}
 use Rattle.disc.specs.Choice.{pick}
@@ -30,7 +29,7 @@ use Rattle.identifiers.specs.Identifiers.{readIdentifier, identifierRead, recor
 use Rattle.identifiers.specs.inner.Wholes.{Whole}
 use Rattle.identifiers.proofs.IdentifierLaws.{identifier-read, read-identifier}
 use Rattle.listings.specs.Entries.{Entry, entryOf, entryIn, entryRead, isSkipped, nameIn}
-use Rattle.listings.specs.Listings.{recordHead, shown, isLong, answersTo}
+use Rattle.listings.specs.Listings.{recordHead, shown, answersTo}
 use Rattle.listings.specs.inner.Passes.{Recorded, Puts, icbIn, headIn, recordIn, earlierOf}
 use Rattle.listings.specs.declared.finds.Named.{Named}
 
@@ -146,10 +145,6 @@ module _ {s : List ℕ} {f : FileIdentifierDescriptor} (w : Whole s f) where
       by : (b : Bool) → length (pick b [] (recordHead (isDirectory f) (f .icb) (length (nameIn (entryOf s f))) ++ nameIn (entryOf s f))) ≡ pick b 0 (21 + length (nameIn (entryOf s f)))
       by true = refl
       by false = length-append (recordHead (isDirectory f) (f .icb) (length (nameIn (entryOf s f)))) (nameIn (entryOf s f)) ∙ ap (λ n. n + length (nameIn (entryOf s f))) (head-length _ _ _)
-
-  pub long-is : isLong (entryOf s f) ≡ pick (isSkipped f) false (ltb 65535 (f .«name_size»))
-  unfolding isLong isSkipped
-  long-is = rw size-is
 
 module _ (s : List ℕ) {f : FileIdentifierDescriptor} {b : Bool} (e : b ≡ isSkipped f) (component : List ℕ) where
   pub skipped-unnamed : b ≡ true → Whole s f → false ≡ answersTo component (entryOf s f)

@@ -1,6 +1,6 @@
 -- What is proved of a directory's bytes: the first entry of a name wins, what it is to have the name, that no name is too long for its
 -- record, that each contract leaves one result, and worked cases. Assumes nothing.
-use mathlib.Core.Path.{_≡_, refl, sym, ap, _∙_}
+use mathlib.Core.Path.{_≡_, refl, sym, _∙_}
 use mathlib.Core.Bool.{Bool, true, false}
 use mathlib.Core.List.{List, [], _∷_, _++_, map}
 use mathlib.Core.Option.{Option, none, some}
@@ -10,16 +10,14 @@ use lib.ListN.{length}
 use lib.Dec.{ltb, eqb}
 use Rattle.disc.specs.Ran.{told}
 use Rattle.disc.specs.Choice.{pick}
-use Rattle.disc.specs.Refusals.{number}
 use Rattle.disc.specs.Ask.{Outcome, andThen}
 use Rattle.disc.specs.Ask.Outcome.{answered, refused}
 use Rattle.disc.specs.Replies.{Replied}
 use Rattle.disc.specs.declared.refusals.Refusal.{Refusal}
-use Rattle.disc.specs.declared.refusals.Refusal.the-variants.{Malformed, NoRoom, LongName}
+use Rattle.disc.specs.declared.refusals.Refusal.the-variants.{Malformed, NoRoom}
 use Rattle.disc.specs.declared.replies.Reply.{Reply}
 use Rattle.disc.proofs.ByteLaws.{Bytes}
 use Rattle.disc.proofs.PickLaws.{not-both}
-use Rattle.disc.proofs.RanLaws.{never}
 use Rattle.disc.proofs.ReplyLaws.{replied-one}
 use Rattle.names.specs.Names.{pairs, untilZero, surrogate, dropSurrogates, encode, utf8, nameOf, written, lower, matched, isNamed}
 use Rattle.names.proofs.Promises.{same-folded}
@@ -28,10 +26,10 @@ use Rattle.identifiers.specs.declared.FileIdentifierDescriptor.{FileIdentifierD
 use Rattle.identifiers.proofs.IdentifierLaws.{identifier-refused}
 use Rattle.identifiers.specs.Identifiers.{nameAt, nameEnd, recordedName, nextAt, identifierOf, identifierSized, identifierNamed, readIdentifier}
 use Rattle.listings.specs.Entries.{Entry, entryIn, entryRead, inFront, isSkipped, nameIn, entriesFrom, entries}
-use Rattle.listings.specs.Listings.{recordHead, shown, records, isLong, anyLong, listing, answersTo, firstNamed, findIn, namedOf}
+use Rattle.listings.specs.Listings.{recordHead, shown, records, listing, answersTo, firstNamed, findIn, namedOf}
 use Rattle.listings.specs.Paths.{front, behind, componentsFrom, components}
 use Rattle.listings.specs.declared.finds.Named.{Named}
-use Rattle.listings.proofs.RecordLaws.{each-read, each-at, name-brief, all-listed}
+use Rattle.listings.proofs.RecordLaws.{each-read, each-at, name-brief}
 
 -- ---- the first entry of a name
 
@@ -96,21 +94,9 @@ entries-refused s e = from-refused 0 s e
 
 -- ---- no name is too long
 
--- no directory's bytes have an entry whose name exceeds 508 bytes
+-- no directory's bytes have an entry whose name exceeds 508 bytes, so its length fits the two bytes of its record (RecordLaws `shown-size`)
 pub entry-brief : (s : List ℕ) → Bytes s → (before : List Entry) (e : Entry) (rest : List Entry) → entries s ≡ answered (before ++ e ∷ rest) → length (nameIn e) ≤ 508
 entry-brief s b before e rest h = name-brief (each-at before e rest (each-read s b h))
-
--- so no listing is refused by 8
-pub never-long : (s : List ℕ) → Bytes s → listing s ≡ refused LongName → ⊥
-unfolding listing
-never-long s b h = by (entries s) refl
-  where
-    by : (o : Outcome (List Entry)) → entries s ≡ o → ⊥
-    by (answered es) k = never (sym h ∙ all-listed s b k)
-    by (refused why) k =
-        let z : why ≡ LongName = let y : listing s ≡ refused why = rw k in cc in
-        let n : number Malformed ≡ number LongName = ap number (sym (entries-refused s k) ∙ z) in
-        omega (arith, n)
 
 -- ---- each contract leaves one result
 
@@ -130,12 +116,12 @@ entryA =
 
 pub one-listed : listing entryA
     ≡ answered (0x44 ∷ 0x45 ∷ 1 ∷ 0x00 ∷ 0x08 ∷ 0x00 ∷ 0x00 ∷ 0x05 ∷ 0x00 ∷ 0x00 ∷ 0x00 ∷ 0x00 ∷ 0x00 ∷ 0x00 ∷ 0x00 ∷ 0x00 ∷ 0x00 ∷ 0x00 ∷ 0x00 ∷ 1 ∷ 0 ∷ 0x41 ∷ [])
-unfolding pairs untilZero surrogate dropSurrogates encode utf8 nameOf nameAt nameEnd recordedName nextAt identifierOf identifierSized identifierNamed withId readHead readIdentifier entryRead isSkipped nameIn entriesFrom entries recordHead shown records isLong anyLong listing
+unfolding pairs untilZero surrogate dropSurrogates encode utf8 nameOf nameAt nameEnd recordedName nextAt identifierOf identifierSized identifierNamed withId readHead readIdentifier entryRead isSkipped nameIn entriesFrom entries recordHead shown records listing
 one-listed = refl
 
 -- three bytes hold no entry, and 38 or more that are none refuse the listing
 pub none-listed : (listing (0 ∷ 0 ∷ 0 ∷ []) ≡ answered []) × (listing (0 ∷ entryA) ≡ refused Malformed)
-unfolding pairs untilZero surrogate dropSurrogates encode utf8 nameOf nameAt nameEnd recordedName nextAt identifierOf identifierSized identifierNamed withId readHead readIdentifier entryRead isSkipped nameIn entriesFrom entries recordHead shown records isLong anyLong listing
+unfolding pairs untilZero surrogate dropSurrogates encode utf8 nameOf nameAt nameEnd recordedName nextAt identifierOf identifierSized identifierNamed withId readHead readIdentifier entryRead isSkipped nameIn entriesFrom entries recordHead shown records listing
 none-listed = (refl, refl)
 
 -- "/a//b/" has the components "a", at 1, and "b", at 4

@@ -5,7 +5,7 @@ use mathlib.Core.List.{List, [], _∷_, _++_, map, append-assoc}
 use mathlib.Core.Option.{some}
 use Prim.Native.Nat.{ℕ, zero, suc, _-_, _≤_}
 use native.Mathlib.Omega.{arith}
-use lib.ListN.{length, length-take}
+use lib.ListN.{length, drop, length-take}
 use lib.Dec.{ltb}
 use borrow.Author.Tests.{le-ltb}
 use Rattle.disc.specs.Choice.{pick}
@@ -13,13 +13,15 @@ use Rattle.disc.specs.Ask.{Outcome, andThen}
 use Rattle.disc.specs.Ask.Outcome.{answered, refused}
 use Rattle.disc.proofs.ByteLaws.{Bytes}
 use Rattle.disc.proofs.RanLaws.{never}
+use Rattle.records.specs.Bytes.{u16at}
 use Rattle.records.specs.Allocations.{longOf}
+use Rattle.records.proofs.Numbers.{u16-le16}
 use Rattle.names.specs.Names.{nameOf, written, sizeOf, lower, sameName, matched, isNamed}
 use Rattle.names.specs.declared.dstrings.NameSize.the-variants.{Size}
 use Rattle.names.proofs.Promises.{same-folded}
 use Rattle.identifiers.specs.Identifiers.{recordedName, nextAt}
 use Rattle.listings.specs.Entries.{Entry, entryRead, inFront, isSkipped, nameIn, entriesFrom, entries}
-use Rattle.listings.specs.Listings.{recordHead, shown, records, isLong, anyLong, listing, answersTo, firstNamed}
+use Rattle.listings.specs.Listings.{recordHead, shown, records, listing, answersTo, firstNamed}
 use Rattle.listings.specs.Paths.{Component}
 use Rattle.listings.proofs.EntryLaws.{Known, known, size-is, icb-recorded}
 
@@ -74,14 +76,6 @@ module _ {e : Entry} (w : WasRead e) where
       let z : length (nameIn e) ≡ e .identifier .«name_size» = ap (λ (x : Entry). length (nameIn x)) (stands .is) ∙ size-is (stands .whole) in
       omega (arith, z, stands .whole .brief)
 
-  not-long : isLong e ≡ false
-  unfolding isLong
-  not-long = by (isSkipped (e .identifier))
-    where
-      by : (t : Bool) → pick t false (ltb 65535 (length (nameIn e))) ≡ false
-      by true = refl
-      by false = le-ltb 65535 (length (nameIn e)) (omega (arith, name-brief))
-
   module _ (s : isSkipped (e .identifier) ≡ false) where
     -- and it answers to that name, ASCII case ignored
     pub named-answers : (c : List ℕ) → map lower (nameIn e) ≡ map lower c → answersTo c e ≡ true
@@ -95,10 +89,20 @@ module _ {e : Entry} (w : WasRead e) where
         by (answered name) z h = same-folded name c .1 h
         by (refused why) z h = absurd (let y : _≡_ {A = ℕ} 0 1 = cc in omega arith)
 
-    -- its record in a listing has its ICB behind the mark and the flag
+    -- its record in a listing has its ICB behind the mark and the flag,
     pub shown-icb : (more : List ℕ) → longOf (shown e ++ more) 3 ≡ e .identifier .icb
     unfolding shown recordHead
     shown-icb more = rw s (rw (stands .whole .icb) (ap (λ (x : List ℕ). longOf x 0) (icb-recorded (w .raw) (w .are))))
+
+    -- then the length of its name, which two bytes hold,
+    pub shown-size : (more : List ℕ) → u16at (shown e ++ more) 19 ≡ length (nameIn e)
+    unfolding shown recordHead
+    shown-size more = rw s (u16-le16 (length (nameIn e)) (omega (arith, name-brief)))
+
+    -- and then the name
+    pub shown-name : (more : List ℕ) → drop 21 (shown e ++ more) ≡ nameIn e ++ more
+    unfolding shown recordHead
+    shown-name more = rw s refl
 
 -- ---- the entry of a name
 
@@ -147,11 +151,6 @@ unfolding records
 records-joined [] after = refl
 records-joined (e ∷ before) after = rw (records-joined before after, append-assoc)
 
-pub none-long : (es : List Entry) → EachRead es → anyLong es ≡ false
-unfolding anyLong EachRead
-none-long [] w = refl
-none-long (e ∷ es) w = rw (not-long (w .0)) (none-long es (w .1))
-
-pub all-listed : (s : List ℕ) → Bytes s → {es : List Entry} → entries s ≡ answered es → listing s ≡ answered (records es)
+pub all-listed : (s : List ℕ) {es : List Entry} → entries s ≡ answered es → listing s ≡ answered (records es)
 unfolding listing
-all-listed s b {es} h = rw (h, none-long es (each-read s b h))
+all-listed s h = rw h

@@ -1,6 +1,6 @@
 -- How a directory's entries follow each other, and what the loops over them use. Assumes nothing.
 use mathlib.Core.Path.{_≡_, refl, sym, ap, _∙_}
-use mathlib.Core.Bool.{Bool, true, false, _||_}
+use mathlib.Core.Bool.{Bool, true, false}
 use mathlib.Core.List.{List, [], _∷_, _++_}
 use mathlib.Core.Option.{Option, none, some}
 use Prim.Native.Nat.{ℕ, zero, suc, _+_, _-_, _*_, _<_, _≤_, _^_, zero-le}
@@ -20,7 +20,7 @@ use Rattle.disc.specs.Ask.{Outcome, andThen}
 use Rattle.disc.specs.Ask.Outcome.{answered, refused}
 use Rattle.disc.specs.Replies.{Replied}
 use Rattle.disc.specs.declared.refusals.Refusal.{Refusal}
-use Rattle.disc.specs.declared.refusals.Refusal.the-variants.{Malformed, LongName, NoRoom}
+use Rattle.disc.specs.declared.refusals.Refusal.the-variants.{NoRoom}
 use Rattle.disc.specs.declared.replies.Reply.{Reply}
 use Rattle.disc.proofs.MoveLaws.{over-fits, sets-append, sets-whole}
 use Rattle.disc.proofs.RefusalLaws.{refusal-numbered}
@@ -30,12 +30,13 @@ use Rattle.disc.proofs.ByteLaws.{Bytes}
 use Rattle.identifiers.specs.Identifiers.{readIdentifier, identifierRead, nameAt, nameEnd, nextAt}
 use Rattle.identifiers.specs.inner.Wholes.{Whole}
 use Rattle.listings.specs.Entries.{Entry, entryOf, entryRead, isSkipped, inFront, entriesFrom, entries}
-use Rattle.listings.specs.Listings.{shown, records, isLong, anyLong, listing, answersTo, firstNamed, findIn, unnamed, namedTo, namedOf}
+use Rattle.listings.specs.Listings.{shown, records, listing, answersTo, firstNamed, findIn, unnamed, namedTo, namedOf}
 use Rattle.listings.specs.inner.Passes.{tail, GoodAt, Comes, Puts, sizeOfListing, earlierOf}
 use Rattle.listings.specs.declared.directory_entries.Put.{Put}
 use Rattle.listings.specs.declared.finds.Named.{Named}
 use Rattle.listings.specs.declared.listing.ListingSize.{ListingSize}
-use Rattle.listings.proofs.EntryLaws.{tail-over, read-good, read-whole, read-bad, shown-length, long-is}
+use Rattle.listings.proofs.EntryLaws.{tail-over, read-good, read-whole, read-bad, shown-length}
+use Rattle.listings.proofs.RecordLaws.{all-listed}
 
 -- ---- the entries at the front of s
 
@@ -127,42 +128,33 @@ pick-le : (b : Bool) (m : ℕ) → pick b 0 m ≤ m
 pick-le true m = zero-le
 pick-le false m = omega arith
 
-or-pick : (a b c : Bool) → ((a || b) || c) ≡ (a || pick b true c)
-or-pick true b c = refl
-or-pick false true c = refl
-or-pick false false c = refl
-
-or-false : (a : Bool) → (a || false) ≡ a
-or-false true = refl
-or-false false = refl
-
 -- what was measured, with what is left
-abbrev sizeWith : Bool → ℕ → Outcome (List Entry) → ListingSize
-sizeWith long n (answered es) = record { answer = 0; long = long || anyLong es; size = n + length (records es) }
-sizeWith long n (refused why) = record { answer = number why; long = false; size = 0 }
+abbrev sizeWith : ℕ → Outcome (List Entry) → ListingSize
+sizeWith n (answered es) = record { answer = 0; size = n + length (records es) }
+sizeWith n (refused why) = record { answer = number why; size = 0 }
 
-size-starts : (o : Outcome (List Entry)) → sizeWith false 0 o ≡ sizeOfListing o
+size-starts : (o : Outcome (List Entry)) → sizeWith 0 o ≡ sizeOfListing o
 size-starts (answered es) = rw zero-add
 size-starts (refused why) = refl
 
-size-turn : (long : Bool) (n : ℕ) (e : Entry) (o : Outcome (List Entry)) {b : Bool} {v : ℕ} → b ≡ isLong e → v ≡ length (shown e) → sizeWith (long || b) (n + v) o ≡ sizeWith long n (inFront e o)
-unfolding anyLong records
-size-turn long n e (answered es) {b} p q =
+size-turn : (n : ℕ) (e : Entry) (o : Outcome (List Entry)) {v : ℕ} → v ≡ length (shown e) → sizeWith (n + v) o ≡ sizeWith n (inFront e o)
+unfolding records
+size-turn n e (answered es) q =
     let s : n + length (shown e) + length (records es) ≡ n + length (shown e ++ records es) = rw length-append (omega arith) in
-    rw (p, q, or-pick long (isLong e) (anyLong es), s)
-size-turn long n e (refused why) p q = refl
+    rw (q, s)
+size-turn n e (refused why) q = refl
 
-pub record Measuring (raw : List ℕ) (long : Bool) (n at : ℕ) : Type 0 where
+pub record Measuring (raw : List ℕ) (n at : ℕ) : Type 0 where
   pub within : at ≤ length raw + 3
   pub small : n ≤ 2 * at
-  pub rest : sizeWith long n (entries (drop at raw)) ≡ sizeOfListing (entries raw)
+  pub rest : sizeWith n (entries (drop at raw)) ≡ sizeOfListing (entries raw)
 
-pub measure-starts : (raw : List ℕ) → Measuring raw false 0 0
+pub measure-starts : (raw : List ℕ) → Measuring raw 0 0
 measure-starts raw = record { within = zero-le; small = zero-le; rest = size-starts (entries raw) }
 
-module _ {raw : List ℕ} {long : Bool} {n at : ℕ} (m : Measuring raw long n at) where
+module _ {raw : List ℕ} {n at : ℕ} (m : Measuring raw n at) where
   module _ {r : IdentifierRead} (p : Comes raw at r) where
-    pub measure-bad : (r .answer ≡ 0 → ⊥) → record { answer = r .answer; long = false; size = 0 } ≡ sizeOfListing (entries raw)
+    pub measure-bad : (r .answer ≡ 0 → ⊥) → record { answer = r .answer; size = 0 } ≡ sizeOfListing (entries raw)
     measure-bad g = let w = p .bad g in rw (w .numbered) (rw (w .is) at (m .rest))
 
     module _ (z : r .answer ≡ 0) where
@@ -179,22 +171,21 @@ module _ {raw : List ℕ} {long : Bool} {n at : ℕ} (m : Measuring raw long n a
         pub size-fits : length raw * 1 < 2 ^ 63 → Fits w64 (n + v)
         size-fits k = omega (arith, bound, g .inside)
 
-        pub measure-next : {b : Bool} → b ≡ pick (isSkipped (r .descriptor)) false (ltb 65535 (r .descriptor .«name_size»))
-            → Measuring raw (long || b) (n + v) (at + r .descriptor .«total_size»)
-        measure-next f =
+        pub measure-next : Measuring raw (n + v) (at + r .descriptor .«total_size»)
+        measure-next =
             record {
               within = g .near;
               small = omega (arith, bound, g .whole .on);
               rest =
-                  size-turn long n (entryOf (tail raw at) (r .descriptor)) (entries (drop (at + r .descriptor .«total_size») raw)) (f ∙ sym (long-is (g .whole))) (e ∙ sym (shown-length (g .whole)))
+                  size-turn n (entryOf (tail raw at) (r .descriptor)) (entries (drop (at + r .descriptor .«total_size») raw)) (e ∙ sym (shown-length (g .whole)))
                   ∙ (rw (g .is) at (m .rest));
             }
 
-  pub measure-ends : length raw < at + 38 → record { answer = 0; long = long; size = n } ≡ sizeOfListing (entries raw)
-  unfolding records anyLong
+  pub measure-ends : length raw < at + 38 → record { answer = 0; size = n } ≡ sizeOfListing (entries raw)
+  unfolding records
   measure-ends h =
-      let k : record { answer = 0; long = long || false; size = n + 0 } ≡ sizeOfListing (entries raw) = rw (at-end raw at h) at (m .rest) in
-      rw (or-false long, add-zero n) at k
+      let k : record { answer = 0; size = n + 0 } ≡ sizeOfListing (entries raw) = rw (at-end raw at h) at (m .rest) in
+      rw (add-zero n) at k
 
 -- ---- the loop that writes has come to `at`
 
@@ -354,29 +345,20 @@ module _ {component raw : List ℕ} {found : Named} {at : ℕ} (m : Finding comp
 
 -- ---- the listing, by what was measured
 
-module _ (raw : List ℕ) {es : List Entry} (are : entries raw ≡ answered es) where
-  long-listing : anyLong es ≡ true → listing raw ≡ refused LongName
-  unfolding listing
-  long-listing l = rw (are, l)
-
-  some-listing : anyLong es ≡ false → listing raw ≡ answered (records es)
-  unfolding listing
-  some-listing l = rw (are, l)
-
-  done-listing : listing raw ≡ answered (records es) → {n : ℕ} → n ≡ length (records es) → {d ys : List ℕ} → n ≤ length d
-      → (length (records es) ≡ length (midOf 0 (n - 0) d) → ys ≡ records es)
-      → Replied NoRoom (told (listing raw)) d (putMid 0 (n - 0) d ys) (record { answer = 0; count = 0; length = n })
-  done-listing e {n} q {d} h w =
-      let l : length (records es) ≤ length d = omega arith in
-      let k : length (records es) ≡ length (midOf 0 (n - 0) d) = simp (length-take, length-drop) (omega arith) in
-      rw (e, w k, q) (reply-done (records es) 0 0 l refl (rw (over-fits (records es) d l, sub-zero)))
+done-listing : (raw : List ℕ) {es : List Entry} → entries raw ≡ answered es → {n : ℕ} → n ≡ length (records es) → {d ys : List ℕ} → n ≤ length d
+    → (length (records es) ≡ length (midOf 0 (n - 0) d) → ys ≡ records es)
+    → Replied NoRoom (told (listing raw)) d (putMid 0 (n - 0) d ys) (record { answer = 0; count = 0; length = n })
+done-listing raw {es} are {n} q {d} h w =
+    let l : length (records es) ≤ length d = omega arith in
+    let k : length (records es) ≡ length (midOf 0 (n - 0) d) = simp (length-take, length-drop) (omega arith) in
+    rw (all-listed raw are, w k, q) (reply-done (records es) 0 0 l refl (rw (over-fits (records es) d l, sub-zero)))
 
 module _ (raw : List ℕ) {m : ListingSize} (p : m ≡ sizeOfListing (entries raw)) where
   pub list-bad : (m .answer ≡ 0 → ⊥) → {d : List ℕ} {reply : Reply} → reply ≡ record { answer = m .answer; count = 0; length = 0 } → Replied NoRoom (told (listing raw)) d d reply
   unfolding listing
   list-bad n {d} {reply} q = by (entries raw) p
     where
-      by : (o : Outcome (List Entry)) → m ≡ sizeOfListing o → Replied NoRoom (told (andThen o (λ es. pick (anyLong es) (refused LongName) (answered (records es))))) d d reply
+      by : (o : Outcome (List Entry)) → m ≡ sizeOfListing o → Replied NoRoom (told (andThen o (λ es. answered (records es)))) d d reply
       by (answered es) e = absurd (n (rw e))
       by (refused why) e = reply-refused why 0 0 refl (q ∙ rw e)
 
@@ -385,26 +367,18 @@ module _ (raw : List ℕ) {m : ListingSize} (p : m ≡ sizeOfListing (entries ra
     record Sized : Type 0 where
       es : List Entry
       are : entries raw ≡ answered es
-      long : m .long ≡ anyLong es
       size : m .size ≡ length (records es)
 
     sized : Sized
     sized = by (entries raw) refl
       where
         by : (o : Outcome (List Entry)) → entries raw ≡ o → Sized
-        by (answered es) e = record { es = es; are = e; long = rw (p, e); size = rw (p, e) }
+        by (answered es) e = record { es = es; are = e; size = rw (p, e) }
         by (refused why) e = absurd (refusal-numbered why (sym (ap (λ (x : ListingSize). x .answer) (p ∙ ap sizeOfListing e)) ∙ z))
 
-    pub list-long : m .long ≡ true → {d : List ℕ} {a : ℕ} {reply : Reply} → a ≡ number LongName → reply ≡ record { answer = a; count = 0; length = 0 } → Replied NoRoom (told (listing raw)) d d reply
-    list-long l e q = rw (long-listing raw (sized .are) (sym (sized .long) ∙ l)) (reply-refused LongName 0 0 refl (q ∙ rw e))
+    pub list-full : {d : List ℕ} → length d < m .size → {a : ℕ} {reply : Reply} → a ≡ number NoRoom → reply ≡ record { answer = a; count = 0; length = 0 } → Replied NoRoom (told (listing raw)) d d reply
+    list-full h e q = rw (all-listed raw (sized .are)) (reply-full (records (sized .es)) 0 0 (omega (arith, sized .size)) refl (q ∙ rw e))
 
-    module _ (s : m .long ≡ false) where
-      lists : listing raw ≡ answered (records (sized .es))
-      lists = some-listing raw (sized .are) (sym (sized .long) ∙ s)
-
-      pub list-full : {d : List ℕ} → length d < m .size → {a : ℕ} {reply : Reply} → a ≡ number NoRoom → reply ≡ record { answer = a; count = 0; length = 0 } → Replied NoRoom (told (listing raw)) d d reply
-      list-full h e q = rw lists (reply-full (records (sized .es)) 0 0 (omega (arith, sized .size)) refl (q ∙ rw e))
-
-      pub list-done : {d ys : List ℕ} → m .size ≤ length d → ((es : List Entry) → entries raw ≡ answered es → length (records es) ≡ length (midOf 0 (m .size - 0) d) → ys ≡ records es)
-          → Replied NoRoom (told (listing raw)) d (putMid 0 (m .size - 0) d ys) (record { answer = 0; count = 0; length = m .size })
-      list-done h w = done-listing raw (sized .are) lists (sized .size) h (w (sized .es) (sized .are))
+    pub list-done : {d ys : List ℕ} → m .size ≤ length d → ((es : List Entry) → entries raw ≡ answered es → length (records es) ≡ length (midOf 0 (m .size - 0) d) → ys ≡ records es)
+        → Replied NoRoom (told (listing raw)) d (putMid 0 (m .size - 0) d ys) (record { answer = 0; count = 0; length = m .size })
+    list-done h w = done-listing raw (sized .are) (sized .size) h (w (sized .es) (sized .are))

@@ -4,12 +4,10 @@ use mathlib.Core.Bool.{Bool, true, false}
 use mathlib.Core.List.{List, [], _∷_, _++_}
 use mathlib.Core.Option.{Option, none, some}
 use lib.ListN.{length}
-use lib.Dec.{ltb}
 use Rattle.disc.specs.Choice.{pick}
 use Rattle.disc.specs.Refusals.{number}
 use Rattle.disc.specs.Ask.{Outcome, andThen}
 use Rattle.disc.specs.Ask.Outcome.{answered, refused}
-use Rattle.disc.specs.declared.refusals.Refusal.the-variants.{LongName}
 use Rattle.records.specs.Bytes.{le16}
 use Rattle.records.specs.Allocations.{encodeLong, noLong}
 use Rattle.records.specs.declared.allocations.LongAd.{LongAd}
@@ -34,17 +32,9 @@ unfoldable pub records : List Entry → List ℕ
 records [] = []
 records (e ∷ es) = shown e ++ records es
 
--- a listed name that exceeds 65,535 bytes
-unfoldable pub isLong : Entry → Bool
-isLong e = pick (isSkipped (e .identifier)) false (ltb 65535 (length (nameIn e)))
-
-unfoldable pub anyLong : List Entry → Bool
-anyLong [] = false
-anyLong (e ∷ es) = pick (isLong e) true (anyLong es)
-
--- a bad entry is refused first, then a long name
+-- a bad entry refuses it
 unfoldable pub listing : List ℕ → Outcome (List ℕ)
-listing s = andThen (entries s) (λ es. pick (anyLong es) (refused LongName) (answered (records es)))
+listing s = andThen (entries s) (λ es. answered (records es))
 
 -- ---- the first entry of a name
 

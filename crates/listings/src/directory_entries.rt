@@ -1,8 +1,7 @@
 // One entry of a directory, at the front of bytes.
 ghost use mathlib.Core.Path.{_≡_};
-ghost use mathlib.Core.Bool.{false, _||_};
+ghost use mathlib.Core.Bool.{_||_};
 ghost use Prim.Native.Nat.{_+_, _≤_, _<_};
-ghost use lib.Dec.{ltb};
 ghost use lib.ListN.{length};
 ghost use Rattle.disc.specs.Choice.{pick};
 ghost use Rattle.names.specs.Names.{nameOf, written};
@@ -58,16 +57,6 @@ pub(crate) fn record_size(f: FileIdentifierDescriptor) -> usize
         return 0;
     }
     HEAD + f.name_size
-}
-
-// Whether the entry is listed with a name whose length does not fit its record.
-pub(crate) fn is_long(f: FileIdentifierDescriptor) -> bool
-    ensures { λ r. ⌜ r ≡ pick (isSkipped f) false (ltb 65535 (f .«name_size»)) ⌝ }
-{
-    if is_skipped(f) {
-        return false;
-    }
-    65535 < f.name_size
 }
 
 // The record of the entry at the front of s without its name, of n bytes. The ICB goes over as it is recorded.

@@ -10,7 +10,6 @@ ghost use Rattle.listings.specs.Entries.{Entry, entries};
 ghost use Rattle.listings.specs.Listings.{records, listing};
 ghost use Rattle.listings.specs.inner.Passes.{sizeOfListing};
 use crate::directory_entries::entry_at;
-use crate::directory_entries::is_long;
 use crate::directory_entries::put_entry;
 use crate::directory_entries::record_size;
 use disc::answers::DONE;
@@ -19,17 +18,15 @@ use disc::replies::Reply;
 use disc::replies::refusal;
 use identifiers::LEAST_SIZE;
 
-// Whether a listed name is too long, and how many bytes the listing takes; zeros where the directory is refused.
+// How many bytes the listing takes, or 0 where the directory is refused.
 pub struct ListingSize {
     pub answer: u64,
-    pub long: bool,
     pub size: usize,
 }
 
 fn measure(raw: &[u8]) -> ListingSize
     ensures { λ r. ⌜ r ≡ sizeOfListing (entries (now (raw .entry))) ⌝ }
 {
-    let mut long = false;
     let mut n: usize = 0;
     let mut at: usize = 0;
     while at + LEAST_SIZE <= raw.len() {
@@ -37,18 +34,15 @@ fn measure(raw: &[u8]) -> ListingSize
         if r.answer != DONE {
             return ListingSize {
                 answer: r.answer,
-                long: false,
                 size: 0,
             };
         }
         let f = r.descriptor;
-        long = long | is_long(f);
         n += record_size(f);
         at += f.total_size;
     }
     ListingSize {
         answer: DONE,
-        long,
         size: n,
     }
 }
@@ -74,9 +68,6 @@ pub fn list(raw: &[u8], out: &mut [u8]) -> Reply
     let m = measure(raw);
     if m.answer != DONE {
         return refusal(m.answer, 0);
-    }
-    if m.long {
-        return refusal(Refusal::LongName.number(), 0);
     }
     let size = m.size;
     if out.len() < size {

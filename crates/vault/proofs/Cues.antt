@@ -1,18 +1,20 @@
--- Two entries of one directory whose names differ in ASCII case alone, as cue 10.1A and cue 10.1a: the listing has both, each with its ICB, by which it
--- is read; a path with either name takes the one that stands first. Assumes nothing.
+-- Every entry that is listed stands in the listing with its ICB, by which it is read, and its name, whose length fits the record. Two entries of one
+-- directory whose names differ in ASCII case alone, as cue 10.1A and cue 10.1a: the listing has both; a path with either name takes the one that stands
+-- first. Assumes nothing.
 use mathlib.Core.Path.{_≡_, refl, ap, sym, _∙_}
 use mathlib.Core.Bool.{false}
 use mathlib.Core.List.{List, [], _∷_, _++_, map, append-assoc}
 use mathlib.Core.Logic.{_⊎_, inl, inr}
 use Prim.Native.Nat.{ℕ, _≤_}
-use lib.ListN.{length, drop}
-use lib.Seq.{drop-at}
+use lib.ListN.{length, take, drop}
+use lib.Seq.{take-at, drop-at}
 use borrow.Author.Tests.{le-leb}
 use Rattle.disc.specs.Counts.{reported}
 use Rattle.disc.specs.Ask.Outcome.{answered}
 use Rattle.disc.specs.Images.{disc}
 use Rattle.disc.specs.Ran.{ran}
 use Rattle.disc.proofs.ByteLaws.{Bytes}
+use Rattle.records.specs.Bytes.{u16at}
 use Rattle.records.specs.Allocations.{longOf}
 use Rattle.records.specs.declared.allocations.LongAd.{LongAd}
 use Rattle.names.specs.Names.{lower}
@@ -20,7 +22,7 @@ use Rattle.listings.specs.Entries.{Entry, isSkipped, nameIn, entries}
 use Rattle.listings.specs.Listings.{shown, records, listing as listingOf}
 use Rattle.listings.specs.Paths.{Component, components}
 use Rattle.listings.proofs.Promises.{NoneAnswers}
-use Rattle.listings.proofs.RecordLaws.{each-read, each-at, named-answers, shown-icb, records-joined, all-listed}
+use Rattle.listings.proofs.RecordLaws.{each-read, each-at, name-brief, named-answers, shown-icb, shown-size, shown-name, records-joined, all-listed}
 use Rattle.directories.specs.Directories.{directoryBytes, listingAt}
 use Rattle.directories.proofs.SpaceLaws.{ran-known}
 use Rattle.directories.proofs.Promises.{directory-bytes}
@@ -32,17 +34,27 @@ use Rattle.vault.proofs.Matching.{LeadTo, directoryRead, sectorsTo, loo
 abbrev pub icbAt : List ℕ → ℕ → LongAd
 icbAt listing at = longOf (drop at listing) 3
 
+-- the length of the name in that record, and the name: so many bytes behind the record's head
+abbrev pub sizeAt : List ℕ → ℕ → ℕ
+sizeAt listing at = u16at (drop at listing) 19
+
+abbrev pub nameAt : List ℕ → ℕ → List ℕ
+nameAt listing at = take (sizeAt listing at) (drop 21 (drop at listing))
+
 -- where an entry's record starts behind those of others
 abbrev pub placeBehind : List Entry → ℕ
 placeBehind before = length (records before)
 
 -- a listing with room for the records of the directory at icb, whose entries are `before`, e and those behind e: the record of e stands behind
--- those before it, and a read by the ICB in it is a read by the ICB of e
+-- those before it, a read by the ICB in it is a read by the ICB of e, and the name in it, of at most 508 bytes, is that of e
 pub record Shown (image : List ℕ) (v : VolumeRecord) (icb : LongAd) (out work : List ℕ) (before : List Entry) (e : Entry) (rest : List Entry) : Type 0 where
   pub says : lists image v icb out work .reply ≡ record { answer = 0; count = reported (directoryRead image v work icb .count); length = length (records (before ++ e ∷ rest)) }
   pub listing : lists image v icb out work .out ≡ records before ++ shown e ++ records rest ++ drop (length (records (before ++ e ∷ rest))) out
   pub its : icbAt (lists image v icb out work .out) (placeBehind before) ≡ e .identifier .icb
   pub reading : (into : List ℕ) → reads image v (icbAt (lists image v icb out work .out) (placeBehind before)) into ≡ reads image v (e .identifier .icb) into
+  pub brief : length (nameIn e) ≤ 508
+  pub size : sizeAt (lists image v icb out work .out) (placeBehind before) ≡ length (nameIn e)
+  pub name : nameAt (lists image v icb out work .out) (placeBehind before) ≡ nameIn e
 
 -- e and, behind it, f: the listing has both, and a path whose last component is the name of either, in this directory, takes e, if nothing before e
 -- answers to it
@@ -66,15 +78,21 @@ module _ (image : List ℕ) (v : VolumeRecord) (icb : LongAd) (work : List ℕ) 
       let n = directoryRead image v work icb .count in
       let behind = drop (length (records all)) out in
       let l : ran (disc image) (listing v (length work) icb) ≡ record { outcome = answered (records all); count = n } =
-      ran-known (disc image) (directoryBytes (v .mount) (length work) icb) listingOf ∙ rw (r, all-listed b u k) in
+      ran-known (disc image) (directoryBytes (v .mount) (length work) icb) listingOf ∙ rw (r, all-listed b k) in
       let says : lists image v icb out work .reply ≡ record { answer = 0; count = reported n; length = length (records all) } = rw (l, le-leb _ _ room) in
       let is : lists image v icb out work .out ≡ records before ++ shown e ++ records rest ++ drop (length (records all)) out =
       rw (l, le-leb _ _ room) (ap (λ x. x ++ behind) (records-joined before (e ∷ rest) ∙ sym (append-assoc (records before) (shown e) (records rest)))) in
-      let its : icbAt (lists image v icb out work .out) (placeBehind before) ≡ e .identifier .icb =
-      ap (λ x. icbAt x (placeBehind before)) (is ∙ append-assoc (records before ++ shown e) (records rest) behind ∙ append-assoc (records before) (shown e) (records rest ++ behind))
-      ∙ ap (λ x. longOf x 3) (drop-at (records before) (shown e ++ (records rest ++ behind)) (length (records before)) refl)
-      ∙ shown-icb (each-at before e rest (each-read b u k)) s (records rest ++ behind) in
-      record { says = says; listing = is; its = its; reading = λ into. ap (λ i. reads image v i into) its }
+      let from : drop (placeBehind before) (lists image v icb out work .out) ≡ shown e ++ (records rest ++ behind) =
+      ap (drop (placeBehind before)) (is ∙ append-assoc (records before ++ shown e) (records rest) behind ∙ append-assoc (records before) (shown e) (records rest ++ behind))
+      ∙ drop-at (records before) (shown e ++ (records rest ++ behind)) (length (records before)) refl in
+      let w = each-at before e rest (each-read b u k) in
+      let its : icbAt (lists image v icb out work .out) (placeBehind before) ≡ e .identifier .icb = ap (λ x. longOf x 3) from ∙ shown-icb w s (records rest ++ behind) in
+      let size : sizeAt (lists image v icb out work .out) (placeBehind before) ≡ length (nameIn e) = ap (λ x. u16at x 19) from ∙ shown-size w s (records rest ++ behind) in
+      let name : nameAt (lists image v icb out work .out) (placeBehind before) ≡ nameIn e =
+      (λ i. take (size i) (drop 21 (from i)))
+      ∙ ap (take (length (nameIn e))) (shown-name w s (records rest ++ behind))
+      ∙ take-at (nameIn e) (records rest ++ behind) (length (nameIn e)) refl in
+      record { says = says; listing = is; its = its; reading = λ into. ap (λ i. reads image v i into) its; brief = name-brief w; size = size; name = name }
 
   -- two entries of one name, case aside
   pub two-cues : (before : List Entry) (e : Entry) (between : List Entry) (f : Entry) (rest : List Entry) → entries b ≡ answered (before ++ e ∷ between ++ f ∷ rest)

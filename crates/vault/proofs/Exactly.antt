@@ -1,7 +1,7 @@
 -- The table says "given exactly when". Memory aside, a call is refused by 1 to 4 alone; so 5 is given exactly when the answer has more bytes than the
--- output holds, 6 by a listing exactly when the directory's bytes exceed the work space, and 7 exactly when there are more extents than slots; 8 never.
+-- output holds, 6 by a listing exactly when the directory's bytes exceed the work space, and 7 exactly when there are more extents than slots.
 -- Of 1, and of 6 along a path: Missing, Overflowing. Assumes nothing.
-use mathlib.Core.Path.{_≡_, refl, ap, sym, _∙_}
+use mathlib.Core.Path.{_≡_, refl, ap, _∙_}
 use mathlib.Core.Bool.{Bool, true, false, not}
 use mathlib.Core.List.{List}
 use Prim.Native.Nat.{ℕ, _≤_}
@@ -19,17 +19,14 @@ use Rattle.disc.specs.Replies.{replyBy}
 use Rattle.disc.specs.declared.refusals.Refusal.{Refusal}
 use Rattle.disc.specs.declared.refusals.Refusal.the-variants.{Io, Malformed, NotBluray, Unsupported, NoRoom}
 use Rattle.disc.specs.declared.replies.Reply.{Reply}
-use Rattle.disc.proofs.ByteLaws.{Bytes}
 use Rattle.disc.proofs.OnlyLaws.{Within, refuses-within}
 use Rattle.records.specs.declared.allocations.LongAd.{LongAd}
 use Rattle.areas.specs.declared.AllocExtent.{AllocExtent}
-use Rattle.files.proofs.ContentLaws.{content-bytes}
 use Rattle.volumes.specs.Openings.{opening}
 use Rattle.volumes.specs.Labels.{labelling}
 use Rattle.listings.specs.Entries.{Entry, entries}
-use Rattle.listings.specs.Listings.{records, anyLong}
+use Rattle.listings.specs.Listings.{records}
 use Rattle.listings.proofs.Promises.{entries-refused}
-use Rattle.listings.proofs.RecordLaws.{each-read, none-long}
 use Rattle.vault.specs.Calls.{reading, parting, extentListing, listing, finding, pathReading, labels, reads, lists, readsPath, extents}
 use Rattle.volumes.specs.declared.openings.VolumeRecord.{VolumeRecord}
 use Rattle.vault.proofs.Orders.{entriesAnswer, listingAnswer, slotted, extents-order, list-order}
@@ -103,7 +100,7 @@ module _ (image : List ℕ) (v : VolumeRecord) where
   unfolding ran
   list-5 icb out work =
       five (length out) _ (outcome (disc image) (listing v (length work) icb))
-      (refuses-within ButRoom (λ e. omega arith) (disc image) (listing-only ButRoom (λ e. omega arith) (λ e. omega arith) (λ e. omega arith) (λ e. omega arith) (v .mount) (length work) (λ e. omega arith) icb))
+      (refuses-within ButRoom (λ e. omega arith) (disc image) (listing-only ButRoom (λ e. omega arith) (λ e. omega arith) (λ e. omega arith) (λ e. omega arith) (v .mount) (length work) icb))
 
   pub read-path-5 : (path out work : List ℕ) → eqb (readsPath image v path out work .reply .answer) 5 ≡ overfull (length out) (ran (disc image) (pathReading v (length work) path) .outcome)
   unfolding ran
@@ -118,13 +115,12 @@ unfolding Within
 six work room (refused why) p = ne-eqb (number why) 6 (λ e. omega arith)
 six work room (answered b) p = by (leb (length b) work)
   where
-    fits : (u w : Bool) → eqb (pick u 8 (pick w 0 5)) 6 ≡ false
-    fits true w = refl
-    fits false true = refl
-    fits false false = refl
+    fits : (t : Bool) → eqb (pick t 0 5) 6 ≡ false
+    fits true = refl
+    fits false = refl
 
     listed : (o : Outcome (List Entry)) → entries b ≡ o → eqb (entriesAnswer room o) 6 ≡ false
-    listed (answered es) e = fits (anyLong es) (leb (length (records es)) room)
+    listed (answered es) e = fits (leb (length (records es)) room)
     listed (refused why) e = rw (entries-refused b e)
 
     by : (s : Bool) → eqb (pick s (entriesAnswer room (entries b)) 6) 6 ≡ not s
@@ -159,26 +155,3 @@ unfolding ran
 extents-7 f image v icb row =
     ap (λ n. eqb n 7) (extents-order f image v icb row)
     ∙ seven (length row) (outcome (disc image) (extentListing v icb)) (extents-original (disc image) v icb)
-
--- ---- 8 by no image
-
-pub list-never-8 : (image : List ℕ) → Bytes image → (v : VolumeRecord) (icb : LongAd) (out work : List ℕ) → lists image v icb out work .reply .answer ≡ 8 → ⊥
-unfolding ran Within
-list-never-8 image h v icb out work e =
-    by (outcome (disc image) (reading v icb)) (read-original (disc image) v icb) (λ b q. content-bytes image h (v .mount) icb q) (sym (list-order image v icb out work) ∙ e)
-  where
-    room : (t : Bool) → _≡_ {A = ℕ} (pick t 0 5) 8 → ⊥
-    room true k = omega arith
-    room false k = omega arith
-
-    listed : (b : List ℕ) → Bytes b → (o : Outcome (List Entry)) → entries b ≡ o → entriesAnswer (length out) o ≡ 8 → ⊥
-    listed b w (answered es) q k = room (leb (length (records es)) (length out)) (rw (none-long es (each-read b w q)) at k)
-    listed b w (refused why) q k = let n : number Malformed ≡ 8 = ap number (sym (entries-refused b q)) ∙ k in omega (arith, n)
-
-    fits : (b : List ℕ) → Bytes b → (t : Bool) → pick t (entriesAnswer (length out) (entries b)) 6 ≡ 8 → ⊥
-    fits b w true k = listed b w (entries b) refl k
-    fits b w false k = omega arith
-
-    by : (o : Outcome (List ℕ)) → Within Original o → ((b : List ℕ) → o ≡ answered b → Bytes b) → listingAnswer (length work) (length out) o ≡ 8 → ⊥
-    by (refused why) p w k = omega arith
-    by (answered b) p w k = fits b (w b refl) (leb (length b) (length work)) k

@@ -93,7 +93,7 @@ module _ (image : List ℕ) where
     unfolding ran
     list-1 icb out work =
         reply-1 NoRoom (λ e. omega arith) (length out) _ (outcome (disc image) (listing v (length work) icb))
-        ∙ refused-missing image (listing-only ButIo (λ e. omega arith) (λ e. omega arith) (λ e. omega arith) (λ e. omega arith) (v .mount) (length work) (λ e. omega arith) icb)
+        ∙ refused-missing image (listing-only ButIo (λ e. omega arith) (λ e. omega arith) (λ e. omega arith) (λ e. omega arith) (v .mount) (length work) icb)
 
     pub lookup-1 : (path work : List ℕ) → eqb (finds image v path work .found .answer) 1 ≡ lacking image (finding v (length work) path)
     unfolding ran

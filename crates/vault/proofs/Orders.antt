@@ -1,4 +1,4 @@
--- The order of refusals 5, 6, 7 and 8 against the original's: the answer number of each call that can give one, by what it comes to without them.
+-- The order of refusals 5, 6 and 7 against the original's: the answer number of each call that can give one, by what it comes to without them.
 -- Assumes nothing.
 use mathlib.Core.Path.{_≡_, refl, ap, _∙_}
 use mathlib.Core.Bool.{Bool, true, false}
@@ -15,7 +15,7 @@ use Rattle.disc.specs.Ask.Outcome.{answered, refused}
 use Rattle.disc.specs.Images.{disc}
 use Rattle.disc.specs.Ran.{Ran, ran, onward, eachIn}
 use Rattle.disc.specs.Replies.{replyBy}
-use Rattle.disc.specs.declared.refusals.Refusal.the-variants.{NoRoom, NoWork, NoSlot, LongName}
+use Rattle.disc.specs.declared.refusals.Refusal.the-variants.{NoRoom, NoWork, NoSlot}
 use Rattle.disc.specs.declared.replies.Reply.{Reply}
 use Rattle.disc.proofs.RanLaws.{ran-then}
 use Rattle.records.specs.declared.allocations.LongAd.{LongAd}
@@ -23,7 +23,7 @@ use Rattle.volumes.specs.Labels.{labelling}
 use Rattle.areas.specs.declared.AllocExtent.{AllocExtent}
 use Rattle.files.specs.Files.{fileBytes}
 use Rattle.listings.specs.Entries.{Entry, entries}
-use Rattle.listings.specs.Listings.{records, anyLong, listing as listingOf}
+use Rattle.listings.specs.Listings.{records, listing as listingOf}
 use Rattle.directories.specs.Directories.{within, directoryBytes, listingAt}
 use Rattle.directories.specs.Lookups.{readPathOf}
 use Rattle.directories.proofs.SpaceLaws.{ran-known}
@@ -71,12 +71,12 @@ extents-order f image v icb row = by (ran (disc image) (extentListing v icb) .ou
     by (refused why) n = refl
     by (answered es) n = rw length-map (fits es n (leb (length es) (length row)))
 
--- ---- a listing: the refusals of reading the directory, 6, a bad entry, 8, and then 5
+-- ---- a listing: the refusals of reading the directory, 6, a bad entry, and then 5
 
 -- of the entries that were read
 abbrev pub entriesAnswer : ℕ → Outcome (List Entry) → ℕ
 entriesAnswer room (refused why) = number why
-entriesAnswer room (answered es) = pick (anyLong es) 8 (pick (leb (length (records es)) room) 0 5)
+entriesAnswer room (answered es) = pick (leb (length (records es)) room) 0 5
 
 abbrev pub listingAnswer : ℕ → ℕ → Outcome (List ℕ) → ℕ
 listingAnswer work room (refused why) = number why
@@ -94,12 +94,8 @@ entries-ordered : (room : ℕ) (b : List ℕ) → roomed room (listingOf b) ≡ 
 unfolding listingOf
 entries-ordered room b = by (entries b)
   where
-    long : (u : Bool) (es : List Entry) → roomed room (pick u (refused LongName) (answered (records es))) ≡ pick u 8 (pick (leb (length (records es)) room) 0 5)
-    long true es = refl
-    long false es = refl
-
-    by : (o : Outcome (List Entry)) → roomed room (andThen o (λ es. pick (anyLong es) (refused LongName) (answered (records es)))) ≡ entriesAnswer room o
-    by (answered es) = long (anyLong es) es
+    by : (o : Outcome (List Entry)) → roomed room (andThen o (λ es. answered (records es))) ≡ entriesAnswer room o
+    by (answered es) = refl
     by (refused why) = refl
 
 ordered : (work room : ℕ) (o : Outcome (List ℕ)) → roomed room (andThen (andThen o (within work)) listingOf) ≡ listingAnswer work room o

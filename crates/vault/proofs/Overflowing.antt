@@ -17,7 +17,7 @@ use Rattle.disc.specs.Images.{disc}
 use Rattle.disc.specs.Ran.{Ran, ran}
 use Rattle.disc.specs.Replies.{answerOf}
 use Rattle.disc.specs.declared.refusals.Refusal.{Refusal}
-use Rattle.disc.specs.declared.refusals.Refusal.the-variants.{Io, Malformed, NotBluray, Unsupported, NoRoom, NoWork, NoSlot, LongName}
+use Rattle.disc.specs.declared.refusals.Refusal.the-variants.{Io, Malformed, NotBluray, Unsupported, NoRoom, NoWork, NoSlot}
 use Rattle.disc.proofs.OnlyLaws.{Within}
 use Rattle.disc.proofs.RanLaws.{ran-then}
 use Rattle.records.specs.Allocations.{noLong}
@@ -47,7 +47,6 @@ six-is Unsupported e = absurd (omega arith)
 six-is NoRoom e = absurd (omega arith)
 six-is NoWork e = refl
 six-is NoSlot e = absurd (omega arith)
-six-is LongName e = absurd (omega arith)
 
 six-walk : (o : Outcome Sought) → answerOf (andThen o icbOf) ≡ 6 → o ≡ refused NoWork
 six-walk (answered (reached icb)) e = absurd (omega arith)

@@ -1,4 +1,4 @@
--- Which refusals the tree of each call says by itself: 2, 3 and 4, 6 where a directory is read into the work space, and 8 in a listing. So 1 is given
+-- Which refusals the tree of each call says by itself: 2, 3 and 4, and 6 where a directory is read into the work space. So 1 is given
 -- exactly when a sector is missing, and 5 and 7 exactly when memory is short. Assumes nothing.
 use mathlib.Core.Path.{_≡_, refl, sym, subst}
 use mathlib.Core.Bool.{Bool, true, false}
@@ -16,7 +16,7 @@ use Rattle.disc.specs.Ask.{Ask, Outcome, ended, andThen}
 use Rattle.disc.specs.Ask.Outcome.{answered, refused}
 use Rattle.disc.specs.Images.{sectors, sectorsFor}
 use Rattle.disc.specs.declared.refusals.Refusal.{Refusal}
-use Rattle.disc.specs.declared.refusals.Refusal.the-variants.{Malformed, NotBluray, Unsupported, NoWork, LongName}
+use Rattle.disc.specs.declared.refusals.Refusal.the-variants.{Malformed, NotBluray, Unsupported, NoWork}
 use Rattle.disc.proofs.OnlyLaws.{Refuses, done-only, refuse-only, ask-only, pick-only, then-only, Any}
 use Rattle.records.specs.Bytes.{u16at}
 use Rattle.records.specs.declared.allocations.LongAd.{LongAd}
@@ -55,7 +55,7 @@ use Rattle.chains.specs.Chains.{areaIn, nextArea, continued, areaFrom}
 use Rattle.files.specs.Reads.{joining, extentBytes, extentsBytes}
 use Rattle.files.specs.Files.{Located, located, entryAt, isEmbedded, chainOf, fileBytes, filePart, fileExtents, File, resolved, fileAt, contentOf}
 use Rattle.listings.specs.Entries.{Entry, entries}
-use Rattle.listings.specs.Listings.{records, anyLong, listing, firstNamed, findIn}
+use Rattle.listings.specs.Listings.{records, listing, firstNamed, findIn}
 use Rattle.listings.specs.Paths.{Component, components}
 use Rattle.listings.proofs.Promises.{entries-refused}
 use Rattle.identifiers.specs.Identifiers.{isDirectory}
@@ -286,14 +286,10 @@ module _ (P : Refusal → Type 0) (malformed : P Malformed) (missing : P NotBlur
   unfolding readPathOf
   path-only root path = then-only (lookup-only root path) (λ icb q. bytes-only P malformed unsupported m icb)
 
-  pub listing-only : P LongName → (icb : LongAd) → Refuses P Any (listingAt m work icb)
+  pub listing-only : (icb : LongAd) → Refuses P Any (listingAt m work icb)
   unfolding listingAt listing
-  listing-only long icb = then-only (directory-only icb) (λ b q. by b (entries b) refl)
+  listing-only icb = then-only (directory-only icb) (λ b q. by b (entries b) refl)
     where
-      shown : (u : Bool) (l : List ℕ) → Refuses P Any (ended (pick u (refused LongName) (answered l)))
-      shown true l = refuse-only long
-      shown false l = done-only tt
-
-      by : (b : List ℕ) (o : Outcome (List Entry)) → entries b ≡ o → Refuses P Any (ended (andThen o (λ es. pick (anyLong es) (refused LongName) (answered (records es)))))
-      by b (answered es) e = shown (anyLong es) (records es)
+      by : (b : List ℕ) (o : Outcome (List Entry)) → entries b ≡ o → Refuses P Any (ended (andThen o (λ es. answered (records es))))
+      by b (answered es) e = done-only tt
       by b (refused why) e = refuse-only (rw (entries-refused b e) malformed)

@@ -16,7 +16,7 @@ use Rattle.disc.specs.Images.{disc, bytesOf}
 use Rattle.disc.specs.Ran.{Ran, ran, eachIn}
 use Rattle.disc.specs.Replies.{replyBy, leftBy, answerOf}
 use Rattle.disc.specs.declared.refusals.Refusal.{Refusal}
-use Rattle.disc.specs.declared.refusals.Refusal.the-variants.{Io, Malformed, NotBluray, Unsupported, NoRoom, NoWork, NoSlot, LongName}
+use Rattle.disc.specs.declared.refusals.Refusal.the-variants.{Io, Malformed, NotBluray, Unsupported, NoRoom, NoWork, NoSlot}
 use Rattle.disc.specs.declared.replies.Reply.{Reply}
 use Rattle.disc.proofs.PartLaws.{PartAt}
 use Rattle.records.specs.Allocations.{noLong}
@@ -42,7 +42,7 @@ one p q = p ∙ sym q
 
 -- ---- the table
 
-pub in-table : (why : Refusal) → number why ≤ 8
+pub in-table : (why : Refusal) → number why ≤ 7
 in-table Io = omega arith
 in-table Malformed = omega arith
 in-table NotBluray = omega arith
@@ -50,12 +50,11 @@ in-table Unsupported = omega arith
 in-table NoRoom = omega arith
 in-table NoWork = omega arith
 in-table NoSlot = omega arith
-in-table LongName = omega arith
 
 -- ---- calls that write: the answer is 0 or in the table; a refusal has length 0, and leaves what was lent as it came
 
 pub record Sound {A : Type 0} (answer length : ℕ) (before after : List A) : Type 0 where
-  pub table : answer ≤ 8
+  pub table : answer ≤ 7
   pub zeros : (answer ≡ 0 → ⊥) → length ≡ 0
   pub kept : (answer ≡ 0 → ⊥) → after ≡ before
 
@@ -108,24 +107,24 @@ module _ (image : List ℕ) (v : VolumeRecord) (icb : LongAd) (path out work : L
 
 -- ---- calls that give a value: zeros where they are refused
 
-pub open-sound : (image : List ℕ) → (opens image .answer ≤ 8) × ((opens image .answer ≡ 0 → ⊥) → opens image .volume ≡ noVolume)
+pub open-sound : (image : List ℕ) → (opens image .answer ≤ 7) × ((opens image .answer ≡ 0 → ⊥) → opens image .volume ≡ noVolume)
 open-sound image = by (ran (disc image) opening .outcome) (reported (ran (disc image) opening .count))
   where
-    by : (o : Outcome VolumeRecord) (n : ℕ) → (openedBy n o .answer ≤ 8) × ((openedBy n o .answer ≡ 0 → ⊥) → openedBy n o .volume ≡ noVolume)
+    by : (o : Outcome VolumeRecord) (n : ℕ) → (openedBy n o .answer ≤ 7) × ((openedBy n o .answer ≡ 0 → ⊥) → openedBy n o .volume ≡ noVolume)
     by (answered v) n = (omega arith, λ h. absurd (h refl))
     by (refused why) n = (in-table why, λ h. refl)
 
-found-sound : (o : Outcome LongAd) (n : ℕ) → (foundTo o n .answer ≤ 8) × ((foundTo o n .answer ≡ 0 → ⊥) → foundTo o n .icb ≡ noLong)
+found-sound : (o : Outcome LongAd) (n : ℕ) → (foundTo o n .answer ≤ 7) × ((foundTo o n .answer ≡ 0 → ⊥) → foundTo o n .icb ≡ noLong)
 found-sound (answered icb) n = (omega arith, λ h. absurd (h refl))
 found-sound (refused why) n = (in-table why, λ h. refl)
 
-pub lookup-sound : (image : List ℕ) (v : VolumeRecord) (path work : List ℕ) → (finds image v path work .found .answer ≤ 8) × ((finds image v path work .found .answer ≡ 0 → ⊥) → finds image v path work .found .icb ≡ noLong)
+pub lookup-sound : (image : List ℕ) (v : VolumeRecord) (path work : List ℕ) → (finds image v path work .found .answer ≤ 7) × ((finds image v path work .found .answer ≡ 0 → ⊥) → finds image v path work .found .icb ≡ noLong)
 lookup-sound image v path work = found-sound (ran (disc image) (finding v (length work) path) .outcome) (reported (ran (disc image) (finding v (length work) path) .count))
 
-pub part-sound : (image : List ℕ) (v : VolumeRecord) (icb : LongAd) → (parts image v icb .answer ≤ 8) × ((parts image v icb .answer ≡ 0 → ⊥) → parts image v icb .part ≡ [])
+pub part-sound : (image : List ℕ) (v : VolumeRecord) (icb : LongAd) → (parts image v icb .answer ≤ 7) × ((parts image v icb .answer ≡ 0 → ⊥) → parts image v icb .part ≡ [])
 part-sound image v icb = by (ran (disc image) (parting v icb) .outcome)
   where
-    by : (o : Outcome Part) → (answerOf o ≤ 8) × ((answerOf o ≡ 0 → ⊥) → partIn o .bytes ≡ [])
+    by : (o : Outcome Part) → (answerOf o ≤ 7) × ((answerOf o ≡ 0 → ⊥) → partIn o .bytes ≡ [])
     by (answered p) = (omega arith, λ h. absurd (h refl))
     by (refused why) = (in-table why, λ h. refl)
 

@@ -7,7 +7,7 @@ use common::calls::{Call, Query, Values};
 use common::linked::{self, Lends};
 
 /// The table ends here.
-const LAST_ANSWER: u64 = strandlodge_sys::vault::LONG_NAME;
+const LAST_ANSWER: u64 = strandlodge_sys::vault::NO_SLOT;
 
 /// More than any answer here has, in bytes and in slots.
 const PLENTY: usize = 1 << 19;

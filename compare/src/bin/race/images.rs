@@ -178,7 +178,7 @@ fn directories() -> Vec<Raced> {
         ("a name's length, 10 or an entry more", 19, 1, 58),
         ("a name's length, 10 or 255", 19, 1, 255),
         ("the implementation use's length, 0 or ten entries'", 36, 2, 480),
-        ("the implementation use's length, 0 or 65,535", 36, 2, 0xffff),
+        ("the implementation use's length, 0 or FFFF", 36, 2, 0xffff),
         ("an entry's characteristics, deleted or not", 18, 1, 4),
         ("a name's compression id, 8 or 16", 38, 1, 16),
         ("the block of an entry's ICB, inside the image or not", 24, 4, NOWHERE),

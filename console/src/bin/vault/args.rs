@@ -27,7 +27,7 @@ entry that is equal so is taken. Control characters in names are printed as
 \\u{..}. An image is mapped: nobody may write to it while it is looked at. Where
 that can't be kept, as with a disc that is still being copied, use --copy.
 
-Status: 0 done, 1 to 8 refused by that number, 64 wrong usage, 66 no image,
+Status: 0 done, 1 to 7 refused by that number, 64 wrong usage, 66 no image,
 70 an answer that isn't known, 74 output that can't be written.
 ";
 

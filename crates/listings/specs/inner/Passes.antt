@@ -1,7 +1,6 @@
 -- What the passes over a directory's bytes say.
 use Prim.Native.Nat.{ℕ, _+_, _-_, _/_, _%_, _≤_}
 use mathlib.Core.Path.{_≡_}
-use mathlib.Core.Bool.{false}
 use mathlib.Core.List.{List, [], _∷_, _++_}
 use mathlib.Core.Option.{some}
 use lib.ListN.{length, take, drop}
@@ -17,7 +16,7 @@ use Rattle.identifiers.specs.inner.Wholes.{Whole}
 use Rattle.identifiers.specs.declared.FileIdentifierDescriptor.{FileIdentifierDescriptor}
 use Rattle.identifiers.specs.declared.IdentifierRead.{IdentifierRead}
 use Rattle.listings.specs.Entries.{Entry, entryOf, entryRead, inFront, entries}
-use Rattle.listings.specs.Listings.{shown, records, anyLong, answersTo, namedTo}
+use Rattle.listings.specs.Listings.{shown, records, answersTo, namedTo}
 use Rattle.listings.specs.declared.directory_entries.Put.{Put}
 use Rattle.listings.specs.declared.finds.Named.{Named}
 use Rattle.listings.specs.declared.listing.ListingSize.{ListingSize}
@@ -76,8 +75,8 @@ pub record Puts (s before after : List ℕ) (r : Put) : Type 0 where
 
 -- what measuring a directory's entries says
 abbrev pub sizeOfListing : Outcome (List Entry) → ListingSize
-sizeOfListing (answered es) = record { answer = 0; long = anyLong es; size = length (records es) }
-sizeOfListing (refused why) = record { answer = number why; long = false; size = 0 }
+sizeOfListing (answered es) = record { answer = 0; size = length (records es) }
+sizeOfListing (refused why) = record { answer = number why; size = 0 }
 
 -- what was found already, else an entry that answers to the component
 unfoldable pub earlierOf : Named → List ℕ → Entry → Named
