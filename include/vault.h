@@ -79,7 +79,8 @@ typedef struct {
 typedef struct {
     uint64_t answer; /* A number of the table. */
     uint64_t count; /* The sectors asked for. */
-    uint64_t length; /* How many bytes or slots the answer has: 0 where the call was refused. */
+    /* How many bytes or slots the answer has: 0 where the call was refused, but for the component that failed. */
+    uint64_t length;
 } vault_reply;
 
 /* The answer number, the count of sectors, and the ICB that a path names. */

@@ -91,7 +91,7 @@ structs! {
         0 answer: u64,
         /// The sectors asked for.
         8 count: u64,
-        /// How many bytes or slots the answer has: 0 where the call was refused.
+        /// How many bytes or slots the answer has: 0 where the call was refused, but for the component that failed.
         16 length: u64,
     }
 

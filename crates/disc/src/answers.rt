@@ -1,5 +1,4 @@
-// The answer numbers by name: 0, and each refusal, whose number is its name's (`Refusal::number`). 8 is struck, and no
-// other refusal has it.
+// The answer numbers by name: 0, and each refusal, whose number is its name's (`Refusal::number`). 8 is struck, and isn't given to another.
 
 // Done.
 pub const DONE: u64 = 0;

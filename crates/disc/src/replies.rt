@@ -8,7 +8,7 @@ pub struct Reply {
     pub answer: u64,
     // The sectors asked for.
     pub count: u64,
-    // How many bytes or slots the answer has: 0 where the call was refused.
+    // How many bytes or slots the answer has: 0 where the call was refused, but for the component that failed.
     pub length: u64,
 }
 
