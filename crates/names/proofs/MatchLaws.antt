@@ -1,58 +1,122 @@
--- Names compared with ASCII case ignored, as the loop asks, and a d-string compared with a component. Assumes nothing.
+-- A d-string compared with a component, byte by byte and unit by unit, as the code asks. Assumes nothing.
 use mathlib.Core.Path.{_≡_, refl, sym, ap, _∙_}
 use mathlib.Core.Bool.{Bool, true, false}
-use mathlib.Core.List.{List, [], _∷_}
-use Prim.Native.Nat.{ℕ, suc, _+_, _<_, _≤_}
+use mathlib.Core.List.{List, [], _∷_, _++_}
+use Prim.Native.Nat.{ℕ, zero, suc, _+_, _-_, _/_, _%_, _<_, _≤_, zero-le, compare·suc-suc}
 use native.Mathlib.Numerals.{add-one}
 use native.Mathlib.Omega.{arith}
-use lib.ListN.{length, getD, take, drop, replicate, length-take, length-replicate, drop-of-length-le}
-use lib.Seq.{drop-cons, take-append-seam}
-use lib.Dec.{eqb}
-use borrow.Author.Tests.{ne-eqb, lt-ltb, le-ltb}
+use lib.ListN.{length, getD, drop, drop-of-length-le}
+use lib.Seq.{drop-cons}
+use lib.Dec.{eqb, leb}
+use borrow.Author.Tests.{eq-eqb, ne-eqb, lt-ltb, le-ltb, le-leb, lt-leb}
 use Rattle.disc.specs.Choice.{pick}
 use Rattle.disc.specs.Ask.{Outcome}
-use Rattle.disc.proofs.MoveLaws.{over-fits, over-long}
 use Rattle.names.specs.declared.dstrings.Form.{Form}
 use Rattle.names.specs.declared.dstrings.Form.the-variants.{Empty, Units, Bad}
-use Rattle.names.specs.Names.{Wrote, nameOf, lower, sameName, matched, isNamed}
-use Rattle.names.specs.inner.Units.{Formed, textOf}
-use Rattle.disc.proofs.ByteLaws.{Bytes}
+use Rattle.names.specs.declared.matching.Place.{Place}
+use Rattle.names.specs.Names.{surrogate, encode, nameOf, lower, sameName, matched, isNamed}
+use Rattle.names.specs.inner.Units.{Formed, textOf, unitAt, unitBytes}
+use Rattle.names.specs.inner.Matching.{Matched}
+use Rattle.names.proofs.BodyLaws.{At, at-next, text-next, text-zero, text-end}
 use Rattle.names.proofs.NameLaws.{found}
-use Rattle.names.proofs.Promises.{at-most-508}
 
-pub same-lengths : (a b : List ℕ) → (length a ≡ length b → ⊥) → false ≡ sameName a b
-unfolding sameName
-same-lengths [] [] h = absurd (h refl)
-same-lengths [] (y ∷ t) h = refl
-same-lengths (x ∷ s) [] h = refl
-same-lengths (x ∷ s) (y ∷ t) h =
-    rw (← same-lengths s t (λ e. h (ap suc e))) (elim (eqb (lower x) (lower y)) as (λ b. false ≡ pick b false false) [ true ↦ refl | false ↦ refl ])
+-- ---- a byte
 
--- The comparison has come to i: what is left says what the whole says.
-pub record Comparing (a b : List ℕ) (i : ℕ) : Type 0 where
-  pub within : i ≤ length a
-  pub alike : length a ≡ length b
-  pub rest : sameName (drop i a) (drop i b) ≡ sameName a b
+pub same-alike : (a b : ℕ) → a ≡ b → true ≡ eqb (lower a) (lower b)
+same-alike a b e = sym (eq-eqb (lower a) (lower b) (ap lower e))
 
-module _ {a b : List ℕ} {i : ℕ} (s : Comparing a b i) where
-  module _ (h : i < length a) {r : Bool} (e : r ≡ eqb (lower (getD a i 0)) (lower (getD b i 0))) where
-    same-next : sameName a b ≡ pick r (sameName (drop (i + 1) a) (drop (i + 1) b)) false
-    unfolding sameName
-    same-next =
-        let k : i < length b = omega arith in
-        sym (s .rest) ∙ rw (add-one, drop-cons a i 0, drop-cons b i 0, e)
-
-    pub same-go : r ≡ true → Comparing a b (i + 1)
-    same-go k = record { within = omega arith; alike = s .alike; rest = rw (same-next, k) }
-
-    pub same-stop : r ≡ false → false ≡ sameName a b
-    same-stop k = rw (same-next, k)
-
-  pub same-end : length a ≤ i → true ≡ sameName a b
+module _ (b : ℕ) {t : List ℕ} {at : ℕ} where
+  pub byte-none : length t ≤ at → Matched (b ∷ []) t at (record { same = false; at = at })
   unfolding sameName
-  same-end h =
-      let k : length b ≤ i = omega arith in
-      rw (drop-of-length-le a, drop-of-length-le b) at (s .rest)
+  byte-none h = record { rest = λ more. rw (drop-of-length-le t) }
+
+  pub byte-some : at < length t → {r : Bool} → r ≡ eqb (lower b) (lower (getD t at 0)) → Matched (b ∷ []) t at (record { same = r; at = at + 1 })
+  unfolding sameName
+  byte-some h e = record { rest = λ more. rw (add-one, drop-cons t at 0, e) }
+
+-- ---- bytes in turn: the first byte, a, has come to p
+
+module _ {a : ℕ} {w t : List ℕ} {at : ℕ} {p : Place} (m : Matched (a ∷ []) t at p) where
+  stops : p .same ≡ false → Matched (a ∷ w) t at p
+  stops h = record { rest = λ more. m .rest (w ++ more) ∙ rw h }
+
+  goes : p .same ≡ true → {q : Place} → Matched w t (p .at) q → Matched (a ∷ w) t at q
+  goes h k = record { rest = λ more. m .rest (w ++ more) ∙ rw h (k .rest more) }
+
+-- ---- a unit
+
+module _ (u : ℕ) {t : List ℕ} {at : ℕ} {p : Place} where
+  module _ (k : 0x80 ≤ u) (l : u < 0x800) (m : Matched ((0xc0 + u / 64) ∷ []) t at p) where
+    pub two-stop : p .same ≡ false → Matched (encode u) t at p
+    unfolding encode
+    two-stop h = rw (le-ltb u 0x80 k, lt-ltb u 0x800 l) (stops m h)
+
+    pub two-go : p .same ≡ true → {q : Place} → Matched ((0x80 + u % 64) ∷ []) t (p .at) q → Matched (encode u) t at q
+    unfolding encode
+    two-go h n = rw (le-ltb u 0x80 k, lt-ltb u 0x800 l) (goes m h n)
+
+  module _ (k : 0x800 ≤ u) (m : Matched ((0xe0 + u / 4096) ∷ []) t at p) where
+    three-bytes : encode u ≡ (0xe0 + u / 4096) ∷ (0x80 + u / 64 % 64) ∷ (0x80 + u % 64) ∷ []
+    unfolding encode
+    three-bytes = simp (le-ltb u 0x80 (omega arith), le-ltb u 0x800 k)
+
+    pub three-stop : p .same ≡ false → Matched (encode u) t at p
+    three-stop h = rw three-bytes (stops m h)
+
+    module _ (h : p .same ≡ true) {q : Place} (n : Matched ((0x80 + u / 64 % 64) ∷ []) t (p .at) q) where
+      pub three-stop-later : q .same ≡ false → Matched (encode u) t at q
+      three-stop-later i = rw three-bytes (goes m h (stops n i))
+
+      pub three-go : q .same ≡ true → {z : Place} → Matched ((0x80 + u % 64) ∷ []) t (q .at) z → Matched (encode u) t at z
+      three-go i o = rw three-bytes (goes m h (goes n i o))
+
+  pub unit-one : u < 0x80 → Matched (u ∷ []) t at p → Matched (unitBytes u) t at p
+  unfolding unitBytes surrogate encode
+  unit-one k m = rw (lt-ltb u 0xd800 (omega arith), lt-ltb u 0x80 k) m
+
+  module _ {r : Bool} (e : r ≡ surrogate u) where
+    pub unit-long : r ≡ false → Matched (encode u) t at p → Matched (unitBytes u) t at p
+    unfolding unitBytes
+    unit-long h m = rw (← e, h) m
+
+pub unit-none : (u : ℕ) {t : List ℕ} {at : ℕ} {r : Bool} → r ≡ surrogate u → r ≡ true → Matched (unitBytes u) t at (record { same = true; at = at })
+unfolding unitBytes
+unit-none u e h = rw (← e, h) (record { rest = λ more. refl })
+
+-- ---- the loop
+
+-- Where a name has ended, the component has to.
+used-up : (t : List ℕ) (j : ℕ) → leb (length t) j ≡ sameName [] (drop j t)
+unfolding sameName
+used-up [] zero = le-leb 0 0 zero-le
+used-up [] (suc j) = le-leb 0 (suc j) zero-le
+used-up (x ∷ t) zero = lt-leb (suc (length t)) 0 (omega arith)
+used-up (x ∷ t) (suc j) = rw compare·suc-suc (used-up t j)
+
+-- The comparison has come to i in the d-string and to j in the component: what is left says what the whole says.
+pub record Comparing (step : ℕ) (s t : List ℕ) (i j : ℕ) : Type 0 where
+  pub at : At step s i
+  pub rest : sameName (textOf step (drop i s)) (drop j t) ≡ sameName (textOf step (drop 1 s)) t
+
+module _ {step i j : ℕ} {s t : List ℕ} (c : Comparing step s t i j) where
+  module _ (h : step ≤ length s - i) {u : ℕ} (e : u ≡ unitAt s i step) (z : u ≡ 0 → ⊥) {p : Place} (m : Matched (unitBytes u) t j p) where
+    turn : pick (p .same) (sameName (textOf step (drop (i + step) s)) (drop (p .at) t)) false ≡ sameName (textOf step (drop 1 s)) t
+    turn = sym (m .rest (textOf step (drop (i + step) s))) ∙ rw (← text-next (c .at) h e z) (c .rest)
+
+    pub compare-next : p .same ≡ true → Comparing step s t (i + step) (p .at)
+    compare-next k = record { at = at-next (c .at) h e; rest = rw k at turn }
+
+    pub compare-stop : p .same ≡ false → false ≡ sameName (textOf step (drop 1 s)) t
+    compare-stop k = rw k at turn
+
+  done : textOf step (drop i s) ≡ [] → leb (length t) j ≡ sameName (textOf step (drop 1 s)) t
+  done e = used-up t j ∙ (rw e at (c .rest))
+
+  pub compare-zero : step ≤ length s - i → {u : ℕ} → u ≡ unitAt s i step → u ≡ 0 → leb (length t) j ≡ sameName (textOf step (drop 1 s)) t
+  compare-zero h e z = done (text-zero (c .at) h e z)
+
+  pub compare-end : length s - i < step → leb (length t) j ≡ sameName (textOf step (drop 1 s)) t
+  compare-end h = done (text-end (c .at) h)
 
 -- ---- a d-string and a component
 
@@ -77,19 +141,5 @@ module _ (s t : List ℕ) where
         empty-matches [] = refl
         empty-matches (b ∷ t) = ne-eqb _ _ (λ (e : suc (length t) ≡ 0). omega arith)
 
-    -- Here d is an array of 508 bytes with the name written into it, and n the name's length.
-    module _ (step : ℕ) (e : f ≡ Units step) {d : List ℕ} {n : ℕ} (w : Wrote (textOf step (drop 1 s)) (replicate 508 0) d n) (b : Bytes s) where
-      name-fits : length (textOf step (drop 1 s)) ≤ length {A = ℕ} (replicate 508 0)
-      name-fits = rw length-replicate (rw (found p e) at (at-most-508 s b h))
-
-      pub named-within : n ≤ length d
-      named-within = rw (w .bytes, over-long, w .count) name-fits
-
-      pub named-long-enough : n ≡ length (take n d)
-      named-long-enough = let k = named-within in simp length-take (omega arith)
-
-      named-front : take n d ≡ textOf step (drop 1 s)
-      named-front = rw (w .bytes, over-fits (textOf step (drop 1 s)) (replicate 508 0) name-fits, w .count) (take-append-seam (textOf step (drop 1 s)) _)
-
-      pub named-same : {q : Bool} → q ≡ sameName (take n d) t → q ≡ isNamed s t
-      named-same m = m ∙ rw named-front (matches-by (found p e))
+    pub named-text : (step : ℕ) → f ≡ Units step → {q : Bool} → q ≡ sameName (textOf step (drop 1 s)) t → q ≡ isNamed s t
+    named-text step e m = m ∙ matches-by (found p e)

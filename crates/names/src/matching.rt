@@ -1,10 +1,22 @@
-// Names compared with ASCII case ignored.
+// A recorded name compared with a component of a path, with ASCII case ignored: straight from the d-string, one code point at a time.
 use crate::dstrings::Form;
 use crate::dstrings::form_of;
-use crate::dstrings::put_text;
+use crate::units::surrogate;
+use crate::units::unit;
 ghost use mathlib.Core.Path.{_≡_};
+ghost use mathlib.Core.List.{[], _∷_};
+ghost use Prim.Native.Nat.{_≤_};
 ghost use lib.Dec.{eqb};
-ghost use Rattle.names.specs.Names.{lower, sameName, isNamed};
+ghost use lib.ListN.{drop};
+ghost use Rattle.names.specs.Names.{encode, lower, sameName, isNamed};
+ghost use Rattle.names.specs.inner.Units.{Body, textOf, unitBytes};
+ghost use Rattle.names.specs.inner.Matching.{Matched};
+
+// Whether what was compared is the same, and how far into the component that came.
+pub(crate) struct Place {
+    same: bool,
+    at: usize,
+}
 
 fn lower(b: u8) -> u8
     ensures { λ r. ⌜ r ≡ lower b ⌝ }
@@ -18,30 +30,86 @@ fn lower(b: u8) -> u8
     b
 }
 
+// Most bytes that match are equal as they are.
 fn same_byte(a: u8, b: u8) -> bool
     ensures { λ r. ⌜ r ≡ eqb (lower a) (lower b) ⌝ }
 {
+    if a == b {
+        return true;
+    }
     lower(a) == lower(b)
 }
 
-// Whether two names match.
-pub fn same_name(a: &[u8], b: &[u8]) -> bool
-    ensures { λ r. ⌜ r ≡ sameName (now (a .entry)) (now (b .entry)) ⌝ }
+// Compares a byte of a name with the component t at `at`.
+fn match_byte(b: u8, t: &[u8], at: usize) -> Place
+    ensures { λ r. ⌜ Matched (b ∷ []) (now (t .entry)) at r ⌝ }
 {
-    if a.len() != b.len() {
-        return false;
+    if t.len() <= at {
+        return Place { same: false, at };
     }
-    let mut i = 0;
-    while i < a.len() {
-        if !same_byte(a[i], b[i]) {
-            return false;
-        }
-        i += 1;
-    }
-    true
+    let same = same_byte(b, t[at]);
+    Place { same, at: at + 1 }
 }
 
-// Whether the d-string s names a component of a path. A name from at most 255 recorded bytes has at most 508 bytes of UTF-8.
+// Compares the UTF-8 of u, of two or three bytes, with the component t from `at` on.
+fn match_long(u: u16, t: &[u8], at: usize) -> Place
+    requires { ⌜ 0x80 ≤ u ⌝ }
+    ensures { λ r. ⌜ Matched (encode u) (now (t .entry)) at r ⌝ }
+{
+    if u < 0x800 {
+        let p = match_byte((0xc0 + u / 64) as u8, t, at);
+        if !p.same {
+            return p;
+        }
+        return match_byte((0x80 + u % 64) as u8, t, p.at);
+    }
+    let p = match_byte((0xe0 + u / 4096) as u8, t, at);
+    if !p.same {
+        return p;
+    }
+    let q = match_byte((0x80 + u / 64 % 64) as u8, t, p.at);
+    if !q.same {
+        return q;
+    }
+    match_byte((0x80 + u % 64) as u8, t, q.at)
+}
+
+// Compares a unit that is not 0 with the component t from `at` on. ASCII comes first, since most names have nothing else.
+fn match_unit(u: u16, t: &[u8], at: usize) -> Place
+    ensures { λ r. ⌜ Matched (unitBytes u) (now (t .entry)) at r ⌝ }
+{
+    if u < 0x80 {
+        return match_byte(u as u8, t, at);
+    }
+    if surrogate(u) {
+        return Place { same: true, at };
+    }
+    match_long(u, t, at)
+}
+
+// Whether the UTF-8 of the units of s from its second byte on matches the component t. Ends at the first unit that differs.
+fn is_text(s: &[u8], step: usize, t: &[u8]) -> bool
+    requires { ⌜ Body (now s) step ⌝ }
+    ensures { λ r. ⌜ r ≡ sameName (textOf step (drop 1 (now (s .entry)))) (now (t .entry)) ⌝ }
+{
+    let mut at: usize = 0;
+    let mut i: usize = 1;
+    while step <= s.len() - i {
+        let u = unit(s, i, step);
+        if u == 0 {
+            return t.len() <= at;
+        }
+        let p = match_unit(u, t, at);
+        if !p.same {
+            return false;
+        }
+        at = p.at;
+        i += step;
+    }
+    t.len() <= at
+}
+
+// Whether the d-string s names a component of a path.
 pub fn is_named(s: &[u8], component: &[u8]) -> bool
     ensures { λ r. ⌜ r ≡ isNamed (now (s .entry)) (now (component .entry)) ⌝ }
 {
@@ -51,10 +119,6 @@ pub fn is_named(s: &[u8], component: &[u8]) -> bool
     match form_of(s) {
         Form::Bad => false,
         Form::Empty => component.len() == 0,
-        Form::Units(step) => {
-            let mut name = [0u8; 508];
-            let n = put_text(s, step, &mut name);
-            same_name(&name[..n], component)
-        }
+        Form::Units(step) => is_text(s, step, component),
     }
 }

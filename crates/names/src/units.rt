@@ -22,7 +22,7 @@ pub(crate) fn unit(s: &[u8], at: usize, step: usize) -> u16
     wide(s[at])
 }
 
-fn surrogate(u: u16) -> bool
+pub(crate) fn surrogate(u: u16) -> bool
     ensures { λ r. ⌜ r ≡ surrogate u ⌝ }
 {
     if u < 0xd800 {
