@@ -16,7 +16,7 @@ use Rattle.disc.proofs.PickLaws.{pick-both}
 use Rattle.disc.specs.Choice.{pick}
 use Rattle.disc.proofs.MoveLaws.{sets-append}
 use Rattle.names.specs.Names.{Wrote, pairs, untilZero, surrogate, dropSurrogates, encode, utf8}
-use Rattle.names.specs.inner.Units.{WroteAt, Body, units, textOf, unitAt, unitBytes}
+use Rattle.names.specs.inner.Units.{WroteAt, At, units, textOf, unitAt, unitBytes}
 use Rattle.names.proofs.UnitLaws.{sets-over}
 
 -- The UTF-8 of units.
@@ -53,10 +53,7 @@ units-none (suc (suc zero)) (x ∷ []) k l = refl
 units-none (suc (suc zero)) (x ∷ y ∷ t) k l = absurd (omega arith)
 units-none (suc (suc (suc n))) t k l = absurd (omega arith)
 
--- The loops have come to i.
-pub record At (step : ℕ) (s : List ℕ) (i : ℕ) : Type 0 where
-  pub body : Body s step
-  pub within : i ≤ length s
+-- ---- a loop that has come to i
 
 module _ {step i : ℕ} {s : List ℕ} (p : At step s i) where
   module _ (h : step ≤ length s - i) {u : ℕ} (e : u ≡ unitAt s i step) where

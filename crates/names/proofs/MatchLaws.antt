@@ -2,13 +2,16 @@
 use mathlib.Core.Path.{_≡_, refl, sym, ap, _∙_}
 use mathlib.Core.Bool.{Bool, true, false}
 use mathlib.Core.List.{List, [], _∷_, _++_}
-use Prim.Native.Nat.{ℕ, zero, suc, _+_, _-_, _/_, _%_, _<_, _≤_, zero-le, compare·suc-suc}
+use Prim.Native.Nat.{ℕ, zero, suc, _+_, _-_, _*_, _^_, _/_, _%_, _<_, _≤_, zero-le, compare·suc-suc}
 use native.Mathlib.Numerals.{add-one}
 use native.Mathlib.Omega.{arith}
 use lib.ListN.{length, getD, drop, drop-of-length-le}
 use lib.Seq.{drop-cons}
 use lib.Dec.{eqb, leb}
 use borrow.Author.Tests.{eq-eqb, ne-eqb, lt-ltb, le-ltb, le-leb, lt-leb}
+use mir.Syntax.{w64}
+use mir.Val.{Fits}
+use Rattle.disc.proofs.PickLaws.{not-both}
 use Rattle.disc.specs.Choice.{pick}
 use Rattle.disc.specs.Ask.{Outcome}
 use Rattle.names.specs.declared.dstrings.Form.{Form}
@@ -16,8 +19,8 @@ use Rattle.names.specs.declared.dstrings.Form.the-variants.{Empty, Units
 use Rattle.names.specs.declared.matching.Place.{Place}
 use Rattle.names.specs.Names.{surrogate, encode, nameOf, lower, sameName, matched, isNamed}
 use Rattle.names.specs.inner.Units.{Formed, textOf, unitAt, unitBytes}
-use Rattle.names.specs.inner.Matching.{Matched}
-use Rattle.names.proofs.BodyLaws.{At, at-next, text-next, text-zero, text-end}
+use Rattle.names.specs.inner.Matching.{Matched, Plain, Comparing}
+use Rattle.names.proofs.BodyLaws.{at-next, text-next, text-zero, text-end}
 use Rattle.names.proofs.NameLaws.{found}
 
 -- ---- a byte
@@ -83,7 +86,15 @@ pub unit-none : (u : ℕ) {t : List ℕ} {at : ℕ} {r : Bool} → r ≡ surroga
 unfolding unitBytes
 unit-none u e h = rw (← e, h) (record { rest = λ more. refl })
 
--- ---- the loop
+-- A unit that is matched as one byte.
+module _ {u : ℕ} {t : List ℕ} {at : ℕ} where
+  pub plain-not : _≡_ {A = Bool} false true → Plain u t at
+  plain-not e = not-both e
+
+  pub plain-yes : {r : Bool} → (u ≡ 0 → ⊥) → u ≤ 0x7f → at < length t → r ≡ eqb (lower u) (lower (getD t at 0)) → r ≡ true → Plain u t at
+  plain-yes z a h e y = record { some = z; ascii = omega arith; within = h; same = sym e ∙ y }
+
+-- ---- the loops
 
 -- Where a name has ended, the component has to.
 used-up : (t : List ℕ) (j : ℕ) → leb (length t) j ≡ sameName [] (drop j t)
@@ -93,30 +104,42 @@ used-up [] (suc j) = le-leb 0 (suc j) zero-le
 used-up (x ∷ t) zero = lt-leb (suc (length t)) 0 (omega arith)
 used-up (x ∷ t) (suc j) = rw compare·suc-suc (used-up t j)
 
--- The comparison has come to i in the d-string and to j in the component: what is left says what the whole says.
-pub record Comparing (step : ℕ) (s t : List ℕ) (i j : ℕ) : Type 0 where
-  pub at : At step s i
-  pub rest : sameName (textOf step (drop i s)) (drop j t) ≡ sameName (textOf step (drop 1 s)) t
+module _ {step i₀ j₀ i j : ℕ} {s t : List ℕ} (c : Comparing step s t i₀ j₀ i j) where
+  module _ (h : step ≤ length s - i) {u : ℕ} (e : u ≡ unitAt s i step) where
+    module _ (z : u ≡ 0 → ⊥) {p : Place} (m : Matched (unitBytes u) t j p) where
+      turn : pick (p .same) (sameName (textOf step (drop (i + step) s)) (drop (p .at) t)) false ≡ sameName (textOf step (drop i₀ s)) (drop j₀ t)
+      turn = sym (m .rest (textOf step (drop (i + step) s))) ∙ rw (← text-next (c .at) h e z) (c .rest)
 
-module _ {step i j : ℕ} {s t : List ℕ} (c : Comparing step s t i j) where
-  module _ (h : step ≤ length s - i) {u : ℕ} (e : u ≡ unitAt s i step) (z : u ≡ 0 → ⊥) {p : Place} (m : Matched (unitBytes u) t j p) where
-    turn : pick (p .same) (sameName (textOf step (drop (i + step) s)) (drop (p .at) t)) false ≡ sameName (textOf step (drop 1 s)) t
-    turn = sym (m .rest (textOf step (drop (i + step) s))) ∙ rw (← text-next (c .at) h e z) (c .rest)
+      pub compare-next : p .same ≡ true → Comparing step s t i₀ j₀ (i + step) (p .at)
+      compare-next k = record { at = at-next (c .at) h e; rest = rw k at turn }
 
-    pub compare-next : p .same ≡ true → Comparing step s t (i + step) (p .at)
-    compare-next k = record { at = at-next (c .at) h e; rest = rw k at turn }
+      pub compare-stop : p .same ≡ false → false ≡ sameName (textOf step (drop i₀ s)) (drop j₀ t)
+      compare-stop k = rw k at turn
 
-    pub compare-stop : p .same ≡ false → false ≡ sameName (textOf step (drop 1 s)) t
-    compare-stop k = rw k at turn
+    plain-next : Plain u t j → Comparing step s t i₀ j₀ (i + step) (j + 1)
+    plain-next l = compare-next (l .some) (unit-one u (l .ascii) (byte-some u (l .within) (sym (l .same)))) refl
 
-  done : textOf step (drop i s) ≡ [] → leb (length t) j ≡ sameName (textOf step (drop 1 s)) t
+  done : textOf step (drop i s) ≡ [] → leb (length t) j ≡ sameName (textOf step (drop i₀ s)) (drop j₀ t)
   done e = used-up t j ∙ (rw e at (c .rest))
 
-  pub compare-zero : step ≤ length s - i → {u : ℕ} → u ≡ unitAt s i step → u ≡ 0 → leb (length t) j ≡ sameName (textOf step (drop 1 s)) t
+  pub compare-zero : step ≤ length s - i → {u : ℕ} → u ≡ unitAt s i step → u ≡ 0 → leb (length t) j ≡ sameName (textOf step (drop i₀ s)) (drop j₀ t)
   compare-zero h e z = done (text-zero (c .at) h e z)
 
-  pub compare-end : length s - i < step → leb (length t) j ≡ sameName (textOf step (drop 1 s)) t
+  pub compare-end : length s - i < step → leb (length t) j ≡ sameName (textOf step (drop i₀ s)) (drop j₀ t)
   compare-end h = done (text-end (c .at) h)
+
+-- The front of the names was compared: no unit has more bytes in the component than in the d-string.
+pub record Fronting (step : ℕ) (s t : List ℕ) (i j : ℕ) : Type 0 where
+  pub comparing : Comparing step s t 1 0 i j
+  pub behind : j < i
+
+module _ {step i j : ℕ} {s t : List ℕ} (c : Fronting step s t i j) where
+  pub front-adds : length s * 1 < 2 ^ 63 → Fits w64 (j + 1)
+  front-adds g = omega (arith, c .behind, c .comparing .at .within)
+
+  -- Here r is what `is_plain` returned.
+  pub front-next : step ≤ length s - i → {u : ℕ} → u ≡ unitAt s i step → {r : Bool} → (r ≡ true → Plain u t j) → r ≡ true → Fronting step s t (i + step) (j + 1)
+  front-next h e k y = record { comparing = plain-next (c .comparing) h e (k y); behind = omega (arith, c .behind, c .comparing .at .body .one) }
 
 -- ---- a d-string and a component
 
@@ -141,5 +164,6 @@ module _ (s t : List ℕ) where
         empty-matches [] = refl
         empty-matches (b ∷ t) = ne-eqb _ _ (λ (e : suc (length t) ≡ 0). omega arith)
 
-    pub named-text : (step : ℕ) → f ≡ Units step → {q : Bool} → q ≡ sameName (textOf step (drop 1 s)) t → q ≡ isNamed s t
-    named-text step e m = m ∙ matches-by (found p e)
+    -- Here the front has been compared up to i and j, and q is what the rest says.
+    pub named-text : (step : ℕ) → f ≡ Units step → {i j : ℕ} → Comparing step s t 1 0 i j → {q : Bool} → q ≡ sameName (textOf step (drop i s)) (drop j t) → q ≡ isNamed s t
+    named-text step e c m = m ∙ c .rest ∙ matches-by (found p e)

@@ -4,17 +4,24 @@ use crate::dstrings::form_of;
 use crate::units::surrogate;
 use crate::units::unit;
 ghost use mathlib.Core.Path.{_≡_};
+ghost use mathlib.Core.Bool.{true};
 ghost use mathlib.Core.List.{[], _∷_};
 ghost use Prim.Native.Nat.{_≤_};
 ghost use lib.Dec.{eqb};
 ghost use lib.ListN.{drop};
 ghost use Rattle.names.specs.Names.{encode, lower, sameName, isNamed};
-ghost use Rattle.names.specs.inner.Units.{Body, textOf, unitBytes};
-ghost use Rattle.names.specs.inner.Matching.{Matched};
+ghost use Rattle.names.specs.inner.Units.{Body, At, textOf, unitBytes};
+ghost use Rattle.names.specs.inner.Matching.{Matched, Plain, Comparing};
 
 // Whether what was compared is the same, and how far into the component that came.
 pub(crate) struct Place {
     same: bool,
+    at: usize,
+}
+
+// How far a d-string and a component have been compared: the place in each.
+pub(crate) struct Reached {
+    i: usize,
     at: usize,
 }
 
@@ -87,13 +94,47 @@ fn match_unit(u: u16, t: &[u8], at: usize) -> Place
     match_long(u, t, at)
 }
 
-// Whether the UTF-8 of the units of s from its second byte on matches the component t. Ends at the first unit that differs.
-fn is_text(s: &[u8], step: usize, t: &[u8]) -> bool
+// Whether u is ASCII, not 0, and matches the component t at `at`.
+fn is_plain(u: u16, t: &[u8], at: usize) -> bool
+    ensures { λ r. ⌜ (r ≡ true → Plain u (now (t .entry)) at) ⌝ }
+{
+    if t.len() <= at {
+        return false;
+    }
+    if u == 0 {
+        return false;
+    }
+    if 0x7f < u {
+        return false;
+    }
+    same_byte(u as u8, t[at])
+}
+
+// How far the name of s is ASCII and matches the component t. Most names are told apart here, where a unit is a byte and no code point is made.
+fn front(s: &[u8], step: usize, t: &[u8]) -> Reached
     requires { ⌜ Body (now s) step ⌝ }
-    ensures { λ r. ⌜ r ≡ sameName (textOf step (drop 1 (now (s .entry)))) (now (t .entry)) ⌝ }
+    ensures { λ r. ⌜ Comparing step (now (s .entry)) (now (t .entry)) 1 0 (r .i) (r .at) ⌝ }
 {
     let mut at: usize = 0;
     let mut i: usize = 1;
+    while step <= s.len() - i {
+        let u = unit(s, i, step);
+        if !is_plain(u, t, at) {
+            return Reached { i, at };
+        }
+        at += 1;
+        i += step;
+    }
+    Reached { i, at }
+}
+
+// Whether the UTF-8 of the units of s from f on matches what is left of the component t. Ends at the first unit that differs.
+fn is_rest(s: &[u8], step: usize, f: Reached, t: &[u8]) -> bool
+    requires { ⌜ At step (now s) (f .i) ⌝ }
+    ensures { λ r. ⌜ r ≡ sameName (textOf step (drop (f .i) (now (s .entry)))) (drop (f .at) (now (t .entry))) ⌝ }
+{
+    let mut at = f.at;
+    let mut i = f.i;
     while step <= s.len() - i {
         let u = unit(s, i, step);
         if u == 0 {
@@ -119,6 +160,9 @@ pub fn is_named(s: &[u8], component: &[u8]) -> bool
     match form_of(s) {
         Form::Bad => false,
         Form::Empty => component.len() == 0,
-        Form::Units(step) => is_text(s, step, component),
+        Form::Units(step) => {
+            let f = front(s, step, component);
+            is_rest(s, step, f, component)
+        }
     }
 }

@@ -1,14 +1,29 @@
 -- What the private functions of matching cite: how far a comparison has come. The public contract cites `Names` alone.
-use Prim.Native.Nat.{ℕ}
+use Prim.Native.Nat.{ℕ, _<_}
 use mathlib.Core.Path.{_≡_}
-use mathlib.Core.Bool.{Bool, false}
+use mathlib.Core.Bool.{true, false}
 use mathlib.Core.List.{List, _++_}
-use lib.ListN.{drop}
+use lib.ListN.{length, getD, drop}
+use lib.Dec.{eqb}
 use Rattle.disc.specs.Choice.{pick}
 use Rattle.names.specs.declared.matching.Place.{Place}
-use Rattle.names.specs.Names.{sameName}
+use Rattle.names.specs.Names.{lower, sameName}
+use Rattle.names.specs.inner.Units.{At, textOf}
 
 -- The bytes v of a name were compared with the component t from `at` on: whatever stands behind them in the name, it is
 -- compared with t from the place r on, or the names differ.
 pub record Matched (v t : List ℕ) (at : ℕ) (r : Place) : Type 0 where
   pub rest : (more : List ℕ) → sameName (v ++ more) (drop at t) ≡ pick (r .same) (sameName more (drop (r .at) t)) false
+
+-- The unit u is ASCII, not 0, and matches the component t at `at`.
+pub record Plain (u : ℕ) (t : List ℕ) (at : ℕ) : Type 0 where
+  pub some : u ≡ 0 → ⊥
+  pub ascii : u < 0x80
+  pub within : at < length t
+  pub same : eqb (lower u) (lower (getD t at 0)) ≡ true
+
+-- The comparison of the d-string s from i₀ on and the component t from j₀ on has come to i and j: what is left says what
+-- the whole says.
+pub record Comparing (step : ℕ) (s t : List ℕ) (i₀ j₀ i j : ℕ) : Type 0 where
+  pub at : At step s i
+  pub rest : sameName (textOf step (drop i s)) (drop j t) ≡ sameName (textOf step (drop i₀ s)) (drop j₀ t)

@@ -47,6 +47,11 @@ pub record Body (s : List ℕ) (step : ℕ) : Type 0 where
   pub one : 1 ≤ step
   pub two : step ≤ 2
 
+-- A loop over the units of a body has come to i.
+pub record At (step : ℕ) (s : List ℕ) (i : ℕ) : Type 0 where
+  pub body : Body s step
+  pub within : i ≤ length s
+
 -- The name of a d-string of a form.
 abbrev pub nameAs : Form → List ℕ → Outcome (List ℕ)
 nameAs Empty s = answered []

@@ -16,6 +16,7 @@ is-named-spec =
     (λ c. search needs)
     (λ c. search needs)
     (λ c κs. search matches)
+    (λ c κs. search needs)
     (λ c. search matches)
     (λ c. search matches)
     (λ c. search matches))
