@@ -8,7 +8,6 @@ use names::dstrings::put_name;
 use names::fields::field_size;
 use names::fields::write_field;
 use names::matching::is_named;
-use names::matching::same_name;
 use programs::lent::front;
 use programs::words::say;
 use programs::words::say_bytes;
@@ -83,11 +82,13 @@ fn into(room: usize, s: &[u8])
     say(b"\n");
 }
 
-// Whether two names match.
-fn same(a: &[u8], b: &[u8]) {
-    asked(b"same", a);
+// Whether the name of a d-string, which is shown, and another match.
+fn same(s: &[u8], b: &[u8]) {
+    let mut out = [0u8; 64];
+    let n = put_name(s, &mut out);
+    asked(b"same", front(&out, n));
     asked(b",", b);
-    say_match(same_name(a, b));
+    say_match(is_named(s, b));
 }
 
 // Whether a d-string names a component.
@@ -185,20 +186,20 @@ fn rooms() {
 }
 
 fn matches() {
-    same(b"BDMV", b"BDMV");
-    same(b"BDMV", b"bdmv");
-    same(b"10.1A", b"10.1a");
-    same(b"AZ", b"az");
-    same(b"", b"");
+    same(b"\x08BDMV", b"BDMV");
+    same(b"\x08BDMV", b"bdmv");
+    same(b"\x0810.1A", b"10.1a");
+    same(b"\x08AZ", b"az");
+    same(b"\x08", b"");
 }
 
 fn no_matches() {
-    same(b"@", b"`");
-    same(b"[", b"{");
-    same(b"BDMV", b"BDM");
-    same(b"BDM", b"BDMV");
-    same(b"BDMV", b"BDMW");
-    same(b"\xc3\xa9", b"\xc3\x89");
+    same(b"\x08@", b"`");
+    same(b"\x08[", b"{");
+    same(b"\x08BDMV", b"BDM");
+    same(b"\x08BDM", b"BDMV");
+    same(b"\x08BDMV", b"BDMW");
+    same(b"\x08\xe9", b"\xc3\x89");
 }
 
 fn components() {
