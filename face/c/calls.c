@@ -1,52 +1,10 @@
-/* calls.c: every call of vault.h once, on the small show of crates/first_cue, which comes packed on standard input.
+/* calls.c: every call of vault.h once, on the small show of show.h.
  *
- * What is expected is read off tools/show_image.py, which lays the show out: the partition starts at sector 288 and has number 5; the root is in
- * its block 3, SHOW in 4; the cues 9, 10.1A, 10.1a and 11 have their entries in 5, 7, 9 and 11 and their bytes in the block behind. No two pieces
- * of memory that a call is lent have the same length, so that an argument in another's place is seen. Ends with 0, or says what isn't so. */
-#include "vault.h"
-
-/* What is used of the C library, declared here: the toolchain has its code for x86-64, and no headers. */
-extern long read(int fd, void *to, size_t n);
-extern long write(int fd, const void *from, size_t n);
-extern void *memset(void *to, int byte, size_t n);
-extern void *memcpy(void *to, const void *from, size_t n);
-extern int memcmp(const void *one, const void *other, size_t n);
-extern size_t strlen(const char *text);
-extern _Noreturn void exit(int status);
-
-enum { SECTOR = 2048, START = 288, PARTITION = 5, IMAGE = (START + 16) * SECTOR, ENTRY = 176 };
-enum { OUT = 1500, WORK = 2100, SLOTS = 3, FREE = 0xa5 };
+ * What is expected is read off the show's layout. No two pieces of memory that a call is lent have the same length, so that an argument in
+ * another's place is seen. Ends with 0, or says what isn't so. */
+#include "show.h"
 
 static const char cue[] = "cue 10.1A\nfront wash 80, blue backs 40, follow 6 seconds\n";
-static uint8_t image[IMAGE], out[OUT], work[WORK];
-static vault_extent row[SLOTS];
-
-static void say(const char *text) {
-    if (write(2, text, strlen(text)) < 0) exit(2);
-}
-
-#define EXPECT(fact) \
-    do { \
-        if (!(fact)) { \
-            say("calls.c: not so: " #fact "\n"); \
-            exit(1); \
-        } \
-    } while (0)
-
-static uint32_t number(const uint8_t *at) { return at[0] | (uint32_t)at[1] << 8 | (uint32_t)at[2] << 16 | (uint32_t)at[3] << 24; }
-
-static void unpack(void) {
-    static uint8_t packed[4096];
-    size_t n = 0, at = 8;
-    for (long got; n < sizeof packed && (got = read(0, packed + n, sizeof packed - n)) > 0;) n += (size_t)got;
-    EXPECT(n > 8 && number(packed) == IMAGE);
-    for (uint32_t runs = number(packed + 4); runs; runs--) {
-        uint32_t to = number(packed + at), length = number(packed + at + 4);
-        EXPECT(length <= n - at - 8 && to <= IMAGE && length <= IMAGE - to);
-        memcpy(image + to, packed + at + 8, length);
-        at += 8 + length;
-    }
-}
 
 static void lend(void) {
     memset(out, FREE, OUT);

@@ -71,7 +71,7 @@ fn text_size(s: &[u8], step: usize) -> usize
 }
 
 // Writes the UTF-8 of the units of s from its second byte on over the front of out, and returns how many bytes it has.
-pub(crate) fn put_text(s: &[u8], step: usize, out: &mut [u8]) -> usize
+fn put_text(s: &[u8], step: usize, out: &mut [u8]) -> usize
     requires { ⌜ Body (now s) step ⌝ }
     ensures { λ r. ⌜ Wrote (textOf step (drop 1 (now (s .entry)))) (now (out .entry)) (now (out .exit)) r ⌝ }
 {

@@ -1,0 +1,104 @@
+/* stack.c: how many bytes of stack each call of vault.h takes on the small show of show.h.
+ *
+ * Each call is made on a stack of its own, which is full of one byte. What it takes reaches from the return address that it finds down to the
+ * lowest byte that is another by then; where it finds that address is told by a function that is called in its place. Every query is made once
+ * before it counts, since the first call of a function of the C library may go through the loader. Prints each call with the most that a query of
+ * it took. */
+#include "show.h"
+
+enum { STACK = 1 << 15, PAINT = 0x5c };
+
+static _Alignas(16) uint8_t stack[STACK];
+static uint8_t *entered;
+
+/* What the queries lend. */
+static vault_volume volume;
+static vault_long_ad icb;
+static const char *path;
+static size_t length, room, at;
+
+/* What is called. A reply in memory is asked for by a first argument that is also the result. */
+static void (*volatile callee)(void);
+__attribute__((naked)) static void tell(void) { __asm__("movq %%rsp, %0\n\tmovq %%rdi, %%rax\n\tret" : "=m"(entered)); }
+
+#define DISC image, length
+#define PATH (const uint8_t *)path, strlen(path)
+#define CALL(name, ...) \
+    static void name##_made(void) { ((__typeof__(name) *)callee)(__VA_ARGS__); }
+#define ROW(name) {#name, (void (*)(void))name, name##_made}
+
+CALL(vault_probe, DISC)
+CALL(vault_open, DISC)
+CALL(vault_label, DISC, out, room)
+CALL(vault_lookup, volume, DISC, PATH, work, WORK)
+CALL(vault_failed, volume, DISC, PATH, work, WORK, &at)
+CALL(vault_list, volume, DISC, icb, out, room, work, WORK)
+CALL(vault_read, volume, DISC, icb, out, room)
+CALL(vault_part, volume, DISC, icb, &at)
+CALL(vault_extents, volume, DISC, icb, row, SLOTS)
+CALL(vault_read_path, volume, DISC, PATH, out, room, work, WORK)
+
+static const struct {
+    const char *name;
+    void (*call)(void), (*made)(void);
+} calls[] = {ROW(vault_probe), ROW(vault_open), ROW(vault_label),   ROW(vault_lookup),  ROW(vault_failed),
+             ROW(vault_list),  ROW(vault_read), ROW(vault_part), ROW(vault_extents), ROW(vault_read_path)};
+
+/* Makes a call on the painted stack. */
+static void make(void (*call)(void), void (*made)(void)) {
+    callee = call;
+    __asm__ volatile("movq %%rsp, %%rbx\n\tmovq %0, %%rsp\n\tcall *%1\n\tmovq %%rbx, %%rsp"
+                     :
+                     : "r"(stack + STACK), "r"(made)
+                     : "rax", "rbx", "rcx", "rdx", "rsi", "rdi", "r8", "r9", "r10", "r11", "xmm0", "xmm1", "xmm2", "xmm3", "xmm4", "xmm5", "xmm6",
+                       "xmm7", "xmm8", "xmm9", "xmm10", "xmm11", "xmm12", "xmm13", "xmm14", "xmm15", "cc", "memory");
+}
+
+/* What a query takes. */
+static size_t taken(size_t n) {
+    size_t low = 0;
+    make(calls[n].call, calls[n].made);
+    make(tell, calls[n].made);
+    memset(stack, PAINT, STACK);
+    make(calls[n].call, calls[n].made);
+    while (stack[low] == PAINT) low++;
+    EXPECT(low > STACK / 4);
+    return (size_t)(entered + 8 - (stack + low));
+}
+
+/* The most over every query. */
+static size_t most(size_t n) {
+    static const char *const paths[] = {"", "SHOW", "SHOW/10.1A", "show/11", "SHOW/12.5", "SHOW/9/9"};
+    static const uint32_t blocks[] = {3, 4, 5, 7};
+    size_t top = 0;
+    for (size_t i = 0; i < 6 * 4 * 2 * 2; i++) {
+        path = paths[i % 6];
+        icb.location.block = blocks[i / 6 % 4];
+        length = i / 24 % 2 ? IMAGE : START * SECTOR;
+        room = i / 48 ? OUT : 0;
+        size_t now = taken(n);
+        if (now > top) top = now;
+    }
+    return top;
+}
+
+static void tell_number(size_t n) {
+    char text[2] = {(char)('0' + n % 10), 0};
+    if (n > 9) tell_number(n / 10);
+    say(1, text);
+}
+
+int main(void) {
+    unpack();
+    vault_opened opened = vault_open(image, IMAGE);
+    EXPECT(opened.answer == VAULT_DONE);
+    volume = opened.volume;
+    icb = volume.root;
+    for (size_t n = 0; n < sizeof calls / sizeof *calls; n++) {
+        say(1, calls[n].name);
+        say(1, " ");
+        tell_number(most(n));
+        say(1, "\n");
+    }
+    return 0;
+}

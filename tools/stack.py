@@ -1,0 +1,22 @@
+#!/usr/bin/env python3
+"""How many bytes of stack each call of include/vault.h takes.
+
+    tools/stack.py [archive]    by default target/staticlib/libvault_c.a (`rt staticlib vault_c`)
+
+Builds face/c/stack.c over the archive, runs it on the show of crates/first_cue, and prints a line for each call. docs/COMPARING.md has the figures.
+"""
+import re
+import sys
+import tempfile
+
+sys.dont_write_bytecode = True
+from kit import ROOT, linked, ran
+
+if __name__ == "__main__":
+    declared = set(re.findall(r"^\w+ (vault_\w+)\(", (ROOT / "include/vault.h").read_text(), re.M))
+    if missing := declared - set(re.findall(r"ROW\((vault_\w+)\)", (ROOT / "face/c/stack.c").read_text())):
+        sys.exit(f"face/c/stack.c doesn't call {', '.join(sorted(missing))}")
+    archive = sys.argv[1] if len(sys.argv) > 1 else ROOT / "target/staticlib/libvault_c.a"
+    with tempfile.TemporaryDirectory() as folder:
+        linked(ROOT / "face/c/stack.c", [archive], f"{folder}/stack")
+        print(ran(f"{folder}/stack", (ROOT / "crates/first_cue/stdin").read_bytes()).decode(), end="")
