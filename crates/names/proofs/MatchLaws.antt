@@ -20,6 +20,7 @@ use Rattle.names.specs.declared.matching.Place.{Place}
 use Rattle.names.specs.Names.{surrogate, encode, nameOf, lower, sameName, matched, isNamed}
 use Rattle.names.specs.inner.Units.{Formed, textOf, unitAt, unitBytes}
 use Rattle.names.specs.inner.Matching.{Matched, Plain, Comparing}
+use Rattle.names.proofs.UnitLaws.{ascii-bytes}
 use Rattle.names.proofs.BodyLaws.{at-next, text-next, text-zero, text-end}
 use Rattle.names.proofs.NameLaws.{found}
 
@@ -74,8 +75,7 @@ module _ (u : ℕ) {t : List ℕ} {at : ℕ} {p : Place} where
       three-go i o = rw three-bytes (goes m h (goes n i o))
 
   pub unit-one : u < 0x80 → Matched (u ∷ []) t at p → Matched (unitBytes u) t at p
-  unfolding unitBytes surrogate encode
-  unit-one k m = rw (lt-ltb u 0xd800 (omega arith), lt-ltb u 0x80 k) m
+  unit-one k m = rw (ascii-bytes u k) m
 
   module _ {r : Bool} (e : r ≡ surrogate u) where
     pub unit-long : r ≡ false → Matched (encode u) t at p → Matched (unitBytes u) t at p

@@ -33,6 +33,15 @@ sets-over [] (x ∷ d) = refl
 sets-over (y ∷ v) [] = sets-nil v 1
 sets-over (y ∷ v) (x ∷ d) = sets-suc v d y 0 ∙ ap (λ l. y ∷ l) (sets-over v d)
 
+-- ---- ASCII
+
+pub ascii-bytes : (u : ℕ) → u < 0x80 → unitBytes u ≡ u ∷ []
+unfolding unitBytes surrogate encode
+ascii-bytes u k = rw (lt-ltb u 0xd800 (omega arith), lt-ltb u 0x80 k)
+
+pub one-long : (u : ℕ) → u < 0x80 → 1 ≡ length (unitBytes u)
+one-long u k = rw (ascii-bytes u k)
+
 -- ---- one unit, with r what the code's `surrogate(u)` returned, and d what was lent
 
 module _ (u : ℕ) {r : Bool} (e : r ≡ surrogate u) where

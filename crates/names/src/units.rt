@@ -31,15 +31,15 @@ pub(crate) fn surrogate(u: u16) -> bool
     u < 0xe000
 }
 
-// How many bytes of UTF-8 the unit u, which is not 0, takes: none where it is a surrogate.
+// How many bytes of UTF-8 the unit u, which is not 0, takes: none where it is a surrogate. ASCII comes first, since most names have nothing else.
 pub(crate) fn unit_size(u: u16) -> usize
     ensures { λ r. ⌜ r ≡ length (unitBytes u) ⌝ }
 {
-    if surrogate(u) {
-        return 0;
-    }
     if u < 0x80 {
         return 1;
+    }
+    if surrogate(u) {
+        return 0;
     }
     if u < 0x800 {
         return 2;
