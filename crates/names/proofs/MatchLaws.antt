@@ -2,7 +2,7 @@
 use mathlib.Core.Path.{_≡_, refl, sym, ap, _∙_}
 use mathlib.Core.Bool.{Bool, true, false}
 use mathlib.Core.List.{List, [], _∷_, _++_}
-use Prim.Native.Nat.{ℕ, zero, suc, _+_, _-_, _*_, _^_, _/_, _%_, _<_, _≤_, zero-le, compare·suc-suc}
+use Prim.Native.Nat.{ℕ, zero, suc, _+_, _-_, _*_, _^_, _/_, _%_, _<_, _≤_, zero-le, compare·suc-suc, min}
 use native.Mathlib.Numerals.{add-one}
 use native.Mathlib.Omega.{arith}
 use lib.ListN.{length, getD, drop, drop-of-length-le}
@@ -18,7 +18,7 @@ use Rattle.names.specs.declared.dstrings.Form.{Form}
 use Rattle.names.specs.declared.dstrings.Form.the-variants.{Empty, Units, Bad}
 use Rattle.names.specs.declared.matching.Place.{Place}
 use Rattle.names.specs.Names.{surrogate, encode, nameOf, lower, sameName, matched, isNamed}
-use Rattle.names.specs.inner.Units.{Formed, textOf, unitAt, unitBytes}
+use Rattle.names.specs.inner.Units.{Formed, Body, At, textOf, unitAt, unitBytes}
 use Rattle.names.specs.inner.Matching.{Matched, Plain, Comparing}
 use Rattle.names.proofs.UnitLaws.{ascii-bytes}
 use Rattle.names.proofs.BodyLaws.{at-next, text-next, text-zero, text-end}
@@ -87,12 +87,12 @@ unfolding unitBytes
 unit-none u e h = rw (← e, h) (record { rest = λ more. refl })
 
 -- A unit that is matched as one byte.
-module _ {u : ℕ} {t : List ℕ} {at : ℕ} where
-  pub plain-not : _≡_ {A = Bool} false true → Plain u t at
+module _ {u b : ℕ} where
+  pub plain-not : _≡_ {A = Bool} false true → Plain u b
   plain-not e = not-both e
 
-  pub plain-yes : {r : Bool} → (u ≡ 0 → ⊥) → u ≤ 0x7f → at < length t → r ≡ eqb (lower u) (lower (getD t at 0)) → r ≡ true → Plain u t at
-  plain-yes z a h e y = record { some = z; ascii = omega arith; within = h; same = sym e ∙ y }
+  pub plain-yes : {r : Bool} → (u ≡ 0 → ⊥) → u ≤ 0x7f → r ≡ eqb (lower u) (lower b) → r ≡ true → Plain u b
+  plain-yes z a e y = record { some = z; ascii = omega arith; same = sym e ∙ y }
 
 -- ---- the loops
 
@@ -116,8 +116,8 @@ module _ {step i₀ j₀ i j : ℕ} {s t : List ℕ} (c : Comparing step s t i�
       pub compare-stop : p .same ≡ false → false ≡ sameName (textOf step (drop i₀ s)) (drop j₀ t)
       compare-stop k = rw k at turn
 
-    plain-next : Plain u t j → Comparing step s t i₀ j₀ (i + step) (j + 1)
-    plain-next l = compare-next (l .some) (unit-one u (l .ascii) (byte-some u (l .within) (sym (l .same)))) refl
+    plain-next : j < length t → Plain u (getD t j 0) → Comparing step s t i₀ j₀ (i + step) (j + 1)
+    plain-next k l = compare-next (l .some) (unit-one u (l .ascii) (byte-some u k (sym (l .same)))) refl
 
   done : textOf step (drop i s) ≡ [] → leb (length t) j ≡ sameName (textOf step (drop i₀ s)) (drop j₀ t)
   done e = used-up t j ∙ (rw e at (c .rest))
@@ -128,18 +128,49 @@ module _ {step i₀ j₀ i j : ℕ} {s t : List ℕ} (c : Comparing step s t i�
   pub compare-end : length s - i < step → leb (length t) j ≡ sameName (textOf step (drop i₀ s)) (drop j₀ t)
   compare-end h = done (text-end (c .at) h)
 
--- The front of the names was compared: no unit has more bytes in the component than in the d-string.
-pub record Fronting (step : ℕ) (s t : List ℕ) (i j : ℕ) : Type 0 where
-  pub comparing : Comparing step s t 1 0 i j
-  pub behind : j < i
+-- ---- the loop over the front: n units are one byte each
 
-module _ {step i j : ℕ} {s t : List ℕ} (c : Fronting step s t i j) where
-  pub front-adds : length s * 1 < 2 ^ 63 → Fits w64 (j + 1)
-  front-adds g = omega (arith, c .behind, c .comparing .at .within)
+units-fit : (step n k m : ℕ) → 1 ≤ step → step ≤ 2 → n < k → k ≤ m / step → n * step + step ≤ m
+units-fit zero n k m h l a b = absurd (omega arith)
+units-fit (suc zero) n k m h l a b = omega arith
+units-fit (suc (suc zero)) n k m h l a b = omega arith
+units-fit (suc (suc (suc step))) n k m h l a b = absurd (omega arith)
+
+one-more : (step n : ℕ) → 1 ≤ step → step ≤ 2 → n * step + 1 + step ≡ (n + 1) * step + 1
+one-more zero n h l = absurd (omega arith)
+one-more (suc zero) n h l = omega arith
+one-more (suc (suc zero)) n h l = omega arith
+one-more (suc (suc (suc step))) n h l = absurd (omega arith)
+
+none-yet : (step : ℕ) → 0 * step + 1 ≡ 1
+none-yet step = omega arith
+
+pub front-start : (step : ℕ) {s t : List ℕ} → Body s step → Comparing step s t 1 0 (0 * step + 1) 0
+front-start step b = rw (none-yet step) (record { at = record { body = b; within = b .some-byte }; rest = refl })
+
+module _ {step n k : ℕ} {s t : List ℕ} (c : Comparing step s t 1 0 (n * step + 1) n) (h : n < k) (l : k ≡ min ((length s - 1) / step) (length t)) where
+  pub front-fits : n * step + 1 + step ≤ length s
+  front-fits =
+      let m : k ≤ (length s - 1) / step = omega arith in
+      omega (arith, units-fit step n k (length s - 1) (c .at .body .one) (c .at .body .two) h m, c .at .body .some-byte)
+
+  pub front-there : n < length t
+  front-there = omega arith
 
   -- Here r is what `is_plain` returned.
-  pub front-next : step ≤ length s - i → {u : ℕ} → u ≡ unitAt s i step → {r : Bool} → (r ≡ true → Plain u t j) → r ≡ true → Fronting step s t (i + step) (j + 1)
-  front-next h e k y = record { comparing = plain-next (c .comparing) h e (k y); behind = omega (arith, c .behind, c .comparing .at .body .one) }
+  pub front-next : {u : ℕ} → u ≡ unitAt s (n * step + 1) step → {r : Bool} → (r ≡ true → Plain u (getD t n 0)) → r ≡ true → Comparing step s t 1 0 ((n + 1) * step + 1) (n + 1)
+  front-next e p y = rw (← one-more step n (c .at .body .one) (c .at .body .two)) (plain-next c (omega (arith, front-fits)) e front-there (p y))
+
+-- Where the rest starts can be counted.
+module _ (step n : ℕ) {s : List ℕ} (p : At step s (n * step + 1)) (g : length s * 1 < 2 ^ 63) where
+  pub rest-times : Fits w64 (n * step)
+  rest-times = omega (arith, p .within)
+
+  pub rest-starts : Fits w64 (n * step + 1)
+  rest-starts = omega (arith, p .within)
+
+pub rest-start : (step n : ℕ) {s t : List ℕ} → At step s (n * step + 1) → Comparing step s t (n * step + 1) n (n * step + 1) n
+rest-start step n p = record { at = p; rest = refl }
 
 -- ---- a d-string and a component
 
@@ -164,6 +195,6 @@ module _ (s t : List ℕ) where
         empty-matches [] = refl
         empty-matches (b ∷ t) = ne-eqb _ _ (λ (e : suc (length t) ≡ 0). omega arith)
 
-    -- Here the front has been compared up to i and j, and q is what the rest says.
-    pub named-text : (step : ℕ) → f ≡ Units step → {i j : ℕ} → Comparing step s t 1 0 i j → {q : Bool} → q ≡ sameName (textOf step (drop i s)) (drop j t) → q ≡ isNamed s t
-    named-text step e c m = m ∙ c .rest ∙ matches-by (found p e)
+    -- Here n units have been compared, and q is what the rest says.
+    pub named-text : (step n : ℕ) → f ≡ Units step → Comparing step s t 1 0 (n * step + 1) n → {q : Bool} → q ≡ sameName (textOf step (drop (n * step + 1) s)) (drop n t) → q ≡ isNamed s t
+    named-text step n e c m = m ∙ c .rest ∙ matches-by (found p e)

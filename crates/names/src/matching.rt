@@ -3,10 +3,11 @@ use crate::dstrings::Form;
 use crate::dstrings::form_of;
 use crate::units::surrogate;
 use crate::units::unit;
+use disc::moves::least;
 ghost use mathlib.Core.Path.{_≡_};
 ghost use mathlib.Core.Bool.{true};
 ghost use mathlib.Core.List.{[], _∷_};
-ghost use Prim.Native.Nat.{_≤_};
+ghost use Prim.Native.Nat.{_+_, _*_, _≤_};
 ghost use lib.Dec.{eqb};
 ghost use lib.ListN.{drop};
 ghost use Rattle.names.specs.Names.{encode, lower, sameName, isNamed};
@@ -16,12 +17,6 @@ ghost use Rattle.names.specs.inner.Matching.{Matched, Plain, Comparing};
 // Whether what was compared is the same, and how far into the component that came.
 pub(crate) struct Place {
     same: bool,
-    at: usize,
-}
-
-// How far a d-string and a component have been compared: the place in each.
-pub(crate) struct Reached {
-    i: usize,
     at: usize,
 }
 
@@ -94,47 +89,45 @@ fn match_unit(u: u16, t: &[u8], at: usize) -> Place
     match_long(u, t, at)
 }
 
-// Whether u is ASCII, not 0, and matches the component t at `at`.
-fn is_plain(u: u16, t: &[u8], at: usize) -> bool
-    ensures { λ r. ⌜ (r ≡ true → Plain u (now (t .entry)) at) ⌝ }
+// Whether u is ASCII, not 0, and matches the byte b of a component.
+fn is_plain(u: u16, b: u8) -> bool
+    ensures { λ r. ⌜ (r ≡ true → Plain u b) ⌝ }
 {
-    if t.len() <= at {
-        return false;
-    }
     if u == 0 {
         return false;
     }
     if 0x7f < u {
         return false;
     }
-    same_byte(u as u8, t[at])
+    same_byte(u as u8, b)
 }
 
-// How far the name of s is ASCII and matches the component t. Most names are told apart here, where a unit is a byte and no code point is made.
-fn front(s: &[u8], step: usize, t: &[u8]) -> Reached
+// How many units at the front of s are ASCII and match the component t. Most names are told apart here, where a unit is a byte and no code
+// point is made. What a unit that is no match says is left to `is_rest`.
+fn front(s: &[u8], step: usize, t: &[u8]) -> usize
     requires { ⌜ Body (now s) step ⌝ }
-    ensures { λ r. ⌜ Comparing step (now (s .entry)) (now (t .entry)) 1 0 (r .i) (r .at) ⌝ }
+    ensures { λ r. ⌜ Comparing step (now (s .entry)) (now (t .entry)) 1 0 (r * step + 1) r ⌝ }
 {
+    let n = least((s.len() - 1) / step, t.len());
     let mut at: usize = 0;
-    let mut i: usize = 1;
-    while step <= s.len() - i {
-        let u = unit(s, i, step);
-        if !is_plain(u, t, at) {
-            return Reached { i, at };
+    while at < n {
+        let u = unit(s, at * step + 1, step);
+        if !is_plain(u, t[at]) {
+            return at;
         }
         at += 1;
-        i += step;
     }
-    Reached { i, at }
+    at
 }
 
-// Whether the UTF-8 of the units of s from f on matches what is left of the component t. Ends at the first unit that differs.
-fn is_rest(s: &[u8], step: usize, f: Reached, t: &[u8]) -> bool
-    requires { ⌜ At step (now s) (f .i) ⌝ }
-    ensures { λ r. ⌜ r ≡ sameName (textOf step (drop (f .i) (now (s .entry)))) (drop (f .at) (now (t .entry))) ⌝ }
+// Whether the UTF-8 of the units of s, but for the first n, matches the component t but for its first n bytes. Ends at the first unit that
+// differs.
+fn is_rest(s: &[u8], step: usize, n: usize, t: &[u8]) -> bool
+    requires { ⌜ At step (now s) (n * step + 1) ⌝ }
+    ensures { λ r. ⌜ r ≡ sameName (textOf step (drop (n * step + 1) (now (s .entry)))) (drop n (now (t .entry))) ⌝ }
 {
-    let mut at = f.at;
-    let mut i = f.i;
+    let mut at = n;
+    let mut i = n * step + 1;
     while step <= s.len() - i {
         let u = unit(s, i, step);
         if u == 0 {
@@ -161,8 +154,8 @@ pub fn is_named(s: &[u8], component: &[u8]) -> bool
         Form::Bad => false,
         Form::Empty => component.len() == 0,
         Form::Units(step) => {
-            let f = front(s, step, component);
-            is_rest(s, step, f, component)
+            let n = front(s, step, component);
+            is_rest(s, step, n, component)
         }
     }
 }

@@ -3,7 +3,7 @@ use Prim.Native.Nat.{ℕ, _<_}
 use mathlib.Core.Path.{_≡_}
 use mathlib.Core.Bool.{true, false}
 use mathlib.Core.List.{List, _++_}
-use lib.ListN.{length, getD, drop}
+use lib.ListN.{drop}
 use lib.Dec.{eqb}
 use Rattle.disc.specs.Choice.{pick}
 use Rattle.names.specs.declared.matching.Place.{Place}
@@ -15,12 +15,11 @@ use Rattle.names.specs.inner.Units.{At, textOf}
 pub record Matched (v t : List ℕ) (at : ℕ) (r : Place) : Type 0 where
   pub rest : (more : List ℕ) → sameName (v ++ more) (drop at t) ≡ pick (r .same) (sameName more (drop (r .at) t)) false
 
--- The unit u is ASCII, not 0, and matches the component t at `at`.
-pub record Plain (u : ℕ) (t : List ℕ) (at : ℕ) : Type 0 where
+-- The unit u is ASCII, not 0, and matches the byte b of a component.
+pub record Plain (u b : ℕ) : Type 0 where
   pub some : u ≡ 0 → ⊥
   pub ascii : u < 0x80
-  pub within : at < length t
-  pub same : eqb (lower u) (lower (getD t at 0)) ≡ true
+  pub same : eqb (lower u) (lower b) ≡ true
 
 -- The comparison of the d-string s from i₀ on and the component t from j₀ on has come to i and j: what is left says what
 -- the whole says.

@@ -1,19 +1,19 @@
 -- `names::matching::front` meets its contract: what is left to compare says what the whole says. Assumes nothing.
 use borrow.Author.Needs.{needs}
 use borrow.Author.Tests.{not-true, not-false}
-use Prim.Native.Nat.{_-_}
-use lib.ListN.{length}
-use Rattle.names.proofs.MatchLaws.{Fronting, front-adds, front-next}
+use Prim.Native.Nat.{_+_, _-_, _*_}
+use Rattle.names.specs.inner.Matching.{Comparing}
+use Rattle.names.proofs.MatchLaws.{front-start, front-fits, front-there, front-next, rest-times, rest-starts}
 use Rattle.names.proofs.matching.front.Statement.{statement}
 use Rattle.names.proofs.matching.front.Tie as tie
 
-ruleset fronts = (front-adds, front-next, not-true, not-false, needs)
+ruleset fronts = (front-start, front-fits, front-there, front-next, rest-times, rest-starts, not-true, not-false, needs)
 
 abbrev Inv-loop : tie.InvT-loop
-Inv-loop s step t at₀ i₀ at i = Fronting step s t i at
+Inv-loop s step t n at₀ at = Comparing step s t 1 0 (at * step + 1) at
 
 abbrev μ-loop : tie.MeasureT-loop
-μ-loop s step t at₀ i₀ at i = length s - i
+μ-loop s step t n at₀ at = n - at
 
 pub front-spec : {M : Type 1} → statement M
 front-spec =
@@ -21,8 +21,12 @@ front-spec =
     (λ c. search fronts)
     (λ c. search fronts)
     (λ c κs. search fronts)
+    (λ c. search fronts)
+    (λ c. search fronts)
+    (λ c. search fronts)
     (λ c κs. search fronts)
     (λ c. search fronts)
+    (λ c κs. search fronts)
     (λ c. search fronts)
     (λ c. search fronts)
     (λ c. search fronts)

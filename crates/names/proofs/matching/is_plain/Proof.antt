@@ -11,8 +11,6 @@ is-plain-spec =
     tie.close (tie.spec
     (λ c. search plains)
     (λ c. search plains)
-    (λ c. search plains)
-    (λ c. search needs)
     (λ c. search needs)
     (λ c κs. search needs)
     (λ c. search plains))

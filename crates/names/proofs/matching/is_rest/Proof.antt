@@ -1,24 +1,26 @@
 -- `names::matching::is_rest` meets its contract: what is left to compare says what the whole says. Assumes nothing.
 use borrow.Author.Needs.{needs}
 use borrow.Author.Tests.{not-true, not-false}
-use Prim.Native.Nat.{_-_}
+use Prim.Native.Nat.{_+_, _-_, _*_}
 use lib.ListN.{length}
 use Rattle.names.specs.inner.Matching.{Comparing}
-use Rattle.names.proofs.MatchLaws.{compare-next, compare-stop, compare-zero, compare-end}
+use Rattle.names.proofs.MatchLaws.{rest-times, rest-starts, rest-start, compare-next, compare-stop, compare-zero, compare-end}
 use Rattle.names.proofs.matching.is_rest.Statement.{statement}
 use Rattle.names.proofs.matching.is_rest.Tie as tie
 
-ruleset compares = (compare-next, compare-stop, compare-zero, compare-end, not-true, not-false, needs)
+ruleset compares = (rest-times, rest-starts, rest-start, compare-next, compare-stop, compare-zero, compare-end, not-true, not-false, needs)
 
 abbrev Inv-loop : tie.InvT-loop
-Inv-loop s step t at₀ i₀ at i = Comparing step s t i₀ at₀ i at
+Inv-loop s step n t at₀ i₀ at i = Comparing step s t (n * step + 1) n i at
 
 abbrev μ-loop : tie.MeasureT-loop
-μ-loop s step t at₀ i₀ at i = length s - i
+μ-loop s step n t at₀ i₀ at i = length s - i
 
 pub is-rest-spec : {M : Type 1} → statement M
 is-rest-spec =
     tie.close (tie.spec Inv-loop μ-loop
+    (λ c. search compares)
+    (λ c. search compares)
     (λ c. search compares)
     (λ c. search compares)
     (λ c κs. search compares)
