@@ -269,7 +269,9 @@ fn primary_labels(d: &mut [u8]) {
     primary_case(d, 1, 56, 24, 7);
     primary_case(d, 1, 56, 24, 9);
     primary_case(d, 1, 56, 24, 16);
+    primary_case(d, 1, 56, 24, 253);
     primary_case(d, 1, 56, 24, 254);
+    primary_case(d, 1, 56, 24, 255);
 }
 
 fn partitions(d: &mut [u8]) {
@@ -297,7 +299,9 @@ fn logical_labels(d: &mut [u8]) {
     logical_case(d, 6, 440, 84, 0);
     logical_case(d, 6, 440, 84, 9);
     logical_case(d, 6, 440, 84, 16);
+    logical_case(d, 6, 440, 84, 253);
     logical_case(d, 6, 440, 84, 254);
+    logical_case(d, 6, 440, 84, 255);
 }
 
 fn file_sets(d: &mut [u8]) {

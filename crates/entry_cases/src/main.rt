@@ -377,7 +377,9 @@ fn identifier_names() {
     identifier(257, 0, 0, b"\x08\xe9", 2, 64);
     identifier(257, 0, 0, b"\x08a\x00b", 4, 64);
     identifier(257, 0, 0, b"\x00a", 2, 64);
+    identifier(257, 0, 0, b"\xfd", 1, 64);
     identifier(257, 0, 0, b"\xfe", 1, 64);
+    identifier(257, 4, 0, b"\xff\x00a\x00", 4, 64);
     identifier(257, 0, 0, b"\x09a", 2, 64);
 }
 

@@ -121,8 +121,18 @@ fn refused_ids() {
     name(b"\x09A");
     name(b"\x0f\x00A");
     name(b"\x11\x00A");
+    name(b"\xfdA");
+}
+
+// The ids of deleted names: alone, and with an even, an odd and any body behind them.
+fn deleted_ids() {
     name(b"\xfeA");
     name(b"\xffA");
+    name(b"\xff");
+    name(b"\xfeA\x00B");
+    name(b"\xff\x00A");
+    name(b"\xff\x00A\x00");
+    name(b"\xff\xd8\x00");
 }
 
 // Even and odd numbers of bytes behind id 16.
@@ -167,6 +177,9 @@ fn fields() {
     field(b"\x00");
     field(b"\x01");
     field(b"\x09A\x02");
+    field(b"\xfeA\x02");
+    field(b"\xff\x00A\x03");
+    field(b"\xff\x00A\x04");
     full_field(0);
     full_field(1);
     full_field(2);
@@ -182,6 +195,7 @@ fn rooms() {
     into(3, b"\x10\xff\xff");
     into(4, b"\x10\xff\xff\x20\xac");
     into(4, b"\x09ABCD");
+    into(4, b"\xfeABCD");
     into(0, b"\x08A");
 }
 
@@ -210,6 +224,14 @@ fn components() {
     named(b"\xfe", b"");
 }
 
+// A d-string with the id of a deleted name names no component that has a byte.
+fn deleted_components() {
+    named(b"\xfeBDMV", b"BDMV");
+    named(b"\xff\x00B", b"B");
+    named(b"\xffB", b"");
+    named(b"\xfe", b"\xfe");
+}
+
 // The longest d-string of a directory entry, and one byte more.
 fn long_component() {
     let mut s = [0x41u8; 256];
@@ -225,6 +247,7 @@ fn main() {
     worked();
     read_ids();
     refused_ids();
+    deleted_ids();
     counts();
     points();
     surrogates();
@@ -234,5 +257,6 @@ fn main() {
     matches();
     no_matches();
     components();
+    deleted_components();
     long_component();
 }

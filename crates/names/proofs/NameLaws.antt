@@ -1,5 +1,6 @@
 -- A whole d-string and a whole field, by the tests of the code. Assumes nothing.
 use mathlib.Core.Path.{_≡_, refl}
+use mathlib.Core.Bool.{Bool, true, false}
 use mathlib.Core.List.{List, [], _∷_}
 use Prim.Native.Nat.{ℕ, suc, _-_, _%_, _<_, _≤_, zero-le}
 use native.Mathlib.Omega.{arith}
@@ -17,7 +18,7 @@ use Rattle.names.specs.declared.dstrings.NameSize.{NameSize}
 use Rattle.names.specs.declared.dstrings.NameSize.the-variants.{Size, Refused}
 use Rattle.names.specs.declared.fields.FieldLength.{FieldLength}
 use Rattle.names.specs.declared.fields.FieldLength.the-variants.{Length, TooLong}
-use Rattle.names.specs.Names.{Wrote, nameOf, nameOfField, written, sizeOf}
+use Rattle.names.specs.Names.{Wrote, nameless, nameOf, nameOfField, written, sizeOf}
 use Rattle.names.specs.inner.Units.{Body, Formed, FieldMeasured, units, textOf, nameAs, frontName}
 use Rattle.disc.proofs.ByteLaws.{Bytes}
 use Rattle.disc.proofs.ReplyLaws.{reply-refused}
@@ -30,10 +31,11 @@ unfolding nameOf
 form-empty [] z = record { name = refl; body = tt }
 form-empty (id ∷ s) z = absurd (omega arith)
 
-pub form-none : (s : List ℕ) → (length s ≡ 0 → ⊥) → getD s 0 0 ≡ 0 → Formed s Empty
+-- Here r is what `is_nameless` says of the id.
+pub form-none : (s : List ℕ) → (length s ≡ 0 → ⊥) → {r : Bool} → r ≡ nameless (getD s 0 0) → r ≡ true → Formed s Empty
 unfolding nameOf
-form-none [] z h = absurd (z refl)
-form-none (id ∷ s) z h = record { name = rw (eq-eqb id 0 h); body = tt }
+form-none [] z e h = absurd (z refl)
+form-none (id ∷ s) z e h = record { name = rw (← e, h); body = tt }
 
 pub form-bytes : (s : List ℕ) → Bytes s → getD s 0 0 ≡ 8 → Formed s (Units 1)
 unfolding nameOf textOf units
@@ -51,10 +53,10 @@ form-pairs [] h k = absurd (omega arith)
 form-pairs (id ∷ s) h k =
     record { name = rw (h, ne-eqb (length s % 2) 1 (λ e. k (omega arith))); body = record { some-byte = omega arith; one = lit≤ tt; two = lit≤ tt } }
 
-pub form-bad : (s : List ℕ) → (length s ≡ 0 → ⊥) → (getD s 0 0 ≡ 0 → ⊥) → (getD s 0 0 ≡ 8 → ⊥) → (getD s 0 0 ≡ 16 → ⊥) → Formed s Bad
+pub form-bad : (s : List ℕ) → (length s ≡ 0 → ⊥) → {r : Bool} → r ≡ nameless (getD s 0 0) → r ≡ false → (getD s 0 0 ≡ 8 → ⊥) → (getD s 0 0 ≡ 16 → ⊥) → Formed s Bad
 unfolding nameOf
-form-bad [] z a b c = absurd (z refl)
-form-bad (id ∷ s) z a b c = record { name = simp (ne-eqb id 0 a, ne-eqb id 8 b, ne-eqb id 16 c); body = tt }
+form-bad [] z e a b c = absurd (z refl)
+form-bad (id ∷ s) z e a b c = record { name = rw (← e, a) (simp (ne-eqb id 8 b, ne-eqb id 16 c)); body = tt }
 
 -- ---- what `form_of` found, f
 

@@ -1,4 +1,4 @@
--- What is proved of names: how long one is, what matching is, that a contract by `Wrote` leaves one result, and cases 9 to 13 of the
+-- What is proved of names: how long one is, which are empty, what matching is, that a contract by `Wrote` leaves one result, and cases 9 to 13 of the
 -- worked table. Assumes nothing.
 use mathlib.Core.Path.{_≡_, refl, sym, ap, _∙_}
 use mathlib.Core.Bool.{Bool, true, false}
@@ -18,7 +18,7 @@ use Rattle.disc.specs.declared.refusals.Refusal.{Refusal}
 use Rattle.disc.specs.declared.refusals.Refusal.the-variants.{Malformed}
 use Rattle.names.specs.declared.dstrings.NameSize.{NameSize}
 use Rattle.names.specs.declared.dstrings.NameSize.the-variants.{Size}
-use Rattle.names.specs.Names.{Wrote, pairs, untilZero, surrogate, dropSurrogates, encode, utf8, nameOf, nameOfField, written, sizeOf, lower, sameName, nameAnswer, sizeAnswer}
+use Rattle.names.specs.Names.{Wrote, pairs, untilZero, surrogate, dropSurrogates, encode, utf8, nameless, nameOf, nameOfField, written, sizeOf, lower, sameName, isNamed, nameAnswer, sizeAnswer}
 use Rattle.names.proofs.BodyLaws.{short-bytes, short-pairs}
 
 -- ---- d-strings
@@ -40,7 +40,7 @@ unfolding nameOf
 short-after id s b =
     let n = length s in
     let whole : length (utf8 (untilZero s)) ≤ 2 * n = rw (bytes-kept s b) at (short-bytes s b) in
-    pick-both (Short n) (eqb id 0) zero-le
+    pick-both (Short n) (nameless id) zero-le
     (pick-both (Short n) (eqb id 8) whole
     (pick-both (Short n) (eqb id 16) (pick-both (Short n) (eqb (n % 2) 1) zero-le (short-pairs s))
     zero-le))
@@ -63,11 +63,26 @@ name-size-508 s b h e k = sized (nameOf s) (sym e ∙ k) (at-most-508 s b h)
     sized (refused why) e h = absurd (let z : _≡_ {A = ℕ} 0 1 = cc in omega arith)
     sized (answered name) {n} e h = let z : n ≡ length name = cc in omega arith
 
+-- A name is empty where its id says so, whatever stands behind the id, and however much.
+pub nameless-empty : (s : List ℕ) → nameless (getD s 0 0) ≡ true → nameOf s ≡ answered []
+unfolding nameOf
+nameless-empty [] h = refl
+nameless-empty (id ∷ body) h = rw h
+
+-- So are the names that later discs keep of deleted entries.
+pub deleted-empty : (body : List ℕ) → (nameOf (254 ∷ body) ≡ answered []) × (nameOf (255 ∷ body) ≡ answered [])
+deleted-empty body = (nameless-empty (254 ∷ body) refl, nameless-empty (255 ∷ body) refl)
+
+-- Two such names of one length name the same components.
+pub nameless-named : (s t component : List ℕ) → nameless (getD s 0 0) ≡ true → nameless (getD t 0 0) ≡ true → length s ≡ length t → isNamed s component ≡ isNamed t component
+unfolding isNamed
+nameless-named s t component h k l = rw (nameless-empty s h, nameless-empty t k, l)
+
 -- A d-string that is refused is malformed, and so is a field.
 pub name-refused : (s : List ℕ) {why : Refusal} → nameOf s ≡ refused why → why ≡ Malformed
 unfolding nameOf
 name-refused [] e = absurd (let z : _≡_ {A = ℕ} 0 1 = cc in omega arith)
-name-refused (id ∷ body) {why} e = told (eqb id 0) (eqb id 8) (eqb id 16) (eqb (length body % 2) 1) [] _ _ e
+name-refused (id ∷ body) {why} e = told (nameless id) (eqb id 8) (eqb id 16) (eqb (length body % 2) 1) [] _ _ e
   where
     told : (a b c d : Bool) (x y z : List ℕ)
         → pick a (answered x) (pick b (answered y) (pick c (pick d (refused Malformed) (answered z)) (refused Malformed))) ≡ refused why → why ≡ Malformed
@@ -149,7 +164,7 @@ pub worked :
     × (nameAnswer (nameOf (0x10 ∷ 0x00 ∷ 0x41 ∷ 0xd8 ∷ 0x00 ∷ 0x00 ∷ 0x42 ∷ [])) ≡ record { number = 0; value = 0x41 ∷ 0x42 ∷ [] })
     × (nameAnswer (nameOf (0x10 ∷ 0x00 ∷ 0x41 ∷ 0x00 ∷ [])) ≡ record { number = 2; value = [] })
     × (nameAnswer (nameOf (0x08 ∷ 0xe9 ∷ [])) ≡ record { number = 0; value = 0xc3 ∷ 0xa9 ∷ [] })
-    × (nameAnswer (nameOf (0xfe ∷ [])) ≡ record { number = 2; value = [] })
+    × (nameAnswer (nameOf (0xfe ∷ [])) ≡ record { number = 0; value = [] })
 unfolding pairs untilZero surrogate dropSurrogates encode utf8 nameOf
 worked = (refl, refl, refl, refl, refl)
 

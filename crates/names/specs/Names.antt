@@ -2,7 +2,7 @@
 -- A d-string is OSTA UDF 2.1.3's, in a field ECMA-167 1/7.2.12's.
 use Prim.Native.Nat.{ℕ, _+_, _-_, _*_, _/_, _%_}
 use mathlib.Core.Path.{_≡_}
-use mathlib.Core.Bool.{Bool, true, false}
+use mathlib.Core.Bool.{Bool, true, false, _||_}
 use mathlib.Core.List.{List, [], _∷_, _++_}
 use lib.ListN.{length, getD, take}
 use lib.Dec.{ltb, eqb}
@@ -55,11 +55,16 @@ utf8 (u ∷ us) = encode u ++ utf8 us
 
 -- ---- names
 
+-- The compression ids of a name that is empty, whatever stands behind them: 0, and those of deleted names, 254 and 255 (OSTA UDF
+-- 2.1.1 of 2.01).
+abbrev pub nameless : ℕ → Bool
+nameless id = (eqb id 0 || eqb id 254) || eqb id 255
+
 -- The name of a d-string as UTF-8. The first byte is the compression id of OSTA UDF 2.1.1.
 unfoldable pub nameOf : List ℕ → Outcome (List ℕ)
 nameOf [] = answered []
 nameOf (id ∷ body) =
-    pick (eqb id 0) (answered [])
+    pick (nameless id) (answered [])
     (pick (eqb id 8) (answered (utf8 (untilZero body)))
     (pick (eqb id 16) (pick (eqb (length body % 2) 1) (refused Malformed) (answered (utf8 (dropSurrogates (untilZero (pairs body))))))
     (refused Malformed)))

@@ -12,7 +12,7 @@ ghost use lib.ListN.{length, drop};
 ghost use Rattle.disc.specs.Ran.{told};
 ghost use Rattle.disc.specs.Replies.{Replied};
 ghost use Rattle.disc.specs.declared.refusals.Refusal.the-variants.{NoRoom};
-ghost use Rattle.names.specs.Names.{Wrote, nameOf, written, sizeOf};
+ghost use Rattle.names.specs.Names.{Wrote, nameless, nameOf, written, sizeOf};
 ghost use Rattle.names.specs.inner.Units.{Body, Formed, textOf};
 
 // How many bytes of UTF-8 a recorded name has.
@@ -28,6 +28,13 @@ pub(crate) enum Form {
     Bad,
 }
 
+// Whether a compression id says that the name is empty: 0, and those of deleted names (OSTA UDF 2.1.1 of 2.01).
+fn is_nameless(id: u8) -> bool
+    ensures { λ r. ⌜ r ≡ nameless id ⌝ }
+{
+    (id == 0) | (id == 254) | (id == 255)
+}
+
 // How the body of the d-string s is to be read: its first byte, the compression id, says.
 pub(crate) fn form_of(s: &[u8]) -> Form
     ensures { λ r. ⌜ Formed (now (s .entry)) r ⌝ }
@@ -36,7 +43,7 @@ pub(crate) fn form_of(s: &[u8]) -> Form
         return Form::Empty;
     }
     let id = s[0];
-    if id == 0 {
+    if is_nameless(id) {
         return Form::Empty;
     }
     if id == 8 {

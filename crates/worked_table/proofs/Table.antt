@@ -34,6 +34,6 @@ pub worked-table :
     × (nameAnswer (nameOf (0x10 ∷ 0x00 ∷ 0x41 ∷ 0xd8 ∷ 0x00 ∷ 0x00 ∷ 0x42 ∷ [])) ≡ record { number = 0; value = 0x41 ∷ 0x42 ∷ [] })
     × (nameAnswer (nameOf (0x10 ∷ 0x00 ∷ 0x41 ∷ 0x00 ∷ [])) ≡ record { number = 2; value = [] })
     × (nameAnswer (nameOf (0x08 ∷ 0xe9 ∷ [])) ≡ record { number = 0; value = 0xc3 ∷ 0xa9 ∷ [] })
-    × (nameAnswer (nameOf (0xfe ∷ [])) ≡ record { number = 2; value = [] })
+    × (nameAnswer (nameOf (0xfe ∷ [])) ≡ record { number = 0; value = [] })
 worked-table =
     (table .0, table .1, table .2, table .3, table .4, table .5, (ends-worked .0, ends-worked .1), (continues-worked .0, continues-worked .1), worked .0, worked .1, worked .2, worked .3, worked .4)

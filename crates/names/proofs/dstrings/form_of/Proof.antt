@@ -11,6 +11,7 @@ form-of-spec =
     tie.close (tie.spec
     (λ c. search forms)
     (λ c. search needs)
+    (λ c κs. search needs)
     (λ c. search forms)
     (λ c. search forms)
     (λ c. search forms)
