@@ -4,3 +4,4 @@ pub mod EntryLaws
 pub mod WalkLaws
 pub mod Promises
 pub mod RecordLaws
+pub mod NamelessLaws
