@@ -431,6 +431,43 @@ def odd_names():
     yield v
 
 
+def deleted_names():
+    """Names with the ids of deleted ones, 254 and 255 (OSTA UDF 2.1.1 of 2.01): empty, whatever stands behind the id."""
+    for name, label in [("254", b"\xfeVAULT"), ("255 and an odd body", b"\xff\x00V\x00")]:
+        v = Volume("a label of id %s" % name, 8, label)
+        v.root_is([])
+        v.label(64, 0)
+        v.path("")
+        yield v
+    v = Volume("names of ids 254 and 255", 60)
+    old, new = v.file(b"old file"), v.file(b"new file")
+    texts = [b"\xfe", b"\xff", b"\xfeKEPT", b"\xff\x00K\x00E", b"\xff\x00K\x00", b"\xff\xd8\x00"]
+    others = [b"\xff", b"\xfe", b"\xff\x00\x00\x00\x00", b"\xfe/\x08ab", b"\xfe\xff\xff\xff", b"\xfe\x00\x10"]
+    kept = identifier("kept", new)
+    rows = {
+        "deleted": [parent()] + [identifier(text, old, DELETED) for text in texts] + [kept],
+        "other": [parent()] + [identifier(text, old, DELETED) for text in others] + [kept],
+        "listed": [parent()] + [identifier(text, old) for text in texts] + [kept],
+        "otherwise": [parent()] + [identifier(text, old) for text in others] + [kept],
+        "parent": [identifier(b"\xfeup", long_ad(SECTOR, ROOT), DIRECTORY | PARENT), kept, identifier(b"\xff\x00", old, PARENT)],
+        "alone": [identifier(b"\xff\x00", old, DIRECTORY)],
+    }
+    top = []
+    for name, row in rows.items():
+        icb = v.directory(row, kind=SHORT)
+        top.append(identifier(name, icb, DIRECTORY))
+        # A record has 21 bytes and the name.
+        shown = {"listed": 6 * 21 + 25, "otherwise": 6 * 21 + 25, "alone": 21}.get(name, 25)
+        v.icb(icb, work=v.sizes[icb], room=shown)
+        v.icb(icb, work=v.sizes[icb], room=shown - 1)
+        v.icb(icb, work=v.sizes[icb] - 1)
+        v.path(name + "/kept", name + "//KEPT/", name + "/KE", name + "/")
+    v.path(b"listed/\xfe", b"listed/\xff", b"alone/\xff", b"listed/\xfeKEPT")
+    v.root_is(top, kind=SHORT)
+    v.path("deleted/kept", work=v.sizes[v.root] - 1)
+    yield v
+
+
 def longest_names():
     """The longest names: 255 recorded bytes, of which each character takes one, two and three bytes."""
     v = Volume("the longest names", 40)
@@ -543,7 +580,7 @@ def bad_entries():
     ]
     good = identifier("good", text)
     bad = [lambda marks, f=f: identifier("bad", text, marks, **f) for f in faults]
-    bad += [lambda marks, n=n: identifier(n, text, marks) for n in [b"\x09bad", b"\xfebad", b"\x10\x00b\x00", b"\x10\x00"]]
+    bad += [lambda marks, n=n: identifier(n, text, marks) for n in [b"\x09bad", b"\xfdbad", b"\x10\x00b\x00", b"\x10\x00"]]
     for k, make in enumerate(bad):
         for place, entries in [("alone", [make(0)]), ("behind", [good, make(0)]), ("deleted", [good, make(DELETED | PARENT)])]:
             icb = v.directory(entries)
@@ -726,6 +763,7 @@ CASES = [
     refused_reads,
     odd_icbs,
     tangles,
+    deleted_names,
 ]
 
 
