@@ -1,8 +1,11 @@
 //! Finds the original, and the archives for port.c.
 //!
 //! The original stands in the folder `UDF_ORIGINAL`, by default ../shared/docs/src beside the repository, and is never copied into the
-//! tree. Its udf.rs is compiled word for word, with a module behind it: the entry of a file and the making of an opened disc are private
-//! there, and a module inside can reach them.
+//! tree. Its udf.rs is compiled word for word, but for the name of one function, with a module behind it: the entry of a file and the
+//! making of an opened disc are private there, and a module inside can reach them.
+//!
+//! The function is `decode_dstring`: one of that name behind the original's notes each d-string with compression id 254 or 255, which the
+//! rules give an empty name and the original refuses, and hands every other on to it.
 //!
 //! The archives are x86-64 code: `strandlodge-sys` links them where these programs are that too, and says in which folder they are. On every
 //! machine they are linked with port.c into a program that answers through a pipe.
@@ -14,9 +17,46 @@ use std::{env, fs};
 /// The crates whose archives are compared with the original.
 const CRATES: [&str; 2] = ["vault_c", "records_c"];
 
+/// The original's reading of a d-string, and the name that it has here.
+const DECODES: [&str; 2] = ["pub fn decode_dstring(payload", "fn decode_dstring_as_it_is(payload"];
+
 const INSIDE: &str = "
+/// In the place of the original's function of this name.
+pub fn decode_dstring(payload: &[u8]) -> Result<String> {
+    if matches!(payload.first(), Some(254 | 255)) {
+        within::REACHED.set(true);
+        if within::BY_THE_RULE.get() {
+            return Ok(String::new());
+        }
+    }
+    decode_dstring_as_it_is(payload)
+}
+
 pub mod within {
     use super::*;
+    use std::cell::Cell;
+
+    thread_local! {
+        /// A d-string with id 254 or 255 was reached.
+        pub static REACHED: Cell<bool> = const { Cell::new(false) };
+        /// Such a d-string has an empty name.
+        pub static BY_THE_RULE: Cell<bool> = const { Cell::new(false) };
+    }
+
+    /// What is asked of the original, and whether it was held to the rule: asked again with an empty name for each d-string with id 254
+    /// or 255, since one was reached.
+    pub fn asked<T>(ask: impl Fn() -> T) -> (T, bool) {
+        REACHED.set(false);
+        BY_THE_RULE.set(false);
+        let came = ask();
+        if !REACHED.get() {
+            return (came, false);
+        }
+        BY_THE_RULE.set(true);
+        let came = ask();
+        BY_THE_RULE.set(false);
+        (came, true)
+    }
 
     /// An opened disc of these parts.
     pub fn disc<R: Read + Seek>(reader: R, start: u32, number: u16, root: LongAd) -> UdfDisc<R> {
@@ -96,7 +136,8 @@ fn original(folder: &Path, out: &Path) -> bool {
     let (Ok(udf), Ok(error)) = (fs::read_to_string(folder.join("udf.rs")), folder.join("error.rs").canonicalize()) else {
         return false;
     };
-    fs::write(out.join("udf.rs"), udf + INSIDE).unwrap();
+    assert_eq!(udf.matches(DECODES[0]).count(), 1, "the original reads d-strings elsewhere");
+    fs::write(out.join("udf.rs"), udf.replace(DECODES[0], DECODES[1]) + INSIDE).unwrap();
     let text = format!(
         "#[allow(dead_code)]\n#[path = {:?}]\npub mod error;\n#[allow(dead_code)]\n#[path = {:?}]\npub mod udf;\n",
         error,

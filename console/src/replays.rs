@@ -126,7 +126,7 @@ fn the_list_of_the_gate() {
         }
     }
     assert_eq!(expected.next(), None);
-    assert_eq!(seen.iter().sum::<u32>(), 6528);
+    assert_eq!(seen.iter().sum::<u32>(), 7416);
     assert!(seen.iter().all(|n| *n > 0), "{seen:?}");
 }
 

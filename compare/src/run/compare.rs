@@ -11,7 +11,7 @@ use super::random::Random;
 use super::raw::{RAW_HELD, RawAsk, RawCall, RawGiven, shown};
 use super::raw_cases::{RawCase, batch};
 use super::tally::Tally;
-use super::{shapes_directories, shapes_files, shapes_opening, sparse, volumes};
+use super::{shapes_deleted, shapes_directories, shapes_files, shapes_opening, sparse, volumes};
 use std::panic::{AssertUnwindSafe, catch_unwind};
 use std::path::{Path, PathBuf};
 
@@ -22,6 +22,7 @@ pub fn shapes() -> Vec<(String, Disc)> {
     let mut all = shapes_opening::shapes();
     all.extend(shapes_files::shapes());
     all.extend(shapes_directories::shapes());
+    all.extend(shapes_deleted::shapes());
     all
 }
 
@@ -117,11 +118,13 @@ impl Comparison {
         } else {
             *self.tally.asked.entry((case.query.call, e.values.answer)).or_insert(0) += 1;
         }
+        self.tally.by_the_rule[0] += u64::from(e.by_the_rule);
         if let Some(what) = difference(e, given) {
             let text = told(&case.query, case.in_noise, e, given);
             self.keep(name, Some(disc), &format!("{what}\n{text}"));
         }
-        if e.absurd {
+        // The process of its own has the original as it is.
+        if e.absurd && !e.by_the_rule {
             self.absurd(name, disc, case);
         }
     }
@@ -147,6 +150,7 @@ impl Comparison {
         };
         for (case, given) in cases.iter().zip(&given) {
             *self.tally.raw.entry((case.ask.call, case.number())).or_insert(0) += 1;
+            self.tally.by_the_rule[1] += u64::from(case.by_the_rule);
             if let Some(what) = raw_difference(case, given) {
                 self.keep(&format!("a raw record, {}", case.ask.call.name()), None, &format!("{what}\n{}", raw_told(case, given)));
             }
@@ -268,6 +272,9 @@ pub fn unreached(tally: &Tally) -> Vec<String> {
     for call in RawCall::ALL {
         let never = call.numbers().iter().filter(|n| !tally.raw.contains_key(&(*call, **n)));
         all.extend(never.map(|n| format!("{} {n}", call.name())));
+    }
+    if tally.by_the_rule.contains(&0) {
+        all.push("a d-string with id 254 or 255".to_string());
     }
     all
 }

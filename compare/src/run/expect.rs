@@ -2,6 +2,7 @@
 
 use super::calls::{Call, Icb, Query, Values, slot};
 use super::original::{self, Came, Original, icb};
+use crate::udf::within;
 
 /// The answer, and what it took.
 pub struct Expected {
@@ -14,12 +15,14 @@ pub struct Expected {
     pub full: usize,
     /// The original would ask for absurd memory, and was asked with the information length lowered.
     pub absurd: bool,
+    /// A d-string with id 254 or 255 was reached: what is expected is the original's answer with an empty name for it, as the rules have it.
+    pub by_the_rule: bool,
 }
 
 impl Expected {
     fn new(answer: u64, sectors: Vec<u64>) -> Expected {
         let values = Values { answer, count: sectors.len() as u64, ..Values::default() };
-        Expected { values, sectors, directories: Vec::new(), full: 0, absurd: false }
+        Expected { values, sectors, directories: Vec::new(), full: 0, absurd: false, by_the_rule: false }
     }
 
     /// An answer of bytes, which are refused where they don't fit.
@@ -36,6 +39,11 @@ impl Expected {
 }
 
 pub fn expected(image: &[u8], q: &Query) -> Expected {
+    let (e, by_the_rule) = within::asked(|| answered(image, q));
+    Expected { by_the_rule, ..e }
+}
+
+fn answered(image: &[u8], q: &Query) -> Expected {
     match q.call {
         Call::Probe => Expected::new(original::probe(image) as u64, Vec::new()),
         Call::Open => opening(image),

@@ -20,6 +20,7 @@ mod raw_cases;
 mod raw_direct;
 mod raw_expect;
 mod raw_records;
+mod shapes_deleted;
 mod shapes_directories;
 mod shapes_files;
 mod shapes_opening;

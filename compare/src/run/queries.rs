@@ -5,6 +5,7 @@ use super::disc::Disc;
 use super::expect::{Expected, expected};
 use super::original;
 use super::random::Random;
+use crate::udf::within;
 
 pub struct Case {
     pub query: Query,
@@ -22,7 +23,7 @@ pub enum Depth {
 
 /// The volume that calls are made on: the opened one, the one that was meant, or once in a while one made by hand.
 fn volume(random: &mut Random, disc: &Disc, depth: Depth) -> Volume {
-    let mut v = match original::open(&disc.image).value {
+    let mut v = match within::asked(|| original::open(&disc.image)).0.value {
         Ok((v, _)) => v,
         Err(_) => disc.volume,
     };

@@ -4,10 +4,13 @@ use super::random::Random;
 use super::raw::{RawAsk, RawCall};
 use super::raw_expect::expected;
 use super::records::{mend, put16, put32};
+use crate::udf::within;
 
 pub struct RawCase {
     pub ask: RawAsk,
     pub expected: Vec<u8>,
+    /// As in `Expected`.
+    pub by_the_rule: bool,
 }
 
 impl RawCase {
@@ -42,13 +45,13 @@ pub fn batch(random: &mut Random) -> Vec<RawCase> {
 
 fn case(random: &mut Random, call: RawCall, input: Vec<u8>) -> RawCase {
     let room = if call.is_decode() { room(random, call, &input) } else { 0 };
-    let expected = expected(call, &input, room);
-    RawCase { ask: RawAsk { call, input, room, salt: random.next() as u8 }, expected }
+    let (expected, by_the_rule) = within::asked(|| expected(call, &input, room));
+    RawCase { ask: RawAsk { call, input, room, salt: random.next() as u8 }, expected, by_the_rule }
 }
 
 /// Room for a name: to spare, exactly enough, a byte short, none, or any.
 fn room(random: &mut Random, call: RawCall, input: &[u8]) -> usize {
-    let name = expected(call, input, usize::MAX).len() - 16;
+    let name = within::asked(|| expected(call, input, usize::MAX)).0.len() - 16;
     match random.below(6) {
         0 | 1 => name + 1 + random.below(40),
         2 => name,
@@ -156,7 +159,7 @@ fn dstring(random: &mut Random, most: usize) -> Vec<u8> {
         return b;
     };
     *id = match random.below(10) {
-        0 => *random.pick(&[7, 9, 15, 17, 254, *id]),
+        0 => *random.pick(&[7, 9, 15, 17, 253, 254, 255, *id]),
         1 => 0,
         n if n < 5 => 8,
         _ => 16,

@@ -7,7 +7,7 @@ use super::records::*;
 pub type Shape = (String, Disc);
 
 /// A disc with a file, and a sequence of the usual four descriptors (label, logical volume, partition, end) that `edit` may change.
-fn volume(name: &str, edit: impl FnOnce(&mut Disc, &mut Vec<Vec<u8>>)) -> Shape {
+pub fn volume(name: &str, edit: impl FnOnce(&mut Disc, &mut Vec<Vec<u8>>)) -> Shape {
     placed(name, 40, 7, edit)
 }
 

@@ -17,6 +17,8 @@ pub struct Tally {
     /// Our side came to an end by itself.
     pub stopped: bool,
     pub absurd: u64,
+    /// Queries and raw records that were held to the rule on compression ids 254 and 255, since the original reached such a d-string.
+    pub by_the_rule: [u64; 2],
     /// What became of the original where it was asked for absurd memory, in a process of its own.
     pub ends: BTreeMap<String, u64>,
 }
@@ -33,6 +35,7 @@ impl Tally {
             mismatches: 0,
             stopped: false,
             absurd: 0,
+            by_the_rule: [0; 2],
             ends: BTreeMap::new(),
         }
     }
@@ -81,6 +84,8 @@ impl fmt::Display for Tally {
         writeln!(f, "images {images}, queries {queries}, again in noise {in_noise}, raw records {raws}, seconds {}", self.seconds())?;
         let ends: Vec<String> = self.ends.iter().map(|(k, n)| format!("{n} {k}")).collect();
         writeln!(f, "absurd information lengths {}; of these the original, in a process of its own: {}", self.absurd, ends.join(", "))?;
+        let [queries, raws] = self.by_the_rule;
+        writeln!(f, "held to the rule on ids 254 and 255: {queries} queries, with those in noise, and {raws} raw records")?;
         write!(f, "mismatches {}", self.mismatches)
     }
 }

@@ -27,6 +27,12 @@ fn name(random: &mut Random) -> Vec<u8> {
     }
 }
 
+/// A name with the compression id of a deleted one, and any bytes behind it.
+fn deleted_name(random: &mut Random) -> Vec<u8> {
+    let n = random.below(6);
+    [vec![*random.pick(&[254, 255])], random.bytes(n)].concat()
+}
+
 /// A layout at random; most are plain enough to be read.
 pub fn layout(random: &mut Random, number: u16) -> Layout {
     let kind = *random.pick(&[0, 0, 1, 2, 3, 3]);
@@ -80,7 +86,8 @@ fn directory(random: &mut Random, disc: &mut Disc, path: &str, depth: usize, thr
         items.push(Item::new(vec![], disc.volume.root, PARENT | DIRECTORY));
     }
     for _ in 0..random.below(many) {
-        let recorded = name(random);
+        // Not in the list that is kept, which is to stay as it is.
+        let recorded = if !thrifty && random.once_in(30) { deleted_name(random) } else { name(random) };
         let here = format!("{path}{}", spoken(&recorded));
         disc.path(here.as_bytes());
         let inner = depth > 0 && random.below(10) < 4;
