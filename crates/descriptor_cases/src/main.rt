@@ -269,6 +269,11 @@ fn primary_labels(d: &mut [u8]) {
     primary_case(d, 1, 56, 24, 7);
     primary_case(d, 1, 56, 24, 9);
     primary_case(d, 1, 56, 24, 16);
+    deleted_primary_labels(d);
+}
+
+// The ids of deleted names, and the one before them.
+fn deleted_primary_labels(d: &mut [u8]) {
     primary_case(d, 1, 56, 24, 253);
     primary_case(d, 1, 56, 24, 254);
     primary_case(d, 1, 56, 24, 255);
@@ -299,6 +304,10 @@ fn logical_labels(d: &mut [u8]) {
     logical_case(d, 6, 440, 84, 0);
     logical_case(d, 6, 440, 84, 9);
     logical_case(d, 6, 440, 84, 16);
+    deleted_logical_labels(d);
+}
+
+fn deleted_logical_labels(d: &mut [u8]) {
     logical_case(d, 6, 440, 84, 253);
     logical_case(d, 6, 440, 84, 254);
     logical_case(d, 6, 440, 84, 255);
