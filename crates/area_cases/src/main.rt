@@ -34,9 +34,13 @@ fn say_continuation(a: AdContinuation) {
 
 fn say_ending(e: AdEnding) {
     match e {
-        AdEnding::End => say(b" end"),
+        AdEnding::End => {
+            say(b" end");
+        }
         AdEnding::Continuation(a) => say_continuation(a),
-        AdEnding::Refused(why) => say_refusal(why),
+        AdEnding::Refused(why) => {
+            say_refusal(why);
+        }
     }
 }
 
@@ -53,8 +57,14 @@ fn walk(kind: u8, s: &[u8]) {
                 c = next;
             }
             AdStep::Continuation(a) => return say_continuation(a),
-            AdStep::End => return say(b" end"),
-            AdStep::Refused(why) => return say_refusal(why),
+            AdStep::End => {
+                say(b" end");
+                return;
+            }
+            AdStep::Refused(why) => {
+                say_refusal(why);
+                return;
+            }
         }
     }
 }
@@ -105,8 +115,12 @@ fn step(at: usize, left: usize) {
             number(next.left as u64);
         }
         AdStep::Continuation(a) => say_continuation(a),
-        AdStep::End => say(b" end"),
-        AdStep::Refused(why) => say_refusal(why),
+        AdStep::End => {
+            say(b" end");
+        }
+        AdStep::Refused(why) => {
+            say_refusal(why);
+        }
     }
     say(b"\n");
 }

@@ -89,8 +89,12 @@ fn say_icb_tag(t: IcbTag) {
 
 fn say_object(o: ObjectSize) {
     match o {
-        ObjectSize::Recorded(n) => number(n),
-        ObjectSize::Absent => say(b" none"),
+        ObjectSize::Recorded(n) => {
+            number(n);
+        }
+        ObjectSize::Absent => {
+            say(b" none");
+        }
     }
 }
 
@@ -173,7 +177,9 @@ fn icb_tag(n: usize) {
     say(b":");
     match IcbTag::parse(front(&b, n)) {
         IcbTagRead::Read(t) => say_icb_tag(t),
-        IcbTagRead::Refused(why) => say_refusal(why),
+        IcbTagRead::Refused(why) => {
+            say_refusal(why);
+        }
     }
     say(b"\n");
 }
@@ -182,7 +188,9 @@ fn icb_tag(n: usize) {
 fn answer_entry(r: EntryRead) {
     match r {
         EntryRead::Read(e) => say_entry(e),
-        EntryRead::Refused(why) => say_refusal(why),
+        EntryRead::Refused(why) => {
+            say_refusal(why);
+        }
     }
     say(b"\n");
 }

@@ -27,7 +27,9 @@ fn say_name(size: NameSize, b: &[u8]) {
             say_bytes(front(b, n));
             say(b"\n");
         }
-        NameSize::Refused(_) => say(b": refused\n"),
+        NameSize::Refused(_) => {
+            say(b": refused\n");
+        }
     }
 }
 

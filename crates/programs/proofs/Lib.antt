@@ -1,2 +1,3 @@
 -- What the proofs of the functions cite.
 pub mod SumLaws
+pub mod WordLaws

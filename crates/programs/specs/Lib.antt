@@ -1,2 +1,3 @@
 -- What the contracts cite.
 pub mod Lent
+pub mod Words

@@ -1,76 +1,122 @@
-// What the programs print.
+// What the programs print. What a piece of text comes to on standard output nobody can say here (the toolchain's `write_all` doesn't), so each
+// function answers for what it made of its argument: how many bytes of text, or how many digits the number behind it has.
+ghost use mathlib.Core.Path.{_≡_};
+ghost use lib.ListN.{length};
+ghost use Rattle.io.specs.Digits.{Fewest};
+ghost use Rattle.disc.specs.Refusals.{number as numberOf};
+ghost use Rattle.programs.specs.Words.{PartitionDigits};
 use crate::lent::wide;
 use disc::places::PartitionRef;
 use disc::refusals::Refusal;
 use libc::STDOUT_FILENO;
 
-pub fn say(text: &[u8]) {
+pub fn say(text: &[u8]) -> usize
+    ensures { λ r. ⌜ r ≡ length (now (text .entry)) ⌝ }
+{
     io::write_all(STDOUT_FILENO, text);
+    text.len()
 }
 
-pub fn end_line() {
-    say(b"\n");
+pub fn end_line() -> usize
+    ensures { λ r. ⌜ r ≡ 1 ⌝ }
+{
+    say(b"\n")
 }
 
-pub fn say_decimal(n: u64) {
-    io::print_decimal(STDOUT_FILENO, n);
+pub fn say_decimal(n: u64) -> usize
+    ensures { λ r. ⌜ Fewest 10 1 n r ⌝ }
+{
+    let mut text = [0u8; 20];
+    let k = io::decimal(n, &mut text);
+    say(&text[..k]);
+    k
 }
 
 // A word, and a number right behind it.
-pub fn say_named(word: &[u8], n: u64) {
+pub fn say_named(word: &[u8], n: u64) -> usize
+    ensures { λ r. ⌜ Fewest 10 1 n r ⌝ }
+{
     say(word);
-    say_decimal(n);
+    say_decimal(n)
 }
 
-pub fn number(n: u64) {
-    say_named(b" ", n);
+pub fn number(n: u64) -> usize
+    ensures { λ r. ⌜ Fewest 10 1 n r ⌝ }
+{
+    say_named(b" ", n)
 }
 
 // The narrower ones, so that a caller casts nothing.
-pub fn number8(n: u8) {
-    number(n as u64);
+pub fn number8(n: u8) -> usize
+    ensures { λ r. ⌜ Fewest 10 1 n r ⌝ }
+{
+    number(n as u64)
 }
 
-pub fn number16(n: u16) {
-    number(n as u64);
+pub fn number16(n: u16) -> usize
+    ensures { λ r. ⌜ Fewest 10 1 n r ⌝ }
+{
+    number(n as u64)
 }
 
-pub fn number32(n: u32) {
-    number(n as u64);
+pub fn number32(n: u32) -> usize
+    ensures { λ r. ⌜ Fewest 10 1 n r ⌝ }
+{
+    number(n as u64)
 }
 
-pub fn say_byte(b: u8) {
+// A space, and two hex digits.
+pub fn say_byte(b: u8) -> usize
+    ensures { λ r. ⌜ Fewest 16 2 b r ⌝ }
+{
     say(b" ");
-    io::print_hex(STDOUT_FILENO, wide(b), 2);
+    let mut text = [0u8; 16];
+    let k = io::hex(wide(b), 2, &mut text);
+    say(&text[..k]);
+    k
 }
 
-// A space and two hex digits for each byte.
-pub fn say_bytes(s: &[u8]) {
+// All of them, and how many they are.
+pub fn say_bytes(s: &[u8]) -> usize
+    ensures { λ r. ⌜ r ≡ length (now (s .entry)) ⌝ }
+{
     let mut i = 0;
     while i < s.len() {
         say_byte(s[i]);
         i += 1;
     }
+    i
 }
 
-pub fn say_refused(answer: u64) {
+pub fn say_refused(answer: u64) -> usize
+    ensures { λ r. ⌜ Fewest 10 1 answer r ⌝ }
+{
     say(b" refused");
-    number(answer);
+    number(answer)
 }
 
-pub fn say_refusal(why: Refusal) {
-    say_refused(why.number());
+pub fn say_refusal(why: Refusal) -> usize
+    ensures { λ r. ⌜ Fewest 10 1 (numberOf why) r ⌝ }
+{
+    say_refused(why.number())
 }
 
-pub fn say_partition(p: PartitionRef) {
+pub fn say_partition(p: PartitionRef) -> usize
+    ensures { λ r. ⌜ PartitionDigits p r ⌝ }
+{
     match p {
-        PartitionRef::Unnamed => say(b" none"),
+        PartitionRef::Unnamed => {
+            say(b" none");
+            0
+        }
         PartitionRef::Named(n) => number16(n),
     }
 }
 
-// A call's name with a space behind it, and what every call answers.
-pub fn say_answer(call: &[u8], answer: u64, count: u64) {
+// A call's name with a space behind it, and what every call answers: the digits are the count's.
+pub fn say_answer(call: &[u8], answer: u64, count: u64) -> usize
+    ensures { λ r. ⌜ Fewest 10 1 count r ⌝ }
+{
     say_named(call, answer);
-    say_named(b" count ", count);
+    say_named(b" count ", count)
 }

@@ -8,11 +8,21 @@ fn sector(s: &[u8]) {
     say(b"sector");
     say_bytes(s);
     match structure_of(s) {
-        Structure::Beginning => say(b": beginning\n"),
-        Structure::Nsr => say(b": nsr\n"),
-        Structure::Terminating => say(b": terminating\n"),
-        Structure::Other => say(b": other\n"),
-        Structure::Unknown => say(b": unknown\n"),
+        Structure::Beginning => {
+            say(b": beginning\n");
+        }
+        Structure::Nsr => {
+            say(b": nsr\n");
+        }
+        Structure::Terminating => {
+            say(b": terminating\n");
+        }
+        Structure::Other => {
+            say(b": other\n");
+        }
+        Structure::Unknown => {
+            say(b": unknown\n");
+        }
     }
 }
 

@@ -21,15 +21,19 @@ use volumes::openings::Opened;
 use volumes::openings::VolumeRecord;
 use volumes::openings::open_volume;
 
+fn say_use(used: [u8; 6]) {
+    say(b" use");
+    say_bytes(&used);
+    say(b"\n");
+}
+
 fn say_root(root: LongAd) {
     say_named(b"root ", root.length as u64);
     say_named(b" type ", root.extent_type as u64);
     say_named(b" block ", root.location.block as u64);
     say_named(b" partition ", root.location.partition_ref as u64);
     let used = root.implementation_use;
-    say(b" use");
-    say_bytes(&used);
-    say(b"\n");
+    say_use(used);
 }
 
 fn say_volume(v: VolumeRecord) {

@@ -103,7 +103,9 @@ fn show_continuation(a: AdContinuation) {
 
 fn show_ending(e: AdEnding) {
     match e {
-        AdEnding::End => say(b" ends\n"),
+        AdEnding::End => {
+            say(b" ends\n");
+        }
         AdEnding::Continuation(a) => show_continuation(a),
         AdEnding::Refused(why) => refused(why),
     }

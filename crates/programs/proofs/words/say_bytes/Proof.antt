@@ -1,4 +1,4 @@
--- `programs::words::say_bytes` is safe and ends: the index stays within the bytes. Assumes nothing.
+-- `programs::words::say_bytes` meets its contract: the index ends at the length. Assumes nothing.
 use borrow.Author.Needs.{needs}
 use Prim.Native.Nat.{_≤_, _-_}
 use lib.ListN.{length}
