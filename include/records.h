@@ -186,6 +186,12 @@ typedef struct {
 
 records_tag_answer records_parse_tag(const uint8_t *bytes, size_t bytes_length);
 records_tag_bytes records_encode_tag(records_tag value);
+
+/* The place check: whether the tag's location is the number that it must be. `sector` and `block` are those that
+ * hold the descriptor's first byte, counted from the disc's start and from its partition's. Ids 1 to 9 go by the
+ * sector, 256 to 266 by the block, and a tag with any other id is in place nowhere. */
+bool records_tag_in_place(records_tag tag, uint64_t sector, uint32_t block);
+
 records_aed_answer records_parse_aed(const uint8_t *bytes, size_t bytes_length);
 records_aed_bytes records_encode_aed(records_aed value);
 

@@ -246,6 +246,12 @@ unsafe extern "C" {
 
     pub fn records_parse_tag(bytes: *const u8, bytes_length: usize) -> Answer<Tag>;
     pub fn records_encode_tag(value: Tag) -> Encoded<16>;
+
+    /// The place check: whether the tag's location is the number that it must be. `sector` and `block` are those that
+    /// hold the descriptor's first byte, counted from the disc's start and from its partition's. Ids 1 to 9 go by the
+    /// sector, 256 to 266 by the block, and a tag with any other id is in place nowhere.
+    pub fn records_tag_in_place(tag: Tag, sector: u64, block: u32) -> bool;
+
     pub fn records_parse_aed(bytes: *const u8, bytes_length: usize) -> Answer<Aed>;
     pub fn records_encode_aed(value: Aed) -> Encoded<24>;
     pub fn records_parse_icb_tag(bytes: *const u8, bytes_length: usize) -> Answer<IcbTag>;

@@ -4,8 +4,10 @@
 // any id, and makes the checksum. A header is a tag with id 258 and two numbers.
 ghost use mathlib.Core.Path.{_≡_};
 ghost use Rattle.tags.specs.Answers.{tagAnswer, aedAnswer};
-ghost use Rattle.tags.specs.Tags.{readTag, encodeTag, readAed, encodeAed};
+ghost use Rattle.tags.specs.Tags.{readTag, encodeTag, inPlace, readAed, encodeAed};
 use disc::answers::DONE;
+use disc::places::Block;
+use disc::places::Sector;
 use tags::AedRead;
 use tags::AllocationExtentDescriptor;
 use tags::DescriptorTag;
@@ -57,6 +59,16 @@ pub extern "C" fn records_encode_tag(value: DescriptorTag) -> TagBytes
     TagBytes {
         bytes: value.encode(),
     }
+}
+
+// The place check: whether the tag's location is the number that it must be. `sector` and `block` are those that hold the descriptor's first
+// byte, counted from the disc's start and from its partition's. Ids 1 to 9 go by the sector, 256 to 266 by the block, and a tag with any
+// other id is in place nowhere.
+#[no_mangle]
+pub extern "C" fn records_tag_in_place(tag: DescriptorTag, sector: u64, block: u32) -> bool
+    ensures { λ r. ⌜ r ≡ inPlace tag sector block ⌝ }
+{
+    tag.is_in_place(Sector(sector), Block(block))
 }
 
 #[no_mangle]

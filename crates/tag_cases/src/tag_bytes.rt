@@ -2,6 +2,7 @@
 ghost use Prim.Native.Nat.{_+_, _≤_, _<_};
 use crate::outputs::refused;
 use crate::outputs::yes_or_no;
+use disc::places::Block;
 use disc::places::Sector;
 use programs::words::end_line;
 use programs::words::number;
@@ -156,19 +157,38 @@ pub(crate) fn changes() {
     }
 }
 
-fn placed(sector: u64) {
-    say(b"location 256 at sector");
+fn placed(id: u16, sector: u64, block: u32) {
+    say(b"id");
+    number(id as u64);
+    say(b" location 256 at sector");
     number(sector);
+    say(b" block");
+    number(block as u64);
     say(b":");
-    yes_or_no(tag_with(2, 0, 0, 0).is_in_place(Sector(sector)));
+    yes_or_no(tag_with(id, 0, 0, 0).is_in_place(Sector(sector), Block(block)));
     end_line();
 }
 
-// The last is 2^32 + 256: a sector's number passes 2^32, and a location does not.
+// The sector's number is equal, the block's, both, neither; then numbers that are equal in their low 16 bits, and a sector's in its low 32: it passes
+// 2^32, and a location does not.
+fn places_of(id: u16) {
+    placed(id, 256, 7);
+    placed(id, 7, 256);
+    placed(id, 256, 256);
+    placed(id, 255, 257);
+    placed(id, 65792, 7);
+    placed(id, 7, 65792);
+    placed(id, 4294967552, 7);
+}
+
+// The ids at all ends.
 pub(crate) fn places() {
-    placed(256);
-    placed(255);
-    placed(257);
-    placed(0);
-    placed(4294967552);
+    places_of(0);
+    places_of(1);
+    places_of(9);
+    places_of(10);
+    places_of(255);
+    places_of(256);
+    places_of(266);
+    places_of(267);
 }

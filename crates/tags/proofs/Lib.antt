@@ -1,5 +1,6 @@
 -- Laws of tags, and what is promised of them.
 pub mod FieldLaws
 pub mod HeadLaws
+pub mod PlaceChecks
 pub mod RoundTrips
 pub mod Table

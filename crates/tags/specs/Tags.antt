@@ -1,7 +1,8 @@
 -- The descriptor tag, 16 bytes (ECMA-167 3/7.2), and the header of an allocation extent, 24 (4/14.5): RULES 3.4 to 3.7, 3.14, 3.15 and 9.7.
 use Prim.Native.Nat.{ℕ, _+_, _%_}
-use mathlib.Core.Bool.{Bool, _&&_, _||_}
+use mathlib.Core.Bool.{Bool, false, _&&_, _||_}
 use mathlib.Core.List.{List, _∷_, _++_}
+use mathlib.Core.Option.{Option, none, some}
 use lib.ListN.{length}
 use lib.Dec.{leb, eqb}
 use Rattle.disc.specs.Choice.{pick}
@@ -29,9 +30,15 @@ tagOf s = record {
   location = u32at s 12;
 }
 
--- the ids that are known (3/7.2.1, 4/7.2.1)
+-- the ids that are known: of the volume structure (3/7.2.1), and of what is recorded in a partition (4/7.2.1)
+abbrev pub ofVolume : ℕ → Bool
+ofVolume id = leb 1 id && leb id 9
+
+abbrev pub ofPartition : ℕ → Bool
+ofPartition id = leb 256 id && leb id 266
+
 abbrev pub listed : ℕ → Bool
-listed id = (leb 1 id && leb id 9) || (leb 256 id && leb id 266)
+listed id = ofVolume id || ofPartition id
 
 -- the sum, modulo 256, of the first 16 bytes but the fifth (3/7.2.3)
 abbrev pub checksum : List ℕ → ℕ
@@ -56,9 +63,19 @@ encodeTag t = tagBytes t (checksum (tagBytes t 0))
 
 -- ---- the place check
 
--- a tag is in place where its location is the number of the sector that it was read from
-abbrev pub inPlace : DescriptorTag → ℕ → Bool
-inPlace t sector = eqb (t .location) sector
+-- the number that a tag's location must be (3/7.2.8, 4/7.2.8): the sector's for the descriptors of the volume structure (3/7.2.1), the logical
+-- block's, in its partition, for those recorded in a partition (4/7.2.1), and none for an id that no rule lists
+unfoldable pub placeOf : ℕ → ℕ → ℕ → Option ℕ
+placeOf id sector block = pick (ofVolume id) (some sector) (pick (ofPartition id) (some block) none)
+
+-- whether a location is the number that it must be
+abbrev pub isPlace : ℕ → Option ℕ → Bool
+isPlace location none = false
+isPlace location (some n) = eqb location n
+
+-- a tag is in place where its location is that number of the sector and the block that hold its first byte
+unfoldable pub inPlace : DescriptorTag → ℕ → ℕ → Bool
+inPlace t sector block = isPlace (t .location) (placeOf (t .id) sector block)
 
 -- ---- the gate that every descriptor goes through
 

@@ -7,8 +7,9 @@ ghost use Prim.Native.Nat.{_+_, _%_, _≤_, _<_};
 ghost use lib.ListN.{length};
 ghost use Rattle.records.specs.Bytes.{le32, sixteen, sum4};
 ghost use Rattle.tags.specs.Answers.{noTag};
-ghost use Rattle.tags.specs.Tags.{listed, checksum, accepted, tagOf, readTag, tagBytes, encodeTag, inPlace, readAed, encodeAed};
+ghost use Rattle.tags.specs.Tags.{ofVolume, ofPartition, listed, checksum, accepted, tagOf, readTag, tagBytes, encodeTag, inPlace, readAed, encodeAed};
 use crate::heads::read_head;
+use disc::places::Block;
 use disc::places::Sector;
 use disc::refusals::Refusal;
 use records::bytes::le16;
@@ -30,11 +31,25 @@ pub enum TagRead {
     Refused(Refusal),
 }
 
+// Whether an id is that of a descriptor of the volume structure, which goes by its sector.
+fn is_of_volume(id: u16) -> bool
+    ensures { λ r. ⌜ r ≡ ofVolume id ⌝ }
+{
+    (1 <= id) & (id <= 9)
+}
+
+// Whether an id is that of a descriptor recorded in a partition, which goes by its block there.
+fn is_of_partition(id: u16) -> bool
+    ensures { λ r. ⌜ r ≡ ofPartition id ⌝ }
+{
+    (256 <= id) & (id <= 266)
+}
+
 // Whether an id is one of those that are known.
 pub fn is_listed(id: u16) -> bool
     ensures { λ r. ⌜ r ≡ listed id ⌝ }
 {
-    (1 <= id) & (id <= 9) | (256 <= id) & (id <= 266)
+    is_of_volume(id) | is_of_partition(id)
 }
 
 // All zeros.
@@ -171,11 +186,17 @@ impl DescriptorTag {
         tag_bytes(self, sum)
     }
 
-    // The place check.
-    pub fn is_in_place(self, from: Sector) -> bool
-        ensures { λ r. ⌜ r ≡ inPlace self (from .0) ⌝ }
+    // The place check: the sector and the block are those that hold the descriptor's first byte, and the id says which of them is compared.
+    pub fn is_in_place(self, sector: Sector, block: Block) -> bool
+        ensures { λ r. ⌜ r ≡ inPlace self (sector .0) (block .0) ⌝ }
     {
-        self.location as u64 == from.0
+        if is_of_volume(self.id) {
+            return self.location as u64 == sector.0;
+        }
+        if is_of_partition(self.id) {
+            return self.location == block.0;
+        }
+        false
     }
 }
 

@@ -1,0 +1,102 @@
+-- The place check: the returns of `is_in_place`, and what it comes to for a tag that the crossing places. Assumes nothing.
+use Prim.Native.Nat.{ℕ, _+_, _≤_}
+use mathlib.Core.Path.{_≡_, refl, sym, _∙_}
+use mathlib.Core.Bool.{Bool, true, false, _||_}
+use mathlib.Core.Option.{Option, none, some}
+use native.Mathlib.Omega.{arith}
+use lib.Dec.{leb, eqb}
+use borrow.Author.Tests.{eq-eqb, eqb-true, le-leb, lt-leb}
+use Rattle.disc.proofs.PickLaws.{not-both, picked}
+use Rattle.disc.specs.Choice.{pick}
+use Rattle.disc.specs.Places.{sectorOf, placed, icbPlaced}
+use Rattle.disc.specs.declared.places.Mount.{Mount}
+use Rattle.disc.specs.declared.places.PartitionRef.{PartitionRef}
+use Rattle.disc.specs.declared.places.PartitionRef.the-variants.{Unnamed, Named}
+use Rattle.tags.specs.Tags.{ofVolume, ofPartition, listed, placeOf, isPlace, inPlace}
+use Rattle.tags.specs.declared.DescriptorTag.{DescriptorTag}
+
+-- ---- the returns of `is_in_place`
+
+module _ (t : DescriptorTag) (sector block : ℕ) {v : Bool} (e : v ≡ ofVolume (t .id)) where
+  pub place-volume : v ≡ true → {r : Bool} → r ≡ eqb (t .location) sector → r ≡ inPlace t sector block
+  unfolding inPlace placeOf
+  place-volume h k = rw (← e, h) k
+
+  module _ (h : v ≡ false) {p : Bool} (f : p ≡ ofPartition (t .id)) where
+    pub place-partition : p ≡ true → {r : Bool} → r ≡ eqb (t .location) block → r ≡ inPlace t sector block
+    unfolding inPlace placeOf
+    place-partition g k = rw (← e, h, ← f, g) k
+
+    pub place-none : p ≡ false → false ≡ inPlace t sector block
+    unfolding inPlace placeOf
+    place-none g = rw (← e, h, ← f, g)
+
+-- ---- which number the location must be, by the id
+
+module _ (t : DescriptorTag) (sector block : ℕ) where
+  -- an id of 1 to 9: the sector's
+  module _ (l : 1 ≤ t .id) (h : t .id ≤ 9) where
+    its-sector : inPlace t sector block ≡ eqb (t .location) sector
+    unfolding inPlace placeOf
+    its-sector = simp (le-leb 1 (t .id) l, le-leb (t .id) 9 h)
+
+    pub sector-only : inPlace t sector block ≡ true → t .location ≡ sector
+    sector-only e = eqb-true (t .location) sector (sym its-sector ∙ e)
+
+    pub sector-enough : t .location ≡ sector → inPlace t sector block ≡ true
+    sector-enough e = its-sector ∙ eq-eqb (t .location) sector e
+
+  -- an id of 256 to 266: the block's
+  module _ (l : 256 ≤ t .id) (h : t .id ≤ 266) where
+    its-block : inPlace t sector block ≡ eqb (t .location) block
+    unfolding inPlace placeOf
+    its-block = simp (lt-leb (t .id) 9 (omega arith), le-leb 1 (t .id) (omega arith), le-leb 256 (t .id) l, le-leb (t .id) 266 h)
+
+    pub block-only : inPlace t sector block ≡ true → t .location ≡ block
+    block-only e = eqb-true (t .location) block (sym its-block ∙ e)
+
+    pub block-enough : t .location ≡ block → inPlace t sector block ≡ true
+    block-enough e = its-block ∙ eq-eqb (t .location) block e
+
+-- any other id: in place nowhere
+pub place-unlisted : (t : DescriptorTag) → listed (t .id) ≡ false → (sector block : ℕ) → inPlace t sector block ≡ false
+unfolding inPlace placeOf
+place-unlisted t e sector block = by (ofVolume (t .id)) (ofPartition (t .id)) e
+  where
+    by : (v p : Bool) → (v || p) ≡ false → isPlace (t .location) (pick v (some sector) (pick p (some block) none)) ≡ false
+    by true p q = not-both (sym q)
+    by false true q = not-both (sym q)
+    by false false q = refl
+
+-- ---- a tag that the crossing places: block b of a partition that starts at m .start is sector m .start + b
+
+pub record Crossed (m : Mount) (t : DescriptorTag) (block sector : ℕ) : Type 0 where
+  pub of-partition : 256 ≤ t .id → t .id ≤ 266 → (inPlace t sector block ≡ true → t .location ≡ block) × (t .location ≡ block → inPlace t sector block ≡ true)
+  pub of-volume : 1 ≤ t .id → t .id ≤ 9
+      → (inPlace t sector block ≡ true → t .location ≡ m .start + block) × (t .location ≡ m .start + block → inPlace t sector block ≡ true)
+
+module _ (m : Mount) (t : DescriptorTag) (block : ℕ) where
+  crossed-at : {sector : ℕ} → sector ≡ m .start + block → Crossed m t block sector
+  crossed-at {sector} e =
+      record {
+        of-partition = λ l h. (block-only t sector block l h, block-enough t sector block l h);
+        of-volume = λ l h. ((λ p. sector-only t sector block l h p ∙ e), (λ p. sector-enough t sector block l h (p ∙ sym e)));
+      }
+
+  -- under the reference that a descriptor gives
+  pub placed-crossed : (r : PartitionRef) {sector : ℕ} → placed m r block ≡ some sector → Crossed m t block sector
+  unfolding placed
+  placed-crossed Unnamed {sector} e = crossed-at (by e)
+    where
+      by : some (sectorOf m block) ≡ some sector → sector ≡ m .start + block
+      by q = cc
+  placed-crossed (Named p) {sector} e =
+      crossed-at (by (picked (λ a. a ≡ some sector) (eqb p (m .partition)) (some (sectorOf m block)) none e (λ f. let z : _≡_ {A = ℕ} 0 1 = cc in omega arith) .1))
+    where
+      by : some (sectorOf m block) ≡ some sector → sector ≡ m .start + block
+      by q = cc
+
+  -- and of an ICB
+  pub icb-crossed : Crossed m t block (icbPlaced m block)
+  unfolding icbPlaced
+  icb-crossed = crossed-at refl
