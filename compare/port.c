@@ -26,7 +26,8 @@
  *
  * A raw record is every field of it in order. What is parsed comes as bytes, and the answer is the number (8) and the record; what is
  * encoded comes as the record, and the answer is bytes; a name comes as bytes, and the answer is the number (8), the length (8) and the
- * written bytes. Of the state the first two bits tell.
+ * written bytes; for the place check a tag comes with a sector (8) and a block (4) behind it, and the answer is 1 (8) for a yes. Of the state
+ * the first two bits tell.
  */
 #include "records.h"
 #include "vault.h"
@@ -402,7 +403,7 @@ FIELDS(file_identifier, TAG(records_file_identifier_answer, value.tag), V(file_i
 #define ENCODED(X) X(extent_ad) X(short_ad) X(lb_addr) X(long_ad) X(ext_ad) X(tag) X(aed)
 #define PARSE_NUMBER(name) PARSE_##name,
 #define ENCODE_NUMBER(name) ENCODE_##name,
-enum { PARSED(PARSE_NUMBER) DECODE_DSTRING, DECODE_FIELD, ENCODED(ENCODE_NUMBER) };
+enum { PARSED(PARSE_NUMBER) DECODE_DSTRING, DECODE_FIELD, TAG_IN_PLACE, ENCODED(ENCODE_NUMBER) };
 
 static buffer lent_in, said;
 
@@ -451,12 +452,28 @@ static size_t say_written(records_written r, const uint8_t *out) {
         return 0; \
     }
 
+/* A tag, and behind it a sector and a block; a yes is 1. */
+static size_t say_in_place(const uint8_t *in, size_t n) {
+    records_tag_answer tag;
+    uint64_t sector, said_so;
+    uint32_t block;
+    if (n < sizeof sector + sizeof block) exit(5);
+    size_t rest = n - sizeof sector - sizeof block;
+    fill_fields(&tag, tag_fields, COUNT(tag), in, rest);
+    memcpy(&sector, in + rest, sizeof sector);
+    memcpy(&block, in + rest + sizeof sector, sizeof block);
+    said_so = records_tag_in_place(tag.value, sector, block);
+    say(&said_so, sizeof said_so);
+    return 0;
+}
+
 static size_t raw_call(uint8_t which, const uint8_t *in, size_t n, uint8_t *out, size_t room) {
     switch (which) {
         PARSED(PARSE)
         ENCODED(ENCODE)
     case DECODE_DSTRING: return say_written(records_decode_dstring(in, n, out, room), out);
     case DECODE_FIELD: return say_written(records_decode_dstring_field(in, n, out, room), out);
+    case TAG_IN_PLACE: return say_in_place(in, n);
     default: exit(6);
     }
 }

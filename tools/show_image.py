@@ -1,6 +1,8 @@
 #!/usr/bin/env python3
 """Writes crates/first_cue/stdin: a small show as a packed image (tools/udf.py), with the directory SHOW and in it four cues.
 
+Every tag's location is right: the sector's number, or the block's inside the partition (ECMA-167 3/7.2.8, 4/7.2.8).
+
 10.1A stands before 10.1a: matching ignores ASCII case, so a lookup of either name gives the first of the two.
 
 Usage: tools/show_image.py. Needs Python's standard library alone, prints nothing, and writes the same bytes each time.
@@ -24,10 +26,10 @@ CUES = [
 ]
 
 
-def identifier(name, block, marks=0):
-    """A file identifier descriptor (ECMA-167 4/14.4)."""
+def identifier(location, name, block, marks=0):
+    """A file identifier descriptor (ECMA-167 4/14.4), embedded in the entry of block `location`."""
     text = b"\x08" + name.encode("latin-1") if name else b""
-    whole = tag(FILE_IDENTIFIER) + struct.pack("<HBB16sH", 1, marks, len(text), long_ad(SECTOR, block), 0) + text
+    whole = tag(FILE_IDENTIFIER, location) + struct.pack("<HBB16sH", 1, marks, len(text), long_ad(SECTOR, block), 0) + text
     return whole + bytes(-len(whole) % 4)
 
 
@@ -39,16 +41,16 @@ def show():
     image.lay(MAIN + 1, udf.partition(MAIN + 1, PARTITION))
     image.lay(MAIN + 2, udf.logical(MAIN + 2, PARTITION))
     image.lay(MAIN + 3, udf.TERMINATOR(MAIN + 3))
-    image.lay(START + BLOCK, udf.file_set(START + BLOCK, root=long_ad(SECTOR, root)))
-    entries = identifier("", root, DIRECTORY | PARENT) + identifier("SHOW", directory, DIRECTORY)
-    image.lay(START + root, entry(EMBEDDED, entries, len(entries)))
-    entries = identifier("", root, DIRECTORY | PARENT)
+    image.lay(START + BLOCK, udf.file_set(BLOCK, root=long_ad(SECTOR, root)))
+    entries = identifier(root, "", root, DIRECTORY | PARENT) + identifier(root, "SHOW", directory, DIRECTORY)
+    image.lay(START + root, entry(EMBEDDED, entries, len(entries), location=root))
+    entries = identifier(directory, "", root, DIRECTORY | PARENT)
     for i, (name, look) in enumerate(CUES):
         block = first + 2 * i
-        entries += identifier(name, block)
-        image.lay(START + block, entry(SHORT, short_ad(len(look), block + 1), len(look)))
+        entries += identifier(directory, name, block)
+        image.lay(START + block, entry(SHORT, short_ad(len(look), block + 1), len(look), location=block))
         image.lay(START + block + 1, look)
-    image.lay(START + directory, entry(EMBEDDED, entries, len(entries)))
+    image.lay(START + directory, entry(EMBEDDED, entries, len(entries), location=directory))
     return image.bytes
 
 

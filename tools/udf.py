@@ -117,12 +117,13 @@ def entry(
     area_length=None,
     reserved=0,
     wrong=0,
+    location=0,
 ):
     """A file entry (ECMA-167 4/14.9) or an extended one (4/14.17). The lengths are those of what is given, unless they are given too."""
     extended = identifier == EXTENDED_FILE_ENTRY
     size = 216 if extended else 176
     e = bytearray(size)
-    e[0:16] = tag(identifier, reserved=reserved, wrong=wrong)
+    e[0:16] = tag(identifier, location, reserved, wrong)
     struct.pack_into("<IHHHBB6sH", e, 16, 0, 4, 0, 1, 0, 5, bytes(6), kind if flags is None else flags)
     struct.pack_into("<Q", e, 56, information)
     attribute_length = len(attributes) if attribute_length is None else attribute_length

@@ -41,6 +41,7 @@ calls! {
     ParseFileIdentifier "parse_file_identifier"
     DecodeDstring "decode_dstring"
     DecodeDstringField "decode_dstring_field"
+    TagInPlace "tag_in_place"
     EncodeExtentAd "encode_extent_ad"
     EncodeShortAd "encode_short_ad"
     EncodeLbAddr "encode_lb_addr"
@@ -67,17 +68,18 @@ impl RawCall {
         (self >= EncodeExtentAd).then(|| RawCall::ALL[self as usize - EncodeExtentAd as usize])
     }
 
-    /// The numbers that it can be answered with. Encoding has none, and counts as done.
+    /// The numbers that it can be answered with. Encoding has none, and counts as done; of the place check a yes is 1.
     pub fn numbers(self) -> &'static [u64] {
         match self {
             DecodeDstring | DecodeDstringField => &[0, 2, 5],
+            TagInPlace => &[0, 1],
             _ if self.parses().is_some() => &[0],
             _ => &[0, 2],
         }
     }
 }
 
-/// Bytes to be parsed or decoded, or a record to be encoded, flat.
+/// Bytes to be parsed or decoded, or a record to be encoded, flat; for the place check a tag, flat, with a sector and a block behind it.
 pub struct RawAsk {
     pub call: RawCall,
     pub input: Vec<u8>,
@@ -121,6 +123,7 @@ pub fn shown(call: RawCall, said: &[u8]) -> String {
         ParseFileEntry => told::<Answer<FileEntry>>(said),
         ParseFileIdentifier => told::<Answer<FileIdentifier>>(said),
         DecodeDstring | DecodeDstringField => told::<Written>(said),
+        TagInPlace => told::<u64>(said),
         _ => format!("{said:02x?}"),
     }
 }

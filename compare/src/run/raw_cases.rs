@@ -30,7 +30,7 @@ pub fn batch(random: &mut Random) -> Vec<RawCase> {
     let mut all = Vec::new();
     for call in RawCall::ALL.iter().flat_map(|c| [*c; EACH]) {
         let Some(parse) = call.parses() else {
-            let input = bytes(random, call);
+            let input = if call == RawCall::TagInPlace { placed(random) } else { bytes(random, call) };
             all.push(case(random, call, input));
             continue;
         };
@@ -86,6 +86,26 @@ fn record(random: &mut Random, call: RawCall) -> Vec<u8> {
         let id = if call == EncodeAed && !random.once_in(3) { 258 } else { *random.pick(&LISTED) };
         put16(&mut b, 0, id);
     }
+    b
+}
+
+/// A tag, listed or not, with a sector and a block: each is the tag's location, or beside it, or equal in its low bits, or any.
+fn placed(random: &mut Random) -> Vec<u8> {
+    let mut b = random.bytes(14);
+    let id = if random.once_in(4) { *random.pick(&UNLISTED) } else { *random.pick(&LISTED) };
+    put16(&mut b, 0, id);
+    let location = u64::from(u32::from_le_bytes(b[10..].try_into().unwrap()));
+    let beside = |random: &mut Random| match random.below(8) {
+        0..=2 => location,
+        3 => location.wrapping_add(1),
+        4 => location ^ 1 << 16,
+        5 => location ^ 1 << 31,
+        6 => location | 1 << 32,
+        _ => random.odd(),
+    };
+    let (sector, block) = (beside(random), beside(random) as u32);
+    b.extend(sector.to_le_bytes());
+    b.extend(block.to_le_bytes());
     b
 }
 

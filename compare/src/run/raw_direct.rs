@@ -16,6 +16,12 @@ fn encode<T: Flat, const N: usize>(call: unsafe extern "C" fn(T) -> Encoded<N>, 
     unsafe { call(T::take(&mut record)) }.bytes.to_vec()
 }
 
+fn is_in_place(mut given: &[u8]) -> Vec<u8> {
+    let (tag, sector, block) = (Tag::take(&mut given), u64::take(&mut given), u32::take(&mut given));
+    // Any values may be given.
+    flat(&u64::from(unsafe { records_tag_in_place(tag, sector, block) }))
+}
+
 fn decode(
     call: unsafe extern "C" fn(Bytes, usize, *mut u8, usize) -> Written,
     from: Bytes,
@@ -52,6 +58,7 @@ fn make(ask: &RawAsk, from: Bytes, out: &mut Lending) -> (Vec<u8>, usize) {
         ParseFileIdentifier => parse(records_parse_file_identifier, from, n),
         DecodeDstring => return decode(records_decode_dstring, from, n, out),
         DecodeDstringField => return decode(records_decode_dstring_field, from, n, out),
+        TagInPlace => is_in_place(&ask.input),
         EncodeExtentAd => encode(records_encode_extent_ad, &ask.input),
         EncodeShortAd => encode(records_encode_short_ad, &ask.input),
         EncodeLbAddr => encode(records_encode_lb_addr, &ask.input),

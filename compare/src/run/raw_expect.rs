@@ -247,6 +247,18 @@ fn given<T: Flat>(mut input: &[u8]) -> T {
     T::take(&mut input)
 }
 
+/// The place check, which the original doesn't have, from the rule's words (docs/RULES.md, 9.7): ids 1 to 9 go by the sector, 256 to 266 by the
+/// block, and no other has a place.
+fn in_place(mut given: &[u8]) -> Vec<u8> {
+    let (tag, sector, block) = (Tag::take(&mut given), u64::take(&mut given), u32::take(&mut given));
+    let stands = match tag.id {
+        1..=9 => Some(sector),
+        256..=266 => Some(block.into()),
+        _ => None,
+    };
+    flat(&u64::from(stands == Some(tag.location.into())))
+}
+
 /// What the original answers, flat as ours answers.
 pub fn expected(call: RawCall, input: &[u8], room: usize) -> Vec<u8> {
     use RawCall::*;
@@ -270,6 +282,7 @@ pub fn expected(call: RawCall, input: &[u8], room: usize) -> Vec<u8> {
         ParseFileIdentifier => answer(udf::FileIdentifierDescriptor::parse(input), |d| identifier(input, d)),
         DecodeDstring => written(udf::decode_dstring(input), room),
         DecodeDstringField => written(udf::decode_dstring_field(input), room),
+        TagInPlace => in_place(input),
         EncodeExtentAd => {
             let a: ExtentAd = given(input);
             udf::ExtentAd { length: a.length, location: a.location }.encode().to_vec()

@@ -15,6 +15,7 @@ vault: look into a UDF disc. An image is a file or a drive; it is only read.
   vault get IMAGE PATH FILE    a file's bytes, to FILE, which is replaced
   vault stat IMAGE PATH        ICB, kind, extents, sectors asked for
   vault probe IMAGE            whether it has a recognition sequence: yes or no
+  vault check IMAGE            which descriptors aren't where their tags say
   vault sample FILE            writes the sample show's image, to try these on
 
   --copy       read the whole image into memory first, and look at that
@@ -23,12 +24,11 @@ vault: look into a UDF disc. An image is a file or a drive; it is only read.
   --           what follows is no option
 
 Names on a path stand between slashes. ASCII case is ignored, and the first
-entry that is equal so is taken. Control characters in names are printed as
-\\u{..}. An image is mapped: nobody may write to it while it is looked at. Where
-that can't be kept, as with a disc that is still being copied, use --copy.
+entry that is equal so is taken. Control characters are printed as \\u{..}.
+Nobody may write to an image while it is mapped: where one may, use --copy.
 
-Status: 0 done, 1 to 7 refused by that number, 64 wrong usage, 66 no image,
-70 an answer that isn't known, 74 output that can't be written.
+Status: 0 done, 1 to 7 refused by that number, 64 wrong usage, 65 not in place,
+66 no image, 67 not all checked, 70 unknown answer, 74 output not written.
 ";
 
 /// A path on the disc, in bytes: names there need not be this system's.
@@ -51,6 +51,7 @@ pub enum Question {
     Get { path: DiscPath, file: OsString },
     Stat { path: DiscPath },
     Probe,
+    Check,
 }
 
 #[derive(Debug, PartialEq, Eq)]
@@ -85,7 +86,7 @@ fn command(words: Vec<OsString>) -> Result<Command, Failure> {
     };
     let command = match name.as_bytes() {
         b"sample" => Command::Sample { file: take(&mut words, &name, "FILE")? },
-        b"label" | b"ls" | b"cat" | b"get" | b"stat" | b"probe" => {
+        b"label" | b"ls" | b"cat" | b"get" | b"stat" | b"probe" | b"check" => {
             let image = take(&mut words, &name, "IMAGE")?;
             Command::Ask { image, question: question(&name, &mut words)? }
         }
@@ -103,6 +104,9 @@ fn question(name: &OsStr, words: &mut impl Iterator<Item = OsString>) -> Result<
     }
     if name == "probe" {
         return Ok(Question::Probe);
+    }
+    if name == "check" {
+        return Ok(Question::Check);
     }
     if name == "ls" {
         return Ok(Question::Ls { path: words.next().unwrap_or_default().into_vec() });
@@ -159,6 +163,8 @@ mod tests {
             "get a b",
             "stat a",
             "probe",
+            "check",
+            "check a b",
             "sample",
             "-x",
             "--sector",

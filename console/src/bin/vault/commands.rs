@@ -2,6 +2,7 @@
 
 use crate::args::Question;
 use crate::bar::Word;
+use crate::check;
 use crate::disc::{Disc, Found};
 use crate::failure::Failure;
 use crate::file;
@@ -23,6 +24,7 @@ pub fn ask(question: &Question, image: &[u8], name: &OsStr, out: &mut impl Write
         }
         Question::Ls { path } => ls(&mut Disc::open(image, name, log)?, path, out),
         Question::Stat { path } => stat(&mut Disc::open(image, name, log)?, path, out),
+        Question::Check => check::check(image, name, out, log),
         Question::Cat { path } => {
             let bytes = cat(&mut Disc::open(image, name, log)?, path)?;
             out.write_all(&bytes).map_err(Failure::output)

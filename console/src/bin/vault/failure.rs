@@ -8,8 +8,12 @@ use strandlodge::{Refusal, Refused};
 
 /// Wrong usage.
 pub const USAGE: u8 = 64;
+/// A descriptor that isn't in place.
+pub const MISPLACED: u8 = 65;
 /// An image that can't be opened, mapped or copied.
 pub const NO_IMAGE: u8 = 66;
+/// Something that `check` couldn't read.
+pub const UNREAD: u8 = 67;
 /// An answer number that isn't known.
 pub const UNKNOWN: u8 = 70;
 /// Output that can't be written.

@@ -16,6 +16,11 @@ impl Log {
         answer.map(|answer| answer.value)
     }
 
+    /// Notes calls that were made many times, each with its counts added up.
+    pub fn sums(&mut self, calls: impl IntoIterator<Item = (&'static str, u64)>) {
+        self.calls.extend(calls);
+    }
+
     /// Each call in turn, with its count. The probe has none.
     pub fn sectors(&self) -> String {
         if self.calls.is_empty() {

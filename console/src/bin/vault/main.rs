@@ -2,6 +2,7 @@
 
 mod args;
 mod bar;
+mod check;
 mod commands;
 mod disc;
 mod failure;
@@ -10,7 +11,10 @@ mod image;
 mod log;
 mod map;
 mod names;
+mod records;
+mod report;
 mod tour;
+mod walk;
 
 use args::{Args, Command, HELP, Question};
 use failure::{Failure, USAGE};

@@ -1,0 +1,102 @@
+//! What `check` prints: a line for each descriptor that isn't in place, and for each thing that can't be read.
+
+use crate::failure::{Failure, MISPLACED, UNREAD};
+use crate::records::{Tag, is_in_place};
+use std::fmt;
+use std::io::Write;
+use strandlodge::Refusal;
+
+/// Where the first byte of a descriptor stands.
+#[derive(Clone, Copy)]
+pub struct Place {
+    pub sector: u64,
+    /// Counted from the partition's start; the volume structure stands in no partition.
+    pub block: Option<u64>,
+}
+
+impl Place {
+    /// Of the volume structure.
+    pub fn in_volume(sector: u64) -> Place {
+        Place { sector, block: None }
+    }
+
+    /// The check. A descriptor that goes by its block is in place in no sector that has none, or none that a location can name.
+    fn holds(self, tag: Tag) -> bool {
+        match self.block.and_then(|block| u32::try_from(block).ok()) {
+            Some(block) => is_in_place(tag, self.sector, block),
+            // With either number for the block it comes to the same only where the block isn't looked at.
+            None => is_in_place(tag, self.sector, 0) && is_in_place(tag, self.sector, 1),
+        }
+    }
+}
+
+impl fmt::Display for Place {
+    fn fmt(&self, f: &mut fmt::Formatter<'_>) -> fmt::Result {
+        match self.block {
+            Some(block) => write!(f, "block {block} (sector {})", self.sector),
+            None => write!(f, "sector {}", self.sector),
+        }
+    }
+}
+
+pub struct Report<'o, W> {
+    out: &'o mut W,
+    in_place: u64,
+    misplaced: u64,
+    unread: u64,
+}
+
+impl<'o, W: Write> Report<'o, W> {
+    pub fn new(out: &'o mut W) -> Report<'o, W> {
+        Report { out, in_place: 0, misplaced: 0, unread: 0 }
+    }
+
+    /// A descriptor's tag, and where it stands; `of` is what the descriptor is of.
+    pub fn tag(&mut self, of: impl FnOnce() -> String, tag: Tag, at: Place) -> Result<(), Failure> {
+        if at.holds(tag) {
+            self.in_place += 1;
+            return Ok(());
+        }
+        self.misplaced += 1;
+        let (what, id, says) = (named(tag.id), tag.id, tag.location);
+        writeln!(self.out, "{}: {what} (id {id}) says {says}, stands in {at}", of()).map_err(Failure::output)
+    }
+
+    /// What can't be read, and so isn't checked.
+    pub fn unread(&mut self, what: &str, why: Refusal) -> Result<(), Failure> {
+        self.unread += 1;
+        writeln!(self.out, "{what}: can't be read: {why} (refusal {})", why.number()).map_err(Failure::output)
+    }
+
+    /// The last line, or how the command fails.
+    pub fn end(self, name: &str) -> Result<(), Failure> {
+        let Report { out, in_place, misplaced, unread } = self;
+        let says = || format!("{name}: descriptors in place: {in_place}, not in place: {misplaced}; places that can't be read: {unread}");
+        match (misplaced, unread) {
+            (0, 0) => writeln!(out, "{in_place} descriptors, each in place").map_err(Failure::output),
+            (0, _) => Err(Failure::new(UNREAD, says())),
+            _ => Err(Failure::new(MISPLACED, says())),
+        }
+    }
+}
+
+/// What an id stands for (ECMA-167 3/7.2.1, 4/7.2.1).
+fn named(id: u16) -> &'static str {
+    match id {
+        1 => "primary volume descriptor",
+        2 => "anchor",
+        3 => "volume descriptor pointer",
+        4 => "implementation use volume descriptor",
+        5 => "partition descriptor",
+        6 => "logical volume descriptor",
+        7 => "unallocated space descriptor",
+        8 => "terminating descriptor",
+        9 => "logical volume integrity descriptor",
+        256 => "file set descriptor",
+        257 => "file identifier",
+        258 => "allocation extent descriptor",
+        261 => "file entry",
+        266 => "extended file entry",
+        _ => "descriptor",
+    }
+}

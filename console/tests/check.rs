@@ -1,0 +1,300 @@
+//! `vault check`: discs with every descriptor in place, with one location planted wrong for each kind of descriptor, with what can't be read,
+//! and with directories that hold each other.
+
+mod common;
+
+use common::command::{Folder, Said};
+use common::{Disc, SECTOR, continuation, continued, named, short_ad, show};
+
+/// The sample show's partition, and its root.
+const START: usize = 288;
+const ROOT: u32 = 3;
+
+fn check(image: &[u8]) -> Said {
+    let folder = Folder::new();
+    folder.write("a.img", image);
+    let said = folder.vault(&["check", "a.img"]);
+    assert_eq!(said.out, folder.vault(&["check", "--copy", "a.img"]).out);
+    said
+}
+
+/// Writes a location into the tag at `at`, with its checksum.
+fn locate(image: &mut [u8], at: usize, location: u32) {
+    let tag = &mut image[at..at + 16];
+    tag[12..].copy_from_slice(&location.to_le_bytes());
+    tag[4] = 0;
+    tag[4] = tag.iter().fold(0, |sum: u8, byte| sum.wrapping_add(*byte));
+}
+
+/// Where the first byte of a block stands.
+fn at(block: u32) -> usize {
+    (START + block as usize) * SECTOR
+}
+
+/// A descriptor of a disc: where it stands in the image, its location, and what a line says of it before and behind its location.
+struct Located {
+    at: usize,
+    right: u32,
+    of: String,
+    stands: String,
+}
+
+impl Located {
+    fn in_block(at: usize, block: u32, of: &str) -> Located {
+        Located { at, right: block, of: of.to_string(), stands: format!("block {block} (sector {})", START + block as usize) }
+    }
+
+    fn in_sector(sector: u32, of: &str) -> Located {
+        Located { at: sector as usize * SECTOR, right: sector, of: of.to_string(), stands: format!("sector {sector}") }
+    }
+
+    fn line(&self, says: u32) -> String {
+        format!("{} says {says}, stands in {}\n", self.of, self.stands)
+    }
+}
+
+/// The sample show with another root, whose bytes stand in three extents that end inside blocks, and its descriptors. Of the root's
+/// identifiers `b` begins in one extent and ends in the next, `c` begins in the second block of an extent, and `d` at the front of one.
+fn disc() -> (Vec<u8>, Vec<Located>) {
+    let mut disc = Disc::new();
+    let data = disc.lay(&[7; 16]);
+    let area = continuation(&short_ad(16, data));
+    let header = disc.lay(&area);
+    let chained = disc.entry(0, &[short_ad(16, data), continued(area.len(), header)].concat(), 32);
+    let embedded = [named("in", chained, false), named("out", chained, false)].concat();
+    let folder = disc.entry(3, &embedded, embedded.len() as u64);
+    // Each has 40 bytes; `long` is padded to reach into the next block.
+    let (a, b, c, d) = (named("a", chained, false), named("b", folder, true), named("c", chained, false), named("d", chained, false));
+    let filler: Vec<u8> = (0..52).flat_map(|_| named("f", chained, false)).collect();
+    let bytes = [&a[..], &b, &filler, &c, &d].concat();
+    let lengths = [60, 20 + 52 * 40 + 40, 40];
+    let (mut ads, mut from, mut firsts) = (Vec::new(), 0, Vec::new());
+    for length in lengths {
+        let first = disc.lay(&bytes[from..from + length]);
+        ads.extend(short_ad(length, first));
+        firsts.push(first);
+        from += length;
+    }
+    let root = disc.entry(0, &ads, bytes.len() as u64);
+    disc.root(root);
+    let filled = |i: usize| {
+        let inside = 20 + i * 40;
+        Located::in_block(at(firsts[1]) + inside, firsts[1] + (inside / SECTOR) as u32, "/f: file identifier (id 257)")
+    };
+    let mut all = vec![
+        Located::in_sector(256, "the volume: anchor (id 2)"),
+        Located::in_sector(32, "the volume: primary volume descriptor (id 1)"),
+        Located::in_sector(33, "the volume: partition descriptor (id 5)"),
+        Located::in_sector(34, "the volume: logical volume descriptor (id 6)"),
+        Located::in_sector(35, "the volume: terminating descriptor (id 8)"),
+        Located::in_block(at(2), 2, "the volume: file set descriptor (id 256)"),
+        Located::in_block(at(ROOT), ROOT, "/: file entry (id 261)"),
+        Located::in_block(at(firsts[0]), firsts[0], "/a: file identifier (id 257)"),
+        Located::in_block(at(firsts[0]) + 40, firsts[0], "/b: file identifier (id 257)"),
+    ];
+    all.extend((0..52).map(filled));
+    all.extend([
+        Located::in_block(at(firsts[1]) + 20 + 52 * 40, firsts[1] + 1, "/c: file identifier (id 257)"),
+        Located::in_block(at(firsts[2]), firsts[2], "/d: file identifier (id 257)"),
+        Located::in_block(at(chained), chained, "/a: file entry (id 261)"),
+        Located::in_block(at(header), header, "/a: allocation extent descriptor (id 258)"),
+        Located::in_block(at(folder), folder, "/b: file entry (id 261)"),
+        Located::in_block(at(folder) + 176, folder, "/b/in: file identifier (id 257)"),
+        Located::in_block(at(folder) + 176 + 44, folder, "/b/out: file identifier (id 257)"),
+    ]);
+    let mut image = disc.0;
+    for one in all.iter().filter(|one| one.of != "/b: file identifier (id 257)") {
+        locate(&mut image, one.at, one.right);
+    }
+    straddle(&mut image, &firsts, firsts[0]);
+    (image, all)
+}
+
+/// The location of the identifier that begins with 20 bytes at the end of the first extent: its tag, 16 bytes, is all there.
+fn straddle(image: &mut [u8], firsts: &[u32], location: u32) {
+    locate(image, at(firsts[0]) + 40, location);
+}
+
+#[test]
+fn the_sample_show_is_in_place() {
+    let said = check(&show());
+    assert_eq!((said.status, said.out.as_str(), said.error.as_str()), (0, "19 descriptors, each in place\n", ""));
+}
+
+#[test]
+fn a_disc_of_all_kinds_is_in_place() {
+    let (image, all) = disc();
+    let said = check(&image);
+    assert_eq!((said.status, said.out, said.error.as_str()), (0, format!("{} descriptors, each in place\n", all.len()), ""));
+}
+
+/// One location at a time, of every kind: a number beside the right one, the sector in a block's stead, and the other way round.
+#[test]
+fn one_wrong_location_is_one_line() {
+    let (image, all) = disc();
+    let kinds = all.iter().filter(|one| !one.of.starts_with("/f:")).chain(all.iter().filter(|one| one.of.starts_with("/f:")).take(1));
+    for one in kinds {
+        for wrong in [one.right + 1, one.right + START as u32, one.right ^ 0x10000] {
+            let mut planted = image.clone();
+            locate(&mut planted, one.at, wrong);
+            let said = check(&planted);
+            assert_eq!((said.status, said.out), (65, one.line(wrong)), "{}", one.of);
+            let count = all.len() - 1;
+            let sentence = format!("vault: a.img: descriptors in place: {count}, not in place: 1; places that can't be read: 0\n");
+            assert_eq!(said.error, sentence);
+        }
+    }
+}
+
+/// All at once, in the order of the walk.
+#[test]
+fn every_wrong_location_is_a_line() {
+    let (mut image, all) = disc();
+    all.iter().for_each(|one| locate(&mut image, one.at, 77_777));
+    let said = check(&image);
+    let mut lines: Vec<&str> = said.out.split_inclusive('\n').collect();
+    let mut expected: Vec<String> = all.iter().map(|one| one.line(77_777)).collect();
+    assert_eq!(lines[..6], expected[..6]);
+    lines.sort();
+    expected.sort();
+    assert_eq!((said.status, lines), (65, expected.iter().map(String::as_str).collect()));
+}
+
+/// A descriptor that goes by its block, and stands among those of the volume: in no partition, whatever its location is.
+#[test]
+fn a_block_outside_the_partition_is_none() {
+    for location in [0, 1, 35] {
+        let mut image = show();
+        image.copy_within(35 * SECTOR..36 * SECTOR, 36 * SECTOR);
+        image[35 * SECTOR..35 * SECTOR + 2].copy_from_slice(&259u16.to_le_bytes());
+        locate(&mut image, 35 * SECTOR, location);
+        locate(&mut image, 36 * SECTOR, 36);
+        let said = check(&image);
+        assert_eq!((said.status, said.out), (65, format!("the volume: descriptor (id 259) says {location}, stands in sector 35\n")));
+    }
+}
+
+/// What can't be read is said, and the rest is checked all the same.
+#[test]
+fn what_cannot_be_read_is_said() {
+    let malformed =
+        "can't be read: a descriptor, a name or a length on the disc is not what it must be: it is damaged, or isn't UDF (refusal 2)";
+    // The entry of cue 9, in block 5: its tag's checksum.
+    let mut image = show();
+    image[at(5) + 4] ^= 1;
+    let said = check(&image);
+    assert_eq!((said.status, said.out), (67, format!("/SHOW/9: {malformed}\n")));
+    assert_eq!(said.error, "vault: a.img: descriptors in place: 18, not in place: 0; places that can't be read: 1\n");
+    // And the first location of cue 11's entry beside it.
+    locate(&mut image, at(11), 12);
+    let said = check(&image);
+    let misplaced = "/SHOW/11: file entry (id 261) says 12, stands in block 11 (sector 299)\n";
+    assert_eq!((said.status, said.out), (65, format!("/SHOW/9: {malformed}\n{misplaced}")));
+    // The last identifier of SHOW, whose directory is then refused behind it; its cue isn't come to.
+    let mut image = show();
+    let last = image[at(4)..at(5)].windows(2).rposition(|two| two == 257u16.to_le_bytes()).unwrap();
+    image[at(4) + last + 4] ^= 1;
+    let said = check(&image);
+    assert_eq!((said.status, said.out), (67, format!("/SHOW, from byte {} on: {malformed}\n", last - 176)));
+    // An ICB outside the image.
+    let mut disc = Disc::new();
+    let folder = disc.entry(3, &named("far", 99_999, false), 44);
+    disc.root(folder);
+    locate(&mut disc.0, at(ROOT), ROOT);
+    locate(&mut disc.0, at(ROOT) + 176, ROOT);
+    let said = check(&disc.0);
+    assert!(said.status == 67 && said.out.starts_with("/far: can't be read: a sector that was asked for"), "{said:?}");
+}
+
+/// A chain that goes on to itself, and one whose continuation names another partition's: 2 and 1, and the headers that were come to.
+#[test]
+fn a_chain_that_cannot_be_followed_is_said() {
+    let mut disc = Disc::new();
+    let header = disc.lay(&continuation(&continued(32, 0)));
+    let own = continued(32, header);
+    let from = at(header) + 24;
+    disc.0[from..from + 8].copy_from_slice(&own);
+    let file = disc.entry(0, &own, 32);
+    let folder = disc.entry(3, &named("round", file, false), 44);
+    disc.root(folder);
+    for (at, location) in [(at(ROOT), ROOT), (at(ROOT) + 176, ROOT), (at(file), file), (at(header), header)] {
+        locate(&mut disc.0, at, location);
+    }
+    let said = check(&disc.0);
+    assert!(said.status == 67 && said.out.starts_with("/round: can't be read: a descriptor") && said.out.lines().count() == 1, "{said:?}");
+    // The header is one descriptor, however often the chain comes back to it.
+    locate(&mut disc.0, at(header), header + 1);
+    let said = check(&disc.0);
+    let line = format!(
+        "/round: allocation extent descriptor (id 258) says {}, stands in block {header} (sector {})",
+        header + 1,
+        START as u32 + header
+    );
+    assert_eq!((said.status, said.out.lines().filter(|one| *one == line).count()), (65, 1), "{said:?}");
+}
+
+/// Directories that hold each other and themselves, by names that are walked once; and one block that is a file's and a directory's.
+#[test]
+fn directories_that_hold_each_other_end() {
+    let mut disc = Disc::new();
+    let first = disc.0.len() / SECTOR - START;
+    let (one, two) = (first as u32, first as u32 + 1);
+    let of_one = [named("self", one, true), named("two", two, true), named("root", ROOT, true), named("file", two, false)].concat();
+    let of_two = [named("one", one, true), named("two", two, true)].concat();
+    assert_eq!(disc.entry(3, &of_one, of_one.len() as u64), one);
+    assert_eq!(disc.entry(3, &of_two, of_two.len() as u64), two);
+    let root = disc.entry(3, &named("one", one, true), 44);
+    disc.root(root);
+    let mut places = vec![(at(ROOT), ROOT), (at(ROOT) + 176, ROOT), (at(one), one), (at(two), two)];
+    places.extend([0, 44, 88, 132].map(|inside| (at(one) + 176 + inside, one)));
+    places.extend([0, 44].map(|inside| (at(two) + 176 + inside, two)));
+    for (at, location) in &places {
+        locate(&mut disc.0, *at, *location);
+    }
+    let said = check(&disc.0);
+    assert_eq!((said.status, said.out), (0, format!("{} descriptors, each in place\n", 6 + places.len())));
+    // The entry of `two` is one descriptor.
+    locate(&mut disc.0, at(two), 5);
+    let said = check(&disc.0);
+    let line = format!("/one/two: file entry (id 261) says 5, stands in block {two} (sector {})\n", START as u32 + two);
+    assert_eq!((said.status, said.out), (65, line));
+}
+
+/// A thousand directories, each in the one before: the front of a long path is left out.
+#[test]
+fn a_deep_disc_is_walked_to_its_end() {
+    let mut disc = Disc::new();
+    let first = (disc.0.len() / SECTOR - START) as u32;
+    for i in 0..1000 {
+        let block = disc.entry(3, &named("d", first + i + 1, true), 40);
+        locate(&mut disc.0, at(block), block);
+        locate(&mut disc.0, at(block) + 176, block);
+    }
+    let last = disc.entry(3, b"", 0);
+    disc.root(first);
+    locate(&mut disc.0, at(ROOT), ROOT);
+    locate(&mut disc.0, at(ROOT) + 176, ROOT);
+    let said = check(&disc.0);
+    let line = format!(".../{}d: file entry (id 261) says 0, stands in block {last} (sector {})\n", "d/".repeat(63), START as u32 + last);
+    assert_eq!((said.status, said.out), (65, line));
+}
+
+/// A disc that can't be opened is refused, behind what was found before.
+#[test]
+fn a_disc_that_cannot_be_opened_is_refused() {
+    let mut image = show();
+    locate(&mut image, 32 * SECTOR, 33);
+    image[at(2) + 4] ^= 1;
+    let said = check(&image);
+    assert_eq!((said.status, said.out.as_str()), (2, "the volume: primary volume descriptor (id 1) says 33, stands in sector 32\n"));
+    assert_eq!(check(&[]).status, 1);
+    assert_eq!(check(&image[..256 * SECTOR]).status, 1);
+}
+
+#[test]
+fn sectors_are_added_up() {
+    let folder = Folder::new();
+    folder.write("show.img", &show());
+    let said = folder.vault(&["check", "show.img", "--sectors"]);
+    assert_eq!(said.error, "vault: sectors asked for: open 6, part 6, read_file 2, extents 2\n");
+}
