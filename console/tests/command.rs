@@ -58,6 +58,7 @@ fn every_command_answers() {
     answers(&folder.vault(&["ls", "show.img", "SHOW/9"]), "9\n");
     answers(&folder.vault(&["cat", "show.img", "SHOW/10.1A"]), UPPER);
     answers(&folder.vault(&["probe", "show.img"]), "no\n");
+    answers(&folder.vault(&["check", "show.img"]), "19 descriptors, each in place\n");
     answers(&folder.vault(&["get", "show.img", "SHOW/10.1A", "cue"]), "");
     assert_eq!(std::fs::read_to_string(folder.at("cue")).unwrap(), UPPER);
     let stat = "path     SHOW/11\nentry    11\nkind     file\nicb      block 11, partition 5, 2048 bytes, type 0\n\
@@ -81,6 +82,7 @@ fn a_copied_image_answers_the_same() {
         &["cat", "show.img", "SHOW/10.1a"],
         &["stat", "show.img", "SHOW/11"],
         &["probe", "show.img"],
+        &["check", "show.img"],
         &["cat", "show.img", "no"],
         &["--sectors", "ls", "show.img", "SHOW/9"],
     ] {
@@ -139,6 +141,7 @@ fn bad_images_are_refused_by_every_command() {
     for (image, status, phrase) in bad {
         refuses(&folder, &["label", image], status, phrase);
         refuses(&folder, &["ls", image], status, phrase);
+        refuses(&folder, &["check", image], status, phrase);
         refuses(&folder, &["ls", image, "SHOW"], status, phrase);
         refuses(&folder, &["cat", image, "SHOW/9"], status, phrase);
         refuses(&folder, &["cat", image, "SHOW/9", "--copy"], status, phrase);
@@ -289,7 +292,7 @@ fn a_closed_pipe_ends_quietly() {
 #[test]
 fn a_full_disk_is_said() {
     let folder = with_show();
-    for words in [&["cat", "show.img", "SHOW/9"][..], &["label", "show.img"], &["--help"], &[]] {
+    for words in [&["cat", "show.img", "SHOW/9"][..], &["label", "show.img"], &["check", "show.img"], &["--help"], &[]] {
         let full = std::fs::OpenOptions::new().write(true).open("/dev/full").unwrap();
         let said = Said::of(folder.command(words).stdout(full).output().unwrap());
         assert_eq!((said.status, said.error.contains("standard output can't be written")), (74, true), "{words:?} {said:?}");

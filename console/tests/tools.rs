@@ -64,6 +64,12 @@ fn hold(folder: &Folder, image: &str, path: &str, original: &Path) -> usize {
     read
 }
 
+/// Every descriptor of the image is where its tag says.
+fn in_place(folder: &Folder, image: &str) {
+    let said = folder.vault(&["check", image]);
+    assert!(said.status == 0 && said.out.ends_with(" descriptors, each in place\n") && said.error.is_empty(), "{said:?}");
+}
+
 #[test]
 fn genisoimage() {
     let Some(tool) = tool("genisoimage") else {
@@ -75,6 +81,7 @@ fn genisoimage() {
     assert!(Command::new(tool).args(words).current_dir(&folder.0).status().unwrap().success());
     assert_eq!(folder.vault(&["label", "disc.iso"]).out, "A SHOW\n");
     assert_eq!(hold(&folder, "disc.iso", "", &folder.at("from")), 10 + 2 * names().len() + 600);
+    in_place(&folder, "disc.iso");
     let large = folder.vault(&["get", "disc.iso", "of 3000000", "copy"]);
     assert_eq!((large.status, large.error.as_str()), (0, ""));
     assert!(std::fs::read(folder.at("copy")).unwrap() == noise(3_000_000));
@@ -109,6 +116,7 @@ fn mkudffs(tool: &Path, words: &[&str]) -> (Folder, i32, i32) {
         assert_eq!((label.out.as_str(), root.out.as_str()), ("Ünï 日\n", ""), "{words:?}");
         assert_eq!(folder.vault(&["probe", "disc.img"]).out, "yes\n");
         assert!(folder.vault(&["stat", "disc.img", ""]).out.contains("kind     directory"));
+        in_place(&folder, "disc.img");
     }
     (folder, label.status, root.status)
 }
@@ -196,5 +204,6 @@ fn mkudffs_with_files_of_udfclient() {
             let said = folder.vault(&["cat", "disc.img", path]);
             assert!(said.status == 0 && said.error.is_empty() && said.bytes == *bytes, "{revision} {path} {}", said.error);
         }
+        in_place(&folder, "disc.img");
     }
 }
