@@ -1,4 +1,5 @@
-//! The calls of include/vault.h, wrapped. This and the command's file map are the only modules with `unsafe` in them.
+//! The calls of include/vault.h, wrapped. This, and the command's file map and its calls of include/records.h, are the only modules with
+//! `unsafe` in them.
 //!
 //! Why the calls are sound. The header asks two things of a caller: that the lent pieces don't overlap, and that their pointers aren't
 //! null. A shared slice and the spare room of a vector that is borrowed mutably can't overlap, nor can the rooms of two vectors; the image and

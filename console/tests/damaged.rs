@@ -2,6 +2,7 @@
 
 mod common;
 
+use common::command::Folder;
 use common::{SECTOR, show};
 use strandlodge::{LongAd, Refused, Result, Vault};
 
@@ -97,4 +98,18 @@ fn what_holds_on_any_disc() {
         }
     }
     assert!(opened > 1_000 && held > 5_000, "{opened} {held}");
+}
+
+/// A check of any disc ends, and by a status of the table: all in place, the refusals of opening, not in place, not all read.
+#[test]
+fn a_check_ends_on_any_disc() {
+    let (show, mut random, folder) = (show(), Random(2), Folder::new());
+    let mut statuses = std::collections::BTreeMap::new();
+    for _ in 0..400 {
+        folder.write("a.img", &damaged(&show, &mut random));
+        let said = folder.vault(&["check", "a.img"]);
+        assert!(matches!(said.status, 0..=4 | 65 | 67), "{said:?}");
+        *statuses.entry(said.status).or_insert(0) += 1;
+    }
+    assert!([0, 1, 2, 67].iter().all(|status| statuses.contains_key(status)), "{statuses:?}");
 }

@@ -95,6 +95,12 @@ fn a_mapped_image_that_changes_ends_no_run() {
     assert_eq!(counts, [0, 0]);
 }
 
+/// The check reads a directory and asks for its extents in two looks. It prints a line for each identifier of this disc, so it is run less often.
+#[test]
+fn a_checked_image_that_changes_ends_no_run() {
+    assert_eq!(ended_by_signal(40, &["check", "disc.img"]), (0, vec![]));
+}
+
 /// A copy stands still.
 #[test]
 fn a_copied_image_that_changes_ends_no_run() {

@@ -1,5 +1,5 @@
-//! A file in memory: mapped, so that a disc of 25 GB opens at once and costs what is looked at. With the library's calls this is the only
-//! module with `unsafe` in it.
+//! A file in memory: mapped, so that a disc of 25 GB opens at once and costs what is looked at. With the library's calls and those of
+//! `records` this is the only module with `unsafe` in it.
 //!
 //! # What is relied on
 //!
