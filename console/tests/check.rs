@@ -18,12 +18,23 @@ fn check(image: &[u8]) -> Said {
     said
 }
 
-/// Writes a location into the tag at `at`, with its checksum.
-fn locate(image: &mut [u8], at: usize, location: u32) {
-    let tag = &mut image[at..at + 16];
+/// The places of a tag's bytes that stand together.
+fn together(at: usize) -> [usize; 16] {
+    std::array::from_fn(|i| at + i)
+}
+
+/// Writes a location into the tag whose bytes have these places, with its checksum.
+fn relocate(image: &mut [u8], places: [usize; 16], location: u32) {
+    let mut tag = places.map(|at| image[at]);
     tag[12..].copy_from_slice(&location.to_le_bytes());
     tag[4] = 0;
     tag[4] = tag.iter().fold(0, |sum: u8, byte| sum.wrapping_add(*byte));
+    places.into_iter().zip(tag).for_each(|(at, byte)| image[at] = byte);
+}
+
+/// The same for a tag that stands at `at`.
+fn locate(image: &mut [u8], at: usize, location: u32) {
+    relocate(image, together(at), location);
 }
 
 /// Where the first byte of a block stands.
@@ -31,9 +42,9 @@ fn at(block: u32) -> usize {
     (START + block as usize) * SECTOR
 }
 
-/// A descriptor of a disc: where it stands in the image, its location, and what a line says of it before and behind its location.
+/// A descriptor of a disc: where its tag stands in the image, its location, and what a line says of it before and behind its location.
 struct Located {
-    at: usize,
+    places: [usize; 16],
     right: u32,
     of: String,
     stands: String,
@@ -41,11 +52,16 @@ struct Located {
 
 impl Located {
     fn in_block(at: usize, block: u32, of: &str) -> Located {
-        Located { at, right: block, of: of.to_string(), stands: format!("block {block} (sector {})", START + block as usize) }
+        Located {
+            places: together(at),
+            right: block,
+            of: of.to_string(),
+            stands: format!("block {block} (sector {})", START + block as usize),
+        }
     }
 
     fn in_sector(sector: u32, of: &str) -> Located {
-        Located { at: sector as usize * SECTOR, right: sector, of: of.to_string(), stands: format!("sector {sector}") }
+        Located { places: together(sector as usize * SECTOR), right: sector, of: of.to_string(), stands: format!("sector {sector}") }
     }
 
     fn line(&self, says: u32) -> String {
@@ -53,9 +69,21 @@ impl Located {
     }
 }
 
-/// The sample show with another root, whose bytes stand in three extents that end inside blocks, and its descriptors. Of the root's
-/// identifiers `b` begins in one extent and ends in the next, `c` begins in the second block of an extent, and `d` at the front of one.
-fn disc() -> (Vec<u8>, Vec<Located>) {
+/// The blocks of a disc: an entry with a continuation, its header, an embedded directory, and the extents of the root.
+struct Laid {
+    chained: u32,
+    header: u32,
+    folder: u32,
+    extents: Vec<u32>,
+}
+
+/// How many bytes of the root its three extents have. Its identifiers have 40 each: `a`, `b`, `f` so many times, `c` and `d`.
+const LENGTHS: [usize; 3] = [44, 36 + FILLERS * 40 + 40, 40];
+const FILLERS: usize = 52;
+
+/// The sample show with another root, whose bytes stand in three extents that end inside blocks. Of its identifiers `b` begins in one
+/// extent, with four bytes of its tag, and goes on in the next; `c` begins in the second block of an extent, and `d` at the front of one.
+fn laid() -> (Disc, Laid) {
     let mut disc = Disc::new();
     let data = disc.lay(&[7; 16]);
     let area = continuation(&short_ad(16, data));
@@ -63,24 +91,38 @@ fn disc() -> (Vec<u8>, Vec<Located>) {
     let chained = disc.entry(0, &[short_ad(16, data), continued(area.len(), header)].concat(), 32);
     let embedded = [named("in", chained, false), named("out", chained, false)].concat();
     let folder = disc.entry(3, &embedded, embedded.len() as u64);
-    // Each has 40 bytes; `long` is padded to reach into the next block.
-    let (a, b, c, d) = (named("a", chained, false), named("b", folder, true), named("c", chained, false), named("d", chained, false));
-    let filler: Vec<u8> = (0..52).flat_map(|_| named("f", chained, false)).collect();
-    let bytes = [&a[..], &b, &filler, &c, &d].concat();
-    let lengths = [60, 20 + 52 * 40 + 40, 40];
-    let (mut ads, mut from, mut firsts) = (Vec::new(), 0, Vec::new());
-    for length in lengths {
-        let first = disc.lay(&bytes[from..from + length]);
-        ads.extend(short_ad(length, first));
-        firsts.push(first);
-        from += length;
+    let mut bytes = [named("a", chained, false), named("b", folder, true)].concat();
+    bytes.extend(named("f", chained, false).repeat(FILLERS));
+    bytes.extend([named("c", chained, false), named("d", chained, false)].concat());
+    let (mut ads, mut rest, mut extents) = (Vec::new(), &bytes[..], Vec::new());
+    for length in LENGTHS {
+        let (front, behind) = rest.split_at(length);
+        extents.push(disc.lay(front));
+        ads.extend(short_ad(length, extents[extents.len() - 1]));
+        rest = behind;
     }
     let root = disc.entry(0, &ads, bytes.len() as u64);
     disc.root(root);
-    let filled = |i: usize| {
-        let inside = 20 + i * 40;
-        Located::in_block(at(firsts[1]) + inside, firsts[1] + (inside / SECTOR) as u32, "/f: file identifier (id 257)")
-    };
+    (disc, Laid { chained, header, folder, extents })
+}
+
+/// The identifiers of the root.
+fn identifiers(extents: &[u32]) -> Vec<Located> {
+    let [first, second, third] = extents.try_into().unwrap();
+    let mut split = Located::in_block(at(first) + 40, first, "/b: file identifier (id 257)");
+    split.places = std::array::from_fn(|i| if i < 4 { at(first) + 40 + i } else { at(second) + i - 4 });
+    let mut all = vec![Located::in_block(at(first), first, "/a: file identifier (id 257)"), split];
+    all.extend((0..=FILLERS).map(|i| {
+        let (inside, name) = (36 + i * 40, if i < FILLERS { "f" } else { "c" });
+        Located::in_block(at(second) + inside, second + (inside / SECTOR) as u32, &format!("/{name}: file identifier (id 257)"))
+    }));
+    all.push(Located::in_block(at(third), third, "/d: file identifier (id 257)"));
+    all
+}
+
+/// The disc with every location right, and its descriptors, those of the volume first.
+fn disc() -> (Vec<u8>, Vec<Located>) {
+    let (disc, Laid { chained, header, folder, extents }) = laid();
     let mut all = vec![
         Located::in_sector(256, "the volume: anchor (id 2)"),
         Located::in_sector(32, "the volume: primary volume descriptor (id 1)"),
@@ -89,30 +131,16 @@ fn disc() -> (Vec<u8>, Vec<Located>) {
         Located::in_sector(35, "the volume: terminating descriptor (id 8)"),
         Located::in_block(at(2), 2, "the volume: file set descriptor (id 256)"),
         Located::in_block(at(ROOT), ROOT, "/: file entry (id 261)"),
-        Located::in_block(at(firsts[0]), firsts[0], "/a: file identifier (id 257)"),
-        Located::in_block(at(firsts[0]) + 40, firsts[0], "/b: file identifier (id 257)"),
-    ];
-    all.extend((0..52).map(filled));
-    all.extend([
-        Located::in_block(at(firsts[1]) + 20 + 52 * 40, firsts[1] + 1, "/c: file identifier (id 257)"),
-        Located::in_block(at(firsts[2]), firsts[2], "/d: file identifier (id 257)"),
         Located::in_block(at(chained), chained, "/a: file entry (id 261)"),
         Located::in_block(at(header), header, "/a: allocation extent descriptor (id 258)"),
         Located::in_block(at(folder), folder, "/b: file entry (id 261)"),
         Located::in_block(at(folder) + 176, folder, "/b/in: file identifier (id 257)"),
         Located::in_block(at(folder) + 176 + 44, folder, "/b/out: file identifier (id 257)"),
-    ]);
+    ];
+    all.extend(identifiers(&extents));
     let mut image = disc.0;
-    for one in all.iter().filter(|one| one.of != "/b: file identifier (id 257)") {
-        locate(&mut image, one.at, one.right);
-    }
-    straddle(&mut image, &firsts, firsts[0]);
+    all.iter().for_each(|one| relocate(&mut image, one.places, one.right));
     (image, all)
-}
-
-/// The location of the identifier that begins with 20 bytes at the end of the first extent: its tag, 16 bytes, is all there.
-fn straddle(image: &mut [u8], firsts: &[u32], location: u32) {
-    locate(image, at(firsts[0]) + 40, location);
 }
 
 #[test]
@@ -136,7 +164,7 @@ fn one_wrong_location_is_one_line() {
     for one in kinds {
         for wrong in [one.right + 1, one.right + START as u32, one.right ^ 0x10000] {
             let mut planted = image.clone();
-            locate(&mut planted, one.at, wrong);
+            relocate(&mut planted, one.places, wrong);
             let said = check(&planted);
             assert_eq!((said.status, said.out), (65, one.line(wrong)), "{}", one.of);
             let count = all.len() - 1;
@@ -150,7 +178,7 @@ fn one_wrong_location_is_one_line() {
 #[test]
 fn every_wrong_location_is_a_line() {
     let (mut image, all) = disc();
-    all.iter().for_each(|one| locate(&mut image, one.at, 77_777));
+    all.iter().for_each(|one| relocate(&mut image, one.places, 77_777));
     let said = check(&image);
     let mut lines: Vec<&str> = said.out.split_inclusive('\n').collect();
     let mut expected: Vec<String> = all.iter().map(|one| one.line(77_777)).collect();
@@ -185,7 +213,7 @@ fn what_cannot_be_read_is_said() {
     let said = check(&image);
     assert_eq!((said.status, said.out), (67, format!("/SHOW/9: {malformed}\n")));
     assert_eq!(said.error, "vault: a.img: descriptors in place: 18, not in place: 0; places that can't be read: 1\n");
-    // And the first location of cue 11's entry beside it.
+    // And beside it a wrong location, of cue 11's entry.
     locate(&mut image, at(11), 12);
     let said = check(&image);
     let misplaced = "/SHOW/11: file entry (id 261) says 12, stands in block 11 (sector 299)\n";
@@ -206,7 +234,43 @@ fn what_cannot_be_read_is_said() {
     assert!(said.status == 67 && said.out.starts_with("/far: can't be read: a sector that was asked for"), "{said:?}");
 }
 
-/// A chain that goes on to itself, and one whose continuation names another partition's: 2 and 1, and the headers that were come to.
+/// A descriptor of type 3, of this kind: 0 short_ad, 1 long_ad, 2 ext_ad.
+fn continued_by(kind: u8, length: u32, block: u32, partition: u16) -> Vec<u8> {
+    let raw = (length | 3 << 30).to_le_bytes();
+    let lengths = length.to_le_bytes().repeat(2);
+    let place = [&block.to_le_bytes()[..], &partition.to_le_bytes()].concat();
+    match kind {
+        0 => continued(length as usize, block).to_vec(),
+        1 => [&raw[..], &place, &[0; 6]].concat(),
+        _ => [&raw[..], &lengths, &place, &[0; 2]].concat(),
+    }
+}
+
+/// The header of a continuation that a descriptor of each kind names; one of another partition is refused by 4.
+#[test]
+fn continuations_of_every_kind_are_checked() {
+    for (kind, partition) in [(0, 0), (1, 5), (2, 5), (1, 6), (2, 6)] {
+        let mut disc = Disc::new();
+        let header = disc.lay(&continuation(&[]));
+        let file = disc.entry(kind, &continued_by(kind, 24, header, partition), 0);
+        let root = disc.entry(3, &named("file", file, false), 44);
+        disc.root(root);
+        for (at, location) in [(at(ROOT), ROOT), (at(ROOT) + 176, ROOT), (at(file), file), (at(header), 1)] {
+            locate(&mut disc.0, at, location);
+        }
+        let said = check(&disc.0);
+        if partition == 6 {
+            let refused = said.out.starts_with("/file: can't be read: the disc has a form that isn't read");
+            assert!(said.status == 67 && refused && said.out.ends_with("(refusal 4)\n"), "{kind} {said:?}");
+            continue;
+        }
+        let stands = format!("block {header} (sector {})", START as u32 + header);
+        let line = format!("/file: allocation extent descriptor (id 258) says 1, stands in {stands}\n");
+        assert_eq!((said.status, said.out), (65, line), "{kind}");
+    }
+}
+
+/// A chain that goes on to itself is refused at its 33rd continuation, and has one header all the same.
 #[test]
 fn a_chain_that_cannot_be_followed_is_said() {
     let mut disc = Disc::new();
