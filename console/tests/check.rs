@@ -224,14 +224,18 @@ fn what_cannot_be_read_is_said() {
     image[at(4) + last + 4] ^= 1;
     let said = check(&image);
     assert_eq!((said.status, said.out), (67, format!("/SHOW, from byte {} on: {malformed}\n", last - 176)));
-    // An ICB outside the image.
+    // An ICB outside the image, and one of length 0.
     let mut disc = Disc::new();
-    let folder = disc.entry(3, &named("far", 99_999, false), 44);
+    let mut none = named("not", 0, false);
+    none[20..24].fill(0);
+    let folder = disc.entry(3, &[named("far", 99_999, false), none].concat(), 88);
     disc.root(folder);
-    locate(&mut disc.0, at(ROOT), ROOT);
-    locate(&mut disc.0, at(ROOT) + 176, ROOT);
+    for (at, location) in [(at(ROOT), ROOT), (at(ROOT) + 176, ROOT), (at(ROOT) + 176 + 44, ROOT)] {
+        locate(&mut disc.0, at, location);
+    }
     let said = check(&disc.0);
     assert!(said.status == 67 && said.out.starts_with("/far: can't be read: a sector that was asked for"), "{said:?}");
+    assert_eq!(said.out.lines().nth(1), Some(format!("/not: {malformed}").as_str()));
 }
 
 /// A descriptor of type 3, of this kind: 0 short_ad, 1 long_ad, 2 ext_ad.

@@ -1,6 +1,5 @@
 //! Whether each descriptor of a disc is in place.
 
-use crate::bar::Word;
 use crate::disc::Disc;
 use crate::failure::Failure;
 use crate::log::Log;
@@ -15,7 +14,6 @@ const LOGICAL_VOLUME: u16 = 6;
 const TERMINATOR: u16 = 8;
 
 pub fn check(image: &[u8], name: &str, out: &mut impl Write, log: &mut Log) -> Result<(), Failure> {
-    let word = Word::new("checking");
     let mut report = Report::new(out);
     let file_set = volume(image, &mut report)?;
     let vault = Disc::open(image, name, log)?.vault;
@@ -23,7 +21,6 @@ pub fn check(image: &[u8], name: &str, out: &mut impl Write, log: &mut Log) -> R
     walk.file_set(file_set)?;
     walk.root()?;
     log.sums(walk.sectors);
-    drop(word);
     report.end(name)
 }
 

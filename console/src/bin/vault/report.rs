@@ -1,5 +1,6 @@
 //! What `check` prints: a line for each descriptor that isn't in place, and for each thing that can't be read.
 
+use crate::bar::Word;
 use crate::failure::{Failure, MISPLACED, UNREAD};
 use crate::records::{Tag, is_in_place};
 use std::fmt;
@@ -24,7 +25,7 @@ impl Place {
     fn holds(self, tag: Tag) -> bool {
         match self.block.and_then(|block| u32::try_from(block).ok()) {
             Some(block) => is_in_place(tag, self.sector, block),
-            // With either number for the block it comes to the same only where the block isn't looked at.
+            // With two numbers for the block: both can hold only where it isn't looked at.
             None => is_in_place(tag, self.sector, 0) && is_in_place(tag, self.sector, 1),
         }
     }
@@ -41,6 +42,8 @@ impl fmt::Display for Place {
 
 pub struct Report<'o, W> {
     out: &'o mut W,
+    /// Stands on a terminal until there is a line.
+    word: Option<Word>,
     in_place: u64,
     misplaced: u64,
     unread: u64,
@@ -48,7 +51,7 @@ pub struct Report<'o, W> {
 
 impl<'o, W: Write> Report<'o, W> {
     pub fn new(out: &'o mut W) -> Report<'o, W> {
-        Report { out, in_place: 0, misplaced: 0, unread: 0 }
+        Report { out, word: Some(Word::new("checking")), in_place: 0, misplaced: 0, unread: 0 }
     }
 
     /// A descriptor's tag, and where it stands; `of` is what the descriptor is of.
@@ -59,21 +62,26 @@ impl<'o, W: Write> Report<'o, W> {
         }
         self.misplaced += 1;
         let (what, id, says) = (named(tag.id), tag.id, tag.location);
-        writeln!(self.out, "{}: {what} (id {id}) says {says}, stands in {at}", of()).map_err(Failure::output)
+        self.line(&format!("{}: {what} (id {id}) says {says}, stands in {at}", of()))
     }
 
     /// What can't be read, and so isn't checked.
     pub fn unread(&mut self, what: &str, why: Refusal) -> Result<(), Failure> {
         self.unread += 1;
-        writeln!(self.out, "{what}: can't be read: {why} (refusal {})", why.number()).map_err(Failure::output)
+        self.line(&format!("{what}: can't be read: {why} (refusal {})", why.number()))
+    }
+
+    fn line(&mut self, text: &str) -> Result<(), Failure> {
+        self.word = None;
+        writeln!(self.out, "{text}").map_err(Failure::output)
     }
 
     /// The last line, or how the command fails.
-    pub fn end(self, name: &str) -> Result<(), Failure> {
-        let Report { out, in_place, misplaced, unread } = self;
+    pub fn end(mut self, name: &str) -> Result<(), Failure> {
+        let Report { in_place, misplaced, unread, .. } = self;
         let says = || format!("{name}: descriptors in place: {in_place}, not in place: {misplaced}; places that can't be read: {unread}");
         match (misplaced, unread) {
-            (0, 0) => writeln!(out, "{in_place} descriptors, each in place").map_err(Failure::output),
+            (0, 0) => self.line(&format!("{in_place} descriptors, each in place")),
             (0, _) => Err(Failure::new(UNREAD, says())),
             _ => Err(Failure::new(MISPLACED, says())),
         }

@@ -109,8 +109,14 @@ impl<'a, 'r, 'o, W: Write> Walk<'a, 'r, 'o, W> {
     /// An ICB that something names: to be looked at, unless it is taken already. The root has no name.
     fn meet(&mut self, icb: LongAd, is_directory: bool, above: Option<usize>, name: Option<Vec<u8>>) -> Result<(), Failure> {
         let block = icb.location.block;
-        if sector(self.image, self.place(block.into()).sector).is_none() {
-            return self.report.unread(&path(&self.names, above, name.as_deref()), Refusal::Io);
+        let refused = match sector(self.image, self.place(block.into()).sector) {
+            // It names nothing (docs/RULES.md, 6.1).
+            _ if icb.length == 0 => Some(Refusal::Malformed),
+            None => Some(Refusal::Io),
+            Some(_) => None,
+        };
+        if let Some(why) = refused {
+            return self.report.unread(&path(&self.names, above, name.as_deref()), why);
         }
         if self.taken.insert((block, is_directory)) {
             let name = name.map(|name| {
