@@ -23,3 +23,6 @@ pub const NO_WORK: u64 = 6;
 
 // There are more extents than slots.
 pub const NO_SLOT: u64 = 7;
+
+// A component of the path matches two or more entries of its directory, and the choice of matching wants the only one.
+pub const AMBIGUOUS: u64 = 9;

@@ -1,6 +1,7 @@
 // Why a call is refused.
 ghost use mathlib.Core.Path.{_≡_};
 ghost use Rattle.disc.specs.Refusals.{number};
+use crate::answers::AMBIGUOUS;
 use crate::answers::IO;
 use crate::answers::MALFORMED;
 use crate::answers::NO_ROOM;
@@ -21,6 +22,8 @@ pub enum Refusal {
     NoWork,
     // There are more extents than slots.
     NoSlot,
+    // A component of the path matches two or more entries of its directory.
+    Ambiguous,
 }
 
 impl Refusal {
@@ -36,6 +39,7 @@ impl Refusal {
             Refusal::NoRoom => NO_ROOM,
             Refusal::NoWork => NO_WORK,
             Refusal::NoSlot => NO_SLOT,
+            Refusal::Ambiguous => AMBIGUOUS,
         }
     }
 }
