@@ -18,7 +18,7 @@ use Rattle.disc.specs.declared.refusals.Refusal.{Refusal}
 use Rattle.disc.specs.declared.refusals.Refusal.the-variants.{Malformed}
 use Rattle.names.specs.declared.dstrings.NameSize.{NameSize}
 use Rattle.names.specs.declared.dstrings.NameSize.the-variants.{Size}
-use Rattle.names.specs.Names.{Wrote, pairs, untilZero, surrogate, dropSurrogates, encode, utf8, nameless, nameOf, nameOfField, written, sizeOf, lower, sameName, isNamed, nameAnswer, sizeAnswer}
+use Rattle.names.specs.Names.{Wrote, pairs, untilZero, surrogate, dropSurrogates, encode, utf8, nameless, nameOf, nameOfField, written, sizeOf, lower, asIs, sameName, isNamed, nameAnswer, sizeAnswer}
 use Rattle.names.proofs.BodyLaws.{short-bytes, short-pairs}
 
 -- ---- d-strings
@@ -74,9 +74,9 @@ pub deleted-empty : (body : List ℕ) → (nameOf (254 ∷ body) ≡ answered []
 deleted-empty body = (nameless-empty (254 ∷ body) refl, nameless-empty (255 ∷ body) refl)
 
 -- Two such names of one length name the same components.
-pub nameless-named : (s t component : List ℕ) → nameless (getD s 0 0) ≡ true → nameless (getD t 0 0) ≡ true → length s ≡ length t → isNamed s component ≡ isNamed t component
+pub nameless-named : (fold : ℕ → ℕ) (s t component : List ℕ) → nameless (getD s 0 0) ≡ true → nameless (getD t 0 0) ≡ true → length s ≡ length t → isNamed fold s component ≡ isNamed fold t component
 unfolding isNamed
-nameless-named s t component h k l = rw (nameless-empty s h, nameless-empty t k, l)
+nameless-named fold s t component h k l = rw (nameless-empty s h, nameless-empty t k, l)
 
 -- A d-string that is refused is malformed, and so is a field.
 pub name-refused : (s : List ℕ) {why : Refusal} → nameOf s ≡ refused why → why ≡ Malformed
@@ -122,39 +122,56 @@ both-true : (a b : Bool) → pick a b false ≡ true → (a ≡ true) × (b ≡ 
 both-true true b e = (refl, e)
 both-true false b e = absurd (let z : _≡_ {A = ℕ} 0 1 = cc in omega arith)
 
-same-to : (a b : List ℕ) → sameName a b ≡ true → map lower a ≡ map lower b
-unfolding sameName
-same-to [] [] e = refl
-same-to [] (y ∷ t) e = absurd (let z : _≡_ {A = ℕ} 0 1 = cc in omega arith)
-same-to (x ∷ s) [] e = absurd (let z : _≡_ {A = ℕ} 0 1 = cc in omega arith)
-same-to (x ∷ s) (y ∷ t) e =
-    let h = both-true (eqb (lower x) (lower y)) (sameName s t) e in
-    let p : lower x ≡ lower y = eqb-true (lower x) (lower y) (h .0) in
-    let q = same-to s t (h .1) in
-    cc
+-- Whatever the fold is, matching under it is one relation: an equivalence.
+module _ (fold : ℕ → ℕ) where
+  same-to : (a b : List ℕ) → sameName fold a b ≡ true → map fold a ≡ map fold b
+  unfolding sameName
+  same-to [] [] e = refl
+  same-to [] (y ∷ t) e = absurd (let z : _≡_ {A = ℕ} 0 1 = cc in omega arith)
+  same-to (x ∷ s) [] e = absurd (let z : _≡_ {A = ℕ} 0 1 = cc in omega arith)
+  same-to (x ∷ s) (y ∷ t) e =
+      let h = both-true (eqb (fold x) (fold y)) (sameName fold s t) e in
+      let p : fold x ≡ fold y = eqb-true (fold x) (fold y) (h .0) in
+      let q = same-to s t (h .1) in
+      cc
 
-same-from : (a b : List ℕ) → map lower a ≡ map lower b → sameName a b ≡ true
-unfolding sameName
-same-from [] [] e = refl
-same-from [] (y ∷ t) e = absurd (let z : _≡_ {A = ℕ} 0 1 = cc in omega arith)
-same-from (x ∷ s) [] e = absurd (let z : _≡_ {A = ℕ} 0 1 = cc in omega arith)
-same-from (x ∷ s) (y ∷ t) e =
-    let p : lower x ≡ lower y = cc in
-    let q : map lower s ≡ map lower t = cc in
-    rw (eq-eqb (lower x) (lower y) p) (same-from s t q)
+  same-from : (a b : List ℕ) → map fold a ≡ map fold b → sameName fold a b ≡ true
+  unfolding sameName
+  same-from [] [] e = refl
+  same-from [] (y ∷ t) e = absurd (let z : _≡_ {A = ℕ} 0 1 = cc in omega arith)
+  same-from (x ∷ s) [] e = absurd (let z : _≡_ {A = ℕ} 0 1 = cc in omega arith)
+  same-from (x ∷ s) (y ∷ t) e =
+      let p : fold x ≡ fold y = cc in
+      let q : map fold s ≡ map fold t = cc in
+      rw (eq-eqb (fold x) (fold y) p) (same-from s t q)
 
--- Two names match exactly where they are equal once folded.
-pub same-folded : (a b : List ℕ) → (sameName a b ≡ true → map lower a ≡ map lower b) × (map lower a ≡ map lower b → sameName a b ≡ true)
-same-folded a b = (same-to a b, same-from a b)
+  -- Two names match exactly where they are equal once folded.
+  pub same-folded : (a b : List ℕ) → (sameName fold a b ≡ true → map fold a ≡ map fold b) × (map fold a ≡ map fold b → sameName fold a b ≡ true)
+  same-folded a b = (same-to a b, same-from a b)
 
-pub same-reflexive : (a : List ℕ) → sameName a a ≡ true
-same-reflexive a = same-from a a refl
+  pub same-reflexive : (a : List ℕ) → sameName fold a a ≡ true
+  same-reflexive a = same-from a a refl
 
-pub same-symmetric : (a b : List ℕ) → sameName a b ≡ true → sameName b a ≡ true
-same-symmetric a b e = same-from b a (sym (same-to a b e))
+  pub same-symmetric : (a b : List ℕ) → sameName fold a b ≡ true → sameName fold b a ≡ true
+  same-symmetric a b e = same-from b a (sym (same-to a b e))
 
-pub same-transitive : (a b c : List ℕ) → sameName a b ≡ true → sameName b c ≡ true → sameName a c ≡ true
-same-transitive a b c e f = same-from a c (same-to a b e ∙ same-to b c f)
+  pub same-transitive : (a b c : List ℕ) → sameName fold a b ≡ true → sameName fold b c ≡ true → sameName fold a c ≡ true
+  same-transitive a b c e f = same-from a c (same-to a b e ∙ same-to b c f)
+
+map-as-is : (a : List ℕ) → map asIs a ≡ a
+map-as-is [] = refl
+map-as-is (x ∷ a) = ap (λ (r : List ℕ). x ∷ r) (map-as-is a)
+
+-- Byte for byte, two names match exactly where they are the same bytes.
+pub same-as-is : (a b : List ℕ) → (sameName asIs a b ≡ true → a ≡ b) × (a ≡ b → sameName asIs a b ≡ true)
+same-as-is a b = (
+  λ e. sym (map-as-is a) ∙ same-to asIs a b e ∙ map-as-is b,
+  λ e. same-from asIs a b (ap (map asIs) e),
+)
+
+-- So whatever matches byte for byte matches with ASCII case ignored.
+pub same-lower : (a b : List ℕ) → sameName asIs a b ≡ true → sameName lower a b ≡ true
+same-lower a b e = same-from lower a b (ap (map lower) (same-as-is a b .0 e))
 
 -- ---- the worked table
 

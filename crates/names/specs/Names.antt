@@ -16,6 +16,8 @@ use Rattle.disc.specs.Replies.{Answer, answerIn}
 use Rattle.disc.specs.declared.refusals.Refusal.the-variants.{Malformed}
 use Rattle.names.specs.declared.dstrings.NameSize.{NameSize}
 use Rattle.names.specs.declared.dstrings.NameSize.the-variants.{Size, Refused}
+use Rattle.names.specs.declared.matching.Fold.{Fold}
+use Rattle.names.specs.declared.matching.Fold.the-variants.{Lower, AsIs}
 
 -- ---- code points
 
@@ -104,18 +106,27 @@ pub record Wrote (text before after : List ℕ) (r : ℕ) : Type 0 where
 unfoldable pub lower : ℕ → ℕ
 lower b = pick (ltb b 0x41) b (pick (ltb b 0x5b) (b + 0x20) b)
 
--- Two names match where their bytes are equal with ASCII case ignored.
-unfoldable pub sameName : List ℕ → List ℕ → Bool
-sameName [] [] = true
-sameName [] (b ∷ t) = false
-sameName (a ∷ s) [] = false
-sameName (a ∷ s) (b ∷ t) = pick (eqb (lower a) (lower b)) (sameName s t) false
+-- Every byte as it is.
+abbrev pub asIs : ℕ → ℕ
+asIs b = b
+
+-- What a fold of the code makes of a byte.
+abbrev pub foldOf : Fold → ℕ → ℕ
+foldOf Lower = lower
+foldOf AsIs = asIs
+
+-- Two names match where their bytes are equal under a fold.
+unfoldable pub sameName : (ℕ → ℕ) → List ℕ → List ℕ → Bool
+sameName fold [] [] = true
+sameName fold [] (b ∷ t) = false
+sameName fold (a ∷ s) [] = false
+sameName fold (a ∷ s) (b ∷ t) = pick (eqb (fold a) (fold b)) (sameName fold s t) false
 
 -- A refused name matches no component.
-abbrev pub matched : Outcome (List ℕ) → List ℕ → Bool
-matched (refused why) component = false
-matched (answered name) component = sameName name component
+abbrev pub matched : (ℕ → ℕ) → Outcome (List ℕ) → List ℕ → Bool
+matched fold (refused why) component = false
+matched fold (answered name) component = sameName fold name component
 
 -- A d-string names a component of a path. No directory entry records one of more than 255 bytes: ECMA-167 4/14.4.4.
-unfoldable pub isNamed : List ℕ → List ℕ → Bool
-isNamed s component = pick (ltb 255 (length s)) false (matched (nameOf s) component)
+unfoldable pub isNamed : (ℕ → ℕ) → List ℕ → List ℕ → Bool
+isNamed fold s component = pick (ltb 255 (length s)) false (matched fold (nameOf s) component)

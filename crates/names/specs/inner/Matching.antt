@@ -7,22 +7,22 @@ use lib.ListN.{drop}
 use lib.Dec.{eqb}
 use Rattle.disc.specs.Choice.{pick}
 use Rattle.names.specs.declared.matching.Place.{Place}
-use Rattle.names.specs.Names.{lower, sameName}
+use Rattle.names.specs.Names.{sameName}
 use Rattle.names.specs.inner.Units.{At, textOf}
 
 -- The bytes v of a name were compared with the component t from `at` on: whatever stands behind them in the name, it is
 -- compared with t from the place r on, or the names differ.
-pub record Matched (v t : List ℕ) (at : ℕ) (r : Place) : Type 0 where
-  pub rest : (more : List ℕ) → sameName (v ++ more) (drop at t) ≡ pick (r .same) (sameName more (drop (r .at) t)) false
+pub record Matched (fold : ℕ → ℕ) (v t : List ℕ) (at : ℕ) (r : Place) : Type 0 where
+  pub rest : (more : List ℕ) → sameName fold (v ++ more) (drop at t) ≡ pick (r .same) (sameName fold more (drop (r .at) t)) false
 
 -- The unit u is ASCII, not 0, and matches the byte b of a component.
-pub record Plain (u b : ℕ) : Type 0 where
+pub record Plain (fold : ℕ → ℕ) (u b : ℕ) : Type 0 where
   pub some : u ≡ 0 → ⊥
   pub ascii : u < 0x80
-  pub same : eqb (lower u) (lower b) ≡ true
+  pub same : eqb (fold u) (fold b) ≡ true
 
 -- The comparison of the d-string s from i₀ on and the component t from j₀ on has come to i and j: what is left says what
 -- the whole says.
-pub record Comparing (step : ℕ) (s t : List ℕ) (i₀ j₀ i j : ℕ) : Type 0 where
+pub record Comparing (fold : ℕ → ℕ) (step : ℕ) (s t : List ℕ) (i₀ j₀ i j : ℕ) : Type 0 where
   pub at : At step s i
-  pub rest : sameName (textOf step (drop i s)) (drop j t) ≡ sameName (textOf step (drop i₀ s)) (drop j₀ t)
+  pub rest : sameName fold (textOf step (drop i s)) (drop j t) ≡ sameName fold (textOf step (drop i₀ s)) (drop j₀ t)
