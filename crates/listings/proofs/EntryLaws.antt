@@ -1,10 +1,11 @@
 -- One entry read, written and compared, in the form that the functions on it ask for. Assumes nothing.
 use mathlib.Core.Path.{_≡_, refl, sym, ap, _∙_}
-use mathlib.Core.Bool.{Bool, true, false, _||_}
+use mathlib.Core.Bool.{Bool, true, false, _||_, not}
 use mathlib.Core.List.{List, [], _∷_, _++_, append-nil, append-assoc}
 use Prim.Native.Nat.{ℕ, _+_, _-_, _*_, _/_, _%_, _<_, _≤_, zero-le}
 use native.Mathlib.Nat.{add-sub-cancel-left}
 use native.Mathlib.Omega.{arith}
+use lib.Dec.{eqb}
 use lib.ListN.{length, take, drop, length-append, length-drop, drop-of-length-le}
 use lib.Seq.{take-all, drop-drop, drop-at, length-take-le, sets, length-sets, sets-eq}
 use borrow.Author.Tests.{eqb-true, eqb-false}
@@ -14,6 +15,7 @@ use Rattle.disc.specs.Refusals.{number}
 use Rattle.disc.specs.Ask.{Outcome}
 use Rattle.disc.specs.Ask.Outcome.{answered, refused}
 use Rattle.disc.specs.declared.refusals.Refusal.{Refusal}
+use Rattle.disc.specs.declared.refusals.Refusal.the-variants.{Ambiguous}
 use Rattle.disc.specs.Moves.{over}
 use Rattle.disc.proofs.RefusalLaws.{refusal-numbered}
 use Rattle.disc.proofs.MoveLaws.{over-fits}
@@ -21,7 +23,9 @@ use Rattle.records.specs.Bytes.{byte, u16at, u32at, le16, le32, six}
 use Rattle.records.specs.Allocations.{encodeLong, longOf}
 use Rattle.records.proofs.Numbers.{le16-u16, le32-u32, u32-fits, raw-whole}
 use Rattle.records.specs.declared.allocations.LongAd.{LongAd}
-use Rattle.names.specs.Names.{Wrote, nameOf, written, isNamed}
+use Rattle.names.specs.Names.{Wrote, nameOf, written, foldOf, isNamed}
+use Rattle.names.specs.declared.matching.Fold.{Fold}
+use Rattle.names.specs.declared.matching.Fold.the-variants.{Lower, AsIs}
 use Rattle.disc.proofs.ByteLaws.{Bytes}
 use Rattle.identifiers.specs.declared.FileIdentifierDescriptor.{FileIdentifierDescriptor}
 use Rattle.identifiers.specs.declared.IdentifierRead.{IdentifierRead}
@@ -29,9 +33,11 @@ use Rattle.identifiers.specs.Identifiers.{readIdentifier, identifierRead, recor
 use Rattle.identifiers.specs.inner.Wholes.{Whole}
 use Rattle.identifiers.proofs.IdentifierLaws.{identifier-read, read-identifier}
 use Rattle.listings.specs.Entries.{Entry, entryOf, entryIn, entryRead, isSkipped, nameIn}
-use Rattle.listings.specs.Listings.{recordHead, shown, answersTo}
-use Rattle.listings.specs.inner.Passes.{Recorded, Puts, icbIn, headIn, recordIn, earlierOf}
+use Rattle.listings.specs.Listings.{recordHead, shown, foldFor, answersTo, unnamed}
+use Rattle.listings.specs.inner.Passes.{Recorded, Puts, icbIn, headIn, recordIn, settled, joinedOf, notedOf}
 use Rattle.listings.specs.declared.finds.Named.{Named}
+use Rattle.listings.specs.declared.matchings.Matching.{Matching}
+use Rattle.listings.specs.declared.matchings.Matching.the-variants.{CaseIgnored, AsWritten, Unambiguous}
 
 -- ---- a lent tail
 
@@ -146,12 +152,12 @@ module _ {s : List ℕ} {f : FileIdentifierDescriptor} (w : Whole s f) where
       by true = refl
       by false = length-append (recordHead (isDirectory f) (f .icb) (length (nameIn (entryOf s f)))) (nameIn (entryOf s f)) ∙ ap (λ n. n + length (nameIn (entryOf s f))) (head-length _ _ _)
 
-module _ (s : List ℕ) {f : FileIdentifierDescriptor} {b : Bool} (e : b ≡ isSkipped f) (component : List ℕ) where
-  pub skipped-unnamed : b ≡ true → Whole s f → false ≡ answersTo component (entryOf s f)
+module _ (fold : ℕ → ℕ) (s : List ℕ) {f : FileIdentifierDescriptor} {b : Bool} (e : b ≡ isSkipped f) (component : List ℕ) where
+  pub skipped-unnamed : b ≡ true → Whole s f → false ≡ answersTo fold component (entryOf s f)
   unfolding answersTo
   skipped-unnamed h w = rw (← e, h)
 
-  pub part-named : b ≡ false → {r : Bool} → r ≡ isNamed (part s f) component → Whole s f → r ≡ answersTo component (entryOf s f)
+  pub part-named : b ≡ false → {r : Bool} → r ≡ isNamed fold (part s f) component → Whole s f → r ≡ answersTo fold component (entryOf s f)
   unfolding answersTo
   part-named h k w = rw (← e, h, recorded-is w) k
 
@@ -266,18 +272,47 @@ module _ (s : List ℕ) (b : Bytes s) {from n : ℕ} (a : from ≡ nameAt s) (l 
         → Puts s d d′ (record { wrote = w; next = (from + n + 3) / 4 * 4 })
     put-recorded v {d} w = put-puts h (w .inside) (λ e g room. rw (shown-record s b (known s b g) i u v a l) (w .wrote (name-room s b (known s b g) i u v a l d room)))
 
--- ---- what was found already, or this entry
+-- ---- what is found with one more entry
 
-module _ (found : Named) (s component : List ℕ) {f : FileIdentifierDescriptor} where
-  pub earlier-found : found .found ≡ true → Whole s f → found ≡ earlierOf found component (entryOf s f)
-  unfolding earlierOf
-  earlier-found h w = rw h
+module _ (m : Matching) (found : Named) where
+  pub settled-case : m ≡ CaseIgnored → found .found ≡ settled m found
+  settled-case e = rw e refl
 
-  module _ (n : found .found ≡ false) {b : Bool} (e : Whole s f → b ≡ answersTo component (entryOf s f)) where
-    pub earlier-none : b ≡ false → Whole s f → found ≡ earlierOf found component (entryOf s f)
-    unfolding earlierOf
-    earlier-none h w = rw (n, ← e w, h)
+  pub settled-written : m ≡ AsWritten → found .found ≡ settled m found
+  settled-written e = rw e refl
 
-    pub earlier-this : b ≡ true → {q : Bool} → q ≡ isDirectory f → Whole s f → record { answer = 0; found = true; icb = f .icb; directory = q } ≡ earlierOf found component (entryOf s f)
-    unfolding earlierOf
-    earlier-this h k w = rw (n, ← e w, h, k)
+  pub settled-only : m ≡ Unambiguous → not (eqb (found .answer) 0) ≡ settled m found
+  settled-only e = rw e refl
+
+  module _ (s component : List ℕ) {f : FileIdentifierDescriptor} {t : Bool} (u : t ≡ settled m found) where
+    pub noted-settled : t ≡ true → Whole s f → found ≡ notedOf m found component (entryOf s f)
+    unfolding notedOf
+    noted-settled h w = rw (← u, h)
+
+    module _ (n : t ≡ false) {g : Fold} (k : g ≡ foldFor m) {b : Bool} (e : Whole s f → b ≡ answersTo (foldOf g) component (entryOf s f)) where
+      pub noted-none : b ≡ false → Whole s f → found ≡ notedOf m found component (entryOf s f)
+      unfolding notedOf
+      noted-none h w = rw (← u, n, ← k, ← e w, h)
+
+      pub noted-this : b ≡ true → {a : Named} → a ≡ joinedOf found f → Whole s f → a ≡ notedOf m found component (entryOf s f)
+      unfolding notedOf
+      noted-this h q w = rw (← u, n, ← k, ← e w, h) q
+
+module _ (found : Named) (f : FileIdentifierDescriptor) where
+  pub joined-again : found .found ≡ true → {n : ℕ} → n ≡ number Ambiguous → {a : Named} → a ≡ unnamed n → a ≡ joinedOf found f
+  joined-again h e q = q ∙ rw (h, e)
+
+  pub joined-first : found .found ≡ false → {q : Bool} → q ≡ isDirectory f → record { answer = 0; found = true; icb = f .icb; directory = q } ≡ joinedOf found f
+  joined-first h e = rw (h, e)
+
+-- ---- the fold of a choice
+
+module _ (m : Matching) where
+  pub fold-case : m ≡ CaseIgnored → Lower ≡ foldFor m
+  fold-case e = rw e refl
+
+  pub fold-written : m ≡ AsWritten → AsIs ≡ foldFor m
+  fold-written e = rw e refl
+
+  pub fold-only : m ≡ Unambiguous → Lower ≡ foldFor m
+  fold-only e = rw e refl

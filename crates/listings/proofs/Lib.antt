@@ -5,3 +5,4 @@ pub mod WalkLaws
 pub mod Promises
 pub mod RecordLaws
 pub mod NamelessLaws
+pub mod MatchingLaws

@@ -19,7 +19,7 @@ use Rattle.disc.specs.declared.replies.Reply.{Reply}
 use Rattle.disc.proofs.ByteLaws.{Bytes}
 use Rattle.disc.proofs.PickLaws.{not-both}
 use Rattle.disc.proofs.ReplyLaws.{replied-one}
-use Rattle.names.specs.Names.{pairs, untilZero, surrogate, dropSurrogates, encode, utf8, nameOf, written, lower, matched, isNamed}
+use Rattle.names.specs.Names.{pairs, untilZero, surrogate, dropSurrogates, encode, utf8, nameOf, written, matched, isNamed}
 use Rattle.names.proofs.Promises.{same-folded}
 use Rattle.tags.specs.Tags.{withId, readHead}
 use Rattle.identifiers.specs.declared.FileIdentifierDescriptor.{FileIdentifierDescriptor}
@@ -29,38 +29,41 @@ use Rattle.listings.specs.Entries.{Entry, entryIn, entryRead, inFront, i
 use Rattle.listings.specs.Listings.{recordHead, shown, records, listing, answersTo, firstNamed, findIn, namedOf}
 use Rattle.listings.specs.Paths.{front, behind, componentsFrom, components}
 use Rattle.listings.specs.declared.finds.Named.{Named}
+use Rattle.listings.specs.declared.matchings.Matching.{Matching}
 use Rattle.listings.proofs.RecordLaws.{each-read, each-at, name-brief}
 
--- ---- the first entry of a name
+-- ---- the first entry of a name, under a fold
 
--- none of them answers to the component
-unfoldable pub NoneAnswers : List ℕ → List Entry → Type 0
-NoneAnswers component [] = Unit {0}
-NoneAnswers component (e ∷ more) = (answersTo component e ≡ false) × NoneAnswers component more
+module _ (fold : ℕ → ℕ) where
+  -- none of them answers to the component
+  unfoldable pub NoneAnswers : List ℕ → List Entry → Type 0
+  NoneAnswers component [] = Unit {0}
+  NoneAnswers component (e ∷ more) = (answersTo fold component e ≡ false) × NoneAnswers component more
 
--- whatever stands behind it, an entry that answers is taken where none before it does
-pub first-wins : (component : List ℕ) (before : List Entry) (e : Entry) (rest : List Entry) → NoneAnswers component before → answersTo component e ≡ true
-    → firstNamed component (before ++ e ∷ rest) ≡ some e
-unfolding firstNamed NoneAnswers
-first-wins component [] e rest n h = rw h
-first-wins component (x ∷ more) e rest n h = rw (n .0) (first-wins component more e rest (n .1) h)
+  -- whatever stands behind it, an entry that answers is taken where none before it does
+  pub first-wins : (component : List ℕ) (before : List Entry) (e : Entry) (rest : List Entry) → NoneAnswers component before → answersTo fold component e ≡ true
+      → firstNamed fold component (before ++ e ∷ rest) ≡ some e
+  unfolding firstNamed NoneAnswers
+  first-wins component [] e rest n h = rw h
+  first-wins component (x ∷ more) e rest n h = rw (n .0) (first-wins component more e rest (n .1) h)
 
--- and no entry is found where none answers
-pub none-found : (component : List ℕ) (all : List Entry) → NoneAnswers component all → firstNamed component all ≡ none
-unfolding firstNamed NoneAnswers
-none-found component [] n = refl
-none-found component (x ∷ more) n = rw (n .0) (none-found component more (n .1))
+  -- and no entry is found where none answers
+  pub none-found : (component : List ℕ) (all : List Entry) → NoneAnswers component all → firstNamed fold component all ≡ none
+  unfolding firstNamed NoneAnswers
+  none-found component [] n = refl
+  none-found component (x ∷ more) n = rw (n .0) (none-found component more (n .1))
 
--- an entry that answers is not skipped, and its name is the component with ASCII case ignored
-pub answers-folded : (component : List ℕ) (e : Entry) → answersTo component e ≡ true → (isSkipped (e .identifier) ≡ false) × (map lower (nameIn e) ≡ map lower component)
-unfolding answersTo isNamed nameIn
-answers-folded component e h = by (isSkipped (e .identifier)) (ltb 255 (length (e .recorded))) (nameOf (e .recorded)) refl h
-  where
-    by : (s t : Bool) (o : Outcome (List ℕ)) → isSkipped (e .identifier) ≡ s → pick s false (pick t false (matched o component)) ≡ true → (isSkipped (e .identifier) ≡ false) × (map lower (written o) ≡ map lower component)
-    by true t o k h = not-both h
-    by false true o k h = not-both h
-    by false false (refused why) k h = not-both h
-    by false false (answered name) k h = (k, same-folded name component .0 h)
+  -- an entry that answers is not skipped, and its name is the component under the fold
+  pub answers-folded : (component : List ℕ) (e : Entry) → answersTo fold component e ≡ true → (isSkipped (e .identifier) ≡ false) × (map fold (nameIn e) ≡ map fold component)
+  unfolding answersTo isNamed nameIn
+  answers-folded component e h = by (isSkipped (e .identifier)) (ltb 255 (length (e .recorded))) (nameOf (e .recorded)) refl h
+    where
+      by : (s t : Bool) (o : Outcome (List ℕ)) → isSkipped (e .identifier) ≡ s → pick s false (pick t false (matched fold o component)) ≡ true
+          → (isSkipped (e .identifier) ≡ false) × (map fold (written o) ≡ map fold component)
+      by true t o k h = not-both h
+      by false true o k h = not-both h
+      by false false (refused why) k h = not-both h
+      by false false (answered name) k h = (k, same-folded fold name component .0 h)
 
 -- ---- a directory is refused by what refuses an entry
 
@@ -103,8 +106,8 @@ entry-brief s b before e rest h = name-brief (each-at before e rest (each-read s
 pub list-one : (raw : List ℕ) {out a a′ : List ℕ} {r r′ : Reply} → Replied NoRoom (told (listing raw)) out a r → Replied NoRoom (told (listing raw)) out a′ r′ → (r ≡ r′) × (a ≡ a′)
 list-one raw p q = replied-one p q
 
-pub find-one : (component raw : List ℕ) {r r′ : Named} → r ≡ namedOf (findIn component raw) → r′ ≡ namedOf (findIn component raw) → r ≡ r′
-find-one component raw p q = p ∙ sym q
+pub find-one : (m : Matching) (component raw : List ℕ) {r r′ : Named} → r ≡ namedOf (findIn m component raw) → r′ ≡ namedOf (findIn m component raw) → r ≡ r′
+find-one m component raw p q = p ∙ sym q
 
 -- ---- worked cases
 

@@ -1,4 +1,4 @@
--- Which names an entry that was read answers to, with ASCII case ignored, and what its record in a listing says. Assumes nothing.
+-- Which names an entry that was read answers to, and what its record in a listing says. Assumes nothing.
 use mathlib.Core.Path.{_≡_, refl, sym, ap, _∙_}
 use mathlib.Core.Bool.{Bool, true, false}
 use mathlib.Core.List.{List, [], _∷_, _++_, map, append-assoc}
@@ -16,12 +16,12 @@ use Rattle.disc.proofs.RanLaws.{never}
 use Rattle.records.specs.Bytes.{u16at}
 use Rattle.records.specs.Allocations.{longOf}
 use Rattle.records.proofs.Numbers.{u16-le16}
-use Rattle.names.specs.Names.{nameOf, written, sizeOf, lower, sameName, matched, isNamed}
+use Rattle.names.specs.Names.{nameOf, written, sizeOf, sameName, matched, isNamed}
 use Rattle.names.specs.declared.dstrings.NameSize.the-variants.{Size}
 use Rattle.names.proofs.Promises.{same-folded}
 use Rattle.identifiers.specs.Identifiers.{recordedName, nextAt}
 use Rattle.listings.specs.Entries.{Entry, entryRead, inFront, isSkipped, nameIn, entriesFrom, entries}
-use Rattle.listings.specs.Listings.{recordHead, shown, records, listing, answersTo, firstNamed}
+use Rattle.listings.specs.Listings.{recordHead, shown, records, listing, answersTo, allNamed, firstNamed}
 use Rattle.listings.specs.Paths.{Component}
 use Rattle.listings.proofs.EntryLaws.{Known, known, size-is, icb-recorded}
 
@@ -77,16 +77,16 @@ module _ {e : Entry} (w : WasRead e) where
       omega (arith, z, stands .whole .brief)
 
   module _ (s : isSkipped (e .identifier) ≡ false) where
-    -- and it answers to that name, ASCII case ignored
-    pub named-answers : (c : List ℕ) → map lower (nameIn e) ≡ map lower c → answersTo c e ≡ true
+    -- and it answers to that name, under each fold
+    pub named-answers : (fold : ℕ → ℕ) (c : List ℕ) → map fold (nameIn e) ≡ map fold c → answersTo fold c e ≡ true
     unfolding answersTo isNamed nameIn recordedName
-    named-answers c h = rw (s, le-ltb 255 (length (e .recorded)) few) (by (nameOf (e .recorded)) {n = e .identifier .«name_size»} (rw recorded-there (stands .whole .named)) h)
+    named-answers fold c h = rw (s, le-ltb 255 (length (e .recorded)) few) (by (nameOf (e .recorded)) {n = e .identifier .«name_size»} (rw recorded-there (stands .whole .named)) h)
       where
         few : length (e .recorded) ≤ 255
         few = rw (recorded-there, length-take) (omega (arith, stands .whole .few, stands .whole .recorded))
 
-        by : (o : Outcome (List ℕ)) {n : ℕ} → sizeOf o ≡ Size n → map lower (written o) ≡ map lower c → matched o c ≡ true
-        by (answered name) z h = same-folded name c .1 h
+        by : (o : Outcome (List ℕ)) {n : ℕ} → sizeOf o ≡ Size n → map fold (written o) ≡ map fold c → matched fold o c ≡ true
+        by (answered name) z h = same-folded fold name c .1 h
         by (refused why) z h = absurd (let y : _≡_ {A = ℕ} 0 1 = cc in omega arith)
 
     -- its record in a listing has its ICB behind the mark and the flag,
@@ -106,43 +106,49 @@ module _ {e : Entry} (w : WasRead e) where
 
 -- ---- the entry of a name
 
--- an entry that is found answers to its name
-pub found-answers : (c : List ℕ) (es : List Entry) {e : Entry} → firstNamed c es ≡ some e → answersTo c e ≡ true
-unfolding firstNamed
-found-answers c [] q = absurd (let z : _≡_ {A = ℕ} 0 1 = cc in omega arith)
-found-answers c (x ∷ es) {e} q = by (answersTo c x) refl (λ r. found-answers c es r) q
-  where
-    by : (t : Bool) → answersTo c x ≡ t → (firstNamed c es ≡ some e → answersTo c e ≡ true) → pick t (some x) (firstNamed c es) ≡ some e → answersTo c e ≡ true
-    by true k f q = let z : x ≡ e = cc in rw z at k
-    by false k f q = f q
+module _ (fold : ℕ → ℕ) where
+  -- an entry that is found answers to its name
+  pub found-answers : (c : List ℕ) (es : List Entry) {e : Entry} → firstNamed fold c es ≡ some e → answersTo fold c e ≡ true
+  unfolding firstNamed
+  found-answers c [] q = absurd (let z : _≡_ {A = ℕ} 0 1 = cc in omega arith)
+  found-answers c (x ∷ es) {e} q = by (answersTo fold c x) refl (λ r. found-answers c es r) q
+    where
+      by : (t : Bool) → answersTo fold c x ≡ t → (firstNamed fold c es ≡ some e → answersTo fold c e ≡ true) → pick t (some x) (firstNamed fold c es) ≡ some e → answersTo fold c e ≡ true
+      by true k f q = let z : x ≡ e = cc in rw z at k
+      by false k f q = f q
 
--- ---- ASCII case is ignored
+  -- ---- what differs under no fold is told apart by none
 
--- a component with A to Z as a to z, wherever it stands
-abbrev pub folded : Component → List ℕ
-folded c = map lower (c .bytes)
+  -- a component under the fold, wherever it stands
+  abbrev pub folded : Component → List ℕ
+  folded c = map fold (c .bytes)
 
-both : (a b : Bool) → (a ≡ true → b ≡ true) → (b ≡ true → a ≡ true) → a ≡ b
-both true b f g = sym (f refl)
-both false true f g = g refl
-both false false f g = refl
+  both : (a b : Bool) → (a ≡ true → b ≡ true) → (b ≡ true → a ≡ true) → a ≡ b
+  both true b f g = sym (f refl)
+  both false true f g = g refl
+  both false false f g = refl
 
-same-matched : (o : Outcome (List ℕ)) (c c′ : List ℕ) → map lower c ≡ map lower c′ → matched o c ≡ matched o c′
-same-matched (refused why) c c′ h = refl
-same-matched (answered name) c c′ h =
-    both (sameName name c) (sameName name c′)
-    (λ e. same-folded name c′ .1 (same-folded name c .0 e ∙ h))
-    (λ e. same-folded name c .1 (same-folded name c′ .0 e ∙ sym h))
+  same-matched : (o : Outcome (List ℕ)) (c c′ : List ℕ) → map fold c ≡ map fold c′ → matched fold o c ≡ matched fold o c′
+  same-matched (refused why) c c′ h = refl
+  same-matched (answered name) c c′ h =
+      both (sameName fold name c) (sameName fold name c′)
+      (λ e. same-folded fold name c′ .1 (same-folded fold name c .0 e ∙ h))
+      (λ e. same-folded fold name c .1 (same-folded fold name c′ .0 e ∙ sym h))
 
-same-answers : (c c′ : List ℕ) → map lower c ≡ map lower c′ → (e : Entry) → answersTo c e ≡ answersTo c′ e
-unfolding answersTo isNamed
-same-answers c c′ h e = ap (λ t. pick (isSkipped (e .identifier)) false (pick (ltb 255 (length (e .recorded))) false t)) (same-matched (nameOf (e .recorded)) c c′ h)
+  same-answers : (c c′ : List ℕ) → map fold c ≡ map fold c′ → (e : Entry) → answersTo fold c e ≡ answersTo fold c′ e
+  unfolding answersTo isNamed
+  same-answers c c′ h e = ap (λ t. pick (isSkipped (e .identifier)) false (pick (ltb 255 (length (e .recorded))) false t)) (same-matched (nameOf (e .recorded)) c c′ h)
 
--- components that are equal once folded have the same first entry
-pub same-first : (c c′ : Component) → folded c ≡ folded c′ → (es : List Entry) → firstNamed (c .bytes) es ≡ firstNamed (c′ .bytes) es
-unfolding firstNamed
-same-first c c′ h [] = refl
-same-first c c′ h (e ∷ es) = rw (same-answers (c .bytes) (c′ .bytes) h e, same-first c c′ h es)
+  -- components that are equal once folded have the same entries, and the same first
+  pub same-all : (c c′ : Component) → folded c ≡ folded c′ → (es : List Entry) → allNamed fold (c .bytes) es ≡ allNamed fold (c′ .bytes) es
+  unfolding allNamed
+  same-all c c′ h [] = refl
+  same-all c c′ h (e ∷ es) = rw (same-answers (c .bytes) (c′ .bytes) h e, same-all c c′ h es)
+
+  pub same-first : (c c′ : Component) → folded c ≡ folded c′ → (es : List Entry) → firstNamed fold (c .bytes) es ≡ firstNamed fold (c′ .bytes) es
+  unfolding firstNamed
+  same-first c c′ h [] = refl
+  same-first c c′ h (e ∷ es) = rw (same-answers (c .bytes) (c′ .bytes) h e, same-first c c′ h es)
 
 -- ---- a listing has the records of its entries one behind the other
 

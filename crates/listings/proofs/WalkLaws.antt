@@ -1,8 +1,7 @@
 -- How a directory's entries follow each other, and what the loops over them use. Assumes nothing.
 use mathlib.Core.Path.{_≡_, refl, sym, ap, _∙_}
 use mathlib.Core.Bool.{Bool, true, false}
-use mathlib.Core.List.{List, [], _∷_, _++_}
-use mathlib.Core.Option.{Option, none, some}
+use mathlib.Core.List.{List, [], _∷_, _++_, append-nil, append-assoc}
 use Prim.Native.Nat.{ℕ, zero, suc, _+_, _-_, _*_, _<_, _≤_, _^_, zero-le}
 use native.Mathlib.Nat.{add-zero, zero-add, sub-zero}
 use native.Mathlib.Omega.{arith}
@@ -30,11 +29,13 @@ use Rattle.disc.proofs.ByteLaws.{Bytes}
 use Rattle.identifiers.specs.Identifiers.{readIdentifier, identifierRead, nameAt, nameEnd, nextAt}
 use Rattle.identifiers.specs.inner.Wholes.{Whole}
 use Rattle.listings.specs.Entries.{Entry, entryOf, entryRead, isSkipped, inFront, entriesFrom, entries}
-use Rattle.listings.specs.Listings.{shown, records, listing, answersTo, firstNamed, findIn, unnamed, namedTo, namedOf}
-use Rattle.listings.specs.inner.Passes.{tail, GoodAt, Comes, Puts, sizeOfListing, earlierOf}
+use Rattle.listings.specs.Listings.{shown, records, listing, foldIn, answersTo, allNamed, chosen, findIn, unnamed, namedOf}
+use Rattle.listings.specs.inner.Passes.{tail, GoodAt, Comes, Puts, sizeOfListing, settled, joinedOf, notedOf}
 use Rattle.listings.specs.declared.directory_entries.Put.{Put}
 use Rattle.listings.specs.declared.finds.Named.{Named}
 use Rattle.listings.specs.declared.listing.ListingSize.{ListingSize}
+use Rattle.listings.specs.declared.matchings.Matching.{Matching}
+use Rattle.listings.specs.declared.matchings.Matching.the-variants.{CaseIgnored, AsWritten, Unambiguous}
 use Rattle.listings.proofs.EntryLaws.{tail-over, read-good, read-whole, read-bad, shown-length}
 use Rattle.listings.proofs.RecordLaws.{all-listed}
 
@@ -280,67 +281,79 @@ module _ {raw d₀ d : List ℕ} {n at : ℕ} (m : Filling raw d₀ d n at) wher
 
 -- ---- the loop that looks for a name has come to `at`
 
--- what was found already, else what is found in the rest
-abbrev firstOf : Named → Option Entry → Named
-firstOf found none = found
-firstOf found (some e) = pick (found .found) found (namedTo (some e))
-
-first-kept : (found : Named) (o : Option Entry) → found .found ≡ true → firstOf found o ≡ found
-first-kept found none z = refl
-first-kept found (some e) z = rw z
-
-first-turn : (found : Named) (component : List ℕ) (e : Entry) (o : Option Entry) → firstOf (earlierOf found component e) o ≡ firstOf found (pick (answersTo component e) (some e) o)
-unfolding earlierOf
-first-turn found component e o = by (found .found) (answersTo component e) refl
+-- one more entry, by a choice of matching: what is done with those that matched is what was found
+noted-chosen : (m : Matching) (component : List ℕ) (e : Entry) (xs : List Entry)
+    → notedOf m (namedOf (chosen m xs)) component e ≡ namedOf (chosen m (xs ++ pick (answersTo (foldIn m) component e) (e ∷ []) []))
+unfolding notedOf chosen
+noted-chosen m component e xs = by m (answersTo (foldIn m) component e) xs
   where
-    by : (t b : Bool) → found .found ≡ t → firstOf (pick t found (pick b (namedTo (some e)) found)) o ≡ firstOf found (pick b (some e) o)
-    by true b z = first-kept found o z ∙ sym (first-kept found (pick b (some e) o) z)
-    by false true z = first-kept (namedTo (some e)) o refl ∙ rw z
-    by false false z = refl
+    by : (m : Matching) (t : Bool) (xs : List Entry)
+        → pick (settled m (namedOf (chosen m xs))) (namedOf (chosen m xs)) (pick t (joinedOf (namedOf (chosen m xs)) (e .identifier)) (namedOf (chosen m xs)))
+        ≡ namedOf (chosen m (xs ++ pick t (e ∷ []) []))
+    by CaseIgnored true [] = refl
+    by CaseIgnored false [] = refl
+    by CaseIgnored true (x ∷ []) = refl
+    by CaseIgnored false (x ∷ []) = refl
+    by CaseIgnored t (x ∷ y ∷ xs) = refl
+    by AsWritten true [] = refl
+    by AsWritten false [] = refl
+    by AsWritten true (x ∷ []) = refl
+    by AsWritten false (x ∷ []) = refl
+    by AsWritten t (x ∷ y ∷ xs) = refl
+    by Unambiguous true [] = refl
+    by Unambiguous false [] = refl
+    by Unambiguous true (x ∷ []) = refl
+    by Unambiguous false (x ∷ []) = refl
+    by Unambiguous t (x ∷ y ∷ xs) = refl
 
-abbrev foundWith : Named → List ℕ → Outcome (List Entry) → Named
-foundWith found component (answered es) = firstOf found (firstNamed component es)
-foundWith found component (refused why) = unnamed (number why)
+-- what is done with the entries that matched so far, and those of the rest
+abbrev chosenWith : Matching → List ℕ → List Entry → Outcome (List Entry) → Named
+chosenWith m component xs o = namedOf (andThen o (λ es. chosen m (xs ++ allNamed (foldIn m) component es)))
 
-found-starts : (component : List ℕ) (o : Outcome (List Entry)) → foundWith (unnamed 0) component o ≡ namedOf (andThen o (λ es. answered (firstNamed component es)))
-found-starts component (answered es) = by (firstNamed component es)
+chosen-turn : (m : Matching) (component : List ℕ) (xs : List Entry) (e : Entry) (o : Outcome (List Entry))
+    → chosenWith m component (xs ++ pick (answersTo (foldIn m) component e) (e ∷ []) []) o ≡ chosenWith m component xs (inFront e o)
+unfolding allNamed
+chosen-turn m component xs e (refused why) = refl
+chosen-turn m component xs e (answered es) = ap (λ l. namedOf (chosen m l)) (by (answersTo (foldIn m) component e) (allNamed (foldIn m) component es))
   where
-    by : (o : Option Entry) → firstOf (unnamed 0) o ≡ namedTo o
-    by none = refl
-    by (some e) = refl
-found-starts component (refused why) = refl
+    by : (t : Bool) (more : List Entry) → (xs ++ pick t (e ∷ []) []) ++ more ≡ xs ++ pick t (e ∷ more) more
+    by true more = append-assoc xs (e ∷ []) more
+    by false more = rw append-nil
 
-found-turn : (found : Named) (component : List ℕ) (e : Entry) (o : Outcome (List Entry)) → foundWith (earlierOf found component e) component o ≡ foundWith found component (inFront e o)
-unfolding firstNamed
-found-turn found component e (answered es) = first-turn found component e (firstNamed component es)
-found-turn found component e (refused why) = refl
-
-pub record Finding (component raw : List ℕ) (found : Named) (at : ℕ) : Type 0 where
+pub record Finding (m : Matching) (component raw : List ℕ) (found : Named) (at : ℕ) : Type 0 where
+  pub small : length raw * 1 < 2 ^ 63
   pub within : at ≤ length raw + 3
-  pub rest : foundWith found component (entries (drop at raw)) ≡ namedOf (findIn component raw)
+  pub matches : List Entry
+  pub is : found ≡ namedOf (chosen m matches)
+  pub rest : chosenWith m component matches (entries (drop at raw)) ≡ namedOf (findIn m component raw)
 
-pub find-starts : (component raw : List ℕ) {found : Named} → found ≡ unnamed 0 → Finding component raw found 0
-unfolding findIn
-find-starts component raw e = rw e (record { within = zero-le; rest = found-starts component (entries raw) })
+pub find-starts : (m : Matching) (component raw : List ℕ) {found : Named} → length raw * 1 < 2 ^ 63 → found ≡ unnamed 0 → Finding m component raw found 0
+unfolding findIn chosen
+find-starts m component raw l e = record { small = l; within = zero-le; matches = []; is = e; rest = refl }
 
-module _ {component raw : List ℕ} {found : Named} {at : ℕ} (m : Finding component raw found at) where
-  pub find-ends : length raw < at + 38 → found ≡ namedOf (findIn component raw)
-  unfolding firstNamed
-  find-ends h = rw (at-end raw at h) at (m .rest)
+module _ {m : Matching} {component raw : List ℕ} {found : Named} {at : ℕ} (f : Finding m component raw found at) where
+  pub find-ends : length raw < at + 38 → found ≡ namedOf (findIn m component raw)
+  unfolding allNamed
+  find-ends h = f .is ∙ ap (λ l. namedOf (chosen m l)) (sym (append-nil (f .matches))) ∙ (rw (at-end raw at h) at (f .rest))
 
   module _ {r : IdentifierRead} (p : Comes raw at r) where
-    pub find-bad : (r .answer ≡ 0 → ⊥) → {a : Named} → a ≡ unnamed (r .answer) → a ≡ namedOf (findIn component raw)
-    find-bad n e = let w = p .bad n in e ∙ rw (w .numbered) (rw (w .is) at (m .rest))
+    pub find-bad : (r .answer ≡ 0 → ⊥) → {a : Named} → a ≡ unnamed (r .answer) → a ≡ namedOf (findIn m component raw)
+    find-bad n e = let w = p .bad n in e ∙ rw (w .numbered) (rw (w .is) at (f .rest))
 
-    pub find-next : r .answer ≡ 0 → {a : Named} → (Whole (tail raw at) (r .descriptor) → a ≡ earlierOf found component (entryOf (tail raw at) (r .descriptor)))
-        → Finding component raw a (at + r .descriptor .«total_size»)
+    pub find-fits : r .answer ≡ 0 → Fits w64 (at + r .descriptor .«total_size»)
+    find-fits z = next-fits raw at p z (f .small)
+
+    pub find-next : r .answer ≡ 0 → {a : Named} → (Whole (tail raw at) (r .descriptor) → a ≡ notedOf m found component (entryOf (tail raw at) (r .descriptor)))
+        → Finding m component raw a (at + r .descriptor .«total_size»)
     find-next z e =
         let g = p .good z in
+        let x : Entry = entryOf (tail raw at) (r .descriptor) in
         record {
+          small = f .small;
           within = g .near;
-          rest =
-              rw (e (g .whole)) (found-turn found component (entryOf (tail raw at) (r .descriptor)) (entries (drop (at + r .descriptor .«total_size») raw)))
-              ∙ (rw (g .is) at (m .rest));
+          matches = f .matches ++ pick (answersTo (foldIn m) component x) (x ∷ []) [];
+          is = e (g .whole) ∙ ap (λ n. notedOf m n component x) (f .is) ∙ noted-chosen m component x (f .matches);
+          rest = chosen-turn m component (f .matches) x (entries (drop (at + r .descriptor .«total_size») raw)) ∙ (rw (g .is) at (f .rest));
         }
 
 -- ---- the listing, by what was measured

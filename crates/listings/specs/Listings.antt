@@ -1,9 +1,10 @@
--- What a directory's bytes list, and which entry has a name: RULES 8.7 to 8.10 and 8.15.
+-- What a directory's bytes list, and which entry has a name, by a choice of matching: RULES 8.7 to 8.10 and 8.15.
 use Prim.Native.Nat.{ℕ}
 use mathlib.Core.Bool.{Bool, true, false}
 use mathlib.Core.List.{List, [], _∷_, _++_}
 use mathlib.Core.Option.{Option, none, some}
 use lib.ListN.{length}
+use lib.Dec.{eqb}
 use Rattle.disc.specs.Choice.{pick}
 use Rattle.disc.specs.Refusals.{number}
 use Rattle.disc.specs.Ask.{Outcome, andThen}
@@ -11,10 +12,15 @@ use Rattle.disc.specs.Ask.Outcome.{answered, refused}
 use Rattle.records.specs.Bytes.{le16}
 use Rattle.records.specs.Allocations.{encodeLong, noLong}
 use Rattle.records.specs.declared.allocations.LongAd.{LongAd}
-use Rattle.names.specs.Names.{isNamed}
+use Rattle.disc.specs.declared.refusals.Refusal.the-variants.{Ambiguous}
+use Rattle.names.specs.Names.{foldOf, isNamed}
+use Rattle.names.specs.declared.matching.Fold.{Fold}
+use Rattle.names.specs.declared.matching.Fold.the-variants.{Lower, AsIs}
 use Rattle.identifiers.specs.Identifiers.{isDirectory}
 use Rattle.listings.specs.Entries.{Entry, isSkipped, nameIn, entries}
 use Rattle.listings.specs.declared.finds.Named.{Named}
+use Rattle.listings.specs.declared.matchings.Matching.{Matching}
+use Rattle.listings.specs.declared.matchings.Matching.the-variants.{CaseIgnored, AsWritten, Unambiguous}
 
 -- ---- the listing
 
@@ -36,18 +42,46 @@ records (e ∷ es) = shown e ++ records es
 unfoldable pub listing : List ℕ → Outcome (List ℕ)
 listing s = andThen (entries s) (λ es. answered (records es))
 
--- ---- the first entry of a name
+-- ---- the entries of a name
 
-unfoldable pub answersTo : List ℕ → Entry → Bool
-answersTo component e = pick (isSkipped (e .identifier)) false (isNamed (e .recorded) component)
+-- what a choice of matching makes of the bytes of a name and of a component
+abbrev pub foldFor : Matching → Fold
+foldFor CaseIgnored = Lower
+foldFor AsWritten = AsIs
+foldFor Unambiguous = Lower
 
-unfoldable pub firstNamed : List ℕ → List Entry → Option Entry
-firstNamed component [] = none
-firstNamed component (e ∷ es) = pick (answersTo component e) (some e) (firstNamed component es)
+abbrev pub foldIn : Matching → ℕ → ℕ
+foldIn m = foldOf (foldFor m)
+
+-- the choice that has a number, as C and Rust say it; any other number is the choice that refuses most
+unfoldable pub matchingOf : ℕ → Matching
+matchingOf n = pick (eqb n 0) CaseIgnored (pick (eqb n 1) AsWritten Unambiguous)
+
+-- an entry that isn't skipped, and has the component's name under a fold
+unfoldable pub answersTo : (ℕ → ℕ) → List ℕ → Entry → Bool
+answersTo fold component e = pick (isSkipped (e .identifier)) false (isNamed fold (e .recorded) component)
+
+-- all of these, in order
+unfoldable pub allNamed : (ℕ → ℕ) → List ℕ → List Entry → List Entry
+allNamed fold component [] = []
+allNamed fold component (e ∷ es) = pick (answersTo fold component e) (e ∷ allNamed fold component es) (allNamed fold component es)
+
+-- what is done with the entries that match: none is none, and one is taken; of two or more the first, or a refusal
+unfoldable pub chosen : Matching → List Entry → Outcome (Option Entry)
+chosen m [] = answered none
+chosen m (e ∷ []) = answered (some e)
+chosen CaseIgnored (e ∷ f ∷ es) = answered (some e)
+chosen AsWritten (e ∷ f ∷ es) = answered (some e)
+chosen Unambiguous (e ∷ f ∷ es) = refused Ambiguous
 
 -- the whole directory is parsed before a name is matched
-unfoldable pub findIn : List ℕ → List ℕ → Outcome (Option Entry)
-findIn component s = andThen (entries s) (λ es. answered (firstNamed component es))
+unfoldable pub findIn : Matching → List ℕ → List ℕ → Outcome (Option Entry)
+findIn m component s = andThen (entries s) (λ es. chosen m (allNamed (foldIn m) component es))
+
+-- the first of the entries that match: what the first two choices take
+unfoldable pub firstNamed : (ℕ → ℕ) → List ℕ → List Entry → Option Entry
+firstNamed fold component [] = none
+firstNamed fold component (e ∷ es) = pick (answersTo fold component e) (some e) (firstNamed fold component es)
 
 -- the same as the code reports it
 abbrev pub unnamed : ℕ → Named

@@ -4,7 +4,7 @@ ghost use mathlib.Core.Bool.{_||_};
 ghost use Prim.Native.Nat.{_+_, _≤_, _<_};
 ghost use lib.ListN.{length};
 ghost use Rattle.disc.specs.Choice.{pick};
-ghost use Rattle.names.specs.Names.{nameOf, written};
+ghost use Rattle.names.specs.Names.{nameOf, written, foldOf};
 ghost use Rattle.identifiers.specs.Identifiers.{bit};
 ghost use Rattle.identifiers.specs.inner.Wholes.{Whole};
 ghost use Rattle.listings.specs.Entries.{entryOf, isSkipped};
@@ -18,6 +18,7 @@ use identifiers::marks_deleted;
 use identifiers::marks_parent;
 use identifiers::name_at;
 use names::dstrings::put_name;
+use names::matching::Fold;
 use names::matching::is_named;
 use records::bytes::byte_at;
 
@@ -136,15 +137,20 @@ pub(crate) fn put_entry(s: &[u8], out: &mut [u8]) -> Put
     Put { wrote, next }
 }
 
-// Whether the entry f, read at the front of s, is not skipped, and has the name that is looked for.
-pub(crate) fn answers_to(s: &[u8], f: FileIdentifierDescriptor, component: &[u8]) -> bool
+// Whether the entry f, read at the front of s, is not skipped, and has the name that is looked for, under a fold.
+pub(crate) fn answers_to(
+    fold: Fold,
+    s: &[u8],
+    f: FileIdentifierDescriptor,
+    component: &[u8],
+) -> bool
     requires { ⌜ f .«name_at» + f .«name_length» ≤ length (now s) ⌝ }
-    ensures { λ r. ⌜ (Whole (now (s .entry)) f → r ≡ answersTo (now (component .entry)) (entryOf (now (s .entry)) f)) ⌝ }
+    ensures { λ r. ⌜ (Whole (now (s .entry)) f → r ≡ answersTo (foldOf fold) (now (component .entry)) (entryOf (now (s .entry)) f)) ⌝ }
 {
     if is_skipped(f) {
         return false;
     }
     let from = f.name_at;
     let end = from + f.name_length;
-    is_named(&s[from..end], component)
+    is_named(fold, &s[from..end], component)
 }

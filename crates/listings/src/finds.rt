@@ -1,14 +1,17 @@
-// The first entry of a name.
+// The entry of a name, by a choice of matching.
 ghost use mathlib.Core.Path.{_≡_};
 ghost use Prim.Native.Nat.{_+_, _≤_};
 ghost use lib.ListN.{length};
 ghost use Rattle.identifiers.specs.inner.Wholes.{Whole};
 ghost use Rattle.listings.specs.Entries.{entryOf};
 ghost use Rattle.listings.specs.Listings.{findIn, namedOf, unnamed};
-ghost use Rattle.listings.specs.inner.Passes.{earlierOf};
+ghost use Rattle.listings.specs.inner.Passes.{settled, joinedOf, notedOf};
 use crate::directory_entries::answers_to;
 use crate::directory_entries::entry_at;
+use crate::matchings::Matching;
+use crate::matchings::fold_for;
 use disc::answers::DONE;
+use disc::refusals::Refusal;
 use identifiers::FileIdentifierDescriptor;
 use identifiers::LEAST_SIZE;
 use records::allocations::LongAd;
@@ -33,29 +36,56 @@ pub fn no_entry(answer: u64) -> Named
     }
 }
 
-// What was found already, else the entry f, read at the front of s, if it answers to the component.
-fn earlier(found: Named, s: &[u8], f: FileIdentifierDescriptor, component: &[u8]) -> Named
-    requires { ⌜ f .«name_at» + f .«name_length» ≤ length (now s) ⌝ }
-    ensures { λ r. ⌜ (Whole (now (s .entry)) f → r ≡ earlierOf found (now (component .entry)) (entryOf (now (s .entry)) f)) ⌝ }
+// Whether no further entry can change what was found.
+fn is_settled(matching: Matching, found: Named) -> bool
+    ensures { λ r. ⌜ r ≡ settled matching found ⌝ }
+{
+    match matching {
+        Matching::CaseIgnored => found.found,
+        Matching::AsWritten => found.found,
+        Matching::Unambiguous => found.answer != DONE,
+    }
+}
+
+// What is found with one more entry that matches.
+fn joined(found: Named, f: FileIdentifierDescriptor) -> Named
+    ensures { λ r. ⌜ r ≡ joinedOf found f ⌝ }
 {
     if found.found {
+        return no_entry(Refusal::Ambiguous.number());
+    }
+    let icb = f.icb;
+    Named {
+        answer: DONE,
+        found: true,
+        icb,
+        directory: f.is_directory(),
+    }
+}
+
+// What is found with the entry f, read at the front of s.
+fn noted(
+    matching: Matching,
+    found: Named,
+    s: &[u8],
+    f: FileIdentifierDescriptor,
+    component: &[u8],
+) -> Named
+    requires { ⌜ f .«name_at» + f .«name_length» ≤ length (now s) ⌝ }
+    ensures { λ r. ⌜ (Whole (now (s .entry)) f → r ≡ notedOf matching found (now (component .entry)) (entryOf (now (s .entry)) f)) ⌝ }
+{
+    if is_settled(matching, found) {
         return found;
     }
-    if answers_to(s, f, component) {
-        let icb = f.icb;
-        return Named {
-            answer: DONE,
-            found: true,
-            icb,
-            directory: f.is_directory(),
-        };
+    if answers_to(fold_for(matching), s, f, component) {
+        return joined(found, f);
     }
     found
 }
 
 // The entry of a name in a directory's bytes. One bad entry refuses the directory, so that the walk goes on past the entry.
-pub fn find(raw: &[u8], component: &[u8]) -> Named
-    ensures { λ r. ⌜ r ≡ namedOf (findIn (now (component .entry)) (now (raw .entry))) ⌝ }
+pub fn find(matching: Matching, raw: &[u8], component: &[u8]) -> Named
+    ensures { λ r. ⌜ r ≡ namedOf (findIn matching (now (component .entry)) (now (raw .entry))) ⌝ }
 {
     let mut found = no_entry(0);
     let mut at: usize = 0;
@@ -67,7 +97,7 @@ pub fn find(raw: &[u8], component: &[u8]) -> Named
         let f = r.descriptor;
         let s = &raw[at..];
         at += f.total_size;
-        found = earlier(found, s, f, component);
+        found = noted(matching, found, s, f, component);
     }
     found
 }

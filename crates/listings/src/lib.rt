@@ -2,4 +2,5 @@
 pub mod directory_entries;
 pub mod finds;
 pub mod listing;
+pub mod matchings;
 pub mod paths;

@@ -1,25 +1,29 @@
 -- What the passes over a directory's bytes say.
 use Prim.Native.Nat.{ℕ, _+_, _-_, _/_, _%_, _≤_}
 use mathlib.Core.Path.{_≡_}
+use mathlib.Core.Bool.{Bool, true, false, not}
 use mathlib.Core.List.{List, [], _∷_, _++_}
-use mathlib.Core.Option.{some}
 use lib.ListN.{length, take, drop}
+use lib.Dec.{eqb}
 use Rattle.disc.specs.Choice.{pick}
 use Rattle.disc.specs.Refusals.{number}
 use Rattle.disc.specs.Ask.{Outcome}
 use Rattle.disc.specs.Ask.Outcome.{answered, refused}
 use Rattle.disc.specs.declared.refusals.Refusal.{Refusal}
+use Rattle.disc.specs.declared.refusals.Refusal.the-variants.{Ambiguous}
 use Rattle.records.specs.Bytes.{byte, six, le16}
 use Rattle.names.specs.Names.{Wrote}
-use Rattle.identifiers.specs.Identifiers.{nextAt}
+use Rattle.identifiers.specs.Identifiers.{nextAt, isDirectory}
 use Rattle.identifiers.specs.inner.Wholes.{Whole}
 use Rattle.identifiers.specs.declared.FileIdentifierDescriptor.{FileIdentifierDescriptor}
 use Rattle.identifiers.specs.declared.IdentifierRead.{IdentifierRead}
 use Rattle.listings.specs.Entries.{Entry, entryOf, entryRead, inFront, entries}
-use Rattle.listings.specs.Listings.{shown, records, answersTo, namedTo}
+use Rattle.listings.specs.Listings.{shown, records, foldIn, answersTo, unnamed}
 use Rattle.listings.specs.declared.directory_entries.Put.{Put}
 use Rattle.listings.specs.declared.finds.Named.{Named}
 use Rattle.listings.specs.declared.listing.ListingSize.{ListingSize}
+use Rattle.listings.specs.declared.matchings.Matching.{Matching}
+use Rattle.listings.specs.declared.matchings.Matching.the-variants.{CaseIgnored, AsWritten, Unambiguous}
 
 -- ---- the entry that stands at a place
 
@@ -78,6 +82,16 @@ abbrev pub sizeOfListing : Outcome (List Entry) → ListingSize
 sizeOfListing (answered es) = record { answer = 0; size = length (records es) }
 sizeOfListing (refused why) = record { answer = number why; size = 0 }
 
--- what was found already, else an entry that answers to the component
-unfoldable pub earlierOf : Named → List ℕ → Entry → Named
-earlierOf found component e = pick (found .found) found (pick (answersTo component e) (namedTo (some e)) found)
+-- no further entry can change what was found: the first was, or a second one that matches
+abbrev pub settled : Matching → Named → Bool
+settled CaseIgnored found = found .found
+settled AsWritten found = found .found
+settled Unambiguous found = not (eqb (found .answer) 0)
+
+-- what is found with one more entry that matches
+abbrev pub joinedOf : Named → FileIdentifierDescriptor → Named
+joinedOf found f = pick (found .found) (unnamed (number Ambiguous)) (record { answer = 0; found = true; icb = f .icb; directory = isDirectory f })
+
+-- what is found with one more entry
+unfoldable pub notedOf : Matching → Named → List ℕ → Entry → Named
+notedOf m found component e = pick (settled m found) found (pick (answersTo (foldIn m) component e) (joinedOf found (e .identifier)) found)

@@ -2,17 +2,17 @@
 use borrow.Author.Needs.{needs}
 use Prim.Native.Nat.{_+_, _-_}
 use lib.ListN.{length}
-use Rattle.listings.proofs.WalkLaws.{name-inside, next-fits, at-less, Finding, find-starts, find-bad, find-next, find-ends}
+use Rattle.listings.proofs.WalkLaws.{name-inside, at-less, Finding, find-starts, find-bad, find-fits, find-next, find-ends}
 use Rattle.listings.proofs.finds.find.Statement.{statement}
 use Rattle.listings.proofs.finds.find.Tie as tie
 
-ruleset finds = (find-starts, find-bad, name-inside, next-fits, at-less, find-next, find-ends, needs)
+ruleset finds = (find-starts, find-bad, name-inside, find-fits, at-less, find-next, find-ends, needs)
 
 abbrev Inv-loop : tie.InvT-loop
-Inv-loop raw component found₀ at₀ found at = Finding component raw found at
+Inv-loop matching raw component found₀ at₀ found at = Finding matching component raw found at
 
 abbrev μ-loop : tie.MeasureT-loop
-μ-loop raw component found₀ at₀ found at = length raw + 3 - at
+μ-loop matching raw component found₀ at₀ found at = length raw + 3 - at
 
 pub find-spec : {M : Type 1} → statement M
 find-spec =

@@ -1,0 +1,43 @@
+// How a component of a path is matched with the names of a directory's entries.
+ghost use mathlib.Core.Path.{_≡_};
+ghost use Rattle.listings.specs.Listings.{foldFor, matchingOf};
+use names::matching::Fold;
+
+// ASCII case is ignored, and the first entry that matches is taken.
+pub const CASE_IGNORED: u32 = 0;
+
+// A name matches byte for byte, and the first entry that matches is taken.
+pub const AS_WRITTEN: u32 = 1;
+
+// ASCII case is ignored, and a component that two or more entries match is refused.
+pub const UNAMBIGUOUS: u32 = 2;
+
+pub enum Matching {
+    CaseIgnored,
+    AsWritten,
+    Unambiguous,
+}
+
+// The choice that has a number; any other number is the choice that refuses most.
+pub fn matching_of(number: u32) -> Matching
+    ensures { λ r. ⌜ r ≡ matchingOf number ⌝ }
+{
+    if number == CASE_IGNORED {
+        return Matching::CaseIgnored;
+    }
+    if number == AS_WRITTEN {
+        return Matching::AsWritten;
+    }
+    Matching::Unambiguous
+}
+
+// What is made of the bytes of a name and of a component before they are compared.
+pub(crate) fn fold_for(matching: Matching) -> Fold
+    ensures { λ r. ⌜ r ≡ foldFor matching ⌝ }
+{
+    match matching {
+        Matching::CaseIgnored => Fold::Lower,
+        Matching::AsWritten => Fold::AsIs,
+        Matching::Unambiguous => Fold::Lower,
+    }
+}
