@@ -8,3 +8,4 @@ pub mod Promises
 pub mod PathLaws
 pub mod OverflowLaws
 pub mod CaseLaws
+pub mod MatchingLaws

@@ -9,6 +9,7 @@ use lib.ListN.{length}
 use lib.Dec.{leb}
 use borrow.Author.Tests.{lt-leb}
 use Rattle.disc.specs.declared.places.Mount.{Mount}
+use Rattle.listings.specs.declared.matchings.Matching.{Matching}
 use Rattle.disc.specs.Choice.{pick}
 use Rattle.disc.specs.Ask.{Disc, Ask, Outcome, outcome, asked, then, ended, andThen}
 use Rattle.disc.specs.Ask.Outcome.{answered, refused}
@@ -22,9 +23,10 @@ use Rattle.records.specs.declared.allocations.LongAd.{LongAd}
 use Rattle.files.specs.Files.{fileBytes}
 use Rattle.files.proofs.ContentLaws.{content-bytes}
 use Rattle.listings.specs.Entries.{Entry, entries}
-use Rattle.listings.specs.Listings.{answersTo, findIn}
+use Rattle.listings.specs.Listings.{foldIn, answersTo, findIn}
 use Rattle.listings.specs.Paths.{Component, front, behind, componentsFrom, components}
 use Rattle.listings.proofs.Promises.{NoneAnswers, first-wins}
+use Rattle.listings.proofs.MatchingLaws.{takesFirst, chosen-first}
 use Rattle.directories.specs.Directories.{within, directoryBytes}
 use Rattle.directories.specs.Lookups.{entering, seeking, seekPath, icbOf, lookupOf}
 use Rattle.directories.specs.Lookups.Sought.{reached, lost}
@@ -46,9 +48,9 @@ asked-known {A} {B} d m f = asked-then d m (λ a. ended (f a)) ∙ ap (λ l. ask
     by (refused r) = refl
 
 -- the call for the component that failed asks for the lookup's sectors
-pub failed-asks : (d : Disc) (v : Mount) (work : ℕ) (root : LongAd) (path : List ℕ) → asked d (lookupOf v work root path) ≡ asked d (seekPath v work root path)
+pub failed-asks : (d : Disc) (how : Matching) (v : Mount) (work : ℕ) (root : LongAd) (path : List ℕ) → asked d (lookupOf how v work root path) ≡ asked d (seekPath how v work root path)
 unfolding lookupOf
-failed-asks d v work root path = asked-known d (seekPath v work root path) icbOf
+failed-asks d how v work root path = asked-known d (seekPath how v work root path) icbOf
 
 -- ---- what a path comes to
 
@@ -59,25 +61,26 @@ module _ (d : Disc) (v : Mount) (work : ℕ) where
   unfolding directoryBytes within
   no-work icb {b} e h = ran-known d (fileBytes v icb) (within work) ∙ rw (e, lt-leb (length b) work h)
 
-  -- the first entry of a name wins, whatever stands behind it
-  pub enters-first : (icb : LongAd) (component : List ℕ) {b : List ℕ} → ran d (directoryBytes v work icb) .outcome ≡ answered b
+module _ (d : Disc) (how : Matching) (v : Mount) (work : ℕ) where
+  -- the first entry of a name wins, whatever stands behind it, under the choices that take it
+  pub enters-first : takesFirst how ≡ true → (icb : LongAd) (component : List ℕ) {b : List ℕ} → ran d (directoryBytes v work icb) .outcome ≡ answered b
       → (before : List Entry) (e : Entry) (rest : List Entry) → entries b ≡ answered (before ++ e ∷ rest)
-      → NoneAnswers component before → answersTo component e ≡ true
-      → ran d (entering v work icb component) ≡ record { outcome = answered (some e); count = ran d (directoryBytes v work icb) .count }
+      → NoneAnswers (foldIn how) component before → answersTo (foldIn how) component e ≡ true
+      → ran d (entering how v work icb component) ≡ record { outcome = answered (some e); count = ran d (directoryBytes v work icb) .count }
   unfolding entering findIn
-  enters-first icb component {b} r before e rest k n h =
-      ran-known d (directoryBytes v work icb) (findIn component)
-      ∙ rw (r, k, first-wins component before e rest n h)
+  enters-first f icb component {b} r before e rest k n h =
+      ran-known d (directoryBytes v work icb) (findIn how component)
+      ∙ rw (r, k, chosen-first how f (foldIn how) component (before ++ e ∷ rest), first-wins (foldIn how) component before e rest n h)
 
   -- a component under what is no directory is lost before any further sector
-  pub under-file : (c : Component) (cs : List Component) (icb : LongAd) → ran d (seeking v work (c ∷ cs) icb false) ≡ record { outcome = answered (lost c); count = 0 }
+  pub under-file : (c : Component) (cs : List Component) (icb : LongAd) → ran d (seeking how v work (c ∷ cs) icb false) ≡ record { outcome = answered (lost c); count = 0 }
   unfolding seeking
   under-file c cs icb = ran-done d (lost c)
 
   -- an empty path gives the root ICB, and count 0
-  pub empty-path : (root : LongAd) → ran d (lookupOf v work root []) ≡ record { outcome = answered root; count = 0 }
+  pub empty-path : (root : LongAd) → ran d (lookupOf how v work root []) ≡ record { outcome = answered root; count = 0 }
   unfolding lookupOf seekPath seeking components componentsFrom front behind
-  empty-path root = ran-known d (seekPath v work root []) icbOf ∙ rw (ran-done d (reached root))
+  empty-path root = ran-known d (seekPath how v work root []) icbOf ∙ rw (ran-done d (reached root))
 
 -- ---- a directory's bytes are bytes where the image's are
 

@@ -1,4 +1,4 @@
--- A path looked up, the component that failed, and a file read by its path: RULES 8.13 to 8.21.
+-- A path looked up by a choice of matching, the component that failed, and a file read by its path: RULES 8.13 to 8.21.
 use Prim.Native.Nat.{ℕ}
 use mathlib.Core.Bool.{Bool, true, false}
 use mathlib.Core.List.{List, [], _∷_}
@@ -21,14 +21,16 @@ use Rattle.files.specs.Files.{fileBytes}
 use Rattle.listings.specs.Entries.{Entry}
 use Rattle.listings.specs.Listings.{findIn}
 use Rattle.listings.specs.Paths.{Component, noComponent, components}
+use Rattle.listings.specs.declared.matchings.Matching.{Matching}
 use Rattle.directories.specs.Directories.{directoryBytes}
 use Rattle.directories.specs.declared.lookups.Found.{Found}
 
 -- ---- the walk
 
--- the first entry of a name in the directory at icb, if it has one
-unfoldable pub entering : Mount → ℕ → LongAd → List ℕ → Ask (Option Entry)
-entering v work icb component = then (directoryBytes v work icb) (λ b. ended (findIn component b))
+-- the entry of a name in the directory at icb, if it has one, by a choice of matching: a component that is ambiguous under it is refused once the
+-- directory has been read
+unfoldable pub entering : Matching → Mount → ℕ → LongAd → List ℕ → Ask (Option Entry)
+entering how v work icb component = then (directoryBytes v work icb) (λ b. ended (findIn how component b))
 
 -- where a path leads: to an ICB, or to a component that isn't there
 pub data Sought : Type 0 where
@@ -40,16 +42,16 @@ orLost c none f = done (lost c)
 orLost c (some a) f = f a
 
 -- the components one after the other; one under what is no directory is lost before any further sector
-unfoldable pub seeking : Mount → ℕ → List Component → LongAd → Bool → Ask Sought
-seeking v work [] icb directory = done (reached icb)
-seeking v work (c ∷ cs) icb false = done (lost c)
-seeking v work (c ∷ cs) icb true =
-    then (entering v work icb (c .bytes)) (λ o.
-    orLost c o (λ e. seeking v work cs (e .identifier .icb) (isDirectory (e .identifier))))
+unfoldable pub seeking : Matching → Mount → ℕ → List Component → LongAd → Bool → Ask Sought
+seeking how v work [] icb directory = done (reached icb)
+seeking how v work (c ∷ cs) icb false = done (lost c)
+seeking how v work (c ∷ cs) icb true =
+    then (entering how v work icb (c .bytes)) (λ o.
+    orLost c o (λ e. seeking how v work cs (e .identifier .icb) (isDirectory (e .identifier))))
 
 -- a path from the root, which counts as a directory
-unfoldable pub seekPath : Mount → ℕ → LongAd → List ℕ → Ask Sought
-seekPath v work root path = seeking v work (components path) root true
+unfoldable pub seekPath : Matching → Mount → ℕ → LongAd → List ℕ → Ask Sought
+seekPath how v work root path = seeking how v work (components path) root true
 
 -- ---- what is asked of a path
 
@@ -59,12 +61,12 @@ icbOf (reached icb) = answered icb
 icbOf (lost c) = refused NotBluray
 
 -- the ICB that it names
-unfoldable pub lookupOf : Mount → ℕ → LongAd → List ℕ → Ask LongAd
-lookupOf v work root path = then (seekPath v work root path) (λ s. ended (icbOf s))
+unfoldable pub lookupOf : Matching → Mount → ℕ → LongAd → List ℕ → Ask LongAd
+lookupOf how v work root path = then (seekPath how v work root path) (λ s. ended (icbOf s))
 
 -- the bytes of the file that it names: a lookup, then a read
-unfoldable pub readPathOf : Mount → ℕ → LongAd → List ℕ → Ask (List ℕ)
-readPathOf v work root path = then (lookupOf v work root path) (λ icb. fileBytes v icb)
+unfoldable pub readPathOf : Matching → Mount → ℕ → LongAd → List ℕ → Ask (List ℕ)
+readPathOf how v work root path = then (lookupOf how v work root path) (λ icb. fileBytes v icb)
 
 -- ---- a lookup as the code reports it
 

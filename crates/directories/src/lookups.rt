@@ -1,4 +1,4 @@
-// Paths looked up, and files read by them. The work space is all zero on return from each.
+// Paths looked up by a choice of matching, and files read by them. The work space is all zero on return from each.
 ghost use mathlib.Core.Path.{_≡_};
 ghost use lib.ListN.{length, replicate};
 ghost use Rattle.disc.specs.Ran.{ran};
@@ -15,6 +15,7 @@ use disc::refusals::Refusal;
 use disc::replies::Reply;
 use disc::replies::refusal;
 use files::reads::read_file;
+use listings::matchings::Matching;
 use records::allocations::LongAd;
 
 // The answer number, the count of sectors, and the ICB that a path names.
@@ -29,11 +30,18 @@ pub struct Found {
 }
 
 // The ICB that the path names.
-pub fn lookup(image: &[u8], mount: Mount, root: LongAd, path: &[u8], work: &mut [u8]) -> Found
-    ensures { λ r. ⌜ r ≡ foundOf (ran (disc (now (image .entry))) (lookupOf mount (length (now (work .entry))) root (now (path .entry)))) ⌝ }
+pub fn lookup(
+    image: &[u8],
+    mount: Mount,
+    root: LongAd,
+    path: &[u8],
+    matching: Matching,
+    work: &mut [u8],
+) -> Found
+    ensures { λ r. ⌜ r ≡ foundOf (ran (disc (now (image .entry))) (lookupOf matching mount (length (now (work .entry))) root (now (path .entry)))) ⌝ }
     ensures { λ _. ⌜ now (work .exit) ≡ replicate (length (now (work .entry))) 0 ⌝ }
 {
-    let p = walk(image, mount, root, path, work);
+    let p = walk(image, mount, root, path, matching, work);
     clear(work);
     let icb = p.icb;
     Found {
@@ -50,14 +58,15 @@ pub fn failed_at(
     mount: Mount,
     root: LongAd,
     path: &[u8],
+    matching: Matching,
     work: &mut [u8],
     at: &mut usize,
 ) -> Reply
-    ensures { λ r. ⌜ r ≡ failedReply (failedOf (ran (disc (now (image .entry))) (seekPath mount (length (now (work .entry))) root (now (path .entry))))) ⌝ }
-    ensures { λ _. ⌜ now (at .exit) ≡ failedOf (ran (disc (now (image .entry))) (seekPath mount (length (now (work .entry))) root (now (path .entry)))) .component .at ⌝ }
+    ensures { λ r. ⌜ r ≡ failedReply (failedOf (ran (disc (now (image .entry))) (seekPath matching mount (length (now (work .entry))) root (now (path .entry))))) ⌝ }
+    ensures { λ _. ⌜ now (at .exit) ≡ failedOf (ran (disc (now (image .entry))) (seekPath matching mount (length (now (work .entry))) root (now (path .entry)))) .component .at ⌝ }
     ensures { λ _. ⌜ now (work .exit) ≡ replicate (length (now (work .entry))) 0 ⌝ }
 {
-    let p = walk(image, mount, root, path, work);
+    let p = walk(image, mount, root, path, matching, work);
     clear(work);
     *at = p.from;
     Reply {
@@ -73,17 +82,18 @@ pub fn failed<'i, 'p>(
     mount: Mount,
     root: LongAd,
     path: &'p [u8],
+    matching: Matching,
     work: &mut [u8],
     answer: &mut u64,
     count: &mut u64,
 ) -> &'p [u8]
-    ensures { λ r. ⌜ now r ≡ failedOf (ran (disc (now (image .entry))) (seekPath mount (length (now (work .entry))) root (now (path .entry)))) .component .bytes ⌝ }
-    ensures { λ _. ⌜ now (answer .exit) ≡ failedOf (ran (disc (now (image .entry))) (seekPath mount (length (now (work .entry))) root (now (path .entry)))) .answer ⌝ }
-    ensures { λ _. ⌜ now (count .exit) ≡ failedOf (ran (disc (now (image .entry))) (seekPath mount (length (now (work .entry))) root (now (path .entry)))) .count ⌝ }
+    ensures { λ r. ⌜ now r ≡ failedOf (ran (disc (now (image .entry))) (seekPath matching mount (length (now (work .entry))) root (now (path .entry)))) .component .bytes ⌝ }
+    ensures { λ _. ⌜ now (answer .exit) ≡ failedOf (ran (disc (now (image .entry))) (seekPath matching mount (length (now (work .entry))) root (now (path .entry)))) .answer ⌝ }
+    ensures { λ _. ⌜ now (count .exit) ≡ failedOf (ran (disc (now (image .entry))) (seekPath matching mount (length (now (work .entry))) root (now (path .entry)))) .count ⌝ }
     ensures { λ _. ⌜ now (work .exit) ≡ replicate (length (now (work .entry))) 0 ⌝ }
 {
     let mut at = 0;
-    let reply = failed_at(image, mount, root, path, work, &mut at);
+    let reply = failed_at(image, mount, root, path, matching, work, &mut at);
     *answer = reply.answer;
     *count = reply.count;
     let end = at + reply.length as usize;
@@ -96,13 +106,14 @@ pub fn read_path(
     mount: Mount,
     root: LongAd,
     path: &[u8],
+    matching: Matching,
     out: &mut [u8],
     work: &mut [u8],
 ) -> Reply
-    ensures { λ r. ⌜ Replied NoRoom (ran (disc (now (image .entry))) (readPathOf mount (length (now (work .entry))) root (now (path .entry)))) (now (out .entry)) (now (out .exit)) r ⌝ }
+    ensures { λ r. ⌜ Replied NoRoom (ran (disc (now (image .entry))) (readPathOf matching mount (length (now (work .entry))) root (now (path .entry)))) (now (out .entry)) (now (out .exit)) r ⌝ }
     ensures { λ _. ⌜ now (work .exit) ≡ replicate (length (now (work .entry))) 0 ⌝ }
 {
-    let found = lookup(image, mount, root, path, work);
+    let found = lookup(image, mount, root, path, matching, work);
     if found.answer != DONE {
         return refusal(found.answer, found.count);
     }

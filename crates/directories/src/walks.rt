@@ -14,6 +14,7 @@ use disc::refusals::Refusal;
 use listings::finds::Named;
 use listings::finds::find;
 use listings::finds::no_entry;
+use listings::matchings::Matching;
 use listings::paths::component_end;
 use listings::paths::component_from;
 use records::allocations::LongAd;
@@ -38,8 +39,15 @@ pub struct PathPlace {
 }
 
 // The entry of a component in the directory at icb, which is read into the work space and left there.
-fn enter(image: &[u8], mount: Mount, icb: LongAd, component: &[u8], work: &mut [u8]) -> Entered
-    ensures { λ r. ⌜ r ≡ enteredOf (ran (disc (now (image .entry))) (entering mount (length (now (work .entry))) icb (now (component .entry)))) ⌝ }
+fn enter(
+    image: &[u8],
+    mount: Mount,
+    icb: LongAd,
+    component: &[u8],
+    matching: Matching,
+    work: &mut [u8],
+) -> Entered
+    ensures { λ r. ⌜ r ≡ enteredOf (ran (disc (now (image .entry))) (entering matching mount (length (now (work .entry))) icb (now (component .entry)))) ⌝ }
 {
     let read = read_directory(image, mount, icb, work);
     if read.answer != DONE {
@@ -49,7 +57,7 @@ fn enter(image: &[u8], mount: Mount, icb: LongAd, component: &[u8], work: &mut [
         };
     }
     let n = read.length as usize;
-    let entry = find(&work[0..n], component);
+    let entry = find(matching, &work[0..n], component);
     Entered {
         entry,
         count: read.count,
@@ -101,9 +109,16 @@ fn beyond(path: &[u8], entry: Named, count: u64, from: usize, end: usize) -> Pat
 }
 
 // One step of the walk.
-fn step(image: &[u8], mount: Mount, path: &[u8], p: PathPlace, work: &mut [u8]) -> PathPlace
+fn step(
+    image: &[u8],
+    mount: Mount,
+    path: &[u8],
+    matching: Matching,
+    p: PathPlace,
+    work: &mut [u8],
+) -> PathPlace
     requires { ⌜ (p .going ≡ true) × On (now path) p ⌝ }
-    ensures { λ q. ⌜ Steps (disc (now (image .entry))) mount (length (now (work .entry))) (now (path .entry)) p q ⌝ }
+    ensures { λ q. ⌜ Steps (disc (now (image .entry))) matching mount (length (now (work .entry))) (now (path .entry)) p q ⌝ }
 {
     let icb = p.icb;
     let from = p.from;
@@ -114,7 +129,7 @@ fn step(image: &[u8], mount: Mount, path: &[u8], p: PathPlace, work: &mut [u8]) 
     if !p.directory {
         return lost(p.count, from, end);
     }
-    let e = enter(image, mount, icb, &path[from..end], work);
+    let e = enter(image, mount, icb, &path[from..end], matching, work);
     let entry = e.entry;
     beyond(path, entry, add_counts(p.count, e.count), from, end)
 }
@@ -125,9 +140,10 @@ pub(crate) fn walk(
     mount: Mount,
     root: LongAd,
     path: &[u8],
+    matching: Matching,
     work: &mut [u8],
 ) -> PathPlace
-    ensures { λ r. ⌜ Walks (disc (now (image .entry))) mount (length (now (work .entry))) root (now (path .entry)) r ⌝ }
+    ensures { λ r. ⌜ Walks (disc (now (image .entry))) matching mount (length (now (work .entry))) root (now (path .entry)) r ⌝ }
 {
     let mut p = PathPlace {
         going: true,
@@ -139,7 +155,7 @@ pub(crate) fn walk(
         end: path.len(),
     };
     while p.going {
-        let q = step(image, mount, path, p, work);
+        let q = step(image, mount, path, matching, p, work);
         p = q;
     }
     p

@@ -19,6 +19,7 @@ use Rattle.listings.specs.Entries.{Entry}
 use Rattle.listings.specs.Listings.{namedOf}
 use Rattle.listings.specs.declared.finds.Named.{Named}
 use Rattle.listings.specs.Paths.{Component, componentsFrom, slashes}
+use Rattle.listings.specs.declared.matchings.Matching.{Matching}
 use Rattle.directories.specs.Lookups.{Sought, seeking, seekPath, icbOf, foundTo, lostOf}
 use Rattle.directories.specs.declared.lookups.Found.{Found}
 use Rattle.directories.specs.declared.walks.Entered.{Entered}
@@ -53,10 +54,10 @@ abbrev pub endOf : Ran Sought → End
 endOf r = record { found = foundTo (andThen (r .outcome) icbOf) (reported (r .count)); lost = lostOf (r .outcome) }
 
 -- the end that a place leads to: it is there already, or the rest of the path is yet to be walked
-unfoldable pub leadsTo : Disc → Mount → ℕ → List ℕ → PathPlace → End
-leadsTo d v work path p =
+unfoldable pub leadsTo : Disc → Matching → Mount → ℕ → List ℕ → PathPlace → End
+leadsTo d how v work path p =
     pick (p .going)
-    (endOf (after (p .count) (ran d (seeking v work (componentsFrom (p .from) (drop (p .from) path)) (p .icb) (p .directory)))))
+    (endOf (after (p .count) (ran d (seeking how v work (componentsFrom (p .from) (drop (p .from) path)) (p .icb) (p .directory)))))
     (record {
       found = record { answer = p .answer; count = p .count; icb = p .icb };
       lost = record { bytes = take (p .end - p .from) (drop (p .from) path); at = p .from };
@@ -74,14 +75,14 @@ abbrev pub stepsLeft : List ℕ → PathPlace → ℕ
 stepsLeft path p = pick (p .going) (1 + (length path - p .from)) 0
 
 -- one step: to a place on the path, nearer the end, that leads to the same end
-pub record Steps (d : Disc) (v : Mount) (work : ℕ) (path : List ℕ) (p q : PathPlace) : Type 0 where
-  pub same : leadsTo d v work path q ≡ leadsTo d v work path p
+pub record Steps (d : Disc) (how : Matching) (v : Mount) (work : ℕ) (path : List ℕ) (p q : PathPlace) : Type 0 where
+  pub same : leadsTo d how v work path q ≡ leadsTo d how v work path p
   pub on : On path q
   pub less : stepsLeft path q < stepsLeft path p
 
 -- a whole walk
-pub record Walks (d : Disc) (v : Mount) (work : ℕ) (root : LongAd) (path : List ℕ) (q : PathPlace) : Type 0 where
-  pub found : record { answer = q .answer; count = q .count; icb = q .icb } ≡ endOf (ran d (seekPath v work root path)) .found
-  pub lost : record { bytes = take (q .end - q .from) (drop (q .from) path); at = q .from } ≡ endOf (ran d (seekPath v work root path)) .lost
+pub record Walks (d : Disc) (how : Matching) (v : Mount) (work : ℕ) (root : LongAd) (path : List ℕ) (q : PathPlace) : Type 0 where
+  pub found : record { answer = q .answer; count = q .count; icb = q .icb } ≡ endOf (ran d (seekPath how v work root path)) .found
+  pub lost : record { bytes = take (q .end - q .from) (drop (q .from) path); at = q .from } ≡ endOf (ran d (seekPath how v work root path)) .lost
   pub ordered : q .from ≤ q .end
   pub within : q .end ≤ length path

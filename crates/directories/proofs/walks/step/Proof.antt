@@ -17,7 +17,7 @@ entered c =
     let ended = live .before .before in
     let here = ended .before in
     let start = here .before .before .before .before .before in
-    step-enters _ _ _ _ (start .pre .0) (start .pre .1) (here .if1 .left) (ended .component-end .ensures) (not-false _ (live .if2 .left))
+    step-enters _ _ _ _ _ (start .pre .0) (start .pre .1) (here .if1 .left) (ended .component-end .ensures) (not-false _ (live .if2 .left))
     (entered .enter .ensures) (counted .add-counts .ensures) (c .beyond .ensures)
 
 pub step-spec : {M : Type 1} → statement M

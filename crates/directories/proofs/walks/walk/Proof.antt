@@ -11,10 +11,10 @@ use Rattle.directories.proofs.walks.walk.Tie as tie
 ruleset walks = (walk-starts, walk-next, walk-ends, needs)
 
 abbrev Inv-loop : tie.InvT-loop
-Inv-loop image v path work₀ p₀ work p = Walking (disc image) v (length work₀) (p₀ .icb) path p × (length work ≡ length work₀)
+Inv-loop image v path matching work₀ p₀ work p = Walking (disc image) matching v (length work₀) (p₀ .icb) path p × (length work ≡ length work₀)
 
 abbrev μ-loop : tie.MeasureT-loop
-μ-loop image v path work₀ p₀ work p = stepsLeft path p
+μ-loop image v path matching work₀ p₀ work p = stepsLeft path p
 
 pub walk-spec : {M : Type 1} → statement M
 walk-spec =
