@@ -1,10 +1,10 @@
--- How the choices of matching agree along a path, and what the second tells apart. Assumes nothing.
+-- How the choices of matching agree along a path, what the second tells apart, and at which component the third is refused. Assumes nothing.
 use mathlib.Core.Path.{_≡_, refl, sym, ap, _∙_}
 use mathlib.Core.Bool.{Bool, true, false}
-use mathlib.Core.List.{List, [], _∷_}
+use mathlib.Core.List.{List, [], _∷_, _++_}
 use mathlib.Core.Logic.{_⊎_, inl, inr}
 use mathlib.Core.Option.{Option, none, some}
-use Prim.Native.Nat.{ℕ}
+use Prim.Native.Nat.{ℕ, _+_}
 use native.Mathlib.Omega.{arith}
 use Rattle.disc.specs.declared.places.Mount.{Mount}
 use Rattle.disc.specs.Ask.{Disc, Outcome, andThen}
@@ -21,13 +21,14 @@ use Rattle.listings.specs.Listings.{foldIn, allNamed, chosen, firstNamed, findI
 use Rattle.listings.specs.Paths.{Component}
 use Rattle.listings.specs.declared.matchings.Matching.{Matching}
 use Rattle.listings.specs.declared.matchings.Matching.the-variants.{CaseIgnored, AsWritten, Unambiguous}
+use Rattle.listings.proofs.Promises.{entries-refused}
 use Rattle.listings.proofs.RecordLaws.{found-answers}
-use Rattle.listings.proofs.MatchingLaws.{chosen-refused, only-first, told-apart, written-agrees, Apart, apart-agree, apart-written}
+use Rattle.listings.proofs.MatchingLaws.{chosen-refused, Several, refused-several, several-refused, only-first, told-apart, written-agrees, Apart, apart-agree, apart-written}
 use Rattle.directories.specs.Directories.{directoryBytes}
 use Rattle.directories.specs.Lookups.{Sought, entering, orLost, seeking}
 use Rattle.directories.specs.Lookups.Sought.{reached, lost}
 use Rattle.directories.proofs.SpaceLaws.{ran-known}
-use Rattle.directories.proofs.PathLaws.{Takes, entering-is, takes-enters, enters-takes, takes-first, walk, on, walk-is}
+use Rattle.directories.proofs.PathLaws.{Takes, Leads, entering-is, takes-enters, enters-takes, takes-first, walk, on, walk-is, leads-on}
 
 -- go on alike after the same
 onward-same : (o : Outcome (Option Entry)) (n : ℕ) (f g : Option Entry → Ran Sought) → ((x : Option Entry) → o ≡ answered x → f x ≡ g x) → onward o n f ≡ onward o n g
@@ -266,3 +267,97 @@ module _ (d : Disc) (v : Mount) (work : ℕ) where
       by (refused why) q ih = inl (same (written-refused icb (c .bytes) q) (λ x k. never (sym q ∙ k)))
       by (answered none) q ih = inr (record { component = c; is = ap (λ (r : Ran Sought). r .outcome) (walk-is d AsWritten v work c cs icb) ∙ rw (q, ran-done) refl })
       by (answered (some e)) q ih = behind e q (ih e (written-case c cs icb a (enters-takes d AsWritten v work icb (c .bytes) q)))
+
+-- ---- at which component of a path several entries match
+
+-- a directory that a part of the components leads to, and in which several entries match the next
+pub record Doubles (d : Disc) (v : Mount) (work : ℕ) (cs : List Component) (from : LongAd) : Type 0 where
+  pub before : List Component
+  pub next : Component
+  pub others : List Component
+  pub parts : cs ≡ before ++ next ∷ others
+  pub directory : LongAd
+  pub led : Leads d Unambiguous v work before from directory
+  pub bytes : List ℕ
+  pub read : ran d (directoryBytes v work directory) .outcome ≡ answered bytes
+  pub all : List Entry
+  pub parsed : entries bytes ≡ answered all
+  pub several : Several (allNamed lower (next .bytes) all)
+
+module _ (d : Disc) (v : Mount) (work : ℕ) where
+  -- the first such directory on the way refuses the walk, after the sectors of its read
+  pub doubles-refused : (cs : List Component) (from : LongAd) (o : Doubles d v work cs from)
+      → walk d Unambiguous v work cs from true
+      ≡ record { outcome = refused Ambiguous; count = walk d Unambiguous v work (o .before) from true .count + ran d (directoryBytes v work (o .directory)) .count }
+  unfolding entering findIn
+  doubles-refused cs from o =
+      rw (o .parts) (leads-on d Unambiguous v work (o .before) (o .next ∷ o .others) from (o .directory) (o .led))
+      ∙ ap (after (walk d Unambiguous v work (o .before) from true .count))
+      (walk-is d Unambiguous v work (o .next) (o .others) (o .directory)
+      ∙ rw (ran-known d (directoryBytes v work (o .directory)) (findIn Unambiguous (o .next .bytes)), o .read, o .parsed, several-refused (allNamed lower (o .next .bytes) (o .all)) (o .several)))
+
+  -- and nothing else does, where no read is refused so by itself
+  module _ (never-so : (icb : LongAd) → ran d (directoryBytes v work icb) .outcome ≡ refused Ambiguous → ⊥) where
+    several-here : (c : Component) (others : List Component) (icb : LongAd) → ran d (entering Unambiguous v work icb (c .bytes)) .outcome ≡ refused Ambiguous → Doubles d v work (c ∷ others) icb
+    unfolding findIn Leads
+    several-here c others icb h = by (ran d (directoryBytes v work icb) .outcome) refl (sym (entering-is d Unambiguous v work icb (c .bytes)) ∙ h)
+      where
+        listed : (b : List ℕ) → ran d (directoryBytes v work icb) .outcome ≡ answered b → (p : Outcome (List Entry)) → entries b ≡ p
+            → andThen p (λ es. chosen Unambiguous (allNamed lower (c .bytes) es)) ≡ refused Ambiguous → Doubles d v work (c ∷ others) icb
+        listed b r (answered es) e k =
+            record {
+              before = [];
+              next = c;
+              others = others;
+              parts = refl;
+              directory = icb;
+              led = refl;
+              bytes = b;
+              read = r;
+              all = es;
+              parsed = e;
+              several = refused-several Unambiguous (allNamed lower (c .bytes) es) k;
+            }
+        listed b r (refused why) e k = absurd (let m = entries-refused b e in let z : _≡_ {A = ℕ} 0 1 = cc in omega arith)
+
+        by : (o : Outcome (List ℕ)) → ran d (directoryBytes v work icb) .outcome ≡ o → andThen o (findIn Unambiguous (c .bytes)) ≡ refused Ambiguous → Doubles d v work (c ∷ others) icb
+        by (answered b) r k = listed b r (entries b) refl k
+        by (refused why) r k = absurd (never-so icb (let z : why ≡ Ambiguous = cc in rw z at r))
+
+    pub refused-doubles : (cs : List Component) (from : LongAd) → walk d Unambiguous v work cs from true .outcome ≡ refused Ambiguous → Doubles d v work cs from
+    unfolding seeking Leads
+    refused-doubles [] from h = never (let z = rw ran-done at h in sym z)
+    refused-doubles (c ∷ cs) from h =
+        by (ran d (entering Unambiguous v work from (c .bytes)) .outcome) (ran d (entering Unambiguous v work from (c .bytes)) .count) refl (λ icb k. refused-doubles cs icb k)
+        (sym (ap (λ (r : Ran Sought). r .outcome) (walk-is d Unambiguous v work c cs from)) ∙ h)
+      where
+        file : {A : Type 0} (ds : List Component) (icb : LongAd) → walk d Unambiguous v work ds icb false .outcome ≡ refused Ambiguous → A
+        file [] icb k = never (let z = rw ran-done at k in sym z)
+        file (x ∷ ds) icb k = never (let z = rw ran-done at k in sym z)
+
+        into : (e : Entry) → ran d (entering Unambiguous v work from (c .bytes)) .outcome ≡ answered (some e)
+            → ((icb : LongAd) → walk d Unambiguous v work cs icb true .outcome ≡ refused Ambiguous → Doubles d v work cs icb)
+            → (t : Bool) → isDirectory (e .identifier) ≡ t → walk d Unambiguous v work cs (e .identifier .icb) t .outcome ≡ refused Ambiguous → Doubles d v work (c ∷ cs) from
+        into e q ih true t k =
+            let o = ih (e .identifier .icb) k in
+            record {
+              before = c ∷ o .before;
+              next = o .next;
+              others = o .others;
+              parts = ap (λ (x : List Component). c ∷ x) (o .parts);
+              directory = o .directory;
+              led = record { entry = e; takes = enters-takes d Unambiguous v work from (c .bytes) q; directory = t; on = o .led };
+              bytes = o .bytes;
+              read = o .read;
+              all = o .all;
+              parsed = o .parsed;
+              several = o .several;
+            }
+        into e q ih false t k = file cs (e .identifier .icb) k
+
+        by : (o : Outcome (Option Entry)) (n : ℕ) → ran d (entering Unambiguous v work from (c .bytes)) .outcome ≡ o
+            → ((icb : LongAd) → walk d Unambiguous v work cs icb true .outcome ≡ refused Ambiguous → Doubles d v work cs icb)
+            → onward o n (on d Unambiguous v work c cs) .outcome ≡ refused Ambiguous → Doubles d v work (c ∷ cs) from
+        by (refused why) n q ih k = several-here c cs from (let z : why ≡ Ambiguous = cc in rw z at q)
+        by (answered none) n q ih k = never (let z = rw ran-done at k in sym z)
+        by (answered (some e)) n q ih k = into e q ih (isDirectory (e .identifier)) refl k

@@ -81,6 +81,47 @@ chosen-refused CaseIgnored (e ∷ f ∷ es) h = absurd (let z : _≡_ {A = ℕ} 
 chosen-refused AsWritten (e ∷ f ∷ es) h = absurd (let z : _≡_ {A = ℕ} 0 1 = cc in omega arith)
 chosen-refused Unambiguous (e ∷ f ∷ es) h = (refl, cc)
 
+-- several of them: those that a refusal by 9 is for
+pub record Several (xs : List Entry) : Type 0 where
+  pub one : Entry
+  pub other : Entry
+  pub more : List Entry
+  pub are : xs ≡ one ∷ other ∷ more
+
+pub refused-several : (m : Matching) (xs : List Entry) {why : Refusal} → chosen m xs ≡ refused why → Several xs
+unfolding chosen
+refused-several m [] h = absurd (let z : _≡_ {A = ℕ} 0 1 = cc in omega arith)
+refused-several m (e ∷ []) h = absurd (let z : _≡_ {A = ℕ} 0 1 = cc in omega arith)
+refused-several m (e ∷ f ∷ es) h = record { one = e; other = f; more = es; are = refl }
+
+pub several-refused : (xs : List Entry) → Several xs → chosen Unambiguous xs ≡ refused Ambiguous
+unfolding chosen
+several-refused xs s = rw (s .are) refl
+
+module _ (fold : ℕ → ℕ) (c : List ℕ) where
+  all-joined : (es fs : List Entry) → allNamed fold c (es ++ fs) ≡ allNamed fold c es ++ allNamed fold c fs
+  unfolding allNamed
+  all-joined [] fs = refl
+  all-joined (e ∷ es) fs = by (answersTo fold c e) (all-joined es fs)
+    where
+      by : (t : Bool) → allNamed fold c (es ++ fs) ≡ allNamed fold c es ++ allNamed fold c fs
+          → pick t (e ∷ allNamed fold c (es ++ fs)) (allNamed fold c (es ++ fs)) ≡ pick t (e ∷ allNamed fold c es) (allNamed fold c es) ++ allNamed fold c fs
+      by true h = ap (λ (l : List Entry). e ∷ l) h
+      by false h = h
+
+  -- two entries that answer, wherever they stand, are several
+  pub two-several : (before : List Entry) (e : Entry) (between : List Entry) (f : Entry) (rest : List Entry) → answersTo fold c e ≡ true → answersTo fold c f ≡ true
+      → Several (allNamed fold c (before ++ e ∷ (between ++ f ∷ rest)))
+  unfolding allNamed
+  two-several before e between f rest h k =
+      rw (all-joined before (e ∷ (between ++ f ∷ rest)), h, all-joined between (f ∷ rest), k) (by (allNamed fold c before) (allNamed fold c between) (allNamed fold c rest))
+    where
+      by : (xs ys zs : List Entry) → Several (xs ++ e ∷ (ys ++ f ∷ zs))
+      by [] [] zs = record { one = e; other = f; more = zs; are = refl }
+      by [] (y ∷ ys) zs = record { one = e; other = y; more = ys ++ f ∷ zs; are = refl }
+      by (x ∷ []) ys zs = record { one = x; other = e; more = ys ++ f ∷ zs; are = refl }
+      by (x ∷ x′ ∷ xs) ys zs = record { one = x; other = x′; more = xs ++ e ∷ (ys ++ f ∷ zs); are = refl }
+
 -- ---- the only entry
 
 -- what the third choice answers is the only entry that matches

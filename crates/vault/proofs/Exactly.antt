@@ -4,6 +4,7 @@
 use mathlib.Core.Path.{_≡_, refl, ap, _∙_}
 use mathlib.Core.Bool.{Bool, true, false, not}
 use mathlib.Core.List.{List}
+use mathlib.Core.Logic.{_⊎_, inl, inr}
 use Prim.Native.Nat.{ℕ, _≤_}
 use native.Mathlib.Omega.{arith}
 use lib.ListN.{length}
@@ -28,6 +29,8 @@ use Rattle.listings.specs.Entries.{Entry, entries}
 use Rattle.listings.specs.Listings.{records}
 use Rattle.listings.proofs.Promises.{entries-refused}
 use Rattle.vault.specs.Calls.{reading, parting, extentListing, listing, finding, pathReading, labels, reads, lists, readsPath, extents}
+use Rattle.listings.specs.declared.matchings.Matching.{Matching}
+use Rattle.listings.specs.declared.matchings.Matching.the-variants.{Unambiguous}
 use Rattle.volumes.specs.declared.openings.VolumeRecord.{VolumeRecord}
 use Rattle.vault.proofs.Orders.{entriesAnswer, listingAnswer, slotted, extents-order, list-order}
 use Rattle.vault.proofs.Refusing.{bytes-only, part-only, list-only, opening-only, label-only, lookup-only, path-only, listing-only}
@@ -54,18 +57,18 @@ module _ (d : Disc) where
   pub extents-original : (v : VolumeRecord) (icb : LongAd) → Within Original (outcome d (extentListing v icb))
   extents-original v icb = refuses-within Original (omega arith) d (list-only Original (omega arith) (omega arith) (v .mount) icb)
 
--- a lookup is refused by 6 besides
-abbrev pub OfALookup : Refusal → Type 0
-OfALookup why = number why ≤ 6 × (number why ≡ 5 → ⊥)
+-- a lookup is refused by 6 besides, and under the third choice of matching by 9
+abbrev pub OfALookup : Matching → Refusal → Type 0
+OfALookup how why = (number why ≤ 6 × (number why ≡ 5 → ⊥)) ⊎ ((how ≡ Unambiguous) × (number why ≡ 9))
 
-pub lookup-original : (d : Disc) (v : VolumeRecord) (work : ℕ) (path : List ℕ) → Within OfALookup (outcome d (finding v work path))
-lookup-original d v work path =
-    refuses-within OfALookup (low Io (omega arith)) d
-    (lookup-only OfALookup (low Malformed (omega arith)) (low NotBluray (omega arith)) (low Unsupported (omega arith)) (omega arith, λ e. omega arith)
+pub lookup-original : (d : Disc) (v : VolumeRecord) (work : ℕ) (path : List ℕ) (how : Matching) → Within (OfALookup how) (outcome d (finding v work path how))
+lookup-original d v work path how =
+    refuses-within (OfALookup how) (low Io (omega arith)) d
+    (lookup-only (OfALookup how) (low Malformed (omega arith)) (low NotBluray (omega arith)) (low Unsupported (omega arith)) (inl (omega arith, λ e. omega arith)) how (λ z. inr (z, refl))
     (v .mount) work (v .root) path)
   where
-    low : (why : Refusal) → Original why → OfALookup why
-    low why h = (omega arith, λ e. omega arith)
+    low : (why : Refusal) → Original why → OfALookup how why
+    low why h = inl (omega arith, λ e. omega arith)
 
 -- ---- 5 exactly when the answer has more bytes than the output holds
 
@@ -102,11 +105,11 @@ module _ (image : List ℕ) (v : VolumeRecord) where
       five (length out) _ (outcome (disc image) (listing v (length work) icb))
       (refuses-within ButRoom (λ e. omega arith) (disc image) (listing-only ButRoom (λ e. omega arith) (λ e. omega arith) (λ e. omega arith) (λ e. omega arith) (v .mount) (length work) icb))
 
-  pub read-path-5 : (path out work : List ℕ) → eqb (readsPath image v path out work .reply .answer) 5 ≡ overfull (length out) (ran (disc image) (pathReading v (length work) path) .outcome)
+  pub read-path-5 : (path : List ℕ) (how : Matching) (out work : List ℕ) → eqb (readsPath image v path how out work .reply .answer) 5 ≡ overfull (length out) (ran (disc image) (pathReading v (length work) path how) .outcome)
   unfolding ran
-  read-path-5 path out work =
-      five (length out) _ (outcome (disc image) (pathReading v (length work) path))
-      (refuses-within ButRoom (λ e. omega arith) (disc image) (path-only ButRoom (λ e. omega arith) (λ e. omega arith) (λ e. omega arith) (λ e. omega arith) (v .mount) (length work) (v .root) path))
+  read-path-5 path how out work =
+      five (length out) _ (outcome (disc image) (pathReading v (length work) path how))
+      (refuses-within ButRoom (λ e. omega arith) (disc image) (path-only ButRoom (λ e. omega arith) (λ e. omega arith) (λ e. omega arith) (λ e. omega arith) how (λ z e. omega arith) (v .mount) (length work) (v .root) path))
 
 -- ---- 6, of a listing, exactly when the directory's bytes exceed the work space
 

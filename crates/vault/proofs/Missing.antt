@@ -22,6 +22,7 @@ use Rattle.records.specs.declared.allocations.LongAd.{LongAd}
 use Rattle.areas.specs.declared.AllocExtent.{AllocExtent}
 use Rattle.volumes.specs.Openings.{opening, openedBy}
 use Rattle.volumes.specs.Labels.{labelling}
+use Rattle.listings.specs.declared.matchings.Matching.{Matching}
 use Rattle.volumes.specs.declared.openings.VolumeRecord.{VolumeRecord}
 use Rattle.vault.specs.Calls.{reading, parting, extentListing, listing, finding, pathReading, opens, labels, reads, lists, readsPath, finds, fails, failsAt, parts, partsAt, extents}
 use Rattle.vault.proofs.Refusing.{bytes-only, part-only, list-only, opening-only, label-only, lookup-only, path-only, listing-only}
@@ -95,21 +96,21 @@ module _ (image : List ℕ) where
         reply-1 NoRoom (λ e. omega arith) (length out) _ (outcome (disc image) (listing v (length work) icb))
         ∙ refused-missing image (listing-only ButIo (λ e. omega arith) (λ e. omega arith) (λ e. omega arith) (λ e. omega arith) (v .mount) (length work) icb)
 
-    pub lookup-1 : (path work : List ℕ) → eqb (finds image v path work .found .answer) 1 ≡ lacking image (finding v (length work) path)
+    pub lookup-1 : (path : List ℕ) (how : Matching) (work : List ℕ) → eqb (finds image v path how work .found .answer) 1 ≡ lacking image (finding v (length work) path how)
     unfolding ran
-    lookup-1 path work =
-        answer-1 (outcome (disc image) (finding v (length work) path))
-        ∙ refused-missing image (lookup-only ButIo (λ e. omega arith) (λ e. omega arith) (λ e. omega arith) (λ e. omega arith) (v .mount) (length work) (v .root) path)
+    lookup-1 path how work =
+        answer-1 (outcome (disc image) (finding v (length work) path how))
+        ∙ refused-missing image (lookup-only ButIo (λ e. omega arith) (λ e. omega arith) (λ e. omega arith) (λ e. omega arith) how (λ z e. omega arith) (v .mount) (length work) (v .root) path)
 
     -- the component that failed and its place have the lookup's list
-    pub failed-1 : (path work : List ℕ) → eqb (fails image v path work .answer) 1 ≡ lacking image (finding v (length work) path)
-    failed-1 path work = ap (λ n. eqb n 1) (failed-sound image v path work .0) ∙ lookup-1 path work
+    pub failed-1 : (path : List ℕ) (how : Matching) (work : List ℕ) → eqb (fails image v path how work .answer) 1 ≡ lacking image (finding v (length work) path how)
+    failed-1 path how work = ap (λ n. eqb n 1) (failed-sound image v path how work .0) ∙ lookup-1 path how work
 
-    pub failed-at-1 : (path work : List ℕ) → eqb (failsAt image v path work .reply .answer) 1 ≡ lacking image (finding v (length work) path)
-    failed-at-1 path work = failed-1 path work
+    pub failed-at-1 : (path : List ℕ) (how : Matching) (work : List ℕ) → eqb (failsAt image v path how work .reply .answer) 1 ≡ lacking image (finding v (length work) path how)
+    failed-at-1 path how work = failed-1 path how work
 
-    pub read-path-1 : (path out work : List ℕ) → eqb (readsPath image v path out work .reply .answer) 1 ≡ lacking image (pathReading v (length work) path)
+    pub read-path-1 : (path : List ℕ) (how : Matching) (out work : List ℕ) → eqb (readsPath image v path how out work .reply .answer) 1 ≡ lacking image (pathReading v (length work) path how)
     unfolding ran
-    read-path-1 path out work =
-        reply-1 NoRoom (λ e. omega arith) (length out) _ (outcome (disc image) (pathReading v (length work) path))
-        ∙ refused-missing image (path-only ButIo (λ e. omega arith) (λ e. omega arith) (λ e. omega arith) (λ e. omega arith) (v .mount) (length work) (v .root) path)
+    read-path-1 path how out work =
+        reply-1 NoRoom (λ e. omega arith) (length out) _ (outcome (disc image) (pathReading v (length work) path how))
+        ∙ refused-missing image (path-only ButIo (λ e. omega arith) (λ e. omega arith) (λ e. omega arith) (λ e. omega arith) how (λ z e. omega arith) (v .mount) (length work) (v .root) path)

@@ -17,7 +17,7 @@ use Rattle.disc.specs.Images.{disc}
 use Rattle.disc.specs.Ran.{Ran, ran}
 use Rattle.disc.specs.Replies.{answerOf}
 use Rattle.disc.specs.declared.refusals.Refusal.{Refusal}
-use Rattle.disc.specs.declared.refusals.Refusal.the-variants.{Io, Malformed, NotBluray, Unsupported, NoRoom, NoWork, NoSlot}
+use Rattle.disc.specs.declared.refusals.Refusal.the-variants.{Io, Malformed, NotBluray, Unsupported, NoRoom, NoWork, NoSlot, Ambiguous}
 use Rattle.disc.proofs.OnlyLaws.{Within}
 use Rattle.disc.proofs.RanLaws.{ran-then}
 use Rattle.records.specs.Allocations.{noLong}
@@ -27,6 +27,7 @@ use Rattle.directories.specs.Lookups.{Sought, seeking, seekPath, icbOf, readPat
 use Rattle.directories.specs.Lookups.Sought.{reached, lost}
 use Rattle.directories.proofs.LookupLaws.{look-is}
 use Rattle.directories.proofs.OverflowLaws.{Overflows, overflows-refused, refused-overflows}
+use Rattle.listings.specs.declared.matchings.Matching.{Matching}
 use Rattle.volumes.specs.declared.openings.VolumeRecord.{VolumeRecord}
 use Rattle.vault.specs.Calls.{reading, finding, pathReading, cleared, worked, readsPath, looked, finds, lost as lostBy, fails, lostPlace, failsAt}
 use Rattle.vault.proofs.Exactly.{read-original}
@@ -34,8 +35,8 @@ use Rattle.vault.proofs.Orders.{roomed, pathAnswer, read-path-order}
 use Rattle.vault.proofs.Soundness.{failed-sound}
 
 -- a directory along the path exceeds the work space
-abbrev pub Exceeds : List ℕ → VolumeRecord → List ℕ → List ℕ → Type 0
-Exceeds image v path work = Overflows (disc image) (v .mount) (length work) (components path) (v .root)
+abbrev pub Exceeds : List ℕ → VolumeRecord → List ℕ → Matching → List ℕ → Type 0
+Exceeds image v path how work = Overflows (disc image) how (v .mount) (length work) (components path) (v .root)
 
 -- ---- which refusal has number 6
 
@@ -47,6 +48,7 @@ six-is Unsupported e = absurd (omega arith)
 six-is NoRoom e = absurd (omega arith)
 six-is NoWork e = refl
 six-is NoSlot e = absurd (omega arith)
+six-is Ambiguous e = absurd (omega arith)
 
 six-walk : (o : Outcome Sought) → answerOf (andThen o icbOf) ≡ 6 → o ≡ refused NoWork
 six-walk (answered (reached icb)) e = absurd (omega arith)
@@ -63,25 +65,25 @@ module _ (image : List ℕ) (v : VolumeRecord) where
       by (answered b) h w = let z : _≡_ {A = ℕ} 0 1 = cc in omega arith
       by (refused why) h w = let z : why ≡ NoWork = cc in let y = rw z at w in omega arith
 
-  module _ (path work : List ℕ) where
+  module _ (path : List ℕ) (how : Matching) (work : List ℕ) where
     -- ---- 6 only then
 
-    pub lookup-6 : finds image v path work .found .answer ≡ 6 → Exceeds image v path work
+    pub lookup-6 : finds image v path how work .found .answer ≡ 6 → Exceeds image v path how work
     unfolding seekPath
     lookup-6 h =
-        refused-overflows (disc image) (v .mount) (length work) never-six (components path) (v .root)
-        (six-walk _ (sym (ap (λ (r : Ran LongAd). answerOf (r .outcome)) (look-is (disc image) (v .mount) (length work) (v .root) path)) ∙ h))
+        refused-overflows (disc image) how (v .mount) (length work) never-six (components path) (v .root)
+        (six-walk _ (sym (ap (λ (r : Ran LongAd). answerOf (r .outcome)) (look-is (disc image) how (v .mount) (length work) (v .root) path)) ∙ h))
 
-    pub failed-6 : fails image v path work .answer ≡ 6 → Exceeds image v path work
-    failed-6 h = lookup-6 (sym (failed-sound image v path work .0) ∙ h)
+    pub failed-6 : fails image v path how work .answer ≡ 6 → Exceeds image v path how work
+    failed-6 h = lookup-6 (sym (failed-sound image v path how work .0) ∙ h)
 
-    pub failed-at-6 : failsAt image v path work .reply .answer ≡ 6 → Exceeds image v path work
+    pub failed-at-6 : failsAt image v path how work .reply .answer ≡ 6 → Exceeds image v path how work
     failed-at-6 h = failed-6 h
 
-    pub read-path-6 : (out : List ℕ) → readsPath image v path out work .reply .answer ≡ 6 → Exceeds image v path work
+    pub read-path-6 : (out : List ℕ) → readsPath image v path how out work .reply .answer ≡ 6 → Exceeds image v path how work
     unfolding ran Within
     read-path-6 out h =
-        lookup-6 (by (outcome (disc image) (finding v (length work) path)) (sym (read-path-order image v path out work) ∙ h))
+        lookup-6 (by (outcome (disc image) (finding v (length work) path how)) (sym (read-path-order image v path how out work) ∙ h))
       where
         room : (o : Outcome (List ℕ)) → Within (λ why. number why ≤ 4) o → roomed (length out) o ≡ 6 → ⊥
         room (refused why) w k = omega arith
@@ -97,29 +99,29 @@ module _ (image : List ℕ) (v : VolumeRecord) where
 
     -- ---- and always then, after the sectors of the way to the directory and of its read; all else is as a refusal has it
 
-    module _ (o : Exceeds image v path work) where
+    module _ (o : Exceeds image v path how work) where
       abbrev pub sectorsOf : ℕ
-      sectorsOf = ran (disc image) (seeking (v .mount) (length work) (o .before) (v .root) true) .count + ran (disc image) (reading v (o .directory)) .count
+      sectorsOf = ran (disc image) (seeking how (v .mount) (length work) (o .before) (v .root) true) .count + ran (disc image) (reading v (o .directory)) .count
 
-      walked : ran (disc image) (seekPath (v .mount) (length work) (v .root) path) ≡ record { outcome = refused NoWork; count = sectorsOf }
+      walked : ran (disc image) (seekPath how (v .mount) (length work) (v .root) path) ≡ record { outcome = refused NoWork; count = sectorsOf }
       unfolding seekPath
-      walked = overflows-refused (disc image) (v .mount) (length work) (components path) (v .root) o
+      walked = overflows-refused (disc image) how (v .mount) (length work) (components path) (v .root) o
 
-      looked-up : ran (disc image) (finding v (length work) path) ≡ record { outcome = refused NoWork; count = sectorsOf }
-      looked-up = look-is (disc image) (v .mount) (length work) (v .root) path ∙ rw walked
+      looked-up : ran (disc image) (finding v (length work) path how) ≡ record { outcome = refused NoWork; count = sectorsOf }
+      looked-up = look-is (disc image) how (v .mount) (length work) (v .root) path ∙ rw walked
 
-      pub exceeds-lookup : finds image v path work ≡ record { found = record { answer = 6; count = reported sectorsOf; icb = noLong }; work = cleared work }
+      pub exceeds-lookup : finds image v path how work ≡ record { found = record { answer = 6; count = reported sectorsOf; icb = noLong }; work = cleared work }
       exceeds-lookup = ap (looked work) looked-up
 
-      pub exceeds-failed : fails image v path work ≡ record { component = []; answer = 6; count = reported sectorsOf; work = cleared work }
+      pub exceeds-failed : fails image v path how work ≡ record { component = []; answer = 6; count = reported sectorsOf; work = cleared work }
       exceeds-failed = ap (lostBy work) walked
 
-      pub exceeds-failed-at : failsAt image v path work ≡ record { reply = record { answer = 6; count = reported sectorsOf; length = 0 }; at = 0; work = cleared work }
+      pub exceeds-failed-at : failsAt image v path how work ≡ record { reply = record { answer = 6; count = reported sectorsOf; length = 0 }; at = 0; work = cleared work }
       exceeds-failed-at = ap (lostPlace work) walked
 
-      pub exceeds-read-path : (out : List ℕ) → readsPath image v path out work ≡ record { reply = record { answer = 6; count = reported sectorsOf; length = 0 }; out = out; work = cleared work }
+      pub exceeds-read-path : (out : List ℕ) → readsPath image v path how out work ≡ record { reply = record { answer = 6; count = reported sectorsOf; length = 0 }; out = out; work = cleared work }
       unfolding readPathOf
       exceeds-read-path out =
-          let g : ran (disc image) (pathReading v (length work) path) ≡ record { outcome = refused NoWork; count = sectorsOf } =
-          ran-then (disc image) (finding v (length work) path) (λ icb. reading v icb) ∙ rw looked-up in
+          let g : ran (disc image) (pathReading v (length work) path how) ≡ record { outcome = refused NoWork; count = sectorsOf } =
+          ran-then (disc image) (finding v (length work) path how) (λ icb. reading v icb) ∙ rw looked-up in
           ap (worked out work) g

@@ -1,5 +1,5 @@
--- Which refusals the tree of each call says by itself: 2, 3 and 4, and 6 where a directory is read into the work space. So 1 is given
--- exactly when a sector is missing, and 5 and 7 exactly when memory is short. Assumes nothing.
+-- Which refusals the tree of each call says by itself: 2, 3 and 4, 6 where a directory is read into the work space, and 9 where a component is to match
+-- one entry alone. So 1 is given exactly when a sector is missing, and 5 and 7 exactly when memory is short. Assumes nothing.
 use mathlib.Core.Path.{_≡_, refl, sym, subst}
 use mathlib.Core.Bool.{Bool, true, false}
 use mathlib.Core.List.{List, [], _∷_}
@@ -16,7 +16,7 @@ use Rattle.disc.specs.Ask.{Ask, Outcome, ended, andThen}
 use Rattle.disc.specs.Ask.Outcome.{answered, refused}
 use Rattle.disc.specs.Images.{sectors, sectorsFor}
 use Rattle.disc.specs.declared.refusals.Refusal.{Refusal}
-use Rattle.disc.specs.declared.refusals.Refusal.the-variants.{Malformed, NotBluray, Unsupported, NoWork}
+use Rattle.disc.specs.declared.refusals.Refusal.the-variants.{Malformed, NotBluray, Unsupported, NoWork, Ambiguous}
 use Rattle.disc.proofs.OnlyLaws.{Refuses, done-only, refuse-only, ask-only, pick-only, then-only, Any}
 use Rattle.records.specs.Bytes.{u16at}
 use Rattle.records.specs.declared.allocations.LongAd.{LongAd}
@@ -55,9 +55,12 @@ use Rattle.chains.specs.Chains.{areaIn, nextArea, continued, areaFrom}
 use Rattle.files.specs.Reads.{joining, extentBytes, extentsBytes}
 use Rattle.files.specs.Files.{Located, located, entryAt, isEmbedded, chainOf, fileBytes, filePart, fileExtents, File, resolved, fileAt, contentOf}
 use Rattle.listings.specs.Entries.{Entry, entries}
-use Rattle.listings.specs.Listings.{records, listing, firstNamed, findIn}
+use Rattle.listings.specs.Listings.{records, listing, foldIn, allNamed, chosen, findIn}
+use Rattle.listings.specs.declared.matchings.Matching.{Matching}
+use Rattle.listings.specs.declared.matchings.Matching.the-variants.{Unambiguous}
 use Rattle.listings.specs.Paths.{Component, components}
 use Rattle.listings.proofs.Promises.{entries-refused}
+use Rattle.listings.proofs.MatchingLaws.{chosen-refused}
 use Rattle.identifiers.specs.Identifiers.{isDirectory}
 use Rattle.directories.specs.Directories.{within, directoryBytes, listingAt}
 use Rattle.directories.specs.Lookups.{Sought, entering, orLost, seeking, seekPath, icbOf, lookupOf, readPathOf}
@@ -247,49 +250,58 @@ module _ (P : Refusal → Type 0) (malformed : P Malformed) (missing : P NotBlur
 
 -- ---- directories, for any P that has 6 too
 
-module _ (P : Refusal → Type 0) (malformed : P Malformed) (missing : P NotBluray) (unsupported : P Unsupported) (full : P NoWork) (m : Mount) (work : ℕ) where
-  directory-only : (icb : LongAd) → Refuses P Any (directoryBytes m work icb)
+module _ (P : Refusal → Type 0) (malformed : P Malformed) (missing : P NotBluray) (unsupported : P Unsupported) (full : P NoWork) where
+  pub directory-only : (m : Mount) (work : ℕ) (icb : LongAd) → Refuses P Any (directoryBytes m work icb)
   unfolding directoryBytes within
-  directory-only icb = then-only (bytes-only P malformed unsupported m icb) (λ b q. by b (leb (length b) work))
+  directory-only m work icb = then-only (bytes-only P malformed unsupported m icb) (λ b q. by b (leb (length b) work))
     where
       by : (b : List ℕ) (t : Bool) → Refuses P Any (ended (pick t (answered b) (refused NoWork)))
       by b true = done-only tt
       by b false = refuse-only full
 
-  entering-only : (icb : LongAd) (component : List ℕ) → Refuses P Any (entering m work icb component)
-  unfolding entering findIn
-  entering-only icb component = then-only (directory-only icb) (λ b q. by b (entries b) refl)
-    where
-      by : (b : List ℕ) (o : Outcome (List Entry)) → entries b ≡ o → Refuses P Any (ended (andThen o (λ es. answered (firstNamed component es))))
-      by b (answered es) e = done-only tt
-      by b (refused why) e = refuse-only (rw (entries-refused b e) malformed)
-
-  seeking-only : (cs : List Component) (icb : LongAd) (directory : Bool) → Refuses P Any (seeking m work cs icb directory)
-  unfolding seeking
-  seeking-only [] icb directory = done-only tt
-  seeking-only (c ∷ cs) icb false = done-only tt
-  seeking-only (c ∷ cs) icb true = then-only (entering-only icb (c .bytes)) (λ o q. by o _ (λ e. seeking-only cs (e .identifier .icb) (isDirectory (e .identifier))))
-    where
-      by : (o : Option Entry) (f : Entry → Ask Sought) → ((e : Entry) → Refuses P Any (f e)) → Refuses P Any (orLost c o f)
-      by none f h = done-only tt
-      by (some e) f h = h e
-
-  pub lookup-only : (root : LongAd) (path : List ℕ) → Refuses P Any (lookupOf m work root path)
-  unfolding lookupOf seekPath
-  lookup-only root path = then-only (seeking-only (components path) root true) (λ s q. by s)
-    where
-      by : (s : Sought) → Refuses P Any (ended (icbOf s))
-      by (reached icb) = done-only tt
-      by (lost c) = refuse-only missing
-
-  pub path-only : (root : LongAd) (path : List ℕ) → Refuses P Any (readPathOf m work root path)
-  unfolding readPathOf
-  path-only root path = then-only (lookup-only root path) (λ icb q. bytes-only P malformed unsupported m icb)
-
-  pub listing-only : (icb : LongAd) → Refuses P Any (listingAt m work icb)
+  pub listing-only : (m : Mount) (work : ℕ) (icb : LongAd) → Refuses P Any (listingAt m work icb)
   unfolding listingAt listing
-  listing-only icb = then-only (directory-only icb) (λ b q. by b (entries b) refl)
+  listing-only m work icb = then-only (directory-only m work icb) (λ b q. by b (entries b) refl)
     where
       by : (b : List ℕ) (o : Outcome (List Entry)) → entries b ≡ o → Refuses P Any (ended (andThen o (λ es. answered (records es))))
       by b (answered es) e = done-only tt
       by b (refused why) e = refuse-only (rw (entries-refused b e) malformed)
+
+  -- paths, for any P that has 9 too under the third choice of matching
+  module _ (how : Matching) (ambiguous : how ≡ Unambiguous → P Ambiguous) (m : Mount) (work : ℕ) where
+    chosen-only : (xs : List Entry) → Refuses P Any (ended (chosen how xs))
+    chosen-only xs = by (chosen how xs) refl
+      where
+        by : (o : Outcome (Option Entry)) → chosen how xs ≡ o → Refuses P Any (ended o)
+        by (answered o) e = done-only tt
+        by (refused why) e = let r = chosen-refused how xs e in refuse-only (subst P (sym (r .1)) (ambiguous (r .0)))
+
+    entering-only : (icb : LongAd) (component : List ℕ) → Refuses P Any (entering how m work icb component)
+    unfolding entering findIn
+    entering-only icb component = then-only (directory-only m work icb) (λ b q. by b (entries b) refl)
+      where
+        by : (b : List ℕ) (o : Outcome (List Entry)) → entries b ≡ o → Refuses P Any (ended (andThen o (λ es. chosen how (allNamed (foldIn how) component es))))
+        by b (answered es) e = chosen-only (allNamed (foldIn how) component es)
+        by b (refused why) e = refuse-only (rw (entries-refused b e) malformed)
+
+    seeking-only : (cs : List Component) (icb : LongAd) (directory : Bool) → Refuses P Any (seeking how m work cs icb directory)
+    unfolding seeking
+    seeking-only [] icb directory = done-only tt
+    seeking-only (c ∷ cs) icb false = done-only tt
+    seeking-only (c ∷ cs) icb true = then-only (entering-only icb (c .bytes)) (λ o q. by o _ (λ e. seeking-only cs (e .identifier .icb) (isDirectory (e .identifier))))
+      where
+        by : (o : Option Entry) (f : Entry → Ask Sought) → ((e : Entry) → Refuses P Any (f e)) → Refuses P Any (orLost c o f)
+        by none f h = done-only tt
+        by (some e) f h = h e
+
+    pub lookup-only : (root : LongAd) (path : List ℕ) → Refuses P Any (lookupOf how m work root path)
+    unfolding lookupOf seekPath
+    lookup-only root path = then-only (seeking-only (components path) root true) (λ s q. by s)
+      where
+        by : (s : Sought) → Refuses P Any (ended (icbOf s))
+        by (reached icb) = done-only tt
+        by (lost c) = refuse-only missing
+
+    pub path-only : (root : LongAd) (path : List ℕ) → Refuses P Any (readPathOf how m work root path)
+    unfolding readPathOf
+    path-only root path = then-only (lookup-only root path) (λ icb q. bytes-only P malformed unsupported m icb)

@@ -23,6 +23,7 @@ use Rattle.disc.proofs.RefusalLaws.{refusal-numbered}
 use Rattle.records.specs.declared.allocations.LongAd.{LongAd}
 use Rattle.volumes.specs.Openings.{opening, openedBy, openedOf}
 use Rattle.volumes.specs.Labels.{labelling}
+use Rattle.listings.specs.declared.matchings.Matching.{Matching}
 use Rattle.volumes.specs.declared.openings.VolumeRecord.{VolumeRecord}
 use Rattle.files.specs.Files.{fileVisited, visitsIn}
 use Rattle.files.proofs.Promises.{read-bound}
@@ -61,22 +62,22 @@ module _ (image other : List ℕ) where
     pub list-same : (icb : LongAd) (out work : List ℕ) → Agree (disc image) (disc other) (asked (disc image) (listing v (length work) icb)) → lists image v icb out work ≡ lists other v icb out work
     list-same icb out work h = same (worked out work) (listing v (length work) icb) image other h
 
-    pub lookup-same : (path work : List ℕ) → Agree (disc image) (disc other) (asked (disc image) (finding v (length work) path)) → finds image v path work ≡ finds other v path work
-    lookup-same path work h = same (looked work) (finding v (length work) path) image other h
+    pub lookup-same : (path : List ℕ) (how : Matching) (work : List ℕ) → Agree (disc image) (disc other) (asked (disc image) (finding v (length work) path how)) → finds image v path how work ≡ finds other v path how work
+    lookup-same path how work h = same (looked work) (finding v (length work) path how) image other h
 
-    pub read-path-same : (path out work : List ℕ) → Agree (disc image) (disc other) (asked (disc image) (pathReading v (length work) path)) → readsPath image v path out work ≡ readsPath other v path out work
-    read-path-same path out work h = same (worked out work) (pathReading v (length work) path) image other h
+    pub read-path-same : (path : List ℕ) (how : Matching) (out work : List ℕ) → Agree (disc image) (disc other) (asked (disc image) (pathReading v (length work) path how)) → readsPath image v path how out work ≡ readsPath other v path how out work
+    read-path-same path how out work h = same (worked out work) (pathReading v (length work) path how) image other h
 
     -- the component that failed and its place have the lookup's list
-    module _ (path work : List ℕ) (h : Agree (disc image) (disc other) (asked (disc image) (finding v (length work) path))) where
-      seeks : Agree (disc image) (disc other) (asked (disc image) (seeking v (length work) path))
-      seeks = rw (failed-asks (disc image) (v .mount) (length work) (v .root) path) at h
+    module _ (path : List ℕ) (how : Matching) (work : List ℕ) (h : Agree (disc image) (disc other) (asked (disc image) (finding v (length work) path how))) where
+      seeks : Agree (disc image) (disc other) (asked (disc image) (seeking v (length work) path how))
+      seeks = rw (failed-asks (disc image) how (v .mount) (length work) (v .root) path) at h
 
-      pub failed-same : fails image v path work ≡ fails other v path work
-      failed-same = same (lost work) (seeking v (length work) path) image other seeks
+      pub failed-same : fails image v path how work ≡ fails other v path how work
+      failed-same = same (lost work) (seeking v (length work) path how) image other seeks
 
-      pub failed-at-same : failsAt image v path work ≡ failsAt other v path work
-      failed-at-same = same (lostPlace work) (seeking v (length work) path) image other seeks
+      pub failed-at-same : failsAt image v path how work ≡ failsAt other v path how work
+      failed-at-same = same (lostPlace work) (seeking v (length work) path how) image other seeks
 
 -- ---- the count that is reported
 
@@ -117,19 +118,19 @@ module _ (image : List ℕ) where
     pub list-counts : (icb : LongAd) (out work : List ℕ) → lists image v icb out work .reply .count ≡ listed image (listing v (length work) icb)
     list-counts icb out work = written-counts image out (listing v (length work) icb)
 
-    pub lookup-counts : (path work : List ℕ) → finds image v path work .found .count ≡ listed image (finding v (length work) path)
+    pub lookup-counts : (path : List ℕ) (how : Matching) (work : List ℕ) → finds image v path how work .found .count ≡ listed image (finding v (length work) path how)
     unfolding ran
-    lookup-counts path work = refl
+    lookup-counts path how work = refl
 
-    pub failed-counts : (path work : List ℕ) → fails image v path work .count ≡ listed image (finding v (length work) path)
+    pub failed-counts : (path : List ℕ) (how : Matching) (work : List ℕ) → fails image v path how work .count ≡ listed image (finding v (length work) path how)
     unfolding ran
-    failed-counts path work = rw (failed-asks (disc image) (v .mount) (length work) (v .root) path)
+    failed-counts path how work = rw (failed-asks (disc image) how (v .mount) (length work) (v .root) path)
 
-    pub failed-at-counts : (path work : List ℕ) → failsAt image v path work .reply .count ≡ listed image (finding v (length work) path)
-    failed-at-counts path work = failed-counts path work
+    pub failed-at-counts : (path : List ℕ) (how : Matching) (work : List ℕ) → failsAt image v path how work .reply .count ≡ listed image (finding v (length work) path how)
+    failed-at-counts path how work = failed-counts path how work
 
-    pub read-path-counts : (path out work : List ℕ) → readsPath image v path out work .reply .count ≡ listed image (pathReading v (length work) path)
-    read-path-counts path out work = written-counts image out (pathReading v (length work) path)
+    pub read-path-counts : (path : List ℕ) (how : Matching) (out work : List ℕ) → readsPath image v path how out work .reply .count ≡ listed image (pathReading v (length work) path how)
+    read-path-counts path how out work = written-counts image out (pathReading v (length work) path how)
 
 -- ---- the bound: a read by ICB that answers L bytes after E extents asked for at most 16,385 + L div 2,048 + E sectors
 

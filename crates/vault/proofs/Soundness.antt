@@ -3,6 +3,7 @@
 use mathlib.Core.Path.{_≡_, refl, ap, sym, _∙_}
 use mathlib.Core.Bool.{Bool, true, false}
 use mathlib.Core.List.{List, [], _++_, map}
+use mathlib.Core.Logic.{_⊎_, inl, inr}
 use Prim.Native.Nat.{ℕ, _≤_}
 use native.Mathlib.Omega.{arith}
 use lib.ListN.{length, drop, replicate}
@@ -10,19 +11,22 @@ use lib.Dec.{leb}
 use Rattle.disc.specs.Choice.{pick}
 use Rattle.disc.specs.Refusals.{number}
 use Rattle.disc.specs.Counts.{reported}
-use Rattle.disc.specs.Ask.{Outcome, andThen}
+use Rattle.disc.specs.Ask.{Ask, Outcome, outcome, asked, andThen}
 use Rattle.disc.specs.Ask.Outcome.{answered, refused}
 use Rattle.disc.specs.Images.{disc, bytesOf}
 use Rattle.disc.specs.Ran.{Ran, ran, eachIn}
 use Rattle.disc.specs.Replies.{replyBy, leftBy, answerOf}
 use Rattle.disc.specs.declared.refusals.Refusal.{Refusal}
-use Rattle.disc.specs.declared.refusals.Refusal.the-variants.{Io, Malformed, NotBluray, Unsupported, NoRoom, NoWork, NoSlot}
+use Rattle.disc.specs.declared.refusals.Refusal.the-variants.{Io, Malformed, NotBluray, Unsupported, NoRoom, NoWork, NoSlot, Ambiguous}
 use Rattle.disc.specs.declared.replies.Reply.{Reply}
 use Rattle.disc.proofs.PartLaws.{PartAt}
+use Rattle.disc.proofs.OnlyLaws.{Within, refuses-within}
 use Rattle.records.specs.Allocations.{noLong}
 use Rattle.records.specs.declared.allocations.LongAd.{LongAd}
 use Rattle.volumes.specs.Openings.{opening, noVolume, openedBy}
 use Rattle.volumes.specs.Labels.{labelling}
+use Rattle.listings.specs.declared.matchings.Matching.{Matching}
+use Rattle.listings.specs.declared.matchings.Matching.the-variants.{Unambiguous}
 use Rattle.volumes.specs.declared.openings.VolumeRecord.{VolumeRecord}
 use Rattle.areas.specs.declared.AllocExtent.{AllocExtent}
 use Rattle.files.specs.Files.{Part}
@@ -34,6 +38,8 @@ use Rattle.directories.specs.Lookups.Sought.{reached, lost}
 use Rattle.directories.proofs.PlaceLaws.{failed-stands}
 use Rattle.directories.proofs.LookupLaws.{look-is}
 use Rattle.vault.specs.Calls.{reading, parting, extentListing, listing, seeking, finding, pathReading, opens, written, labels, reads, lists, readsPath, finds, fails, parts, extents, failsAt, partsAt}
+use Rattle.vault.proofs.Refusing.{listing-only, lookup-only, path-only}
+use Rattle.vault.proofs.Exactly.{Original, open-original, label-original, read-original, part-original, extents-original}
 
 -- ---- a contract is an equation of what the call leaves with a function of what it was lent: two results that meet it are equal
 
@@ -42,91 +48,135 @@ one p q = p ∙ sym q
 
 -- ---- the table
 
-pub in-table : (why : Refusal) → number why ≤ 7
-in-table Io = omega arith
-in-table Malformed = omega arith
-in-table NotBluray = omega arith
-in-table Unsupported = omega arith
-in-table NoRoom = omega arith
-in-table NoWork = omega arith
-in-table NoSlot = omega arith
+pub in-table : (why : Refusal) → (number why ≤ 7) ⊎ (number why ≡ 9)
+in-table Io = inl (omega arith)
+in-table Malformed = inl (omega arith)
+in-table NotBluray = inl (omega arith)
+in-table Unsupported = inl (omega arith)
+in-table NoRoom = inl (omega arith)
+in-table NoWork = inl (omega arith)
+in-table NoSlot = inl (omega arith)
+in-table Ambiguous = inr refl
+
+-- 0 to 7; and of a call that takes a path 9 too, under the third choice of matching alone
+abbrev pub Listed : ℕ → Type 0
+Listed n = n ≤ 7
+
+abbrev pub ListedBy : Matching → ℕ → Type 0
+ListedBy how n = (n ≤ 7) ⊎ ((how ≡ Unambiguous) × (n ≡ 9))
+
+-- what the trees say by themselves is in it
+module _ (image : List ℕ) where
+  widened : {A : Type 0} (o : Outcome A) → Within Original o → Within (λ why. Listed (number why)) o
+  unfolding Within
+  widened (answered a) w = tt
+  widened (refused why) w = omega arith
+
+  path-listed : (v : VolumeRecord) (path : List ℕ) (how : Matching) (work : ℕ) → Within (λ why. ListedBy how (number why)) (outcome (disc image) (pathReading v work path how))
+  path-listed v path how work =
+      refuses-within (λ why. ListedBy how (number why)) (inl (omega arith)) (disc image)
+      (path-only (λ why. ListedBy how (number why)) (inl (omega arith)) (inl (omega arith)) (inl (omega arith)) (inl (omega arith)) how (λ z. inr (z, refl)) (v .mount) work (v .root) path)
+
+  list-listed : (v : VolumeRecord) (icb : LongAd) (work : ℕ) → Within (λ why. Listed (number why)) (outcome (disc image) (listing v work icb))
+  list-listed v icb work =
+      refuses-within (λ why. Listed (number why)) (omega arith) (disc image)
+      (listing-only (λ why. Listed (number why)) (omega arith) (omega arith) (omega arith) (omega arith) (v .mount) work icb)
+
+  find-listed : (v : VolumeRecord) (path : List ℕ) (how : Matching) (work : ℕ) → Within (λ why. ListedBy how (number why)) (outcome (disc image) (finding v work path how))
+  find-listed v path how work =
+      refuses-within (λ why. ListedBy how (number why)) (inl (omega arith)) (disc image)
+      (lookup-only (λ why. ListedBy how (number why)) (inl (omega arith)) (inl (omega arith)) (inl (omega arith)) (inl (omega arith)) how (λ z. inr (z, refl)) (v .mount) work (v .root) path)
 
 -- ---- calls that write: the answer is 0 or in the table; a refusal has length 0, and leaves what was lent as it came
 
-pub record Sound {A : Type 0} (answer length : ℕ) (before after : List A) : Type 0 where
-  pub table : answer ≤ 7
+pub record Sound {A : Type 0} (table : ℕ → Type 0) (answer length : ℕ) (before after : List A) : Type 0 where
+  pub listed : table answer
   pub zeros : (answer ≡ 0 → ⊥) → length ≡ 0
   pub kept : (answer ≡ 0 → ⊥) → after ≡ before
 
 abbrev said : Refusal → ℕ → ℕ → Bool → Reply
 said full size n t = pick t (record { answer = 0; count = n; length = size }) (record { answer = number full; count = n; length = 0 })
 
-sound-by : (out : List ℕ) (n : ℕ) (o : Outcome (List ℕ)) → Sound (replyBy NoRoom (length out) n o .answer) (replyBy NoRoom (length out) n o .length) out (leftBy out o)
-sound-by out n (refused why) = record { table = in-table why; zeros = λ h. refl; kept = λ h. refl }
-sound-by out n (answered b) = by (leb (length b) (length out))
-  where
-    by : (t : Bool) → Sound (said NoRoom (length b) n t .answer) (said NoRoom (length b) n t .length) out (pick t (b ++ drop (length b) out) out)
-    by true = record { table = omega arith; zeros = λ h. absurd (h refl); kept = λ h. absurd (h refl) }
-    by false = record { table = omega arith; zeros = λ h. refl; kept = λ h. refl }
+module _ (table : ℕ → Type 0) (done : table 0) where
+  sound-by : table 5 → (out : List ℕ) (n : ℕ) (o : Outcome (List ℕ)) → Within (λ why. table (number why)) o
+      → Sound table (replyBy NoRoom (length out) n o .answer) (replyBy NoRoom (length out) n o .length) out (leftBy out o)
+  unfolding Within
+  sound-by five out n (refused why) w = record { listed = w; zeros = λ h. refl; kept = λ h. refl }
+  sound-by five out n (answered b) w = by (leb (length b) (length out))
+    where
+      by : (t : Bool) → Sound table (said NoRoom (length b) n t .answer) (said NoRoom (length b) n t .length) out (pick t (b ++ drop (length b) out) out)
+      by true = record { listed = done; zeros = λ h. absurd (h refl); kept = λ h. absurd (h refl) }
+      by false = record { listed = five; zeros = λ h. refl; kept = λ h. refl }
 
-written-sound : (out : List ℕ) (r : Ran (List ℕ)) → Sound (written out r .reply .answer) (written out r .reply .length) out (written out r .out)
-written-sound out r = sound-by out (reported (r .count)) (r .outcome)
+  rowed-by : {A : Type 0} → table 7 → (f : AllocExtent → A) (row : List A) (o : Outcome (List AllocExtent)) (n : ℕ) → Within (λ why. table (number why)) o
+      → Sound table (replyBy NoSlot (length row) n (eachIn f o) .answer) (replyBy NoSlot (length row) n (eachIn f o) .length) row (leftBy row (eachIn f o))
+  unfolding Within
+  rowed-by seven f row (refused why) n w = record { listed = w; zeros = λ h. refl; kept = λ h. refl }
+  rowed-by seven f row (answered es) n w = by (leb (length (map f es)) (length row))
+    where
+      by : (t : Bool) → Sound table (said NoSlot (length (map f es)) n t .answer) (said NoSlot (length (map f es)) n t .length) row (pick t (map f es ++ drop (length (map f es)) row) row)
+      by true = record { listed = done; zeros = λ h. absurd (h refl); kept = λ h. absurd (h refl) }
+      by false = record { listed = seven; zeros = λ h. refl; kept = λ h. refl }
 
-rowed-sound : {A : Type 0} (f : AllocExtent → A) (row : List A) (o : Outcome (List AllocExtent)) (n : ℕ)
-    → Sound (replyBy NoSlot (length row) n (eachIn f o) .answer) (replyBy NoSlot (length row) n (eachIn f o) .length) row (leftBy row (eachIn f o))
-rowed-sound f row (refused why) n = record { table = in-table why; zeros = λ h. refl; kept = λ h. refl }
-rowed-sound f row (answered es) n = by (leb (length (map f es)) (length row))
-  where
-    by : (t : Bool) → Sound (said NoSlot (length (map f es)) n t .answer) (said NoSlot (length (map f es)) n t .length) row (pick t (map f es ++ drop (length (map f es)) row) row)
-    by true = record { table = omega arith; zeros = λ h. absurd (h refl); kept = λ h. absurd (h refl) }
-    by false = record { table = omega arith; zeros = λ h. refl; kept = λ h. refl }
+written-sound : (image out : List ℕ) (m : Ask (List ℕ)) → Within (λ why. Listed (number why)) (outcome (disc image) m)
+    → Sound Listed (written out (ran (disc image) m) .reply .answer) (written out (ran (disc image) m) .reply .length) out (written out (ran (disc image) m) .out)
+unfolding ran
+written-sound image out m w = sound-by Listed (omega arith) (omega arith) out _ (outcome (disc image) m) w
 
-module _ (image : List ℕ) (v : VolumeRecord) (icb : LongAd) (path out work : List ℕ) where
-  pub label-sound : Sound (labels image out .reply .answer) (labels image out .reply .length) out (labels image out .out)
-  label-sound = written-sound out (ran (disc image) labelling)
+module _ (image : List ℕ) (v : VolumeRecord) (icb : LongAd) (path : List ℕ) (how : Matching) (out work : List ℕ) where
+  pub label-sound : Sound Listed (labels image out .reply .answer) (labels image out .reply .length) out (labels image out .out)
+  label-sound = written-sound image out labelling (widened image (outcome (disc image) labelling) (label-original (disc image)))
 
-  pub read-sound : Sound (reads image v icb out .reply .answer) (reads image v icb out .reply .length) out (reads image v icb out .out)
-  read-sound = written-sound out (ran (disc image) (reading v icb))
+  pub read-sound : Sound Listed (reads image v icb out .reply .answer) (reads image v icb out .reply .length) out (reads image v icb out .out)
+  read-sound = written-sound image out (reading v icb) (widened image (outcome (disc image) (reading v icb)) (read-original (disc image) v icb))
 
-  pub list-sound : Sound (lists image v icb out work .reply .answer) (lists image v icb out work .reply .length) out (lists image v icb out work .out)
-  list-sound = written-sound out (ran (disc image) (listing v (length work) icb))
+  pub list-sound : Sound Listed (lists image v icb out work .reply .answer) (lists image v icb out work .reply .length) out (lists image v icb out work .out)
+  list-sound = written-sound image out (listing v (length work) icb) (list-listed image v icb (length work))
 
-  pub read-path-sound : Sound (readsPath image v path out work .reply .answer) (readsPath image v path out work .reply .length) out (readsPath image v path out work .out)
-  read-path-sound = written-sound out (ran (disc image) (pathReading v (length work) path))
+  pub read-path-sound : Sound (ListedBy how) (readsPath image v path how out work .reply .answer) (readsPath image v path how out work .reply .length) out (readsPath image v path how out work .out)
+  unfolding ran
+  read-path-sound = sound-by (ListedBy how) (inl (omega arith)) (inl (omega arith)) out _ (outcome (disc image) (pathReading v (length work) path how)) (path-listed image v path how (length work))
 
-  pub extents-sound : {A : Type 0} (f : AllocExtent → A) (row : List A) → Sound (extents f image v icb row .reply .answer) (extents f image v icb row .reply .length) row (extents f image v icb row .row)
-  extents-sound f row = rowed-sound f row (ran (disc image) (extentListing v icb) .outcome) (reported (ran (disc image) (extentListing v icb) .count))
+  pub extents-sound : {A : Type 0} (f : AllocExtent → A) (row : List A) → Sound Listed (extents f image v icb row .reply .answer) (extents f image v icb row .reply .length) row (extents f image v icb row .row)
+  unfolding ran
+  extents-sound f row =
+      rowed-by Listed (omega arith) (omega arith) f row (outcome (disc image) (extentListing v icb)) _
+      (widened image (outcome (disc image) (extentListing v icb)) (extents-original (disc image) v icb))
 
   -- work space comes back all zero, as long as it was, from each call that takes one
   pub clears : (lists image v icb out work .work ≡ replicate (length work) 0)
-      × (readsPath image v path out work .work ≡ replicate (length work) 0)
-      × (finds image v path work .work ≡ replicate (length work) 0)
-      × (fails image v path work .work ≡ replicate (length work) 0)
-      × (failsAt image v path work .work ≡ replicate (length work) 0)
+      × (readsPath image v path how out work .work ≡ replicate (length work) 0)
+      × (finds image v path how work .work ≡ replicate (length work) 0)
+      × (fails image v path how work .work ≡ replicate (length work) 0)
+      × (failsAt image v path how work .work ≡ replicate (length work) 0)
   clears = (refl, refl, refl, refl, refl)
 
 -- ---- calls that give a value: zeros where they are refused
 
 pub open-sound : (image : List ℕ) → (opens image .answer ≤ 7) × ((opens image .answer ≡ 0 → ⊥) → opens image .volume ≡ noVolume)
-open-sound image = by (ran (disc image) opening .outcome) (reported (ran (disc image) opening .count))
+unfolding ran Within
+open-sound image = by (outcome (disc image) opening) _ (open-original (disc image))
   where
-    by : (o : Outcome VolumeRecord) (n : ℕ) → (openedBy n o .answer ≤ 7) × ((openedBy n o .answer ≡ 0 → ⊥) → openedBy n o .volume ≡ noVolume)
-    by (answered v) n = (omega arith, λ h. absurd (h refl))
-    by (refused why) n = (in-table why, λ h. refl)
+    by : (o : Outcome VolumeRecord) (n : ℕ) → Within Original o → (openedBy n o .answer ≤ 7) × ((openedBy n o .answer ≡ 0 → ⊥) → openedBy n o .volume ≡ noVolume)
+    by (answered v) n w = (omega arith, λ h. absurd (h refl))
+    by (refused why) n w = (omega arith, λ h. refl)
 
-found-sound : (o : Outcome LongAd) (n : ℕ) → (foundTo o n .answer ≤ 7) × ((foundTo o n .answer ≡ 0 → ⊥) → foundTo o n .icb ≡ noLong)
-found-sound (answered icb) n = (omega arith, λ h. absurd (h refl))
-found-sound (refused why) n = (in-table why, λ h. refl)
-
-pub lookup-sound : (image : List ℕ) (v : VolumeRecord) (path work : List ℕ) → (finds image v path work .found .answer ≤ 7) × ((finds image v path work .found .answer ≡ 0 → ⊥) → finds image v path work .found .icb ≡ noLong)
-lookup-sound image v path work = found-sound (ran (disc image) (finding v (length work) path) .outcome) (reported (ran (disc image) (finding v (length work) path) .count))
+pub lookup-sound : (image : List ℕ) (v : VolumeRecord) (path : List ℕ) (how : Matching) (work : List ℕ)
+    → ListedBy how (finds image v path how work .found .answer) × ((finds image v path how work .found .answer ≡ 0 → ⊥) → finds image v path how work .found .icb ≡ noLong)
+unfolding ran Within
+lookup-sound image v path how work = by (outcome (disc image) (finding v (length work) path how)) (reported (length (asked (disc image) (finding v (length work) path how)))) (find-listed image v path how (length work))
+  where
+    by : (o : Outcome LongAd) (n : ℕ) → Within (λ why. ListedBy how (number why)) o → ListedBy how (foundTo o n .answer) × ((foundTo o n .answer ≡ 0 → ⊥) → foundTo o n .icb ≡ noLong)
+    by (answered icb) n w = (inl (omega arith), λ h. absurd (h refl))
+    by (refused why) n w = (w, λ h. refl)
 
 pub part-sound : (image : List ℕ) (v : VolumeRecord) (icb : LongAd) → (parts image v icb .answer ≤ 7) × ((parts image v icb .answer ≡ 0 → ⊥) → parts image v icb .part ≡ [])
-part-sound image v icb = by (ran (disc image) (parting v icb) .outcome)
+unfolding ran Within
+part-sound image v icb = by (outcome (disc image) (parting v icb)) (part-original (disc image) v icb)
   where
-    by : (o : Outcome Part) → (answerOf o ≤ 7) × ((answerOf o ≡ 0 → ⊥) → partIn o .bytes ≡ [])
-    by (answered p) = (omega arith, λ h. absurd (h refl))
-    by (refused why) = (in-table why, λ h. refl)
+    by : (o : Outcome Part) → Within Original o → (answerOf o ≤ 7) × ((answerOf o ≡ 0 → ⊥) → partIn o .bytes ≡ [])
+    by (answered p) w = (omega arith, λ h. absurd (h refl))
+    by (refused why) w = (omega arith, λ h. refl)
 
 -- the call for the part's place has the part's number, count and length; the part stands there; a refusal has zeros
 pub part-at-sound : (image : List ℕ) (v : VolumeRecord) (icb : LongAd)
@@ -141,24 +191,24 @@ lost-three (answered (reached icb)) h = refl
 lost-three (answered (lost c)) h = absurd (h refl)
 lost-three (refused r) h = refl
 
-pub failed-sound : (image : List ℕ) (v : VolumeRecord) (path work : List ℕ)
-    → (fails image v path work .answer ≡ finds image v path work .found .answer)
-    × (fails image v path work .count ≡ finds image v path work .found .count)
-    × ((fails image v path work .answer ≡ 3 → ⊥) → fails image v path work .component ≡ [])
-failed-sound image v path work =
-    let l = look-is (disc image) (v .mount) (length work) (v .root) path in (
+pub failed-sound : (image : List ℕ) (v : VolumeRecord) (path : List ℕ) (how : Matching) (work : List ℕ)
+    → (fails image v path how work .answer ≡ finds image v path how work .found .answer)
+    × (fails image v path how work .count ≡ finds image v path how work .found .count)
+    × ((fails image v path how work .answer ≡ 3 → ⊥) → fails image v path how work .component ≡ [])
+failed-sound image v path how work =
+    let l = look-is (disc image) how (v .mount) (length work) (v .root) path in (
       rw l,
       rw l,
-      λ h. ap (λ (c : Component). c .bytes) (lost-three (ran (disc image) (seeking v (length work) path) .outcome) h),
+      λ h. ap (λ (c : Component). c .bytes) (lost-three (ran (disc image) (seeking v (length work) path how) .outcome) h),
     )
 
 -- and so has the call for its place, with the component's length; the component stands there; zeros if the number is not 3
-pub failed-at-sound : (image : List ℕ) (v : VolumeRecord) (path work : List ℕ)
-    → (failsAt image v path work .reply ≡ record { answer = fails image v path work .answer; count = fails image v path work .count; length = length (fails image v path work .component) })
-    × PartAt path (fails image v path work .component) (failsAt image v path work .at)
-    × ((failsAt image v path work .reply .answer ≡ 3 → ⊥) → failsAt image v path work .at ≡ 0)
-failed-at-sound image v path work = (
+pub failed-at-sound : (image : List ℕ) (v : VolumeRecord) (path : List ℕ) (how : Matching) (work : List ℕ)
+    → (failsAt image v path how work .reply ≡ record { answer = fails image v path how work .answer; count = fails image v path how work .count; length = length (fails image v path how work .component) })
+    × PartAt path (fails image v path how work .component) (failsAt image v path how work .at)
+    × ((failsAt image v path how work .reply .answer ≡ 3 → ⊥) → failsAt image v path how work .at ≡ 0)
+failed-at-sound image v path how work = (
   refl,
-  failed-stands (disc image) (v .mount) (length work) (v .root) path,
-  λ h. ap (λ (c : Component). c .at) (lost-three (ran (disc image) (seeking v (length work) path) .outcome) h),
+  failed-stands (disc image) how (v .mount) (length work) (v .root) path,
+  λ h. ap (λ (c : Component). c .at) (lost-three (ran (disc image) (seeking v (length work) path how) .outcome) h),
 )

@@ -20,11 +20,12 @@ use Rattle.volumes.specs.declared.openings.Opened.{Opened}
 use Rattle.areas.specs.declared.AllocExtent.{AllocExtent}
 use Rattle.files.specs.Files.{fileBytes, Part, filePart, fileExtents}
 use Rattle.layouts.specs.Calls.{partIn, partReply}
+use Rattle.listings.specs.declared.matchings.Matching.{Matching}
 use Rattle.directories.specs.Directories.{listingAt}
 use Rattle.directories.specs.Lookups.{Sought, seekPath, lookupOf, readPathOf, foundOf, failedOf, failedReply}
 use Rattle.directories.specs.declared.lookups.Found.{Found}
 
--- ---- the tree of questions of each call; `work` is how many bytes of work space there are
+-- ---- the tree of questions of each call; `work` is how many bytes of work space there are, `how` the choice of matching
 
 abbrev pub reading : VolumeRecord → LongAd → Ask (List ℕ)
 reading v icb = fileBytes (v .mount) icb
@@ -38,14 +39,14 @@ extentListing v icb = fileExtents (v .mount) icb
 abbrev pub listing : VolumeRecord → ℕ → LongAd → Ask (List ℕ)
 listing v work icb = listingAt (v .mount) work icb
 
-abbrev pub seeking : VolumeRecord → ℕ → List ℕ → Ask Sought
-seeking v work path = seekPath (v .mount) work (v .root) path
+abbrev pub seeking : VolumeRecord → ℕ → List ℕ → Matching → Ask Sought
+seeking v work path how = seekPath how (v .mount) work (v .root) path
 
-abbrev pub finding : VolumeRecord → ℕ → List ℕ → Ask LongAd
-finding v work path = lookupOf (v .mount) work (v .root) path
+abbrev pub finding : VolumeRecord → ℕ → List ℕ → Matching → Ask LongAd
+finding v work path how = lookupOf how (v .mount) work (v .root) path
 
-abbrev pub pathReading : VolumeRecord → ℕ → List ℕ → Ask (List ℕ)
-pathReading v work path = readPathOf (v .mount) work (v .root) path
+abbrev pub pathReading : VolumeRecord → ℕ → List ℕ → Matching → Ask (List ℕ)
+pathReading v work path how = readPathOf how (v .mount) work (v .root) path
 
 -- ---- opening
 
@@ -83,10 +84,10 @@ worked out work r = record { reply = replyOf NoRoom (length out) r; out = leftBy
 abbrev pub lists : List ℕ → VolumeRecord → LongAd → List ℕ → List ℕ → Worked
 lists image v icb out work = worked out work (ran (disc image) (listing v (length work) icb))
 
-abbrev pub readsPath : List ℕ → VolumeRecord → List ℕ → List ℕ → List ℕ → Worked
-readsPath image v path out work = worked out work (ran (disc image) (pathReading v (length work) path))
+abbrev pub readsPath : List ℕ → VolumeRecord → List ℕ → Matching → List ℕ → List ℕ → Worked
+readsPath image v path how out work = worked out work (ran (disc image) (pathReading v (length work) path how))
 
--- ---- paths
+-- ---- paths, by a choice of matching
 
 pub record Looked : Type 0 where
   pub found : Found
@@ -95,8 +96,8 @@ pub record Looked : Type 0 where
 abbrev pub looked : List ℕ → Ran LongAd → Looked
 looked work r = record { found = foundOf r; work = cleared work }
 
-abbrev pub finds : List ℕ → VolumeRecord → List ℕ → List ℕ → Looked
-finds image v path work = looked work (ran (disc image) (finding v (length work) path))
+abbrev pub finds : List ℕ → VolumeRecord → List ℕ → Matching → List ℕ → Looked
+finds image v path how work = looked work (ran (disc image) (finding v (length work) path how))
 
 -- the component that failed; the number and the count are the lookup's
 pub record Lost : Type 0 where
@@ -108,8 +109,8 @@ pub record Lost : Type 0 where
 abbrev pub lost : List ℕ → Ran Sought → Lost
 lost work r = record { component = failedOf r .component .bytes; answer = failedOf r .answer; count = failedOf r .count; work = cleared work }
 
-abbrev pub fails : List ℕ → VolumeRecord → List ℕ → List ℕ → Lost
-fails image v path work = lost work (ran (disc image) (seeking v (length work) path))
+abbrev pub fails : List ℕ → VolumeRecord → List ℕ → Matching → List ℕ → Lost
+fails image v path how work = lost work (ran (disc image) (seeking v (length work) path how))
 
 -- the same by its place in the path: the reply has its length
 pub record LostPlace : Type 0 where
@@ -120,8 +121,8 @@ pub record LostPlace : Type 0 where
 abbrev pub lostPlace : List ℕ → Ran Sought → LostPlace
 lostPlace work r = record { reply = failedReply (failedOf r); at = failedOf r .component .at; work = cleared work }
 
-abbrev pub failsAt : List ℕ → VolumeRecord → List ℕ → List ℕ → LostPlace
-failsAt image v path work = lostPlace work (ran (disc image) (seeking v (length work) path))
+abbrev pub failsAt : List ℕ → VolumeRecord → List ℕ → Matching → List ℕ → LostPlace
+failsAt image v path how work = lostPlace work (ran (disc image) (seeking v (length work) path how))
 
 -- ---- the uncopied part of an embedded file
 

@@ -12,6 +12,7 @@ use layouts::lists::Extent;
 use layouts::lists::file_rows;
 use layouts::lists::file_words;
 use layouts::parts::file_part;
+use listings::matchings::Matching;
 use records::allocations::LongAd;
 use volumes::openings::Opened;
 use volumes::openings::VolumeRecord;
@@ -29,14 +30,14 @@ impl Volume {
         open_volume(image)
     }
 
-    // The ICB that a path names. The work space holds one directory at a time, and is all zero on return.
-    pub fn lookup(self, image: &[u8], path: &[u8], work: &mut [u8]) -> Found
-        ensures { λ r. ⌜ record { found = r; work = now (work .exit) } ≡ finds (now (image .entry)) (self .0) (now (path .entry)) (now (work .entry)) ⌝ }
+    // The ICB that a path names, by a choice of matching. The work space holds one directory at a time, and is all zero on return.
+    pub fn lookup(self, image: &[u8], path: &[u8], matching: Matching, work: &mut [u8]) -> Found
+        ensures { λ r. ⌜ record { found = r; work = now (work .exit) } ≡ finds (now (image .entry)) (self .0) (now (path .entry)) matching (now (work .entry)) ⌝ }
     {
         let v = self.0;
         let mount = v.mount;
         let root = v.root;
-        directories::lookups::lookup(image, mount, root, path, work)
+        directories::lookups::lookup(image, mount, root, path, matching, work)
     }
 
     // The component at which a lookup is refused by 3, as a part of the path; empty if it isn't.
@@ -44,26 +45,34 @@ impl Volume {
         self,
         image: &'i [u8],
         path: &'p [u8],
+        matching: Matching,
         work: &mut [u8],
         answer: &mut u64,
         count: &mut u64,
     ) -> &'p [u8]
-        ensures { λ r. ⌜ record { component = now r; answer = now (answer .exit); count = now (count .exit); work = now (work .exit) } ≡ fails (now (image .entry)) (self .0) (now (path .entry)) (now (work .entry)) ⌝ }
+        ensures { λ r. ⌜ record { component = now r; answer = now (answer .exit); count = now (count .exit); work = now (work .exit) } ≡ fails (now (image .entry)) (self .0) (now (path .entry)) matching (now (work .entry)) ⌝ }
     {
         let v = self.0;
         let mount = v.mount;
         let root = v.root;
-        directories::lookups::failed(image, mount, root, path, work, answer, count)
+        directories::lookups::failed(image, mount, root, path, matching, work, answer, count)
     }
 
     // The length of that component, and in `at` its place in the path; zeros if there is none.
-    pub fn failed_at(self, image: &[u8], path: &[u8], work: &mut [u8], at: &mut usize) -> Reply
-        ensures { λ r. ⌜ record { reply = r; at = now (at .exit); work = now (work .exit) } ≡ failsAt (now (image .entry)) (self .0) (now (path .entry)) (now (work .entry)) ⌝ }
+    pub fn failed_at(
+        self,
+        image: &[u8],
+        path: &[u8],
+        matching: Matching,
+        work: &mut [u8],
+        at: &mut usize,
+    ) -> Reply
+        ensures { λ r. ⌜ record { reply = r; at = now (at .exit); work = now (work .exit) } ≡ failsAt (now (image .entry)) (self .0) (now (path .entry)) matching (now (work .entry)) ⌝ }
     {
         let v = self.0;
         let mount = v.mount;
         let root = v.root;
-        directories::lookups::failed_at(image, mount, root, path, work, at)
+        directories::lookups::failed_at(image, mount, root, path, matching, work, at)
     }
 
     // The listing of the directory at icb, over the front of out.
@@ -120,13 +129,20 @@ impl Volume {
     }
 
     // The bytes of the file that a path names: a lookup, then a read, counts added.
-    pub fn read_path(self, image: &[u8], path: &[u8], out: &mut [u8], work: &mut [u8]) -> Reply
-        ensures { λ r. ⌜ record { reply = r; out = now (out .exit); work = now (work .exit) } ≡ readsPath (now (image .entry)) (self .0) (now (path .entry)) (now (out .entry)) (now (work .entry)) ⌝ }
+    pub fn read_path(
+        self,
+        image: &[u8],
+        path: &[u8],
+        matching: Matching,
+        out: &mut [u8],
+        work: &mut [u8],
+    ) -> Reply
+        ensures { λ r. ⌜ record { reply = r; out = now (out .exit); work = now (work .exit) } ≡ readsPath (now (image .entry)) (self .0) (now (path .entry)) matching (now (out .entry)) (now (work .entry)) ⌝ }
     {
         let v = self.0;
         let mount = v.mount;
         let root = v.root;
-        directories::lookups::read_path(image, mount, root, path, out, work)
+        directories::lookups::read_path(image, mount, root, path, matching, out, work)
     }
 }
 

@@ -1,0 +1,213 @@
+-- How the choices of matching agree, said of the calls that take a path. Wherever the third isn't refused by 9, the first gives the same; a lookup that
+-- the second and the third answer has one ICB; where no two names of the directories on the path are equal with ASCII case ignored, the first and the
+-- third give the same, and the second gives the same or is refused by 3. And 9 is given exactly when several entries match. Assumes nothing.
+use mathlib.Core.Path.{_≡_, refl, ap, sym, _∙_}
+use mathlib.Core.Bool.{Bool, true, false}
+use mathlib.Core.List.{List, []}
+use mathlib.Core.Logic.{_⊎_, inl, inr}
+use Prim.Native.Nat.{ℕ, _+_, _≤_}
+use native.Mathlib.Omega.{arith}
+use lib.ListN.{length}
+use lib.Dec.{leb}
+use Rattle.disc.specs.Choice.{pick}
+use Rattle.disc.specs.Refusals.{number}
+use Rattle.disc.specs.Counts.{reported}
+use Rattle.disc.specs.Ask.{Outcome, outcome, andThen}
+use Rattle.disc.specs.Ask.Outcome.{answered, refused}
+use Rattle.disc.specs.Images.{disc}
+use Rattle.disc.specs.Ran.{Ran, ran}
+use Rattle.disc.specs.Replies.{answerOf}
+use Rattle.disc.specs.declared.refusals.Refusal.{Refusal}
+use Rattle.disc.specs.declared.refusals.Refusal.the-variants.{Io, Malformed, NotBluray, Unsupported, NoRoom, NoWork, NoSlot, Ambiguous}
+use Rattle.disc.proofs.OnlyLaws.{Within, refuses-within}
+use Rattle.disc.proofs.RanLaws.{ran-then}
+use Rattle.disc.proofs.RefusalLaws.{refusal-numbered}
+use Rattle.records.specs.Allocations.{noLong}
+use Rattle.records.specs.declared.allocations.LongAd.{LongAd}
+use Rattle.listings.specs.Paths.{components}
+use Rattle.listings.specs.declared.matchings.Matching.{Matching}
+use Rattle.listings.specs.declared.matchings.Matching.the-variants.{CaseIgnored, AsWritten, Unambiguous}
+use Rattle.directories.specs.Directories.{directoryBytes}
+use Rattle.directories.specs.Lookups.{Sought, seeking, seekPath, icbOf, lookupOf, readPathOf}
+use Rattle.directories.specs.Lookups.Sought.{reached, lost}
+use Rattle.directories.proofs.LookupLaws.{look-is}
+use Rattle.directories.proofs.MatchingLaws.{only-agrees, written-agrees-only, ApartOn, IsLost, apart-only, apart-written-agrees, Doubles, doubles-refused, refused-doubles}
+use Rattle.volumes.specs.declared.openings.VolumeRecord.{VolumeRecord}
+use Rattle.vault.specs.Calls.{reading, seeking as seekingOf, finding, pathReading, cleared, worked, readsPath, looked, finds, lost as lostBy, fails, lostPlace, failsAt}
+use Rattle.vault.proofs.Exactly.{read-original}
+use Rattle.vault.proofs.Orders.{roomed, pathAnswer, read-path-order}
+use Rattle.vault.proofs.Refusing.{directory-only}
+use Rattle.vault.proofs.Soundness.{failed-sound}
+
+-- ---- which refusal has number 9
+
+nine-is : (why : Refusal) → number why ≡ 9 → why ≡ Ambiguous
+nine-is Io e = absurd (omega arith)
+nine-is Malformed e = absurd (omega arith)
+nine-is NotBluray e = absurd (omega arith)
+nine-is Unsupported e = absurd (omega arith)
+nine-is NoRoom e = absurd (omega arith)
+nine-is NoWork e = absurd (omega arith)
+nine-is NoSlot e = absurd (omega arith)
+nine-is Ambiguous e = refl
+
+nine-walk : (o : Outcome Sought) → answerOf (andThen o icbOf) ≡ 9 → o ≡ refused Ambiguous
+nine-walk (answered (reached icb)) e = absurd (omega arith)
+nine-walk (answered (lost c)) e = absurd (omega arith)
+nine-walk (refused why) e = ap refused (nine-is why e)
+
+-- ---- calls whose walks are the same
+
+pub record Same (image : List ℕ) (v : VolumeRecord) (path : List ℕ) (how how′ : Matching) (work : List ℕ) : Type 0 where
+  pub lookup : finds image v path how work ≡ finds image v path how′ work
+  pub failed : fails image v path how work ≡ fails image v path how′ work
+  pub failed-at : failsAt image v path how work ≡ failsAt image v path how′ work
+  pub read-path : (out : List ℕ) → readsPath image v path how out work ≡ readsPath image v path how′ out work
+
+module _ (image : List ℕ) (v : VolumeRecord) (path work : List ℕ) where
+  abbrev W : Matching → Ran Sought
+  W how = ran (disc image) (seekingOf v (length work) path how)
+
+  looks : (how : Matching) → ran (disc image) (finding v (length work) path how) ≡ record { outcome = andThen (W how .outcome) icbOf; count = W how .count }
+  looks how = look-is (disc image) how (v .mount) (length work) (v .root) path
+
+  looked-same : (how how′ : Matching) → W how ≡ W how′ → ran (disc image) (finding v (length work) path how) ≡ ran (disc image) (finding v (length work) path how′)
+  looked-same how how′ h = looks how ∙ ap (λ (r : Ran Sought). record { outcome = andThen (r .outcome) icbOf; count = r .count }) h ∙ sym (looks how′)
+
+  read-same : (how how′ : Matching) → W how ≡ W how′ → ran (disc image) (pathReading v (length work) path how) ≡ ran (disc image) (pathReading v (length work) path how′)
+  unfolding readPathOf
+  read-same how how′ h =
+      ran-then (disc image) (finding v (length work) path how) (λ icb. reading v icb)
+      ∙ rw (looked-same how how′ h) refl
+      ∙ sym (ran-then (disc image) (finding v (length work) path how′) (λ icb. reading v icb))
+
+  same : (how how′ : Matching) → W how ≡ W how′ → Same image v path how how′ work
+  same how how′ h =
+      record {
+        lookup = ap (looked work) (looked-same how how′ h);
+        failed = ap (lostBy work) h;
+        failed-at = ap (lostPlace work) h;
+        read-path = λ out. ap (worked out work) (read-same how how′ h);
+      }
+
+  -- ---- the third choice and the first
+
+  -- wherever the third isn't refused by 9, the first gives the same: answer, count and memory
+  pub only-same : (finds image v path Unambiguous work .found .answer ≡ 9 → ⊥) → Same image v path CaseIgnored Unambiguous work
+  unfolding seekPath
+  only-same n =
+      same CaseIgnored Unambiguous
+      (only-agrees (disc image) (v .mount) (length work) (components path) (v .root) true
+      (λ k. n (ap (λ (r : Ran LongAd). answerOf (r .outcome)) (looks Unambiguous) ∙ ap (λ (o : Outcome Sought). answerOf (andThen o icbOf)) k)))
+
+  -- ---- the second choice and the third
+
+  record Arrived (o : Outcome Sought) : Type 0 where
+    at : LongAd
+    is : o ≡ answered (reached at)
+
+  arrived : (how : Matching) → finds image v path how work .found .answer ≡ 0 → Arrived (W how .outcome)
+  arrived how h = by (W how .outcome) (sym (ap (λ (r : Ran LongAd). answerOf (r .outcome)) (looks how)) ∙ h)
+    where
+      by : (o : Outcome Sought) → answerOf (andThen o icbOf) ≡ 0 → Arrived o
+      by (answered (reached icb)) e = record { at = icb; is = refl }
+      by (answered (lost c)) e = absurd (omega arith)
+      by (refused why) e = absurd (refusal-numbered why e)
+
+  -- a lookup that both answer has the same ICB, after as many sectors
+  pub written-only-same : finds image v path AsWritten work .found .answer ≡ 0 → finds image v path Unambiguous work .found .answer ≡ 0 → Same image v path AsWritten Unambiguous work
+  unfolding seekPath
+  written-only-same h k =
+      same AsWritten Unambiguous
+      (written-agrees-only (disc image) (v .mount) (length work) (components path) (v .root) true (arrived AsWritten h .is) (arrived Unambiguous k .is))
+
+  -- ---- where no two listed names of the directories on the path are equal with case ignored
+
+  abbrev pub AllApart : Type 0
+  AllApart = ApartOn (disc image) (v .mount) (length work) (components path) (v .root) true
+
+  -- the first choice and the third give the same,
+  pub apart-same : AllApart → Same image v path Unambiguous CaseIgnored work
+  unfolding seekPath
+  apart-same a = same Unambiguous CaseIgnored (apart-only (disc image) (v .mount) (length work) (components path) (v .root) true a)
+
+  -- and the second gives the same too, or is refused by 3
+  pub apart-written-same : AllApart → Same image v path AsWritten CaseIgnored work ⊎ (finds image v path AsWritten work .found .answer ≡ 3)
+  unfolding seekPath
+  apart-written-same a = by (apart-written-agrees (disc image) (v .mount) (length work) (components path) (v .root) true a)
+    where
+      by : (W AsWritten ≡ W CaseIgnored) ⊎ IsLost (W AsWritten) → Same image v path AsWritten CaseIgnored work ⊎ (finds image v path AsWritten work .found .answer ≡ 3)
+      by (inl h) = inl (same AsWritten CaseIgnored h)
+      by (inr l) = inr (ap (λ (r : Ran LongAd). answerOf (r .outcome)) (looks AsWritten) ∙ ap (λ (o : Outcome Sought). answerOf (andThen o icbOf)) (l .is))
+
+  -- ---- 9 exactly when several entries of a directory on the path match the component that is to be found there
+
+  abbrev pub SeveralOn : Type 0
+  SeveralOn = Doubles (disc image) (v .mount) (length work) (components path) (v .root)
+
+  never-nine : (icb : LongAd) → ran (disc image) (directoryBytes (v .mount) (length work) icb) .outcome ≡ refused Ambiguous → ⊥
+  unfolding ran Within
+  never-nine icb h =
+      by (outcome (disc image) (directoryBytes (v .mount) (length work) icb)) h
+      (refuses-within (λ why. number why ≤ 6) (omega arith) (disc image) (directory-only (λ why. number why ≤ 6) (omega arith) (omega arith) (omega arith) (omega arith) (v .mount) (length work) icb))
+    where
+      by : (o : Outcome (List ℕ)) → o ≡ refused Ambiguous → Within (λ why. number why ≤ 6) o → ⊥
+      by (answered b) h w = let z : _≡_ {A = ℕ} 0 1 = cc in omega arith
+      by (refused why) h w = let z : why ≡ Ambiguous = cc in let y = rw z at w in omega arith
+
+  pub lookup-9 : finds image v path Unambiguous work .found .answer ≡ 9 → SeveralOn
+  unfolding seekPath
+  lookup-9 h =
+      refused-doubles (disc image) (v .mount) (length work) never-nine (components path) (v .root)
+      (nine-walk _ (sym (ap (λ (r : Ran LongAd). answerOf (r .outcome)) (looks Unambiguous)) ∙ h))
+
+  pub failed-9 : fails image v path Unambiguous work .answer ≡ 9 → SeveralOn
+  failed-9 h = lookup-9 (sym (failed-sound image v path Unambiguous work .0) ∙ h)
+
+  pub failed-at-9 : failsAt image v path Unambiguous work .reply .answer ≡ 9 → SeveralOn
+  failed-at-9 h = failed-9 h
+
+  pub read-path-9 : (out : List ℕ) → readsPath image v path Unambiguous out work .reply .answer ≡ 9 → SeveralOn
+  unfolding ran Within
+  read-path-9 out h =
+      lookup-9 (by (outcome (disc image) (finding v (length work) path Unambiguous)) (sym (read-path-order image v path Unambiguous out work) ∙ h))
+    where
+      room : (o : Outcome (List ℕ)) → Within (λ why. number why ≤ 4) o → roomed (length out) o ≡ 9 → ⊥
+      room (refused why) w k = omega arith
+      room (answered b) w k = fits (leb (length b) (length out)) k
+        where
+          fits : (t : Bool) → _≡_ {A = ℕ} (pick t 0 5) 9 → ⊥
+          fits true k = omega arith
+          fits false k = omega arith
+
+      by : (o : Outcome LongAd) → pathAnswer (length out) o (λ icb. outcome (disc image) (reading v icb)) ≡ 9 → answerOf o ≡ 9
+      by (refused why) k = k
+      by (answered icb) k = absurd (room (outcome (disc image) (reading v icb)) (read-original (disc image) v icb) k)
+
+  -- and always then, after the sectors of the way to the directory and of its read; the component that failed is empty, and all else is as a refusal has it
+  module _ (o : SeveralOn) where
+    abbrev pub sectorsOf : ℕ
+    sectorsOf = ran (disc image) (seeking Unambiguous (v .mount) (length work) (o .before) (v .root) true) .count + ran (disc image) (directoryBytes (v .mount) (length work) (o .directory)) .count
+
+    walked : W Unambiguous ≡ record { outcome = refused Ambiguous; count = sectorsOf }
+    unfolding seekPath
+    walked = doubles-refused (disc image) (v .mount) (length work) (components path) (v .root) o
+
+    looked-up : ran (disc image) (finding v (length work) path Unambiguous) ≡ record { outcome = refused Ambiguous; count = sectorsOf }
+    looked-up = looks Unambiguous ∙ rw walked
+
+    pub several-lookup : finds image v path Unambiguous work ≡ record { found = record { answer = 9; count = reported sectorsOf; icb = noLong }; work = cleared work }
+    several-lookup = ap (looked work) looked-up
+
+    pub several-failed : fails image v path Unambiguous work ≡ record { component = []; answer = 9; count = reported sectorsOf; work = cleared work }
+    several-failed = ap (lostBy work) walked
+
+    pub several-failed-at : failsAt image v path Unambiguous work ≡ record { reply = record { answer = 9; count = reported sectorsOf; length = 0 }; at = 0; work = cleared work }
+    several-failed-at = ap (lostPlace work) walked
+
+    pub several-read-path : (out : List ℕ) → readsPath image v path Unambiguous out work ≡ record { reply = record { answer = 9; count = reported sectorsOf; length = 0 }; out = out; work = cleared work }
+    unfolding readPathOf
+    several-read-path out =
+        let g : ran (disc image) (pathReading v (length work) path Unambiguous) ≡ record { outcome = refused Ambiguous; count = sectorsOf } =
+        ran-then (disc image) (finding v (length work) path Unambiguous) (λ icb. reading v icb) ∙ rw looked-up in
+        ap (worked out work) g
