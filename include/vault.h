@@ -39,6 +39,17 @@ enum {
     VAULT_NO_ROOM = 5, /* The answer has more bytes than `out` holds. */
     VAULT_NO_WORK = 6, /* A directory has more bytes than `work` holds. */
     VAULT_NO_SLOT = 7, /* There are more extents than slots. */
+    /* A component of the path matches two or more entries of its directory, and the choice of matching wants the
+     * only one. */
+    VAULT_AMBIGUOUS = 9,
+};
+
+enum {
+    VAULT_CASE_IGNORED = 0, /* ASCII case is ignored, and the first entry that matches is taken. */
+    VAULT_AS_WRITTEN = 1, /* A name matches byte for byte, and the first entry that matches is taken. */
+    /* ASCII case is ignored, and a component that two or more entries match is refused by VAULT_AMBIGUOUS. */
+    VAULT_UNAMBIGUOUS = 2,
+    VAULT_VERSION = 2, /* Goes up whenever a struct or a call changes. */
 };
 
 /* How a volume is read: where its partition starts, and the partition's number. */
@@ -98,6 +109,9 @@ typedef struct {
     uint32_t partition; /* 65,536 where the descriptor names none. */
 } vault_extent;
 
+/* The VAULT_VERSION of the archive, which is to be that of the header. */
+uint32_t vault_version(void);
+
 /* Whether the image has a volume recognition sequence. Opening doesn't depend on it. */
 bool vault_probe(const uint8_t *image, size_t image_length);
 
@@ -107,16 +121,19 @@ vault_opened vault_open(const uint8_t *image, size_t image_length);
 /* Opens an image and writes its label to `out`, as UTF-8 with no zero behind it; `length` is the label's. */
 vault_reply vault_label(const uint8_t *image, size_t image_length, uint8_t *out, size_t out_length);
 
-/* The ICB that a path names. Components stand between slashes, empty ones are dropped, and ASCII case is ignored;
- * the empty path names the root. A component that isn't there, or that stands under a file, is VAULT_NOT_BLURAY. */
+/* The ICB that a path names. Components stand between slashes, and empty ones are dropped; the empty path names the
+ * root. `matching` says how a component is matched with the names of a directory's entries that are neither deleted
+ * nor the parent: VAULT_CASE_IGNORED, VAULT_AS_WRITTEN or VAULT_UNAMBIGUOUS, and any other number counts as
+ * VAULT_UNAMBIGUOUS. A component that isn't there, or that stands under a file, is VAULT_NOT_BLURAY. */
 vault_found vault_lookup(vault_volume volume, const uint8_t *image, size_t image_length, const uint8_t *path,
-                         size_t path_length, uint8_t *work, size_t work_length);
+                         size_t path_length, uint32_t matching, uint8_t *work, size_t work_length);
 
 /* The component at which that lookup is refused by VAULT_NOT_BLURAY: `length` is the component's, and its place in
- * the path goes to `*component_at`. Both are 0 where no component was refused so. The answer and the count are the
- * lookup's. */
+ * the path goes to `*component_at`. Both are 0 where no component was refused so, as at VAULT_AMBIGUOUS. The answer
+ * and the count are the lookup's. */
 vault_reply vault_failed(vault_volume volume, const uint8_t *image, size_t image_length, const uint8_t *path,
-                         size_t path_length, uint8_t *work, size_t work_length, size_t *component_at);
+                         size_t path_length, uint32_t matching, uint8_t *work, size_t work_length,
+                         size_t *component_at);
 
 /* Lists a directory: a record for each entry that is neither deleted nor the parent, one behind the other, each in
  * this order:
@@ -144,7 +161,8 @@ vault_reply vault_extents(vault_volume volume, const uint8_t *image, size_t imag
 
 /* Looks a path up and reads what it names to `out`; the count is that of both. */
 vault_reply vault_read_path(vault_volume volume, const uint8_t *image, size_t image_length, const uint8_t *path,
-                            size_t path_length, uint8_t *out, size_t out_length, uint8_t *work, size_t work_length);
+                            size_t path_length, uint32_t matching, uint8_t *out, size_t out_length, uint8_t *work,
+                            size_t work_length);
 
 #ifdef __cplusplus
 }

@@ -35,6 +35,17 @@ pub const NO_ROOM: u64 = 5;
 pub const NO_WORK: u64 = 6;
 /// There are more extents than slots.
 pub const NO_SLOT: u64 = 7;
+/// A component of the path matches two or more entries of its directory, and the choice of matching wants the only one.
+pub const AMBIGUOUS: u64 = 9;
+
+/// ASCII case is ignored, and the first entry that matches is taken.
+pub const CASE_IGNORED: u32 = 0;
+/// A name matches byte for byte, and the first entry that matches is taken.
+pub const AS_WRITTEN: u32 = 1;
+/// ASCII case is ignored, and a component that two or more entries match is refused by VAULT_AMBIGUOUS.
+pub const UNAMBIGUOUS: u32 = 2;
+/// Goes up whenever a struct or a call changes.
+pub const VERSION: u32 = 2;
 
 structs! {
     /// How a volume is read: where its partition starts, and the partition's number.
@@ -119,6 +130,9 @@ structs! {
 }
 
 unsafe extern "C" {
+    /// The VAULT_VERSION of the archive, which is to be that of the header.
+    pub fn vault_version() -> u32;
+
     /// Whether the image has a volume recognition sequence. Opening doesn't depend on it.
     pub fn vault_probe(image: *const u8, image_length: usize) -> bool;
 
@@ -128,27 +142,31 @@ unsafe extern "C" {
     /// Opens an image and writes its label to `out`, as UTF-8 with no zero behind it; `length` is the label's.
     pub fn vault_label(image: *const u8, image_length: usize, out: *mut u8, out_length: usize) -> Reply;
 
-    /// The ICB that a path names. Components stand between slashes, empty ones are dropped, and ASCII case is ignored;
-    /// the empty path names the root. A component that isn't there, or that stands under a file, is VAULT_NOT_BLURAY.
+    /// The ICB that a path names. Components stand between slashes, and empty ones are dropped; the empty path names
+    /// the root. `matching` says how a component is matched with the names of a directory's entries that are neither
+    /// deleted nor the parent: VAULT_CASE_IGNORED, VAULT_AS_WRITTEN or VAULT_UNAMBIGUOUS, and any other number counts
+    /// as VAULT_UNAMBIGUOUS. A component that isn't there, or that stands under a file, is VAULT_NOT_BLURAY.
     pub fn vault_lookup(
         volume: Volume,
         image: *const u8,
         image_length: usize,
         path: *const u8,
         path_length: usize,
+        matching: u32,
         work: *mut u8,
         work_length: usize,
     ) -> Found;
 
     /// The component at which that lookup is refused by VAULT_NOT_BLURAY: `length` is the component's, and its place in
-    /// the path goes to `*component_at`. Both are 0 where no component was refused so. The answer and the count are the
-    /// lookup's.
+    /// the path goes to `*component_at`. Both are 0 where no component was refused so, as at VAULT_AMBIGUOUS. The
+    /// answer and the count are the lookup's.
     pub fn vault_failed(
         volume: Volume,
         image: *const u8,
         image_length: usize,
         path: *const u8,
         path_length: usize,
+        matching: u32,
         work: *mut u8,
         work_length: usize,
         component_at: *mut usize,
@@ -189,6 +207,7 @@ unsafe extern "C" {
         image_length: usize,
         path: *const u8,
         path_length: usize,
+        matching: u32,
         out: *mut u8,
         out_length: usize,
         work: *mut u8,

@@ -15,15 +15,40 @@
 // Any volume and any ICB may be handed in, also one made by hand. They are taken as they are: a length of 2^30 is not 0.
 ghost use mathlib.Core.Path.{_≡_};
 ghost use Rattle.layouts.specs.Calls.{wordsOf};
+ghost use Rattle.listings.specs.Listings.{matchingOf};
 ghost use Rattle.probes.specs.Probes.{probed};
 ghost use Rattle.vault.specs.Calls.{opens, labels, reads, lists, readsPath, finds, failsAt, partsAt, extents};
 use directories::lookups::Found;
 use disc::replies::Reply;
+use listings::matchings::AS_WRITTEN;
+use listings::matchings::CASE_IGNORED;
+use listings::matchings::UNAMBIGUOUS;
+use listings::matchings::matching_of;
 use records::allocations::LongAd;
 use vault::volume::Volume;
 use vault::volume::label;
 use vault::volume::probe;
 use volumes::openings::Opened;
+
+// ASCII case is ignored, and the first entry that matches is taken.
+pub const VAULT_CASE_IGNORED: u32 = CASE_IGNORED;
+
+// A name matches byte for byte, and the first entry that matches is taken.
+pub const VAULT_AS_WRITTEN: u32 = AS_WRITTEN;
+
+// ASCII case is ignored, and a component that two or more entries match is refused by VAULT_AMBIGUOUS.
+pub const VAULT_UNAMBIGUOUS: u32 = UNAMBIGUOUS;
+
+// Goes up whenever a struct or a call changes.
+pub const VAULT_VERSION: u32 = 2;
+
+// The VAULT_VERSION of the archive, which is to be that of the header.
+#[no_mangle]
+pub extern "C" fn vault_version() -> u32
+    ensures { λ r. ⌜ r ≡ 2 ⌝ }
+{
+    VAULT_VERSION
+}
 
 // Whether the image has a volume recognition sequence. Opening doesn't depend on it.
 #[no_mangle]
@@ -49,28 +74,37 @@ pub extern "C" fn vault_label(image: &[u8], out: &mut [u8]) -> Reply
     label(image, out)
 }
 
-// The ICB that a path names. Components stand between slashes, empty ones are dropped, and ASCII case is ignored; the empty path names the
-// root. A component that isn't there, or that stands under a file, is VAULT_NOT_BLURAY.
+// The ICB that a path names. Components stand between slashes, and empty ones are dropped; the empty path names the root. `matching` says how
+// a component is matched with the names of a directory's entries that are neither deleted nor the parent: VAULT_CASE_IGNORED, VAULT_AS_WRITTEN or
+// VAULT_UNAMBIGUOUS, and any other number counts as VAULT_UNAMBIGUOUS. A component that isn't there, or that stands under a file, is
+// VAULT_NOT_BLURAY.
 #[no_mangle]
-pub extern "C" fn vault_lookup(volume: Volume, image: &[u8], path: &[u8], work: &mut [u8]) -> Found
-    ensures { λ r. ⌜ record { found = r; work = now (work .exit) } ≡ finds (now (image .entry)) (volume .0) (now (path .entry)) (now (work .entry)) ⌝ }
+pub extern "C" fn vault_lookup(
+    volume: Volume,
+    image: &[u8],
+    path: &[u8],
+    matching: u32,
+    work: &mut [u8],
+) -> Found
+    ensures { λ r. ⌜ record { found = r; work = now (work .exit) } ≡ finds (now (image .entry)) (volume .0) (now (path .entry)) (matchingOf matching) (now (work .entry)) ⌝ }
 {
-    volume.lookup(image, path, work)
+    volume.lookup(image, path, matching_of(matching), work)
 }
 
 // The component at which that lookup is refused by VAULT_NOT_BLURAY: `length` is the component's, and its place in the path goes to
-// `*component_at`. Both are 0 where no component was refused so. The answer and the count are the lookup's.
+// `*component_at`. Both are 0 where no component was refused so, as at VAULT_AMBIGUOUS. The answer and the count are the lookup's.
 #[no_mangle]
 pub extern "C" fn vault_failed(
     volume: Volume,
     image: &[u8],
     path: &[u8],
+    matching: u32,
     work: &mut [u8],
     component_at: &mut usize,
 ) -> Reply
-    ensures { λ r. ⌜ record { reply = r; at = now («component_at» .exit); work = now (work .exit) } ≡ failsAt (now (image .entry)) (volume .0) (now (path .entry)) (now (work .entry)) ⌝ }
+    ensures { λ r. ⌜ record { reply = r; at = now («component_at» .exit); work = now (work .exit) } ≡ failsAt (now (image .entry)) (volume .0) (now (path .entry)) (matchingOf matching) (now (work .entry)) ⌝ }
 {
-    volume.failed_at(image, path, work, component_at)
+    volume.failed_at(image, path, matching_of(matching), work, component_at)
 }
 
 // Lists a directory: a record for each entry that is neither deleted nor the parent, one behind the other, each in this order:
@@ -131,10 +165,11 @@ pub extern "C" fn vault_read_path(
     volume: Volume,
     image: &[u8],
     path: &[u8],
+    matching: u32,
     out: &mut [u8],
     work: &mut [u8],
 ) -> Reply
-    ensures { λ r. ⌜ record { reply = r; out = now (out .exit); work = now (work .exit) } ≡ readsPath (now (image .entry)) (volume .0) (now (path .entry)) (now (out .entry)) (now (work .entry)) ⌝ }
+    ensures { λ r. ⌜ record { reply = r; out = now (out .exit); work = now (work .exit) } ≡ readsPath (now (image .entry)) (volume .0) (now (path .entry)) (matchingOf matching) (now (out .entry)) (now (work .entry)) ⌝ }
 {
-    volume.read_path(image, path, out, work)
+    volume.read_path(image, path, matching_of(matching), out, work)
 }
