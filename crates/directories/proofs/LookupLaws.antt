@@ -37,43 +37,43 @@ use Rattle.directories.proofs.SpaceLaws.{ran-known}
 
 -- ---- a lookup, and the component that failed
 
-module _ (d : Disc) (how : Matching) (v : Mount) (work : ℕ) (root : LongAd) (path : List ℕ) where
-  pub look-is : ran d (lookupOf how v work root path) ≡ record { outcome = andThen (ran d (seekPath how v work root path) .outcome) icbOf; count = ran d (seekPath how v work root path) .count }
+module _ (d : Disc) (matching : Matching) (v : Mount) (work : ℕ) (root : LongAd) (path : List ℕ) where
+  pub look-is : ran d (lookupOf matching v work root path) ≡ record { outcome = andThen (ran d (seekPath matching v work root path) .outcome) icbOf; count = ran d (seekPath matching v work root path) .count }
   unfolding lookupOf
-  look-is = ran-known d (seekPath how v work root path) icbOf
+  look-is = ran-known d (seekPath matching v work root path) icbOf
 
-  module _ {q : PathPlace} (w : Walks d how v work root path q) where
-    pub look-found : record { answer = q .answer; count = q .count; icb = q .icb } ≡ foundOf (ran d (lookupOf how v work root path))
+  module _ {q : PathPlace} (w : Walks d matching v work root path q) where
+    pub look-found : record { answer = q .answer; count = q .count; icb = q .icb } ≡ foundOf (ran d (lookupOf matching v work root path))
     look-found = w .found ∙ ap foundOf (sym look-is)
 
-    pub look-at : q .from ≡ failedOf (ran d (seekPath how v work root path)) .component .at
+    pub look-at : q .from ≡ failedOf (ran d (seekPath matching v work root path)) .component .at
     look-at = ap (λ (c : Component). c .at) (w .lost)
 
-    pub look-length : record { answer = q .answer; count = q .count; length = q .end - q .from } ≡ failedReply (failedOf (ran d (seekPath how v work root path)))
+    pub look-length : record { answer = q .answer; count = q .count; length = q .end - q .from } ≡ failedReply (failedOf (ran d (seekPath matching v work root path)))
     look-length =
         let n : length (take (q .end - q .from) (drop (q .from) path)) ≡ q .end - q .from =
         length-take-le (q .end - q .from) (drop (q .from) path) (rw length-drop (omega (arith, w .within))) in
-        let c : length (failedOf (ran d (seekPath how v work root path)) .component .bytes) ≡ q .end - q .from = rw (← w .lost) n in
-        let a : q .answer ≡ failedOf (ran d (seekPath how v work root path)) .answer = ap (λ (f : Found). f .answer) (w .found) in
-        let k : q .count ≡ failedOf (ran d (seekPath how v work root path)) .count = ap (λ (f : Found). f .count) (w .found) in
+        let c : length (failedOf (ran d (seekPath matching v work root path)) .component .bytes) ≡ q .end - q .from = rw (← w .lost) n in
+        let a : q .answer ≡ failedOf (ran d (seekPath matching v work root path)) .answer = ap (λ (f : Found). f .answer) (w .found) in
+        let k : q .count ≡ failedOf (ran d (seekPath matching v work root path)) .count = ap (λ (f : Found). f .count) (w .found) in
         rw (a, k, c)
 
 -- ---- the component as a part of the path
 
-module _ (d : Disc) (how : Matching) (v : Mount) (work : ℕ) (root : LongAd) (path : List ℕ) {reply : Reply}
-    (e : reply ≡ failedReply (failedOf (ran d (seekPath how v work root path)))) where
-  pub failed-answer : reply .answer ≡ failedOf (ran d (seekPath how v work root path)) .answer
+module _ (d : Disc) (matching : Matching) (v : Mount) (work : ℕ) (root : LongAd) (path : List ℕ) {reply : Reply}
+    (e : reply ≡ failedReply (failedOf (ran d (seekPath matching v work root path)))) where
+  pub failed-answer : reply .answer ≡ failedOf (ran d (seekPath matching v work root path)) .answer
   failed-answer = rw e
 
-  pub failed-count : reply .count ≡ failedOf (ran d (seekPath how v work root path)) .count
+  pub failed-count : reply .count ≡ failedOf (ran d (seekPath matching v work root path)) .count
   failed-count = rw e
 
-  module _ {at : ℕ} (h : at ≡ failedOf (ran d (seekPath how v work root path)) .component .at) where
-    pub failed-part : take (at + reply .length - at) (drop at path) ≡ failedOf (ran d (seekPath how v work root path)) .component .bytes
-    failed-part = rw (e, h) (part-slice (failed-stands d how v work root path))
+  module _ {at : ℕ} (h : at ≡ failedOf (ran d (seekPath matching v work root path)) .component .at) where
+    pub failed-part : take (at + reply .length - at) (drop at path) ≡ failedOf (ran d (seekPath matching v work root path)) .component .bytes
+    failed-part = rw (e, h) (part-slice (failed-stands d matching v work root path))
 
     pub failed-room : at + reply .length ≤ length path
-    failed-room = rw (e, h) (failed-stands d how v work root path .inside)
+    failed-room = rw (e, h) (failed-stands d matching v work root path .inside)
 
     pub failed-fits : length path < 2 ^ 64 → Fits w64 (at + reply .length)
     failed-fits l = omega (arith, failed-room)
@@ -101,16 +101,16 @@ found-path (answered icb) n {found} p h f {lent} read q {c} e =
       leaves = s .leaves;
     }
 
-module _ (d : Disc) (how : Matching) (v : Mount) (work : ℕ) (root : LongAd) (path : List ℕ) {found : Found} (p : found ≡ foundOf (ran d (lookupOf how v work root path))) where
-  path-is : ran d (readPathOf how v work root path) ≡ followed (ran d (lookupOf how v work root path)) (λ icb. ran d (fileBytes v icb))
+module _ (d : Disc) (matching : Matching) (v : Mount) (work : ℕ) (root : LongAd) (path : List ℕ) {found : Found} (p : found ≡ foundOf (ran d (lookupOf matching v work root path))) where
+  path-is : ran d (readPathOf matching v work root path) ≡ followed (ran d (lookupOf matching v work root path)) (λ icb. ran d (fileBytes v icb))
   unfolding readPathOf
-  path-is = ran-then d (lookupOf how v work root path) (λ icb. fileBytes v icb)
+  path-is = ran-then d (lookupOf matching v work root path) (λ icb. fileBytes v icb)
 
   pub path-refused : (found .answer ≡ 0 → ⊥) → (lent : List ℕ) {reply : Reply} → reply ≡ record { answer = found .answer; count = found .count; length = 0 }
-      → Replied NoRoom (ran d (readPathOf how v work root path)) lent lent reply
-  path-refused h lent q = rw path-is (refused-path (ran d (lookupOf how v work root path) .outcome) (ran d (lookupOf how v work root path) .count) p h (λ icb. ran d (fileBytes v icb)) lent q)
+      → Replied NoRoom (ran d (readPathOf matching v work root path)) lent lent reply
+  path-refused h lent q = rw path-is (refused-path (ran d (lookupOf matching v work root path) .outcome) (ran d (lookupOf matching v work root path) .count) p h (λ icb. ran d (fileBytes v icb)) lent q)
 
   pub path-read : found .answer ≡ 0 → {lent after : List ℕ} (read : Reply) → Replied NoRoom (ran d (fileBytes v (found .icb))) lent after read
       → {c : ℕ} → c ≡ reported (found .count + read .count)
-      → Replied NoRoom (ran d (readPathOf how v work root path)) lent after (record { answer = read .answer; count = c; length = read .length })
-  path-read h read q e = rw path-is (found-path (ran d (lookupOf how v work root path) .outcome) (ran d (lookupOf how v work root path) .count) p h (λ icb. ran d (fileBytes v icb)) read q e)
+      → Replied NoRoom (ran d (readPathOf matching v work root path)) lent after (record { answer = read .answer; count = c; length = read .length })
+  path-read h read q e = rw path-is (found-path (ran d (lookupOf matching v work root path) .outcome) (ran d (lookupOf matching v work root path) .count) p h (λ icb. ran d (fileBytes v icb)) read q e)

@@ -36,24 +36,24 @@ onward-same (answered x) n f g h = ap (after n) (h x refl)
 onward-same (refused why) n f g h = refl
 
 -- what a directory comes to by two choices that do the same with the entries of a name
-module _ (d : Disc) (v : Mount) (work : ℕ) (icb : LongAd) (name : List ℕ) (how how′ : Matching) where
+module _ (d : Disc) (v : Mount) (work : ℕ) (icb : LongAd) (name : List ℕ) (matching matching′ : Matching) where
   abbrev R : Ran (List ℕ)
   R = ran d (directoryBytes v work icb)
 
-  alike : ((b : List ℕ) → R .outcome ≡ answered b → findIn how name b ≡ findIn how′ name b) → ran d (entering how v work icb name) ≡ ran d (entering how′ v work icb name)
+  alike : ((b : List ℕ) → R .outcome ≡ answered b → findIn matching name b ≡ findIn matching′ name b) → ran d (entering matching v work icb name) ≡ ran d (entering matching′ v work icb name)
   unfolding entering
   alike h =
-      ran-known d (directoryBytes v work icb) (findIn how name)
+      ran-known d (directoryBytes v work icb) (findIn matching name)
       ∙ ap (λ o. record { outcome = o; count = R .count }) (by (R .outcome) refl)
-      ∙ sym (ran-known d (directoryBytes v work icb) (findIn how′ name))
+      ∙ sym (ran-known d (directoryBytes v work icb) (findIn matching′ name))
     where
-      by : (o : Outcome (List ℕ)) → R .outcome ≡ o → andThen o (findIn how name) ≡ andThen o (findIn how′ name)
+      by : (o : Outcome (List ℕ)) → R .outcome ≡ o → andThen o (findIn matching name) ≡ andThen o (findIn matching′ name)
       by (answered b) r = h b r
       by (refused why) r = refl
 
   -- one entry taken by both
-  pub one-taken : {e : Entry} → Takes d how v work icb name e → Takes d how′ v work icb name e → ran d (entering how v work icb name) ≡ ran d (entering how′ v work icb name)
-  one-taken t u = takes-enters d how v work icb name t ∙ sym (takes-enters d how′ v work icb name u)
+  pub one-taken : {e : Entry} → Takes d matching v work icb name e → Takes d matching′ v work icb name e → ran d (entering matching v work icb name) ≡ ran d (entering matching′ v work icb name)
+  one-taken t u = takes-enters d matching v work icb name t ∙ sym (takes-enters d matching′ v work icb name u)
 
 -- two ways to take something in one directory have its bytes and its entries in common
 record Common (d : Disc) (v : Mount) (work : ℕ) (icb : LongAd) (bytes : List ℕ) (all : List Entry) : Type 0 where

@@ -31,62 +31,62 @@ use Rattle.directories.proofs.Promises.{no-work}
 use Rattle.directories.proofs.PathLaws.{Leads, entering-is, enters-takes, walk, on, walk-is, leads-on}
 
 -- a directory that a part of the components leads to, and in which the next is to be found, reads as more bytes than the work space has
-pub record Overflows (d : Disc) (how : Matching) (v : Mount) (work : ℕ) (cs : List Component) (from : LongAd) : Type 0 where
+pub record Overflows (d : Disc) (matching : Matching) (v : Mount) (work : ℕ) (cs : List Component) (from : LongAd) : Type 0 where
   pub before : List Component
   pub next : Component
   pub others : List Component
   pub parts : cs ≡ before ++ next ∷ others
   pub directory : LongAd
-  pub led : Leads d how v work before from directory
+  pub led : Leads d matching v work before from directory
   pub bytes : List ℕ
   pub read : ran d (fileBytes v directory) .outcome ≡ answered bytes
   pub exceeds : work < length bytes
 
-module _ (d : Disc) (how : Matching) (v : Mount) (work : ℕ) where
+module _ (d : Disc) (matching : Matching) (v : Mount) (work : ℕ) where
   -- the first directory on the way that exceeds it refuses the walk, after the sectors of its read
-  pub overflows-refused : (cs : List Component) (from : LongAd) (o : Overflows d how v work cs from)
-      → walk d how v work cs from true ≡ record { outcome = refused NoWork; count = walk d how v work (o .before) from true .count + ran d (fileBytes v (o .directory)) .count }
+  pub overflows-refused : (cs : List Component) (from : LongAd) (o : Overflows d matching v work cs from)
+      → walk d matching v work cs from true ≡ record { outcome = refused NoWork; count = walk d matching v work (o .before) from true .count + ran d (fileBytes v (o .directory)) .count }
   unfolding entering
   overflows-refused cs from o =
-      rw (o .parts) (leads-on d how v work (o .before) (o .next ∷ o .others) from (o .directory) (o .led))
-      ∙ ap (after (walk d how v work (o .before) from true .count))
-      (walk-is d how v work (o .next) (o .others) (o .directory)
-      ∙ rw (ran-known d (directoryBytes v work (o .directory)) (findIn how (o .next .bytes)), no-work d v work (o .directory) (o .read) (o .exceeds)))
+      rw (o .parts) (leads-on d matching v work (o .before) (o .next ∷ o .others) from (o .directory) (o .led))
+      ∙ ap (after (walk d matching v work (o .before) from true .count))
+      (walk-is d matching v work (o .next) (o .others) (o .directory)
+      ∙ rw (ran-known d (directoryBytes v work (o .directory)) (findIn matching (o .next .bytes)), no-work d v work (o .directory) (o .read) (o .exceeds)))
 
   -- and nothing else does, where no read is refused so by itself
   module _ (other : (icb : LongAd) → ran d (fileBytes v icb) .outcome ≡ refused NoWork → ⊥) where
-    full-here : (c : Component) (others : List Component) (icb : LongAd) → ran d (entering how v work icb (c .bytes)) .outcome ≡ refused NoWork → Overflows d how v work (c ∷ others) icb
+    full-here : (c : Component) (others : List Component) (icb : LongAd) → ran d (entering matching v work icb (c .bytes)) .outcome ≡ refused NoWork → Overflows d matching v work (c ∷ others) icb
     unfolding directoryBytes within findIn Leads
     full-here c others icb h =
         by (ran d (fileBytes v icb) .outcome) refl
-        (sym (ap (λ (r : Ran (List ℕ)). andThen (r .outcome) (findIn how (c .bytes))) (ran-known d (fileBytes v icb) (within work))) ∙ sym (entering-is d how v work icb (c .bytes)) ∙ h)
+        (sym (ap (λ (r : Ran (List ℕ)). andThen (r .outcome) (findIn matching (c .bytes))) (ran-known d (fileBytes v icb) (within work))) ∙ sym (entering-is d matching v work icb (c .bytes)) ∙ h)
       where
-        listed : {A : Type 0} (b : List ℕ) (p : Outcome (List Entry)) → entries b ≡ p → andThen p (λ es. chosen how (allNamed (foldIn how) (c .bytes) es)) ≡ refused NoWork → A
-        listed b (answered es) e k = absurd (let m = chosen-refused how (allNamed (foldIn how) (c .bytes) es) k .1 in let z : _≡_ {A = ℕ} 0 1 = cc in omega arith)
+        listed : {A : Type 0} (b : List ℕ) (p : Outcome (List Entry)) → entries b ≡ p → andThen p (λ es. chosen matching (allNamed (foldIn matching) (c .bytes) es)) ≡ refused NoWork → A
+        listed b (answered es) e k = absurd (let m = chosen-refused matching (allNamed (foldIn matching) (c .bytes) es) k .1 in let z : _≡_ {A = ℕ} 0 1 = cc in omega arith)
         listed b (refused why) e k = absurd (let m = entries-refused b e in let z : _≡_ {A = ℕ} 0 1 = cc in omega arith)
 
         fits : (b : List ℕ) (t : Bool) → leb (length b) work ≡ t → ran d (fileBytes v icb) .outcome ≡ answered b
-            → andThen (pick t (answered b) (refused NoWork)) (findIn how (c .bytes)) ≡ refused NoWork → Overflows d how v work (c ∷ others) icb
+            → andThen (pick t (answered b) (refused NoWork)) (findIn matching (c .bytes)) ≡ refused NoWork → Overflows d matching v work (c ∷ others) icb
         fits b true t r k = listed b (entries b) refl k
         fits b false t r k = record { before = []; next = c; others = others; parts = refl; directory = icb; led = refl; bytes = b; read = r; exceeds = leb-false (length b) work t }
 
-        by : (o : Outcome (List ℕ)) → ran d (fileBytes v icb) .outcome ≡ o → andThen (andThen o (within work)) (findIn how (c .bytes)) ≡ refused NoWork → Overflows d how v work (c ∷ others) icb
+        by : (o : Outcome (List ℕ)) → ran d (fileBytes v icb) .outcome ≡ o → andThen (andThen o (within work)) (findIn matching (c .bytes)) ≡ refused NoWork → Overflows d matching v work (c ∷ others) icb
         by (answered b) r k = fits b (leb (length b) work) refl r k
         by (refused why) r k = absurd (other icb (let z : why ≡ NoWork = cc in rw z at r))
 
-    pub refused-overflows : (cs : List Component) (from : LongAd) → walk d how v work cs from true .outcome ≡ refused NoWork → Overflows d how v work cs from
+    pub refused-overflows : (cs : List Component) (from : LongAd) → walk d matching v work cs from true .outcome ≡ refused NoWork → Overflows d matching v work cs from
     unfolding seeking Leads
     refused-overflows [] from h = never (let z = rw ran-done at h in sym z)
     refused-overflows (c ∷ cs) from h =
-        by (ran d (entering how v work from (c .bytes)) .outcome) (ran d (entering how v work from (c .bytes)) .count) refl (λ icb k. refused-overflows cs icb k)
-        (sym (ap (λ (r : Ran Sought). r .outcome) (walk-is d how v work c cs from)) ∙ h)
+        by (ran d (entering matching v work from (c .bytes)) .outcome) (ran d (entering matching v work from (c .bytes)) .count) refl (λ icb k. refused-overflows cs icb k)
+        (sym (ap (λ (r : Ran Sought). r .outcome) (walk-is d matching v work c cs from)) ∙ h)
       where
-        file : {A : Type 0} (ds : List Component) (icb : LongAd) → walk d how v work ds icb false .outcome ≡ refused NoWork → A
+        file : {A : Type 0} (ds : List Component) (icb : LongAd) → walk d matching v work ds icb false .outcome ≡ refused NoWork → A
         file [] icb k = never (let z = rw ran-done at k in sym z)
         file (x ∷ ds) icb k = never (let z = rw ran-done at k in sym z)
 
-        into : (e : Entry) → ran d (entering how v work from (c .bytes)) .outcome ≡ answered (some e) → ((icb : LongAd) → walk d how v work cs icb true .outcome ≡ refused NoWork → Overflows d how v work cs icb)
-            → (t : Bool) → isDirectory (e .identifier) ≡ t → walk d how v work cs (e .identifier .icb) t .outcome ≡ refused NoWork → Overflows d how v work (c ∷ cs) from
+        into : (e : Entry) → ran d (entering matching v work from (c .bytes)) .outcome ≡ answered (some e) → ((icb : LongAd) → walk d matching v work cs icb true .outcome ≡ refused NoWork → Overflows d matching v work cs icb)
+            → (t : Bool) → isDirectory (e .identifier) ≡ t → walk d matching v work cs (e .identifier .icb) t .outcome ≡ refused NoWork → Overflows d matching v work (c ∷ cs) from
         into e q ih true t k =
             let o = ih (e .identifier .icb) k in
             record {
@@ -95,15 +95,15 @@ module _ (d : Disc) (how : Matching) (v : Mount) (work : ℕ) where
               others = o .others;
               parts = ap (λ (x : List Component). c ∷ x) (o .parts);
               directory = o .directory;
-              led = record { entry = e; takes = enters-takes d how v work from (c .bytes) q; directory = t; on = o .led };
+              led = record { entry = e; takes = enters-takes d matching v work from (c .bytes) q; directory = t; on = o .led };
               bytes = o .bytes;
               read = o .read;
               exceeds = o .exceeds;
             }
         into e q ih false t k = file cs (e .identifier .icb) k
 
-        by : (o : Outcome (Option Entry)) (n : ℕ) → ran d (entering how v work from (c .bytes)) .outcome ≡ o → ((icb : LongAd) → walk d how v work cs icb true .outcome ≡ refused NoWork → Overflows d how v work cs icb)
-            → onward o n (on d how v work c cs) .outcome ≡ refused NoWork → Overflows d how v work (c ∷ cs) from
+        by : (o : Outcome (Option Entry)) (n : ℕ) → ran d (entering matching v work from (c .bytes)) .outcome ≡ o → ((icb : LongAd) → walk d matching v work cs icb true .outcome ≡ refused NoWork → Overflows d matching v work cs icb)
+            → onward o n (on d matching v work c cs) .outcome ≡ refused NoWork → Overflows d matching v work (c ∷ cs) from
         by (refused why) n q ih k = full-here c cs from (let z : why ≡ NoWork = cc in rw z at q)
         by (answered none) n q ih k = never (let z = rw ran-done at k in sym z)
         by (answered (some e)) n q ih k = into e q ih (isDirectory (e .identifier)) refl k

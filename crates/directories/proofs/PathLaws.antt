@@ -28,34 +28,34 @@ use Rattle.directories.proofs.SpaceLaws.{ran-known}
 
 -- e is what a name takes in the directory at icb: the directory is read into the work space, all of its entries are parsed, and e is what the choice
 -- of matching takes of those that answer to the name
-pub record Takes (d : Disc) (how : Matching) (v : Mount) (work : ℕ) (icb : LongAd) (name : List ℕ) (e : Entry) : Type 0 where
+pub record Takes (d : Disc) (matching : Matching) (v : Mount) (work : ℕ) (icb : LongAd) (name : List ℕ) (e : Entry) : Type 0 where
   pub bytes : List ℕ
   pub read : ran d (directoryBytes v work icb) .outcome ≡ answered bytes
   pub all : List Entry
   pub parsed : entries bytes ≡ answered all
-  pub takes : chosen how (allNamed (foldIn how) name all) ≡ answered (some e)
+  pub takes : chosen matching (allNamed (foldIn matching) name all) ≡ answered (some e)
 
 -- what it takes is a directory, with whose ICB the next goes on
-pub record Enters (d : Disc) (how : Matching) (v : Mount) (work : ℕ) (icb : LongAd) (name : List ℕ) (next : LongAd → Type 0) : Type 0 where
+pub record Enters (d : Disc) (matching : Matching) (v : Mount) (work : ℕ) (icb : LongAd) (name : List ℕ) (next : LongAd → Type 0) : Type 0 where
   pub entry : Entry
-  pub takes : Takes d how v work icb name entry
+  pub takes : Takes d matching v work icb name entry
   pub directory : isDirectory (entry .identifier) ≡ true
   pub on : next (entry .identifier .icb)
 
 -- components lead from the directory at one ICB to that at another, from directory to directory
 unfoldable pub Leads : Disc → Matching → Mount → ℕ → List Component → LongAd → LongAd → Type 0
-Leads d how v work [] from to = from ≡ to
-Leads d how v work (c ∷ cs) from to = Enters d how v work from (c .bytes) (λ icb. Leads d how v work cs icb to)
+Leads d matching v work [] from to = from ≡ to
+Leads d matching v work (c ∷ cs) from to = Enters d matching v work from (c .bytes) (λ icb. Leads d matching v work cs icb to)
 
 -- the components of cs lead to a directory
-pub record Led (d : Disc) (how : Matching) (v : Mount) (work : ℕ) (cs : List Component) (from : LongAd) : Type 0 where
+pub record Led (d : Disc) (matching : Matching) (v : Mount) (work : ℕ) (cs : List Component) (from : LongAd) : Type 0 where
   pub to : LongAd
-  pub leads : Leads d how v work cs from to
+  pub leads : Leads d matching v work cs from to
 
 -- a name takes an entry whose ICB is i
-pub record TakesIcb (d : Disc) (how : Matching) (v : Mount) (work : ℕ) (icb : LongAd) (name : List ℕ) (i : LongAd) : Type 0 where
+pub record TakesIcb (d : Disc) (matching : Matching) (v : Mount) (work : ℕ) (icb : LongAd) (name : List ℕ) (i : LongAd) : Type 0 where
   pub taken : Entry
-  pub takes : Takes d how v work icb name taken
+  pub takes : Takes d matching v work icb name taken
   pub is : i ≡ taken .identifier .icb
 
 -- where a walk ends that comes with its last component to an entry, or to none
@@ -69,78 +69,78 @@ lastIn c (refused why) = refused why
 
 -- ---- one component
 
-module _ (d : Disc) (how : Matching) (v : Mount) (work : ℕ) (icb : LongAd) (name : List ℕ) where
+module _ (d : Disc) (matching : Matching) (v : Mount) (work : ℕ) (icb : LongAd) (name : List ℕ) where
   -- the first entry of a name wins under the choices that take it
-  pub first-takes : takesFirst how ≡ true → {b : List ℕ} → ran d (directoryBytes v work icb) .outcome ≡ answered b
-      → (before : List Entry) (e : Entry) (rest : List Entry) → entries b ≡ answered (before ++ e ∷ rest) → NoneAnswers (foldIn how) name before → answersTo (foldIn how) name e ≡ true
-      → Takes d how v work icb name e
+  pub first-takes : takesFirst matching ≡ true → {b : List ℕ} → ran d (directoryBytes v work icb) .outcome ≡ answered b
+      → (before : List Entry) (e : Entry) (rest : List Entry) → entries b ≡ answered (before ++ e ∷ rest) → NoneAnswers (foldIn matching) name before → answersTo (foldIn matching) name e ≡ true
+      → Takes d matching v work icb name e
   first-takes f {b} r before e rest k n h =
       record {
         bytes = b;
         read = r;
         all = before ++ e ∷ rest;
         parsed = k;
-        takes = chosen-first how f (foldIn how) name (before ++ e ∷ rest) ∙ ap answered (first-wins (foldIn how) name before e rest n h);
+        takes = chosen-first matching f (foldIn matching) name (before ++ e ∷ rest) ∙ ap answered (first-wins (foldIn matching) name before e rest n h);
       }
 
   -- and the only one under each
   pub only-takes : {b : List ℕ} → ran d (directoryBytes v work icb) .outcome ≡ answered b
       → (before : List Entry) (e : Entry) (rest : List Entry) → entries b ≡ answered (before ++ e ∷ rest)
-      → NoneAnswers (foldIn how) name before → answersTo (foldIn how) name e ≡ true → NoneAnswers (foldIn how) name rest
-      → Takes d how v work icb name e
+      → NoneAnswers (foldIn matching) name before → answersTo (foldIn matching) name e ≡ true → NoneAnswers (foldIn matching) name rest
+      → Takes d matching v work icb name e
   only-takes {b} r before e rest k n h m =
-      record { bytes = b; read = r; all = before ++ e ∷ rest; parsed = k; takes = only-wins (foldIn how) name how before e rest n h m }
+      record { bytes = b; read = r; all = before ++ e ∷ rest; parsed = k; takes = only-wins (foldIn matching) name matching before e rest n h m }
 
   -- what is taken is the first in any case
-  pub takes-first : {e : Entry} (t : Takes d how v work icb name e) → firstNamed (foldIn how) name (t .all) ≡ some e
-  takes-first t = chosen-is-first how (foldIn how) name (t .all) (t .takes)
+  pub takes-first : {e : Entry} (t : Takes d matching v work icb name e) → firstNamed (foldIn matching) name (t .all) ≡ some e
+  takes-first t = chosen-is-first matching (foldIn matching) name (t .all) (t .takes)
 
-  pub entering-is : ran d (entering how v work icb name) .outcome ≡ andThen (ran d (directoryBytes v work icb) .outcome) (findIn how name)
+  pub entering-is : ran d (entering matching v work icb name) .outcome ≡ andThen (ran d (directoryBytes v work icb) .outcome) (findIn matching name)
   unfolding entering
-  entering-is = ap (λ (r : Ran (Option Entry)). r .outcome) (ran-known d (directoryBytes v work icb) (findIn how name))
+  entering-is = ap (λ (r : Ran (Option Entry)). r .outcome) (ran-known d (directoryBytes v work icb) (findIn matching name))
 
-  pub takes-enters : {e : Entry} → Takes d how v work icb name e → ran d (entering how v work icb name) ≡ record { outcome = answered (some e); count = ran d (directoryBytes v work icb) .count }
+  pub takes-enters : {e : Entry} → Takes d matching v work icb name e → ran d (entering matching v work icb name) ≡ record { outcome = answered (some e); count = ran d (directoryBytes v work icb) .count }
   unfolding entering findIn
-  takes-enters t = ran-known d (directoryBytes v work icb) (findIn how name) ∙ rw (t .read, t .parsed, t .takes)
+  takes-enters t = ran-known d (directoryBytes v work icb) (findIn matching name) ∙ rw (t .read, t .parsed, t .takes)
 
-  pub enters-takes : {e : Entry} → ran d (entering how v work icb name) .outcome ≡ answered (some e) → Takes d how v work icb name e
+  pub enters-takes : {e : Entry} → ran d (entering matching v work icb name) .outcome ≡ answered (some e) → Takes d matching v work icb name e
   unfolding findIn
   enters-takes {e} h = by-bytes (ran d (directoryBytes v work icb) .outcome) refl (sym entering-is ∙ h)
     where
       by-entries : (b : List ℕ) → ran d (directoryBytes v work icb) .outcome ≡ answered b → (o : Outcome (List Entry)) → entries b ≡ o
-          → andThen o (λ es. chosen how (allNamed (foldIn how) name es)) ≡ answered (some e) → Takes d how v work icb name e
+          → andThen o (λ es. chosen matching (allNamed (foldIn matching) name es)) ≡ answered (some e) → Takes d matching v work icb name e
       by-entries b r (answered es) p k = record { bytes = b; read = r; all = es; parsed = p; takes = k }
       by-entries b r (refused why) p k = never k
 
-      by-bytes : (o : Outcome (List ℕ)) → ran d (directoryBytes v work icb) .outcome ≡ o → andThen o (findIn how name) ≡ answered (some e) → Takes d how v work icb name e
+      by-bytes : (o : Outcome (List ℕ)) → ran d (directoryBytes v work icb) .outcome ≡ o → andThen o (findIn matching name) ≡ answered (some e) → Takes d matching v work icb name e
       by-bytes (answered b) r k = by-entries b r (entries b) refl k
       by-bytes (refused why) r k = never k
 
 -- ---- one component and those behind it
 
-module _ (d : Disc) (how : Matching) (v : Mount) (work : ℕ) where
+module _ (d : Disc) (matching : Matching) (v : Mount) (work : ℕ) where
   -- the walk of components, and what follows once the first of them is found, or isn't
   abbrev pub walk : List Component → LongAd → Bool → Ran Sought
-  walk cs icb directory = ran d (seeking how v work cs icb directory)
+  walk cs icb directory = ran d (seeking matching v work cs icb directory)
 
   abbrev pub on : Component → List Component → Option Entry → Ran Sought
-  on c cs o = ran d (orLost c o (λ e. seeking how v work cs (e .identifier .icb) (isDirectory (e .identifier))))
+  on c cs o = ran d (orLost c o (λ e. seeking matching v work cs (e .identifier .icb) (isDirectory (e .identifier))))
 
   pub walk-is : (c : Component) (cs : List Component) (icb : LongAd)
-      → walk (c ∷ cs) icb true ≡ onward (ran d (entering how v work icb (c .bytes)) .outcome) (ran d (entering how v work icb (c .bytes)) .count) (on c cs)
+      → walk (c ∷ cs) icb true ≡ onward (ran d (entering matching v work icb (c .bytes)) .outcome) (ran d (entering matching v work icb (c .bytes)) .count) (on c cs)
   unfolding seeking
-  walk-is c cs icb = ran-then d (entering how v work icb (c .bytes)) (λ o. orLost c o (λ e. seeking how v work cs (e .identifier .icb) (isDirectory (e .identifier))))
+  walk-is c cs icb = ran-then d (entering matching v work icb (c .bytes)) (λ o. orLost c o (λ e. seeking matching v work cs (e .identifier .icb) (isDirectory (e .identifier))))
 
   -- it goes on with what the first takes
-  pub seek-takes : (c : Component) (cs : List Component) (icb : LongAd) {e : Entry} → Takes d how v work icb (c .bytes) e
+  pub seek-takes : (c : Component) (cs : List Component) (icb : LongAd) {e : Entry} → Takes d matching v work icb (c .bytes) e
       → walk (c ∷ cs) icb true ≡ after (ran d (directoryBytes v work icb) .count) (walk cs (e .identifier .icb) (isDirectory (e .identifier)))
-  seek-takes c cs icb t = walk-is c cs icb ∙ rw (takes-enters d how v work icb (c .bytes) t)
+  seek-takes c cs icb t = walk-is c cs icb ∙ rw (takes-enters d matching v work icb (c .bytes) t)
 
   -- the first entry of its name wins, whatever stands behind it, under the choices that take it
-  pub seek-first : takesFirst how ≡ true → (icb : LongAd) (c : Component) {b : List ℕ} → ran d (directoryBytes v work icb) .outcome ≡ answered b
-      → (before : List Entry) (e : Entry) (rest : List Entry) → entries b ≡ answered (before ++ e ∷ rest) → NoneAnswers (foldIn how) (c .bytes) before → answersTo (foldIn how) (c .bytes) e ≡ true
+  pub seek-first : takesFirst matching ≡ true → (icb : LongAd) (c : Component) {b : List ℕ} → ran d (directoryBytes v work icb) .outcome ≡ answered b
+      → (before : List Entry) (e : Entry) (rest : List Entry) → entries b ≡ answered (before ++ e ∷ rest) → NoneAnswers (foldIn matching) (c .bytes) before → answersTo (foldIn matching) (c .bytes) e ≡ true
       → (cs : List Component) → walk (c ∷ cs) icb true ≡ after (ran d (directoryBytes v work icb) .count) (walk cs (e .identifier .icb) (isDirectory (e .identifier)))
-  seek-first f icb c r before e rest k n h cs = seek-takes c cs icb (first-takes d how v work icb (c .bytes) f r before e rest k n h)
+  seek-first f icb c r before e rest k n h cs = seek-takes c cs icb (first-takes d matching v work icb (c .bytes) f r before e rest k n h)
 
   -- a component under a file is not reached
   under : (cs : List Component) (c : Component) (others : List Component) (icb : LongAd) {x : Sought} {A : Type 0} → walk (cs ++ c ∷ others) icb false .outcome ≡ answered x
@@ -152,7 +152,7 @@ module _ (d : Disc) (how : Matching) (v : Mount) (work : ℕ) where
   -- ---- where components lead
 
   -- the walk goes on behind them, counts added
-  pub leads-on : (cs more : List Component) (from to : LongAd) → Leads d how v work cs from to → walk (cs ++ more) from true ≡ after (walk cs from true .count) (walk more to true)
+  pub leads-on : (cs more : List Component) (from to : LongAd) → Leads d matching v work cs from to → walk (cs ++ more) from true ≡ after (walk cs from true .count) (walk more to true)
   unfolding Leads seeking
   leads-on [] more from to l = rw (l, ran-done, zero-add)
   leads-on (c ∷ cs) more from to l =
@@ -161,29 +161,29 @@ module _ (d : Disc) (how : Matching) (v : Mount) (work : ℕ) where
       ∙ rw (l .directory, leads-on cs more i to (l .on), seek-takes c cs from (l .takes), l .directory, add-assoc)
 
   -- and they themselves reach that directory
-  pub leads-reached : (cs : List Component) (from to : LongAd) → Leads d how v work cs from to → walk cs from true .outcome ≡ answered (reached to)
+  pub leads-reached : (cs : List Component) (from to : LongAd) → Leads d matching v work cs from to → walk cs from true .outcome ≡ answered (reached to)
   unfolding Leads seeking
   leads-reached [] from to l = rw (l, ran-done)
   leads-reached (c ∷ cs) from to l = rw (seek-takes c cs from (l .takes), l .directory) (leads-reached cs (l .entry .identifier .icb) to (l .on))
 
   -- what stands behind a component that is reached stands in a directory
   pub reached-led : (cs : List Component) (c : Component) (others : List Component) (from : LongAd) {i : LongAd} → walk (cs ++ c ∷ others) from true .outcome ≡ answered (reached i)
-      → Led d how v work cs from
+      → Led d matching v work cs from
   unfolding Leads
   reached-led [] c others from h = record { to = from; leads = refl }
   reached-led (x ∷ cs) c others from {i} h =
-      by (ran d (entering how v work from (x .bytes)) .outcome) (ran d (entering how v work from (x .bytes)) .count) refl (λ icb k. reached-led cs c others icb k)
+      by (ran d (entering matching v work from (x .bytes)) .outcome) (ran d (entering matching v work from (x .bytes)) .count) refl (λ icb k. reached-led cs c others icb k)
       (sym (ap (λ (r : Ran Sought). r .outcome) (walk-is x (cs ++ c ∷ others) from)) ∙ h)
     where
-      into : (e : Entry) → ran d (entering how v work from (x .bytes)) .outcome ≡ answered (some e) → ((icb : LongAd) → walk (cs ++ c ∷ others) icb true .outcome ≡ answered (reached i) → Led d how v work cs icb)
-          → (t : Bool) → isDirectory (e .identifier) ≡ t → walk (cs ++ c ∷ others) (e .identifier .icb) t .outcome ≡ answered (reached i) → Led d how v work (x ∷ cs) from
+      into : (e : Entry) → ran d (entering matching v work from (x .bytes)) .outcome ≡ answered (some e) → ((icb : LongAd) → walk (cs ++ c ∷ others) icb true .outcome ≡ answered (reached i) → Led d matching v work cs icb)
+          → (t : Bool) → isDirectory (e .identifier) ≡ t → walk (cs ++ c ∷ others) (e .identifier .icb) t .outcome ≡ answered (reached i) → Led d matching v work (x ∷ cs) from
       into e q ih true t k =
           let l = ih (e .identifier .icb) k in
-          record { to = l .to; leads = record { entry = e; takes = enters-takes d how v work from (x .bytes) q; directory = t; on = l .leads } }
+          record { to = l .to; leads = record { entry = e; takes = enters-takes d matching v work from (x .bytes) q; directory = t; on = l .leads } }
       into e q ih false t k = under cs c others (e .identifier .icb) k (λ y z. absurd (let w : _≡_ {A = ℕ} 0 1 = cc in omega arith))
 
-      by : (o : Outcome (Option Entry)) (n : ℕ) → ran d (entering how v work from (x .bytes)) .outcome ≡ o → ((icb : LongAd) → walk (cs ++ c ∷ others) icb true .outcome ≡ answered (reached i) → Led d how v work cs icb)
-          → onward o n (on x (cs ++ c ∷ others)) .outcome ≡ answered (reached i) → Led d how v work (x ∷ cs) from
+      by : (o : Outcome (Option Entry)) (n : ℕ) → ran d (entering matching v work from (x .bytes)) .outcome ≡ o → ((icb : LongAd) → walk (cs ++ c ∷ others) icb true .outcome ≡ answered (reached i) → Led d matching v work cs icb)
+          → onward o n (on x (cs ++ c ∷ others)) .outcome ≡ answered (reached i) → Led d matching v work (x ∷ cs) from
       by (refused why) n q ih k = never k
       by (answered none) n q ih k = absurd (let z = rw ran-done at k in let w : _≡_ {A = ℕ} 0 1 = cc in omega arith)
       by (answered (some e)) n q ih k = into e q ih (isDirectory (e .identifier)) refl k
@@ -191,14 +191,14 @@ module _ (d : Disc) (how : Matching) (v : Mount) (work : ℕ) where
   -- ---- the last component
 
   -- the walk comes to what the choice takes of the entries of its name in the directory that the others lead to, or it is lost there, or refused
-  pub last-sought : (cs : List Component) (c : Component) (from to : LongAd) → Leads d how v work cs from to
+  pub last-sought : (cs : List Component) (c : Component) (from to : LongAd) → Leads d matching v work cs from to
       → {b : List ℕ} → ran d (directoryBytes v work to) .outcome ≡ answered b → {es : List Entry} → entries b ≡ answered es
-      → walk (cs ++ c ∷ []) from true ≡ record { outcome = lastIn c (chosen how (allNamed (foldIn how) (c .bytes) es)); count = walk cs from true .count + ran d (directoryBytes v work to) .count }
+      → walk (cs ++ c ∷ []) from true ≡ record { outcome = lastIn c (chosen matching (allNamed (foldIn matching) (c .bytes) es)); count = walk cs from true .count + ran d (directoryBytes v work to) .count }
   unfolding entering findIn seeking
   last-sought cs c from to l {b} r {es} p =
       leads-on cs (c ∷ []) from to l
       ∙ ap (after (walk cs from true .count))
-      (walk-is c [] to ∙ rw (ran-known d (directoryBytes v work to) (findIn how (c .bytes)), r, p) (by (chosen how (allNamed (foldIn how) (c .bytes) es)) (ran d (directoryBytes v work to) .count)))
+      (walk-is c [] to ∙ rw (ran-known d (directoryBytes v work to) (findIn matching (c .bytes)), r, p) (by (chosen matching (allNamed (foldIn matching) (c .bytes) es)) (ran d (directoryBytes v work to) .count)))
     where
       by : (o : Outcome (Option Entry)) (n : ℕ) → onward o n (on c []) ≡ record { outcome = lastIn c o; count = n }
       by (answered none) n = rw (ran-done, add-zero)
@@ -206,13 +206,13 @@ module _ (d : Disc) (how : Matching) (v : Mount) (work : ℕ) where
       by (refused why) n = refl
 
   -- one that was reached was taken there
-  pub last-taken : (c : Component) (icb : LongAd) {i : LongAd} → walk (c ∷ []) icb true .outcome ≡ answered (reached i) → TakesIcb d how v work icb (c .bytes) i
+  pub last-taken : (c : Component) (icb : LongAd) {i : LongAd} → walk (c ∷ []) icb true .outcome ≡ answered (reached i) → TakesIcb d matching v work icb (c .bytes) i
   unfolding seeking
   last-taken c icb {i} h =
-      by (ran d (entering how v work icb (c .bytes)) .outcome) (ran d (entering how v work icb (c .bytes)) .count) refl
+      by (ran d (entering matching v work icb (c .bytes)) .outcome) (ran d (entering matching v work icb (c .bytes)) .count) refl
       (sym (ap (λ (r : Ran Sought). r .outcome) (walk-is c [] icb)) ∙ h)
     where
-      by : (o : Outcome (Option Entry)) (n : ℕ) → ran d (entering how v work icb (c .bytes)) .outcome ≡ o → onward o n (on c []) .outcome ≡ answered (reached i) → TakesIcb d how v work icb (c .bytes) i
+      by : (o : Outcome (Option Entry)) (n : ℕ) → ran d (entering matching v work icb (c .bytes)) .outcome ≡ o → onward o n (on c []) .outcome ≡ answered (reached i) → TakesIcb d matching v work icb (c .bytes) i
       by (refused why) n q k = never k
       by (answered none) n q k = absurd (let z = rw ran-done at k in let w : _≡_ {A = ℕ} 0 1 = cc in omega arith)
-      by (answered (some e)) n q k = record { taken = e; takes = enters-takes d how v work icb (c .bytes) q; is = (let z = rw ran-done at k in cc) }
+      by (answered (some e)) n q k = record { taken = e; takes = enters-takes d matching v work icb (c .bytes) q; is = (let z = rw ran-done at k in cc) }

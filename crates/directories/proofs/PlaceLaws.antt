@@ -19,25 +19,25 @@ use Rattle.directories.specs.Lookups.{Sought, entering, orLost, seeking,
 use Rattle.directories.specs.Lookups.Sought.{reached, lost}
 
 -- the component that a walk loses is one of those that it was given
-module _ (d : Disc) (how : Matching) (v : Mount) (work : ℕ) (path : List ℕ) where
-  lost-stands : (cs : List Component) → AllInPath path cs → (icb : LongAd) (directory : Bool) → InPath path (lostOf (ran d (seeking how v work cs icb directory) .outcome))
+module _ (d : Disc) (matching : Matching) (v : Mount) (work : ℕ) (path : List ℕ) where
+  lost-stands : (cs : List Component) → AllInPath path cs → (icb : LongAd) (directory : Bool) → InPath path (lostOf (ran d (seeking matching v work cs icb directory) .outcome))
   unfolding seeking AllInPath
   lost-stands [] h icb directory = rw (ran-done d (reached icb)) (part-none path)
   lost-stands (c ∷ cs) h icb false = rw (ran-done d (lost c)) (h .0)
   lost-stands (c ∷ cs) h icb true =
-      rw (ran-then d (entering how v work icb (c .bytes)) rest)
-      (by (λ e. lost-stands cs (h .1) (e .identifier .icb) (isDirectory (e .identifier))) (ran d (entering how v work icb (c .bytes)) .outcome) (ran d (entering how v work icb (c .bytes)) .count))
+      rw (ran-then d (entering matching v work icb (c .bytes)) rest)
+      (by (λ e. lost-stands cs (h .1) (e .identifier .icb) (isDirectory (e .identifier))) (ran d (entering matching v work icb (c .bytes)) .outcome) (ran d (entering matching v work icb (c .bytes)) .count))
     where
       rest : Option Entry → Ask Sought
-      rest o = orLost c o (λ e. seeking how v work cs (e .identifier .icb) (isDirectory (e .identifier)))
+      rest o = orLost c o (λ e. seeking matching v work cs (e .identifier .icb) (isDirectory (e .identifier)))
 
-      by : ((e : Entry) → InPath path (lostOf (ran d (seeking how v work cs (e .identifier .icb) (isDirectory (e .identifier))) .outcome)))
+      by : ((e : Entry) → InPath path (lostOf (ran d (seeking matching v work cs (e .identifier .icb) (isDirectory (e .identifier))) .outcome)))
           → (o : Outcome (Option Entry)) (n : ℕ) → InPath path (lostOf (onward o n (λ o. ran d (rest o)) .outcome))
       by ih (answered (some e)) n = ih e
       by ih (answered none) n = rw (ran-done d (lost c)) (h .0)
       by ih (refused r) n = part-none path
 
 -- the part of the path at the place is the component
-pub failed-stands : (d : Disc) (how : Matching) (v : Mount) (work : ℕ) (root : LongAd) (path : List ℕ) → InPath path (failedOf (ran d (seekPath how v work root path)) .component)
+pub failed-stands : (d : Disc) (matching : Matching) (v : Mount) (work : ℕ) (root : LongAd) (path : List ℕ) → InPath path (failedOf (ran d (seekPath matching v work root path)) .component)
 unfolding seekPath
-failed-stands d how v work root path = lost-stands d how v work path (components path) (components-stand path) root true
+failed-stands d matching v work root path = lost-stands d matching v work path (components path) (components-stand path) root true

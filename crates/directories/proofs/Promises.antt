@@ -48,9 +48,9 @@ asked-known {A} {B} d m f = asked-then d m (λ a. ended (f a)) ∙ ap (λ l. ask
     by (refused r) = refl
 
 -- the call for the component that failed asks for the lookup's sectors
-pub failed-asks : (d : Disc) (how : Matching) (v : Mount) (work : ℕ) (root : LongAd) (path : List ℕ) → asked d (lookupOf how v work root path) ≡ asked d (seekPath how v work root path)
+pub failed-asks : (d : Disc) (matching : Matching) (v : Mount) (work : ℕ) (root : LongAd) (path : List ℕ) → asked d (lookupOf matching v work root path) ≡ asked d (seekPath matching v work root path)
 unfolding lookupOf
-failed-asks d how v work root path = asked-known d (seekPath how v work root path) icbOf
+failed-asks d matching v work root path = asked-known d (seekPath matching v work root path) icbOf
 
 -- ---- what a path comes to
 
@@ -61,26 +61,26 @@ module _ (d : Disc) (v : Mount) (work : ℕ) where
   unfolding directoryBytes within
   no-work icb {b} e h = ran-known d (fileBytes v icb) (within work) ∙ rw (e, lt-leb (length b) work h)
 
-module _ (d : Disc) (how : Matching) (v : Mount) (work : ℕ) where
+module _ (d : Disc) (matching : Matching) (v : Mount) (work : ℕ) where
   -- the first entry of a name wins, whatever stands behind it, under the choices that take it
-  pub enters-first : takesFirst how ≡ true → (icb : LongAd) (component : List ℕ) {b : List ℕ} → ran d (directoryBytes v work icb) .outcome ≡ answered b
+  pub enters-first : takesFirst matching ≡ true → (icb : LongAd) (component : List ℕ) {b : List ℕ} → ran d (directoryBytes v work icb) .outcome ≡ answered b
       → (before : List Entry) (e : Entry) (rest : List Entry) → entries b ≡ answered (before ++ e ∷ rest)
-      → NoneAnswers (foldIn how) component before → answersTo (foldIn how) component e ≡ true
-      → ran d (entering how v work icb component) ≡ record { outcome = answered (some e); count = ran d (directoryBytes v work icb) .count }
+      → NoneAnswers (foldIn matching) component before → answersTo (foldIn matching) component e ≡ true
+      → ran d (entering matching v work icb component) ≡ record { outcome = answered (some e); count = ran d (directoryBytes v work icb) .count }
   unfolding entering findIn
   enters-first f icb component {b} r before e rest k n h =
-      ran-known d (directoryBytes v work icb) (findIn how component)
-      ∙ rw (r, k, chosen-first how f (foldIn how) component (before ++ e ∷ rest), first-wins (foldIn how) component before e rest n h)
+      ran-known d (directoryBytes v work icb) (findIn matching component)
+      ∙ rw (r, k, chosen-first matching f (foldIn matching) component (before ++ e ∷ rest), first-wins (foldIn matching) component before e rest n h)
 
   -- a component under what is no directory is lost before any further sector
-  pub under-file : (c : Component) (cs : List Component) (icb : LongAd) → ran d (seeking how v work (c ∷ cs) icb false) ≡ record { outcome = answered (lost c); count = 0 }
+  pub under-file : (c : Component) (cs : List Component) (icb : LongAd) → ran d (seeking matching v work (c ∷ cs) icb false) ≡ record { outcome = answered (lost c); count = 0 }
   unfolding seeking
   under-file c cs icb = ran-done d (lost c)
 
   -- an empty path gives the root ICB, and count 0
-  pub empty-path : (root : LongAd) → ran d (lookupOf how v work root []) ≡ record { outcome = answered root; count = 0 }
+  pub empty-path : (root : LongAd) → ran d (lookupOf matching v work root []) ≡ record { outcome = answered root; count = 0 }
   unfolding lookupOf seekPath seeking components componentsFrom front behind
-  empty-path root = ran-known d (seekPath how v work root []) icbOf ∙ rw (ran-done d (reached root))
+  empty-path root = ran-known d (seekPath matching v work root []) icbOf ∙ rw (ran-done d (reached root))
 
 -- ---- a directory's bytes are bytes where the image's are
 

@@ -46,20 +46,20 @@ refused-entered : (o : Outcome (List ℕ)) (n : ℕ) {reply : Reply} → reply �
 refused-entered (answered b) n p h f = absurd (h (rw p))
 refused-entered (refused r) n p h f = rw p
 
-module _ (d : Disc) (how : Matching) (v : Mount) (icb : LongAd) (component : List ℕ) (w w′ : List ℕ) {read : Reply} (p : Reads (ran d (directoryBytes v (length w) icb)) w w′ read) where
+module _ (d : Disc) (matching : Matching) (v : Mount) (icb : LongAd) (component : List ℕ) (w w′ : List ℕ) {read : Reply} (p : Reads (ran d (directoryBytes v (length w) icb)) w w′ read) where
   abbrev R : Ran (List ℕ)
   R = ran d (directoryBytes v (length w) icb)
 
-  entering-is : ran d (entering how v (length w) icb component) ≡ record { outcome = andThen (R .outcome) (findIn how component); count = R .count }
+  entering-is : ran d (entering matching v (length w) icb component) ≡ record { outcome = andThen (R .outcome) (findIn matching component); count = R .count }
   unfolding entering
-  entering-is = ran-known d (directoryBytes v (length w) icb) (findIn how component)
+  entering-is = ran-known d (directoryBytes v (length w) icb) (findIn matching component)
 
   pub enter-refused : (read .answer ≡ 0 → ⊥) → (e : Named) → e ≡ unnamed (read .answer)
-      → record { entry = e; count = read .count } ≡ enteredOf (ran d (entering how v (length w) icb component))
-  enter-refused h e q = rw (q, entering-is, reads-count p, refused-entered (R .outcome) (reported (R .count)) (p .says) h (findIn how component))
+      → record { entry = e; count = read .count } ≡ enteredOf (ran d (entering matching v (length w) icb component))
+  enter-refused h e q = rw (q, entering-is, reads-count p, refused-entered (R .outcome) (reported (R .count)) (p .says) h (findIn matching component))
 
-  pub enter-found : read .answer ≡ 0 → (e : Named) → e ≡ namedOf (findIn how component (take (read .length - 0) (drop 0 w′)))
-      → record { entry = e; count = read .count } ≡ enteredOf (ran d (entering how v (length w) icb component))
+  pub enter-found : read .answer ≡ 0 → (e : Named) → e ≡ namedOf (findIn matching component (take (read .length - 0) (drop 0 w′)))
+      → record { entry = e; count = read .count } ≡ enteredOf (ran d (entering matching v (length w) icb component))
   enter-found h e q = rw (q, entering-is, reads-bytes p h, reads-count p)
 
 -- ---- the walk
@@ -87,9 +87,9 @@ module _ (path : List ℕ) (e : ℕ) {a : ℕ} (p : a ≡ e + slashes (drop e pa
   skip-within : e ≤ length path → a ≤ length path
   skip-within h = omega (arith, p, slashes-long (drop e path), length-drop e path)
 
-module _ (d : Disc) (how : Matching) (v : Mount) (work : ℕ) (path : List ℕ) {p : PathPlace} (g : p .going ≡ true) (on : On path p) where
-  ahead : leadsTo d how v work path p
-      ≡ endOf (after (p .count) (ran d (seeking how v work (componentsFrom (p .from) (drop (p .from) path)) (p .icb) (p .directory))))
+module _ (d : Disc) (matching : Matching) (v : Mount) (work : ℕ) (path : List ℕ) {p : PathPlace} (g : p .going ≡ true) (on : On path p) where
+  ahead : leadsTo d matching v work path p
+      ≡ endOf (after (p .count) (ran d (seeking matching v work (componentsFrom (p .from) (drop (p .from) path)) (p .icb) (p .directory))))
   unfolding leadsTo
   ahead = rw g
 
@@ -101,8 +101,8 @@ module _ (d : Disc) (how : Matching) (v : Mount) (work : ℕ) (path : List ℕ) 
 
   -- an end of the walk at which a part of the path is lost
   ends-here : (a b answer : ℕ) (icb : LongAd) (n : ℕ) → a ≤ b → b ≤ length path → n ≤ 0xffff_ffff_ffff_ffff
-      → record { found = record { answer = answer; count = n; icb = icb }; lost = record { bytes = take (b - a) (drop a path); at = a } } ≡ leadsTo d how v work path p
-      → Steps d how v work path p (stoppedAt answer icb n a b)
+      → record { found = record { answer = answer; count = n; icb = icb }; lost = record { bytes = take (b - a) (drop a path); at = a } } ≡ leadsTo d matching v work path p
+      → Steps d matching v work path p (stoppedAt answer icb n a b)
   unfolding leadsTo
   ends-here a b answer icb n u v c s =
       record {
@@ -112,7 +112,7 @@ module _ (d : Disc) (how : Matching) (v : Mount) (work : ℕ) (path : List ℕ) 
       }
 
   pub step-arrives : length path ≤ p .from → {q : PathPlace}
-      → q ≡ stoppedAt 0 (p .icb) (p .count) 0 0 → Steps d how v work path p q
+      → q ≡ stoppedAt 0 (p .icb) (p .count) 0 0 → Steps d matching v work path p q
   unfolding componentsFrom front behind seeking ran outcome asked
   step-arrives h e =
       let z : drop (p .from) path ≡ [] = drop-of-length-le path h in
@@ -133,7 +133,7 @@ module _ (d : Disc) (how : Matching) (v : Mount) (work : ℕ) (path : List ℕ) 
     component-is : take (end - p .from) (drop (p .from) path) ≡ front (drop (p .from) path)
     component-is = rw (k, add-sub-cancel-left) (front-is (drop (p .from) path))
 
-    pub step-dead : p .directory ≡ false → {q : PathPlace} → q ≡ lostAt (p .count) (p .from) end → Steps d how v work path p q
+    pub step-dead : p .directory ≡ false → {q : PathPlace} → q ≡ lostAt (p .count) (p .from) end → Steps d matching v work path p q
     unfolding seeking ran outcome asked
     step-dead t e =
         rw e
@@ -145,16 +145,16 @@ module _ (d : Disc) (how : Matching) (v : Mount) (work : ℕ) (path : List ℕ) 
       C = record { bytes = take (end - p .from) (drop (p .from) path); at = p .from }
 
       abbrev rest : Option Entry → Ask Sought
-      rest o = orLost C o (λ e. seeking how v work (componentsFrom end (drop end path)) (e .identifier .icb) (isDirectory (e .identifier)))
+      rest o = orLost C o (λ e. seeking matching v work (componentsFrom end (drop end path)) (e .identifier .icb) (isDirectory (e .identifier)))
 
-      turn : leadsTo d how v work path p ≡ endOf (after (p .count) (followed (ran d (entering how v work (p .icb) (C .bytes))) (λ o. ran d (rest o))))
+      turn : leadsTo d matching v work path p ≡ endOf (after (p .count) (followed (ran d (entering matching v work (p .icb) (C .bytes))) (λ o. ran d (rest o))))
       unfolding seeking
-      turn = ahead ∙ rw (some-left, t, ← component-is) (ap (λ x. endOf (after (p .count) x)) (ran-then d (entering how v work (p .icb) (C .bytes)) rest))
+      turn = ahead ∙ rw (some-left, t, ← component-is) (ap (λ x. endOf (after (p .count) x)) (ran-then d (entering matching v work (p .icb) (C .bytes)) rest))
 
       -- on to the next component
       goes-on : (icb : LongAd) (directory : Bool) (n : ℕ) → n ≤ 0xffff_ffff_ffff_ffff
-          → endOf (after n (ran d (seeking how v work (componentsFrom end (drop end path)) icb directory))) ≡ leadsTo d how v work path p
-          → Steps d how v work path p (record { going = true; answer = 0; icb = icb; directory = directory; count = n; from = end + slashes (drop end path); end = length path })
+          → endOf (after n (ran d (seeking matching v work (componentsFrom end (drop end path)) icb directory))) ≡ leadsTo d matching v work path p
+          → Steps d matching v work path p (record { going = true; answer = 0; icb = icb; directory = directory; count = n; from = end + slashes (drop end path); end = length path })
       unfolding leadsTo
       goes-on icb directory n c s =
           record {
@@ -163,8 +163,8 @@ module _ (d : Disc) (how : Matching) (v : Mount) (work : ℕ) (path : List ℕ) 
             less = rw far (omega (arith, further));
           }
 
-      by-outcome : (o : Outcome (Option Entry)) (m : ℕ) → leadsTo d how v work path p ≡ endOf (after (p .count) (onward o m (λ o. ran d (rest o))))
-          → Steps d how v work path p (beyondOf path (namedOf o) (reported (p .count + reported m)) (p .from) end)
+      by-outcome : (o : Outcome (Option Entry)) (m : ℕ) → leadsTo d matching v work path p ≡ endOf (after (p .count) (onward o m (λ o. ran d (rest o))))
+          → Steps d matching v work path p (beyondOf path (namedOf o) (reported (p .count + reported m)) (p .from) end)
       unfolding beyondOf ran outcome asked
       by-outcome (answered (some e)) m s =
           goes-on (e .identifier .icb) (isDirectory (e .identifier)) _ (omega arith) (end-reported (ran d (rest (some e))) (p .count) m ∙ sym s)
@@ -174,32 +174,32 @@ module _ (d : Disc) (how : Matching) (v : Mount) (work : ℕ) (path : List ℕ) 
           simp (ne-eqb _ _ (refusal-numbered r))
           (ends-here 0 0 (number r) noLong _ zero-le zero-le (omega arith) (both (ap (notFound (number r)) (omega arith)) refl ∙ sym s))
 
-      pub step-enters : {e : Entered} → e ≡ enteredOf (ran d (entering how v work (p .icb) (C .bytes))) → {n : ℕ} → n ≡ reported (p .count + e .count)
-          → {q : PathPlace} → q ≡ beyondOf path (e .entry) n (p .from) end → Steps d how v work path p q
+      pub step-enters : {e : Entered} → e ≡ enteredOf (ran d (entering matching v work (p .icb) (C .bytes))) → {n : ℕ} → n ≡ reported (p .count + e .count)
+          → {q : PathPlace} → q ≡ beyondOf path (e .entry) n (p .from) end → Steps d matching v work path p q
       step-enters {e} x {n} y z =
-          let R : Ran (Option Entry) = ran d (entering how v work (p .icb) (C .bytes)) in
+          let R : Ran (Option Entry) = ran d (entering matching v work (p .icb) (C .bytes)) in
           let m : n ≡ reported (p .count + reported (R .count)) = y ∙ rw x in
           rw (z, m, x) (by-outcome (R .outcome) (R .count) turn)
 
 -- the walk has come to p
-pub record Walking (d : Disc) (how : Matching) (v : Mount) (work : ℕ) (root : LongAd) (path : List ℕ) (p : PathPlace) : Type 0 where
+pub record Walking (d : Disc) (matching : Matching) (v : Mount) (work : ℕ) (root : LongAd) (path : List ℕ) (p : PathPlace) : Type 0 where
   pub on : On path p
-  pub same : leadsTo d how v work path p ≡ endOf (ran d (seekPath how v work root path))
+  pub same : leadsTo d matching v work path p ≡ endOf (ran d (seekPath matching v work root path))
 
-pub walk-starts : (d : Disc) (how : Matching) (v : Mount) (work : ℕ) (root : LongAd) (path : List ℕ) (a : ℕ) → a ≡ 0 + slashes (drop 0 path)
-    → Walking d how v work root path (record { going = true; answer = 0; icb = root; directory = true; count = 0; from = a; end = length path })
+pub walk-starts : (d : Disc) (matching : Matching) (v : Mount) (work : ℕ) (root : LongAd) (path : List ℕ) (a : ℕ) → a ≡ 0 + slashes (drop 0 path)
+    → Walking d matching v work root path (record { going = true; answer = 0; icb = root; directory = true; count = 0; from = a; end = length path })
 unfolding leadsTo seekPath components
-walk-starts d how v work root path a e =
+walk-starts d matching v work root path a e =
     record {
       on = record { ordered = skip-within path 0 e zero-le; within = omega arith; counted = zero-le; clean = λ x. none-left path 0 e };
       same = rw (same-components path 0 e) (simp zero-add);
     }
 
-module _ {d : Disc} {how : Matching} {v : Mount} {work : ℕ} {root : LongAd} {path : List ℕ} {p : PathPlace} (w : Walking d how v work root path p) where
-  pub walk-next : (lent : ℕ) → lent ≡ work → {q : PathPlace} → Steps d how v lent path p q → Walking d how v work root path q
+module _ {d : Disc} {matching : Matching} {v : Mount} {work : ℕ} {root : LongAd} {path : List ℕ} {p : PathPlace} (w : Walking d matching v work root path p) where
+  pub walk-next : (lent : ℕ) → lent ≡ work → {q : PathPlace} → Steps d matching v lent path p q → Walking d matching v work root path q
   walk-next lent l s = record { on = s .on; same = (rw l at (s .same)) ∙ w .same }
 
-  pub walk-ends : p .going ≡ false → Walks d how v work root path p
+  pub walk-ends : p .going ≡ false → Walks d matching v work root path p
   unfolding leadsTo
   walk-ends g =
       let e = rw g at (w .same) in

@@ -30,7 +30,7 @@ use Rattle.directories.specs.declared.lookups.Found.{Found}
 -- the entry of a name in the directory at icb, if it has one, by a choice of matching: a component that is ambiguous under it is refused once the
 -- directory has been read
 unfoldable pub entering : Matching → Mount → ℕ → LongAd → List ℕ → Ask (Option Entry)
-entering how v work icb component = then (directoryBytes v work icb) (λ b. ended (findIn how component b))
+entering matching v work icb component = then (directoryBytes v work icb) (λ b. ended (findIn matching component b))
 
 -- where a path leads: to an ICB, or to a component that isn't there
 pub data Sought : Type 0 where
@@ -43,15 +43,15 @@ orLost c (some a) f = f a
 
 -- the components one after the other; one under what is no directory is lost before any further sector
 unfoldable pub seeking : Matching → Mount → ℕ → List Component → LongAd → Bool → Ask Sought
-seeking how v work [] icb directory = done (reached icb)
-seeking how v work (c ∷ cs) icb false = done (lost c)
-seeking how v work (c ∷ cs) icb true =
-    then (entering how v work icb (c .bytes)) (λ o.
-    orLost c o (λ e. seeking how v work cs (e .identifier .icb) (isDirectory (e .identifier))))
+seeking matching v work [] icb directory = done (reached icb)
+seeking matching v work (c ∷ cs) icb false = done (lost c)
+seeking matching v work (c ∷ cs) icb true =
+    then (entering matching v work icb (c .bytes)) (λ o.
+    orLost c o (λ e. seeking matching v work cs (e .identifier .icb) (isDirectory (e .identifier))))
 
 -- a path from the root, which counts as a directory
 unfoldable pub seekPath : Matching → Mount → ℕ → LongAd → List ℕ → Ask Sought
-seekPath how v work root path = seeking how v work (components path) root true
+seekPath matching v work root path = seeking matching v work (components path) root true
 
 -- ---- what is asked of a path
 
@@ -62,11 +62,11 @@ icbOf (lost c) = refused NotBluray
 
 -- the ICB that it names
 unfoldable pub lookupOf : Matching → Mount → ℕ → LongAd → List ℕ → Ask LongAd
-lookupOf how v work root path = then (seekPath how v work root path) (λ s. ended (icbOf s))
+lookupOf matching v work root path = then (seekPath matching v work root path) (λ s. ended (icbOf s))
 
 -- the bytes of the file that it names: a lookup, then a read
 unfoldable pub readPathOf : Matching → Mount → ℕ → LongAd → List ℕ → Ask (List ℕ)
-readPathOf how v work root path = then (lookupOf how v work root path) (λ icb. fileBytes v icb)
+readPathOf matching v work root path = then (lookupOf matching v work root path) (λ icb. fileBytes v icb)
 
 -- ---- a lookup as the code reports it
 

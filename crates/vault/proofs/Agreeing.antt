@@ -58,36 +58,36 @@ nine-walk (refused why) e = ap refused (nine-is why e)
 
 -- ---- calls whose walks are the same
 
-pub record Same (image : List ℕ) (v : VolumeRecord) (path : List ℕ) (how how′ : Matching) (work : List ℕ) : Type 0 where
-  pub lookup : finds image v path how work ≡ finds image v path how′ work
-  pub failed : fails image v path how work ≡ fails image v path how′ work
-  pub failed-at : failsAt image v path how work ≡ failsAt image v path how′ work
-  pub read-path : (out : List ℕ) → readsPath image v path how out work ≡ readsPath image v path how′ out work
+pub record Same (image : List ℕ) (v : VolumeRecord) (path : List ℕ) (matching matching′ : Matching) (work : List ℕ) : Type 0 where
+  pub lookup : finds image v path matching work ≡ finds image v path matching′ work
+  pub failed : fails image v path matching work ≡ fails image v path matching′ work
+  pub failed-at : failsAt image v path matching work ≡ failsAt image v path matching′ work
+  pub read-path : (out : List ℕ) → readsPath image v path matching out work ≡ readsPath image v path matching′ out work
 
 module _ (image : List ℕ) (v : VolumeRecord) (path work : List ℕ) where
   abbrev W : Matching → Ran Sought
-  W how = ran (disc image) (seekingOf v (length work) path how)
+  W matching = ran (disc image) (seekingOf v (length work) path matching)
 
-  looks : (how : Matching) → ran (disc image) (finding v (length work) path how) ≡ record { outcome = andThen (W how .outcome) icbOf; count = W how .count }
-  looks how = look-is (disc image) how (v .mount) (length work) (v .root) path
+  looks : (matching : Matching) → ran (disc image) (finding v (length work) path matching) ≡ record { outcome = andThen (W matching .outcome) icbOf; count = W matching .count }
+  looks matching = look-is (disc image) matching (v .mount) (length work) (v .root) path
 
-  looked-same : (how how′ : Matching) → W how ≡ W how′ → ran (disc image) (finding v (length work) path how) ≡ ran (disc image) (finding v (length work) path how′)
-  looked-same how how′ h = looks how ∙ ap (λ (r : Ran Sought). record { outcome = andThen (r .outcome) icbOf; count = r .count }) h ∙ sym (looks how′)
+  looked-same : (matching matching′ : Matching) → W matching ≡ W matching′ → ran (disc image) (finding v (length work) path matching) ≡ ran (disc image) (finding v (length work) path matching′)
+  looked-same matching matching′ h = looks matching ∙ ap (λ (r : Ran Sought). record { outcome = andThen (r .outcome) icbOf; count = r .count }) h ∙ sym (looks matching′)
 
-  read-same : (how how′ : Matching) → W how ≡ W how′ → ran (disc image) (pathReading v (length work) path how) ≡ ran (disc image) (pathReading v (length work) path how′)
+  read-same : (matching matching′ : Matching) → W matching ≡ W matching′ → ran (disc image) (pathReading v (length work) path matching) ≡ ran (disc image) (pathReading v (length work) path matching′)
   unfolding readPathOf
-  read-same how how′ h =
-      ran-then (disc image) (finding v (length work) path how) (λ icb. reading v icb)
-      ∙ rw (looked-same how how′ h) refl
-      ∙ sym (ran-then (disc image) (finding v (length work) path how′) (λ icb. reading v icb))
+  read-same matching matching′ h =
+      ran-then (disc image) (finding v (length work) path matching) (λ icb. reading v icb)
+      ∙ rw (looked-same matching matching′ h) refl
+      ∙ sym (ran-then (disc image) (finding v (length work) path matching′) (λ icb. reading v icb))
 
-  same : (how how′ : Matching) → W how ≡ W how′ → Same image v path how how′ work
-  same how how′ h =
+  same : (matching matching′ : Matching) → W matching ≡ W matching′ → Same image v path matching matching′ work
+  same matching matching′ h =
       record {
-        lookup = ap (looked work) (looked-same how how′ h);
+        lookup = ap (looked work) (looked-same matching matching′ h);
         failed = ap (lostBy work) h;
         failed-at = ap (lostPlace work) h;
-        read-path = λ out. ap (worked out work) (read-same how how′ h);
+        read-path = λ out. ap (worked out work) (read-same matching matching′ h);
       }
 
   -- ---- the third choice and the first
@@ -106,8 +106,8 @@ module _ (image : List ℕ) (v : VolumeRecord) (path work : List ℕ) where
     at : LongAd
     is : o ≡ answered (reached at)
 
-  arrived : (how : Matching) → finds image v path how work .found .answer ≡ 0 → Arrived (W how .outcome)
-  arrived how h = by (W how .outcome) (sym (ap (λ (r : Ran LongAd). answerOf (r .outcome)) (looks how)) ∙ h)
+  arrived : (matching : Matching) → finds image v path matching work .found .answer ≡ 0 → Arrived (W matching .outcome)
+  arrived matching h = by (W matching .outcome) (sym (ap (λ (r : Ran LongAd). answerOf (r .outcome)) (looks matching)) ∙ h)
     where
       by : (o : Outcome Sought) → answerOf (andThen o icbOf) ≡ 0 → Arrived o
       by (answered (reached icb)) e = record { at = icb; is = refl }

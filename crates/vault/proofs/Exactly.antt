@@ -59,15 +59,15 @@ module _ (d : Disc) where
 
 -- a lookup is refused by 6 besides, and under the third choice of matching by 9
 abbrev pub OfALookup : Matching → Refusal → Type 0
-OfALookup how why = (number why ≤ 6 × (number why ≡ 5 → ⊥)) ⊎ ((how ≡ Unambiguous) × (number why ≡ 9))
+OfALookup matching why = (number why ≤ 6 × (number why ≡ 5 → ⊥)) ⊎ ((matching ≡ Unambiguous) × (number why ≡ 9))
 
-pub lookup-original : (d : Disc) (v : VolumeRecord) (work : ℕ) (path : List ℕ) (how : Matching) → Within (OfALookup how) (outcome d (finding v work path how))
-lookup-original d v work path how =
-    refuses-within (OfALookup how) (low Io (omega arith)) d
-    (lookup-only (OfALookup how) (low Malformed (omega arith)) (low NotBluray (omega arith)) (low Unsupported (omega arith)) (inl (omega arith, λ e. omega arith)) how (λ z. inr (z, refl))
+pub lookup-original : (d : Disc) (v : VolumeRecord) (work : ℕ) (path : List ℕ) (matching : Matching) → Within (OfALookup matching) (outcome d (finding v work path matching))
+lookup-original d v work path matching =
+    refuses-within (OfALookup matching) (low Io (omega arith)) d
+    (lookup-only (OfALookup matching) (low Malformed (omega arith)) (low NotBluray (omega arith)) (low Unsupported (omega arith)) (inl (omega arith, λ e. omega arith)) matching (λ z. inr (z, refl))
     (v .mount) work (v .root) path)
   where
-    low : (why : Refusal) → Original why → OfALookup how why
+    low : (why : Refusal) → Original why → OfALookup matching why
     low why h = inl (omega arith, λ e. omega arith)
 
 -- ---- 5 exactly when the answer has more bytes than the output holds
@@ -105,11 +105,11 @@ module _ (image : List ℕ) (v : VolumeRecord) where
       five (length out) _ (outcome (disc image) (listing v (length work) icb))
       (refuses-within ButRoom (λ e. omega arith) (disc image) (listing-only ButRoom (λ e. omega arith) (λ e. omega arith) (λ e. omega arith) (λ e. omega arith) (v .mount) (length work) icb))
 
-  pub read-path-5 : (path : List ℕ) (how : Matching) (out work : List ℕ) → eqb (readsPath image v path how out work .reply .answer) 5 ≡ overfull (length out) (ran (disc image) (pathReading v (length work) path how) .outcome)
+  pub read-path-5 : (path : List ℕ) (matching : Matching) (out work : List ℕ) → eqb (readsPath image v path matching out work .reply .answer) 5 ≡ overfull (length out) (ran (disc image) (pathReading v (length work) path matching) .outcome)
   unfolding ran
-  read-path-5 path how out work =
-      five (length out) _ (outcome (disc image) (pathReading v (length work) path how))
-      (refuses-within ButRoom (λ e. omega arith) (disc image) (path-only ButRoom (λ e. omega arith) (λ e. omega arith) (λ e. omega arith) (λ e. omega arith) how (λ z e. omega arith) (v .mount) (length work) (v .root) path))
+  read-path-5 path matching out work =
+      five (length out) _ (outcome (disc image) (pathReading v (length work) path matching))
+      (refuses-within ButRoom (λ e. omega arith) (disc image) (path-only ButRoom (λ e. omega arith) (λ e. omega arith) (λ e. omega arith) (λ e. omega arith) matching (λ z e. omega arith) (v .mount) (length work) (v .root) path))
 
 -- ---- 6, of a listing, exactly when the directory's bytes exceed the work space
 

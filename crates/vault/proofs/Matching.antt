@@ -42,9 +42,9 @@ use Rattle.volumes.specs.declared.openings.VolumeRecord.{VolumeRecord}
 -- ---- ASCII case is ignored
 
 -- paths whose components are equal under the choice's fold have the same lookup: with ASCII case ignored, under the first and the third
-pub lookup-case : (image : List ℕ) (v : VolumeRecord) (path path′ : List ℕ) (how : Matching) (work : List ℕ)
-    → map (folded (foldIn how)) (components path) ≡ map (folded (foldIn how)) (components path′) → finds image v path how work ≡ finds image v path′ how work
-lookup-case image v path path′ how work h = ap (looked work) (look-case (disc image) how (v .mount) (length work) (v .root) path path′ h)
+pub lookup-case : (image : List ℕ) (v : VolumeRecord) (path path′ : List ℕ) (matching : Matching) (work : List ℕ)
+    → map (folded (foldIn matching)) (components path) ≡ map (folded (foldIn matching)) (components path′) → finds image v path matching work ≡ finds image v path′ matching work
+lookup-case image v path path′ matching work h = ap (looked work) (look-case (disc image) matching (v .mount) (length work) (v .root) path path′ h)
 
 -- cue 10.1A and cue 10.1a are one name: whichever stands first in its directory is taken for both
 pub one-cue : (image : List ℕ) (v : VolumeRecord) (work : List ℕ)
@@ -56,7 +56,7 @@ one-cue image v work = lookup-case image v (0x31 ∷ 0x30 ∷ 0x2e ∷ 0x31 ∷ 
 
 -- components lead from the root to the directory at an ICB
 abbrev pub LeadTo : List ℕ → VolumeRecord → Matching → List ℕ → List Component → LongAd → Type 0
-LeadTo image v how work cs i = Leads (disc image) how (v .mount) (length work) cs (v .root) i
+LeadTo image v matching work cs i = Leads (disc image) matching (v .mount) (length work) cs (v .root) i
 
 -- the directory at an ICB, read into the work space
 abbrev pub directoryRead : List ℕ → VolumeRecord → List ℕ → LongAd → Ran (List ℕ)
@@ -64,7 +64,7 @@ directoryRead image v work i = ran (disc image) (directoryBytes (v .mount) (leng
 
 -- the sectors of the way to it, and its own
 abbrev pub sectorsTo : List ℕ → VolumeRecord → Matching → List ℕ → List Component → LongAd → ℕ
-sectorsTo image v how work cs i = ran (disc image) (seeking how (v .mount) (length work) cs (v .root) true) .count + directoryRead image v work i .count
+sectorsTo image v matching work cs i = ran (disc image) (seeking matching (v .mount) (length work) cs (v .root) true) .count + directoryRead image v work i .count
 
 -- what is made of a lookup by an entry that was taken, by none, or by a refusal
 abbrev pub icbOr3 : Outcome (Option Entry) → Outcome LongAd
@@ -75,29 +75,29 @@ icbOr3 (refused why) = refused why
 -- ---- which entry is taken
 
 -- a path without components is the root
-pub lookup-root : (image : List ℕ) (v : VolumeRecord) (path : List ℕ) (how : Matching) (work : List ℕ) → components path ≡ []
-    → finds image v path how work .found ≡ record { answer = 0; count = 0; icb = v .root }
+pub lookup-root : (image : List ℕ) (v : VolumeRecord) (path : List ℕ) (matching : Matching) (work : List ℕ) → components path ≡ []
+    → finds image v path matching work .found ≡ record { answer = 0; count = 0; icb = v .root }
 unfolding seekPath seeking
-lookup-root image v path how work p =
-    ap foundOf (look-is (disc image) how (v .mount) (length work) (v .root) path) ∙ rw (p, ran-done (disc image) (reached (v .root)))
+lookup-root image v path matching work p =
+    ap foundOf (look-is (disc image) matching (v .mount) (length work) (v .root) path) ∙ rw (p, ran-done (disc image) (reached (v .root)))
 
-module _ (image : List ℕ) (v : VolumeRecord) (path : List ℕ) (how : Matching) (work : List ℕ) (cs : List Component) (c : Component) (p : components path ≡ cs ++ c ∷ []) where
-  found-is : finds image v path how work .found
+module _ (image : List ℕ) (v : VolumeRecord) (path : List ℕ) (matching : Matching) (work : List ℕ) (cs : List Component) (c : Component) (p : components path ≡ cs ++ c ∷ []) where
+  found-is : finds image v path matching work .found
       ≡ foundOf (record {
-        outcome = andThen (ran (disc image) (seeking how (v .mount) (length work) (cs ++ c ∷ []) (v .root) true) .outcome) icbOf;
-        count = ran (disc image) (seeking how (v .mount) (length work) (cs ++ c ∷ []) (v .root) true) .count;
+        outcome = andThen (ran (disc image) (seeking matching (v .mount) (length work) (cs ++ c ∷ []) (v .root) true) .outcome) icbOf;
+        count = ran (disc image) (seeking matching (v .mount) (length work) (cs ++ c ∷ []) (v .root) true) .count;
       })
   unfolding seekPath
-  found-is = ap foundOf (look-is (disc image) how (v .mount) (length work) (v .root) path) ∙ rw p
+  found-is = ap foundOf (look-is (disc image) matching (v .mount) (length work) (v .root) path) ∙ rw p
 
   -- any other is answered with what the choice takes of the entries of its last component's name in the directory that the others lead to, or is
   -- refused by 3 where there is none, and under the third choice by 9 where there are several
-  pub lookup-last : (i : LongAd) → LeadTo image v how work cs i → {b : List ℕ} → directoryRead image v work i .outcome ≡ answered b → {es : List Entry} → entries b ≡ answered es
-      → finds image v path how work .found ≡ foundTo (icbOr3 (chosen how (allNamed (foldIn how) (c .bytes) es))) (reported (sectorsTo image v how work cs i))
+  pub lookup-last : (i : LongAd) → LeadTo image v matching work cs i → {b : List ℕ} → directoryRead image v work i .outcome ≡ answered b → {es : List Entry} → entries b ≡ answered es
+      → finds image v path matching work .found ≡ foundTo (icbOr3 (chosen matching (allNamed (foldIn matching) (c .bytes) es))) (reported (sectorsTo image v matching work cs i))
   lookup-last i l r {es} k =
       found-is
-      ∙ rw (last-sought (disc image) how (v .mount) (length work) cs c (v .root) i l r k)
-      (ap (λ o. foundTo o (reported (sectorsTo image v how work cs i))) (by (chosen how (allNamed (foldIn how) (c .bytes) es))))
+      ∙ rw (last-sought (disc image) matching (v .mount) (length work) cs c (v .root) i l r k)
+      (ap (λ o. foundTo o (reported (sectorsTo image v matching work cs i))) (by (chosen matching (allNamed (foldIn matching) (c .bytes) es))))
     where
       by : (o : Outcome (Option Entry)) → andThen (lastIn c o) icbOf ≡ icbOr3 o
       by (answered none) = refl
@@ -105,33 +105,33 @@ module _ (image : List ℕ) (v : VolumeRecord) (path : List ℕ) (how : Matching
       by (refused why) = refl
 
   -- the first entry of a name wins, whatever stands behind it, under the choices that take it,
-  pub lookup-first : takesFirst how ≡ true → (i : LongAd) → LeadTo image v how work cs i → {b : List ℕ} → directoryRead image v work i .outcome ≡ answered b
+  pub lookup-first : takesFirst matching ≡ true → (i : LongAd) → LeadTo image v matching work cs i → {b : List ℕ} → directoryRead image v work i .outcome ≡ answered b
       → (before : List Entry) (e : Entry) (rest : List Entry) → entries b ≡ answered (before ++ e ∷ rest)
-      → NoneAnswers (foldIn how) (c .bytes) before → answersTo (foldIn how) (c .bytes) e ≡ true
-      → finds image v path how work .found ≡ record { answer = 0; count = reported (sectorsTo image v how work cs i); icb = e .identifier .icb }
+      → NoneAnswers (foldIn matching) (c .bytes) before → answersTo (foldIn matching) (c .bytes) e ≡ true
+      → finds image v path matching work .found ≡ record { answer = 0; count = reported (sectorsTo image v matching work cs i); icb = e .identifier .icb }
   lookup-first f i l r before e rest k n h =
-      lookup-last i l r k ∙ rw (chosen-first how f (foldIn how) (c .bytes) (before ++ e ∷ rest), first-wins (foldIn how) (c .bytes) before e rest n h)
+      lookup-last i l r k ∙ rw (chosen-first matching f (foldIn matching) (c .bytes) (before ++ e ∷ rest), first-wins (foldIn matching) (c .bytes) before e rest n h)
 
   -- and the only one under each
-  pub lookup-single : (i : LongAd) → LeadTo image v how work cs i → {b : List ℕ} → directoryRead image v work i .outcome ≡ answered b
+  pub lookup-single : (i : LongAd) → LeadTo image v matching work cs i → {b : List ℕ} → directoryRead image v work i .outcome ≡ answered b
       → (before : List Entry) (e : Entry) (rest : List Entry) → entries b ≡ answered (before ++ e ∷ rest)
-      → NoneAnswers (foldIn how) (c .bytes) before → answersTo (foldIn how) (c .bytes) e ≡ true → NoneAnswers (foldIn how) (c .bytes) rest
-      → finds image v path how work .found ≡ record { answer = 0; count = reported (sectorsTo image v how work cs i); icb = e .identifier .icb }
-  lookup-single i l r before e rest k n h m = lookup-last i l r k ∙ rw (only-wins (foldIn how) (c .bytes) how before e rest n h m)
+      → NoneAnswers (foldIn matching) (c .bytes) before → answersTo (foldIn matching) (c .bytes) e ≡ true → NoneAnswers (foldIn matching) (c .bytes) rest
+      → finds image v path matching work .found ≡ record { answer = 0; count = reported (sectorsTo image v matching work cs i); icb = e .identifier .icb }
+  lookup-single i l r before e rest k n h m = lookup-last i l r k ∙ rw (only-wins (foldIn matching) (c .bytes) matching before e rest n h m)
 
 -- ---- and nothing else matches: the ICB that a path is answered with is that of an entry which stands in the directory that the components before
 -- the last lead to, is listed there, and has the last one's name under the choice's fold; and no entry before it answers to that name
 
-pub record Taken (image : List ℕ) (v : VolumeRecord) (path : List ℕ) (how : Matching) (work : List ℕ) (cs : List Component) (c : Component) : Type 0 where
+pub record Taken (image : List ℕ) (v : VolumeRecord) (path : List ℕ) (matching : Matching) (work : List ℕ) (cs : List Component) (c : Component) : Type 0 where
   pub directory : LongAd
-  pub led : LeadTo image v how work cs directory
+  pub led : LeadTo image v matching work cs directory
   pub taken : Entry
-  pub takes : Takes (disc image) how (v .mount) (length work) directory (c .bytes) taken
-  pub first : firstNamed (foldIn how) (c .bytes) (takes .all) ≡ some taken
-  pub icb : finds image v path how work .found .icb ≡ taken .identifier .icb
-  pub answers : answersTo (foldIn how) (c .bytes) taken ≡ true
+  pub takes : Takes (disc image) matching (v .mount) (length work) directory (c .bytes) taken
+  pub first : firstNamed (foldIn matching) (c .bytes) (takes .all) ≡ some taken
+  pub icb : finds image v path matching work .found .icb ≡ taken .identifier .icb
+  pub answers : answersTo (foldIn matching) (c .bytes) taken ≡ true
   pub listed : isSkipped (taken .identifier) ≡ false
-  pub named : map (foldIn how) (nameIn taken) ≡ map (foldIn how) (c .bytes)
+  pub named : map (foldIn matching) (nameIn taken) ≡ map (foldIn matching) (c .bytes)
 
 -- a walk that is answered reached an ICB
 record Arrived (o : Outcome Sought) : Type 0 where
@@ -143,17 +143,17 @@ arrived (answered (reached icb)) h = record { at = icb; is = refl }
 arrived (answered (lost c)) h = absurd (omega arith)
 arrived (refused why) h = absurd (refusal-numbered why h)
 
-pub lookup-named : (image : List ℕ) (v : VolumeRecord) (path : List ℕ) (how : Matching) (work : List ℕ) (cs : List Component) (c : Component) → components path ≡ cs ++ c ∷ []
-    → finds image v path how work .found .answer ≡ 0 → Taken image v path how work cs c
-lookup-named image v path how work cs c p q =
-    let f = found-is image v path how work cs c p in
+pub lookup-named : (image : List ℕ) (v : VolumeRecord) (path : List ℕ) (matching : Matching) (work : List ℕ) (cs : List Component) (c : Component) → components path ≡ cs ++ c ∷ []
+    → finds image v path matching work .found .answer ≡ 0 → Taken image v path matching work cs c
+lookup-named image v path matching work cs c p q =
+    let f = found-is image v path matching work cs c p in
     let a = arrived _ (sym (ap (λ (x : Found). x .answer) f) ∙ q) in
-    let l = reached-led (disc image) how (v .mount) (length work) cs c [] (v .root) (a .is) in
-    let s = leads-on (disc image) how (v .mount) (length work) cs (c ∷ []) (v .root) (l .to) (l .leads) in
-    let t = last-taken (disc image) how (v .mount) (length work) c (l .to) (sym (ap (λ (r : Ran Sought). r .outcome) s) ∙ a .is) in
-    let first = takes-first (disc image) how (v .mount) (length work) (l .to) (c .bytes) (t .takes) in
-    let h = found-answers (foldIn how) (c .bytes) (t .takes .all) first in
-    let n = answers-folded (foldIn how) (c .bytes) (t .taken) h in
+    let l = reached-led (disc image) matching (v .mount) (length work) cs c [] (v .root) (a .is) in
+    let s = leads-on (disc image) matching (v .mount) (length work) cs (c ∷ []) (v .root) (l .to) (l .leads) in
+    let t = last-taken (disc image) matching (v .mount) (length work) c (l .to) (sym (ap (λ (r : Ran Sought). r .outcome) s) ∙ a .is) in
+    let first = takes-first (disc image) matching (v .mount) (length work) (l .to) (c .bytes) (t .takes) in
+    let h = found-answers (foldIn matching) (c .bytes) (t .takes .all) first in
+    let n = answers-folded (foldIn matching) (c .bytes) (t .taken) h in
     record {
       directory = l .to;
       led = l .leads;

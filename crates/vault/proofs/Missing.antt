@@ -96,21 +96,21 @@ module _ (image : List ℕ) where
         reply-1 NoRoom (λ e. omega arith) (length out) _ (outcome (disc image) (listing v (length work) icb))
         ∙ refused-missing image (listing-only ButIo (λ e. omega arith) (λ e. omega arith) (λ e. omega arith) (λ e. omega arith) (v .mount) (length work) icb)
 
-    pub lookup-1 : (path : List ℕ) (how : Matching) (work : List ℕ) → eqb (finds image v path how work .found .answer) 1 ≡ lacking image (finding v (length work) path how)
+    pub lookup-1 : (path : List ℕ) (matching : Matching) (work : List ℕ) → eqb (finds image v path matching work .found .answer) 1 ≡ lacking image (finding v (length work) path matching)
     unfolding ran
-    lookup-1 path how work =
-        answer-1 (outcome (disc image) (finding v (length work) path how))
-        ∙ refused-missing image (lookup-only ButIo (λ e. omega arith) (λ e. omega arith) (λ e. omega arith) (λ e. omega arith) how (λ z e. omega arith) (v .mount) (length work) (v .root) path)
+    lookup-1 path matching work =
+        answer-1 (outcome (disc image) (finding v (length work) path matching))
+        ∙ refused-missing image (lookup-only ButIo (λ e. omega arith) (λ e. omega arith) (λ e. omega arith) (λ e. omega arith) matching (λ z e. omega arith) (v .mount) (length work) (v .root) path)
 
     -- the component that failed and its place have the lookup's list
-    pub failed-1 : (path : List ℕ) (how : Matching) (work : List ℕ) → eqb (fails image v path how work .answer) 1 ≡ lacking image (finding v (length work) path how)
-    failed-1 path how work = ap (λ n. eqb n 1) (failed-sound image v path how work .0) ∙ lookup-1 path how work
+    pub failed-1 : (path : List ℕ) (matching : Matching) (work : List ℕ) → eqb (fails image v path matching work .answer) 1 ≡ lacking image (finding v (length work) path matching)
+    failed-1 path matching work = ap (λ n. eqb n 1) (failed-sound image v path matching work .0) ∙ lookup-1 path matching work
 
-    pub failed-at-1 : (path : List ℕ) (how : Matching) (work : List ℕ) → eqb (failsAt image v path how work .reply .answer) 1 ≡ lacking image (finding v (length work) path how)
-    failed-at-1 path how work = failed-1 path how work
+    pub failed-at-1 : (path : List ℕ) (matching : Matching) (work : List ℕ) → eqb (failsAt image v path matching work .reply .answer) 1 ≡ lacking image (finding v (length work) path matching)
+    failed-at-1 path matching work = failed-1 path matching work
 
-    pub read-path-1 : (path : List ℕ) (how : Matching) (out work : List ℕ) → eqb (readsPath image v path how out work .reply .answer) 1 ≡ lacking image (pathReading v (length work) path how)
+    pub read-path-1 : (path : List ℕ) (matching : Matching) (out work : List ℕ) → eqb (readsPath image v path matching out work .reply .answer) 1 ≡ lacking image (pathReading v (length work) path matching)
     unfolding ran
-    read-path-1 path how out work =
-        reply-1 NoRoom (λ e. omega arith) (length out) _ (outcome (disc image) (pathReading v (length work) path how))
-        ∙ refused-missing image (path-only ButIo (λ e. omega arith) (λ e. omega arith) (λ e. omega arith) (λ e. omega arith) how (λ z e. omega arith) (v .mount) (length work) (v .root) path)
+    read-path-1 path matching out work =
+        reply-1 NoRoom (λ e. omega arith) (length out) _ (outcome (disc image) (pathReading v (length work) path matching))
+        ∙ refused-missing image (path-only ButIo (λ e. omega arith) (λ e. omega arith) (λ e. omega arith) (λ e. omega arith) matching (λ z e. omega arith) (v .mount) (length work) (v .root) path)

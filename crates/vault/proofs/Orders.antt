@@ -121,14 +121,14 @@ abbrev pub pathAnswer : ℕ → Outcome LongAd → (LongAd → Outcome (List ℕ
 pathAnswer room (refused why) f = number why
 pathAnswer room (answered icb) f = roomed room (f icb)
 
-pub read-path-order : (image : List ℕ) (v : VolumeRecord) (path : List ℕ) (how : Matching) (out work : List ℕ)
-    → readsPath image v path how out work .reply .answer
-    ≡ pathAnswer (length out) (ran (disc image) (finding v (length work) path how) .outcome) (λ icb. ran (disc image) (reading v icb) .outcome)
+pub read-path-order : (image : List ℕ) (v : VolumeRecord) (path : List ℕ) (matching : Matching) (out work : List ℕ)
+    → readsPath image v path matching out work .reply .answer
+    ≡ pathAnswer (length out) (ran (disc image) (finding v (length work) path matching) .outcome) (λ icb. ran (disc image) (reading v icb) .outcome)
 unfolding readPathOf
-read-path-order image v path how out work =
-    room-last (length out) _ (ran (disc image) (pathReading v (length work) path how) .outcome)
-    ∙ ap (λ (r : Ran (List ℕ)). roomed (length out) (r .outcome)) (ran-then (disc image) (finding v (length work) path how) (λ icb. reading v icb))
-    ∙ by (ran (disc image) (finding v (length work) path how) .outcome) (ran (disc image) (finding v (length work) path how) .count) (λ icb. ran (disc image) (reading v icb))
+read-path-order image v path matching out work =
+    room-last (length out) _ (ran (disc image) (pathReading v (length work) path matching) .outcome)
+    ∙ ap (λ (r : Ran (List ℕ)). roomed (length out) (r .outcome)) (ran-then (disc image) (finding v (length work) path matching) (λ icb. reading v icb))
+    ∙ by (ran (disc image) (finding v (length work) path matching) .outcome) (ran (disc image) (finding v (length work) path matching) .count) (λ icb. ran (disc image) (reading v icb))
   where
     by : (o : Outcome LongAd) (n : ℕ) (f : LongAd → Ran (List ℕ)) → roomed (length out) (onward o n f .outcome) ≡ pathAnswer (length out) o (λ icb. f icb .outcome)
     by (answered icb) n f = refl

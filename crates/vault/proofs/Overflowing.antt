@@ -36,7 +36,7 @@ use Rattle.vault.proofs.Soundness.{failed-sound}
 
 -- a directory along the path exceeds the work space
 abbrev pub Exceeds : List ℕ → VolumeRecord → List ℕ → Matching → List ℕ → Type 0
-Exceeds image v path how work = Overflows (disc image) how (v .mount) (length work) (components path) (v .root)
+Exceeds image v path matching work = Overflows (disc image) matching (v .mount) (length work) (components path) (v .root)
 
 -- ---- which refusal has number 6
 
@@ -65,25 +65,25 @@ module _ (image : List ℕ) (v : VolumeRecord) where
       by (answered b) h w = let z : _≡_ {A = ℕ} 0 1 = cc in omega arith
       by (refused why) h w = let z : why ≡ NoWork = cc in let y = rw z at w in omega arith
 
-  module _ (path : List ℕ) (how : Matching) (work : List ℕ) where
+  module _ (path : List ℕ) (matching : Matching) (work : List ℕ) where
     -- ---- 6 only then
 
-    pub lookup-6 : finds image v path how work .found .answer ≡ 6 → Exceeds image v path how work
+    pub lookup-6 : finds image v path matching work .found .answer ≡ 6 → Exceeds image v path matching work
     unfolding seekPath
     lookup-6 h =
-        refused-overflows (disc image) how (v .mount) (length work) never-six (components path) (v .root)
-        (six-walk _ (sym (ap (λ (r : Ran LongAd). answerOf (r .outcome)) (look-is (disc image) how (v .mount) (length work) (v .root) path)) ∙ h))
+        refused-overflows (disc image) matching (v .mount) (length work) never-six (components path) (v .root)
+        (six-walk _ (sym (ap (λ (r : Ran LongAd). answerOf (r .outcome)) (look-is (disc image) matching (v .mount) (length work) (v .root) path)) ∙ h))
 
-    pub failed-6 : fails image v path how work .answer ≡ 6 → Exceeds image v path how work
-    failed-6 h = lookup-6 (sym (failed-sound image v path how work .0) ∙ h)
+    pub failed-6 : fails image v path matching work .answer ≡ 6 → Exceeds image v path matching work
+    failed-6 h = lookup-6 (sym (failed-sound image v path matching work .0) ∙ h)
 
-    pub failed-at-6 : failsAt image v path how work .reply .answer ≡ 6 → Exceeds image v path how work
+    pub failed-at-6 : failsAt image v path matching work .reply .answer ≡ 6 → Exceeds image v path matching work
     failed-at-6 h = failed-6 h
 
-    pub read-path-6 : (out : List ℕ) → readsPath image v path how out work .reply .answer ≡ 6 → Exceeds image v path how work
+    pub read-path-6 : (out : List ℕ) → readsPath image v path matching out work .reply .answer ≡ 6 → Exceeds image v path matching work
     unfolding ran Within
     read-path-6 out h =
-        lookup-6 (by (outcome (disc image) (finding v (length work) path how)) (sym (read-path-order image v path how out work) ∙ h))
+        lookup-6 (by (outcome (disc image) (finding v (length work) path matching)) (sym (read-path-order image v path matching out work) ∙ h))
       where
         room : (o : Outcome (List ℕ)) → Within (λ why. number why ≤ 4) o → roomed (length out) o ≡ 6 → ⊥
         room (refused why) w k = omega arith
@@ -99,29 +99,29 @@ module _ (image : List ℕ) (v : VolumeRecord) where
 
     -- ---- and always then, after the sectors of the way to the directory and of its read; all else is as a refusal has it
 
-    module _ (o : Exceeds image v path how work) where
+    module _ (o : Exceeds image v path matching work) where
       abbrev pub sectorsOf : ℕ
-      sectorsOf = ran (disc image) (seeking how (v .mount) (length work) (o .before) (v .root) true) .count + ran (disc image) (reading v (o .directory)) .count
+      sectorsOf = ran (disc image) (seeking matching (v .mount) (length work) (o .before) (v .root) true) .count + ran (disc image) (reading v (o .directory)) .count
 
-      walked : ran (disc image) (seekPath how (v .mount) (length work) (v .root) path) ≡ record { outcome = refused NoWork; count = sectorsOf }
+      walked : ran (disc image) (seekPath matching (v .mount) (length work) (v .root) path) ≡ record { outcome = refused NoWork; count = sectorsOf }
       unfolding seekPath
-      walked = overflows-refused (disc image) how (v .mount) (length work) (components path) (v .root) o
+      walked = overflows-refused (disc image) matching (v .mount) (length work) (components path) (v .root) o
 
-      looked-up : ran (disc image) (finding v (length work) path how) ≡ record { outcome = refused NoWork; count = sectorsOf }
-      looked-up = look-is (disc image) how (v .mount) (length work) (v .root) path ∙ rw walked
+      looked-up : ran (disc image) (finding v (length work) path matching) ≡ record { outcome = refused NoWork; count = sectorsOf }
+      looked-up = look-is (disc image) matching (v .mount) (length work) (v .root) path ∙ rw walked
 
-      pub exceeds-lookup : finds image v path how work ≡ record { found = record { answer = 6; count = reported sectorsOf; icb = noLong }; work = cleared work }
+      pub exceeds-lookup : finds image v path matching work ≡ record { found = record { answer = 6; count = reported sectorsOf; icb = noLong }; work = cleared work }
       exceeds-lookup = ap (looked work) looked-up
 
-      pub exceeds-failed : fails image v path how work ≡ record { component = []; answer = 6; count = reported sectorsOf; work = cleared work }
+      pub exceeds-failed : fails image v path matching work ≡ record { component = []; answer = 6; count = reported sectorsOf; work = cleared work }
       exceeds-failed = ap (lostBy work) walked
 
-      pub exceeds-failed-at : failsAt image v path how work ≡ record { reply = record { answer = 6; count = reported sectorsOf; length = 0 }; at = 0; work = cleared work }
+      pub exceeds-failed-at : failsAt image v path matching work ≡ record { reply = record { answer = 6; count = reported sectorsOf; length = 0 }; at = 0; work = cleared work }
       exceeds-failed-at = ap (lostPlace work) walked
 
-      pub exceeds-read-path : (out : List ℕ) → readsPath image v path how out work ≡ record { reply = record { answer = 6; count = reported sectorsOf; length = 0 }; out = out; work = cleared work }
+      pub exceeds-read-path : (out : List ℕ) → readsPath image v path matching out work ≡ record { reply = record { answer = 6; count = reported sectorsOf; length = 0 }; out = out; work = cleared work }
       unfolding readPathOf
       exceeds-read-path out =
-          let g : ran (disc image) (pathReading v (length work) path how) ≡ record { outcome = refused NoWork; count = sectorsOf } =
-          ran-then (disc image) (finding v (length work) path how) (λ icb. reading v icb) ∙ rw looked-up in
+          let g : ran (disc image) (pathReading v (length work) path matching) ≡ record { outcome = refused NoWork; count = sectorsOf } =
+          ran-then (disc image) (finding v (length work) path matching) (λ icb. reading v icb) ∙ rw looked-up in
           ap (worked out work) g

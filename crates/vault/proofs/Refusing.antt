@@ -268,23 +268,23 @@ module _ (P : Refusal → Type 0) (malformed : P Malformed) (missing : P NotBlur
       by b (refused why) e = refuse-only (rw (entries-refused b e) malformed)
 
   -- paths, for any P that has 9 too under the third choice of matching
-  module _ (how : Matching) (ambiguous : how ≡ Unambiguous → P Ambiguous) (m : Mount) (work : ℕ) where
-    chosen-only : (xs : List Entry) → Refuses P Any (ended (chosen how xs))
-    chosen-only xs = by (chosen how xs) refl
+  module _ (matching : Matching) (ambiguous : matching ≡ Unambiguous → P Ambiguous) (m : Mount) (work : ℕ) where
+    chosen-only : (xs : List Entry) → Refuses P Any (ended (chosen matching xs))
+    chosen-only xs = by (chosen matching xs) refl
       where
-        by : (o : Outcome (Option Entry)) → chosen how xs ≡ o → Refuses P Any (ended o)
+        by : (o : Outcome (Option Entry)) → chosen matching xs ≡ o → Refuses P Any (ended o)
         by (answered o) e = done-only tt
-        by (refused why) e = let r = chosen-refused how xs e in refuse-only (subst P (sym (r .1)) (ambiguous (r .0)))
+        by (refused why) e = let r = chosen-refused matching xs e in refuse-only (subst P (sym (r .1)) (ambiguous (r .0)))
 
-    entering-only : (icb : LongAd) (component : List ℕ) → Refuses P Any (entering how m work icb component)
+    entering-only : (icb : LongAd) (component : List ℕ) → Refuses P Any (entering matching m work icb component)
     unfolding entering findIn
     entering-only icb component = then-only (directory-only m work icb) (λ b q. by b (entries b) refl)
       where
-        by : (b : List ℕ) (o : Outcome (List Entry)) → entries b ≡ o → Refuses P Any (ended (andThen o (λ es. chosen how (allNamed (foldIn how) component es))))
-        by b (answered es) e = chosen-only (allNamed (foldIn how) component es)
+        by : (b : List ℕ) (o : Outcome (List Entry)) → entries b ≡ o → Refuses P Any (ended (andThen o (λ es. chosen matching (allNamed (foldIn matching) component es))))
+        by b (answered es) e = chosen-only (allNamed (foldIn matching) component es)
         by b (refused why) e = refuse-only (rw (entries-refused b e) malformed)
 
-    seeking-only : (cs : List Component) (icb : LongAd) (directory : Bool) → Refuses P Any (seeking how m work cs icb directory)
+    seeking-only : (cs : List Component) (icb : LongAd) (directory : Bool) → Refuses P Any (seeking matching m work cs icb directory)
     unfolding seeking
     seeking-only [] icb directory = done-only tt
     seeking-only (c ∷ cs) icb false = done-only tt
@@ -294,7 +294,7 @@ module _ (P : Refusal → Type 0) (malformed : P Malformed) (missing : P NotBlur
         by none f h = done-only tt
         by (some e) f h = h e
 
-    pub lookup-only : (root : LongAd) (path : List ℕ) → Refuses P Any (lookupOf how m work root path)
+    pub lookup-only : (root : LongAd) (path : List ℕ) → Refuses P Any (lookupOf matching m work root path)
     unfolding lookupOf seekPath
     lookup-only root path = then-only (seeking-only (components path) root true) (λ s q. by s)
       where
@@ -302,6 +302,6 @@ module _ (P : Refusal → Type 0) (malformed : P Malformed) (missing : P NotBlur
         by (reached icb) = done-only tt
         by (lost c) = refuse-only missing
 
-    pub path-only : (root : LongAd) (path : List ℕ) → Refuses P Any (readPathOf how m work root path)
+    pub path-only : (root : LongAd) (path : List ℕ) → Refuses P Any (readPathOf matching m work root path)
     unfolding readPathOf
     path-only root path = then-only (lookup-only root path) (λ icb q. bytes-only P malformed unsupported m icb)

@@ -62,22 +62,22 @@ module _ (image other : List ℕ) where
     pub list-same : (icb : LongAd) (out work : List ℕ) → Agree (disc image) (disc other) (asked (disc image) (listing v (length work) icb)) → lists image v icb out work ≡ lists other v icb out work
     list-same icb out work h = same (worked out work) (listing v (length work) icb) image other h
 
-    pub lookup-same : (path : List ℕ) (how : Matching) (work : List ℕ) → Agree (disc image) (disc other) (asked (disc image) (finding v (length work) path how)) → finds image v path how work ≡ finds other v path how work
-    lookup-same path how work h = same (looked work) (finding v (length work) path how) image other h
+    pub lookup-same : (path : List ℕ) (matching : Matching) (work : List ℕ) → Agree (disc image) (disc other) (asked (disc image) (finding v (length work) path matching)) → finds image v path matching work ≡ finds other v path matching work
+    lookup-same path matching work h = same (looked work) (finding v (length work) path matching) image other h
 
-    pub read-path-same : (path : List ℕ) (how : Matching) (out work : List ℕ) → Agree (disc image) (disc other) (asked (disc image) (pathReading v (length work) path how)) → readsPath image v path how out work ≡ readsPath other v path how out work
-    read-path-same path how out work h = same (worked out work) (pathReading v (length work) path how) image other h
+    pub read-path-same : (path : List ℕ) (matching : Matching) (out work : List ℕ) → Agree (disc image) (disc other) (asked (disc image) (pathReading v (length work) path matching)) → readsPath image v path matching out work ≡ readsPath other v path matching out work
+    read-path-same path matching out work h = same (worked out work) (pathReading v (length work) path matching) image other h
 
     -- the component that failed and its place have the lookup's list
-    module _ (path : List ℕ) (how : Matching) (work : List ℕ) (h : Agree (disc image) (disc other) (asked (disc image) (finding v (length work) path how))) where
-      seeks : Agree (disc image) (disc other) (asked (disc image) (seeking v (length work) path how))
-      seeks = rw (failed-asks (disc image) how (v .mount) (length work) (v .root) path) at h
+    module _ (path : List ℕ) (matching : Matching) (work : List ℕ) (h : Agree (disc image) (disc other) (asked (disc image) (finding v (length work) path matching))) where
+      seeks : Agree (disc image) (disc other) (asked (disc image) (seeking v (length work) path matching))
+      seeks = rw (failed-asks (disc image) matching (v .mount) (length work) (v .root) path) at h
 
-      pub failed-same : fails image v path how work ≡ fails other v path how work
-      failed-same = same (lost work) (seeking v (length work) path how) image other seeks
+      pub failed-same : fails image v path matching work ≡ fails other v path matching work
+      failed-same = same (lost work) (seeking v (length work) path matching) image other seeks
 
-      pub failed-at-same : failsAt image v path how work ≡ failsAt other v path how work
-      failed-at-same = same (lostPlace work) (seeking v (length work) path how) image other seeks
+      pub failed-at-same : failsAt image v path matching work ≡ failsAt other v path matching work
+      failed-at-same = same (lostPlace work) (seeking v (length work) path matching) image other seeks
 
 -- ---- the count that is reported
 
@@ -118,19 +118,19 @@ module _ (image : List ℕ) where
     pub list-counts : (icb : LongAd) (out work : List ℕ) → lists image v icb out work .reply .count ≡ listed image (listing v (length work) icb)
     list-counts icb out work = written-counts image out (listing v (length work) icb)
 
-    pub lookup-counts : (path : List ℕ) (how : Matching) (work : List ℕ) → finds image v path how work .found .count ≡ listed image (finding v (length work) path how)
+    pub lookup-counts : (path : List ℕ) (matching : Matching) (work : List ℕ) → finds image v path matching work .found .count ≡ listed image (finding v (length work) path matching)
     unfolding ran
-    lookup-counts path how work = refl
+    lookup-counts path matching work = refl
 
-    pub failed-counts : (path : List ℕ) (how : Matching) (work : List ℕ) → fails image v path how work .count ≡ listed image (finding v (length work) path how)
+    pub failed-counts : (path : List ℕ) (matching : Matching) (work : List ℕ) → fails image v path matching work .count ≡ listed image (finding v (length work) path matching)
     unfolding ran
-    failed-counts path how work = rw (failed-asks (disc image) how (v .mount) (length work) (v .root) path)
+    failed-counts path matching work = rw (failed-asks (disc image) matching (v .mount) (length work) (v .root) path)
 
-    pub failed-at-counts : (path : List ℕ) (how : Matching) (work : List ℕ) → failsAt image v path how work .reply .count ≡ listed image (finding v (length work) path how)
-    failed-at-counts path how work = failed-counts path how work
+    pub failed-at-counts : (path : List ℕ) (matching : Matching) (work : List ℕ) → failsAt image v path matching work .reply .count ≡ listed image (finding v (length work) path matching)
+    failed-at-counts path matching work = failed-counts path matching work
 
-    pub read-path-counts : (path : List ℕ) (how : Matching) (out work : List ℕ) → readsPath image v path how out work .reply .count ≡ listed image (pathReading v (length work) path how)
-    read-path-counts path how out work = written-counts image out (pathReading v (length work) path how)
+    pub read-path-counts : (path : List ℕ) (matching : Matching) (out work : List ℕ) → readsPath image v path matching out work .reply .count ≡ listed image (pathReading v (length work) path matching)
+    read-path-counts path matching out work = written-counts image out (pathReading v (length work) path matching)
 
 -- ---- the bound: a read by ICB that answers L bytes after E extents asked for at most 16,385 + L div 2,048 + E sectors
 

@@ -63,7 +63,7 @@ abbrev pub Listed : ℕ → Type 0
 Listed n = n ≤ 7
 
 abbrev pub ListedBy : Matching → ℕ → Type 0
-ListedBy how n = (n ≤ 7) ⊎ ((how ≡ Unambiguous) × (n ≡ 9))
+ListedBy matching n = (n ≤ 7) ⊎ ((matching ≡ Unambiguous) × (n ≡ 9))
 
 -- what the trees say by themselves is in it
 module _ (image : List ℕ) where
@@ -72,20 +72,20 @@ module _ (image : List ℕ) where
   widened (answered a) w = tt
   widened (refused why) w = omega arith
 
-  path-listed : (v : VolumeRecord) (path : List ℕ) (how : Matching) (work : ℕ) → Within (λ why. ListedBy how (number why)) (outcome (disc image) (pathReading v work path how))
-  path-listed v path how work =
-      refuses-within (λ why. ListedBy how (number why)) (inl (omega arith)) (disc image)
-      (path-only (λ why. ListedBy how (number why)) (inl (omega arith)) (inl (omega arith)) (inl (omega arith)) (inl (omega arith)) how (λ z. inr (z, refl)) (v .mount) work (v .root) path)
+  path-listed : (v : VolumeRecord) (path : List ℕ) (matching : Matching) (work : ℕ) → Within (λ why. ListedBy matching (number why)) (outcome (disc image) (pathReading v work path matching))
+  path-listed v path matching work =
+      refuses-within (λ why. ListedBy matching (number why)) (inl (omega arith)) (disc image)
+      (path-only (λ why. ListedBy matching (number why)) (inl (omega arith)) (inl (omega arith)) (inl (omega arith)) (inl (omega arith)) matching (λ z. inr (z, refl)) (v .mount) work (v .root) path)
 
   list-listed : (v : VolumeRecord) (icb : LongAd) (work : ℕ) → Within (λ why. Listed (number why)) (outcome (disc image) (listing v work icb))
   list-listed v icb work =
       refuses-within (λ why. Listed (number why)) (omega arith) (disc image)
       (listing-only (λ why. Listed (number why)) (omega arith) (omega arith) (omega arith) (omega arith) (v .mount) work icb)
 
-  find-listed : (v : VolumeRecord) (path : List ℕ) (how : Matching) (work : ℕ) → Within (λ why. ListedBy how (number why)) (outcome (disc image) (finding v work path how))
-  find-listed v path how work =
-      refuses-within (λ why. ListedBy how (number why)) (inl (omega arith)) (disc image)
-      (lookup-only (λ why. ListedBy how (number why)) (inl (omega arith)) (inl (omega arith)) (inl (omega arith)) (inl (omega arith)) how (λ z. inr (z, refl)) (v .mount) work (v .root) path)
+  find-listed : (v : VolumeRecord) (path : List ℕ) (matching : Matching) (work : ℕ) → Within (λ why. ListedBy matching (number why)) (outcome (disc image) (finding v work path matching))
+  find-listed v path matching work =
+      refuses-within (λ why. ListedBy matching (number why)) (inl (omega arith)) (disc image)
+      (lookup-only (λ why. ListedBy matching (number why)) (inl (omega arith)) (inl (omega arith)) (inl (omega arith)) (inl (omega arith)) matching (λ z. inr (z, refl)) (v .mount) work (v .root) path)
 
 -- ---- calls that write: the answer is 0 or in the table; a refusal has length 0, and leaves what was lent as it came
 
@@ -123,7 +123,7 @@ written-sound : (image out : List ℕ) (m : Ask (List ℕ)) → Within (λ why. 
 unfolding ran
 written-sound image out m w = sound-by Listed (omega arith) (omega arith) out _ (outcome (disc image) m) w
 
-module _ (image : List ℕ) (v : VolumeRecord) (icb : LongAd) (path : List ℕ) (how : Matching) (out work : List ℕ) where
+module _ (image : List ℕ) (v : VolumeRecord) (icb : LongAd) (path : List ℕ) (matching : Matching) (out work : List ℕ) where
   pub label-sound : Sound Listed (labels image out .reply .answer) (labels image out .reply .length) out (labels image out .out)
   label-sound = written-sound image out labelling (widened image (outcome (disc image) labelling) (label-original (disc image)))
 
@@ -133,9 +133,9 @@ module _ (image : List ℕ) (v : VolumeRecord) (icb : LongAd) (path : List ℕ) 
   pub list-sound : Sound Listed (lists image v icb out work .reply .answer) (lists image v icb out work .reply .length) out (lists image v icb out work .out)
   list-sound = written-sound image out (listing v (length work) icb) (list-listed image v icb (length work))
 
-  pub read-path-sound : Sound (ListedBy how) (readsPath image v path how out work .reply .answer) (readsPath image v path how out work .reply .length) out (readsPath image v path how out work .out)
+  pub read-path-sound : Sound (ListedBy matching) (readsPath image v path matching out work .reply .answer) (readsPath image v path matching out work .reply .length) out (readsPath image v path matching out work .out)
   unfolding ran
-  read-path-sound = sound-by (ListedBy how) (inl (omega arith)) (inl (omega arith)) out _ (outcome (disc image) (pathReading v (length work) path how)) (path-listed image v path how (length work))
+  read-path-sound = sound-by (ListedBy matching) (inl (omega arith)) (inl (omega arith)) out _ (outcome (disc image) (pathReading v (length work) path matching)) (path-listed image v path matching (length work))
 
   pub extents-sound : {A : Type 0} (f : AllocExtent → A) (row : List A) → Sound Listed (extents f image v icb row .reply .answer) (extents f image v icb row .reply .length) row (extents f image v icb row .row)
   unfolding ran
@@ -145,10 +145,10 @@ module _ (image : List ℕ) (v : VolumeRecord) (icb : LongAd) (path : List ℕ) 
 
   -- work space comes back all zero, as long as it was, from each call that takes one
   pub clears : (lists image v icb out work .work ≡ replicate (length work) 0)
-      × (readsPath image v path how out work .work ≡ replicate (length work) 0)
-      × (finds image v path how work .work ≡ replicate (length work) 0)
-      × (fails image v path how work .work ≡ replicate (length work) 0)
-      × (failsAt image v path how work .work ≡ replicate (length work) 0)
+      × (readsPath image v path matching out work .work ≡ replicate (length work) 0)
+      × (finds image v path matching work .work ≡ replicate (length work) 0)
+      × (fails image v path matching work .work ≡ replicate (length work) 0)
+      × (failsAt image v path matching work .work ≡ replicate (length work) 0)
   clears = (refl, refl, refl, refl, refl)
 
 -- ---- calls that give a value: zeros where they are refused
@@ -161,12 +161,12 @@ open-sound image = by (outcome (disc image) opening) _ (open-original (disc imag
     by (answered v) n w = (omega arith, λ h. absurd (h refl))
     by (refused why) n w = (omega arith, λ h. refl)
 
-pub lookup-sound : (image : List ℕ) (v : VolumeRecord) (path : List ℕ) (how : Matching) (work : List ℕ)
-    → ListedBy how (finds image v path how work .found .answer) × ((finds image v path how work .found .answer ≡ 0 → ⊥) → finds image v path how work .found .icb ≡ noLong)
+pub lookup-sound : (image : List ℕ) (v : VolumeRecord) (path : List ℕ) (matching : Matching) (work : List ℕ)
+    → ListedBy matching (finds image v path matching work .found .answer) × ((finds image v path matching work .found .answer ≡ 0 → ⊥) → finds image v path matching work .found .icb ≡ noLong)
 unfolding ran Within
-lookup-sound image v path how work = by (outcome (disc image) (finding v (length work) path how)) (reported (length (asked (disc image) (finding v (length work) path how)))) (find-listed image v path how (length work))
+lookup-sound image v path matching work = by (outcome (disc image) (finding v (length work) path matching)) (reported (length (asked (disc image) (finding v (length work) path matching)))) (find-listed image v path matching (length work))
   where
-    by : (o : Outcome LongAd) (n : ℕ) → Within (λ why. ListedBy how (number why)) o → ListedBy how (foundTo o n .answer) × ((foundTo o n .answer ≡ 0 → ⊥) → foundTo o n .icb ≡ noLong)
+    by : (o : Outcome LongAd) (n : ℕ) → Within (λ why. ListedBy matching (number why)) o → ListedBy matching (foundTo o n .answer) × ((foundTo o n .answer ≡ 0 → ⊥) → foundTo o n .icb ≡ noLong)
     by (answered icb) n w = (inl (omega arith), λ h. absurd (h refl))
     by (refused why) n w = (w, λ h. refl)
 
@@ -191,24 +191,24 @@ lost-three (answered (reached icb)) h = refl
 lost-three (answered (lost c)) h = absurd (h refl)
 lost-three (refused r) h = refl
 
-pub failed-sound : (image : List ℕ) (v : VolumeRecord) (path : List ℕ) (how : Matching) (work : List ℕ)
-    → (fails image v path how work .answer ≡ finds image v path how work .found .answer)
-    × (fails image v path how work .count ≡ finds image v path how work .found .count)
-    × ((fails image v path how work .answer ≡ 3 → ⊥) → fails image v path how work .component ≡ [])
-failed-sound image v path how work =
-    let l = look-is (disc image) how (v .mount) (length work) (v .root) path in (
+pub failed-sound : (image : List ℕ) (v : VolumeRecord) (path : List ℕ) (matching : Matching) (work : List ℕ)
+    → (fails image v path matching work .answer ≡ finds image v path matching work .found .answer)
+    × (fails image v path matching work .count ≡ finds image v path matching work .found .count)
+    × ((fails image v path matching work .answer ≡ 3 → ⊥) → fails image v path matching work .component ≡ [])
+failed-sound image v path matching work =
+    let l = look-is (disc image) matching (v .mount) (length work) (v .root) path in (
       rw l,
       rw l,
-      λ h. ap (λ (c : Component). c .bytes) (lost-three (ran (disc image) (seeking v (length work) path how) .outcome) h),
+      λ h. ap (λ (c : Component). c .bytes) (lost-three (ran (disc image) (seeking v (length work) path matching) .outcome) h),
     )
 
 -- and so has the call for its place, with the component's length; the component stands there; zeros if the number is not 3
-pub failed-at-sound : (image : List ℕ) (v : VolumeRecord) (path : List ℕ) (how : Matching) (work : List ℕ)
-    → (failsAt image v path how work .reply ≡ record { answer = fails image v path how work .answer; count = fails image v path how work .count; length = length (fails image v path how work .component) })
-    × PartAt path (fails image v path how work .component) (failsAt image v path how work .at)
-    × ((failsAt image v path how work .reply .answer ≡ 3 → ⊥) → failsAt image v path how work .at ≡ 0)
-failed-at-sound image v path how work = (
+pub failed-at-sound : (image : List ℕ) (v : VolumeRecord) (path : List ℕ) (matching : Matching) (work : List ℕ)
+    → (failsAt image v path matching work .reply ≡ record { answer = fails image v path matching work .answer; count = fails image v path matching work .count; length = length (fails image v path matching work .component) })
+    × PartAt path (fails image v path matching work .component) (failsAt image v path matching work .at)
+    × ((failsAt image v path matching work .reply .answer ≡ 3 → ⊥) → failsAt image v path matching work .at ≡ 0)
+failed-at-sound image v path matching work = (
   refl,
-  failed-stands (disc image) how (v .mount) (length work) (v .root) path,
-  λ h. ap (λ (c : Component). c .at) (lost-three (ran (disc image) (seeking v (length work) path how) .outcome) h),
+  failed-stands (disc image) matching (v .mount) (length work) (v .root) path,
+  λ h. ap (λ (c : Component). c .at) (lost-three (ran (disc image) (seeking v (length work) path matching) .outcome) h),
 )

@@ -25,7 +25,7 @@ use Rattle.directories.specs.Directories.{listingAt}
 use Rattle.directories.specs.Lookups.{Sought, seekPath, lookupOf, readPathOf, foundOf, failedOf, failedReply}
 use Rattle.directories.specs.declared.lookups.Found.{Found}
 
--- ---- the tree of questions of each call; `work` is how many bytes of work space there are, `how` the choice of matching
+-- ---- the tree of questions of each call; `work` is how many bytes of work space there are, `matching` the choice of matching
 
 abbrev pub reading : VolumeRecord → LongAd → Ask (List ℕ)
 reading v icb = fileBytes (v .mount) icb
@@ -40,13 +40,13 @@ abbrev pub listing : VolumeRecord → ℕ → LongAd → Ask (List ℕ)
 listing v work icb = listingAt (v .mount) work icb
 
 abbrev pub seeking : VolumeRecord → ℕ → List ℕ → Matching → Ask Sought
-seeking v work path how = seekPath how (v .mount) work (v .root) path
+seeking v work path matching = seekPath matching (v .mount) work (v .root) path
 
 abbrev pub finding : VolumeRecord → ℕ → List ℕ → Matching → Ask LongAd
-finding v work path how = lookupOf how (v .mount) work (v .root) path
+finding v work path matching = lookupOf matching (v .mount) work (v .root) path
 
 abbrev pub pathReading : VolumeRecord → ℕ → List ℕ → Matching → Ask (List ℕ)
-pathReading v work path how = readPathOf how (v .mount) work (v .root) path
+pathReading v work path matching = readPathOf matching (v .mount) work (v .root) path
 
 -- ---- opening
 
@@ -85,7 +85,7 @@ abbrev pub lists : List ℕ → VolumeRecord → LongAd → List ℕ → List �
 lists image v icb out work = worked out work (ran (disc image) (listing v (length work) icb))
 
 abbrev pub readsPath : List ℕ → VolumeRecord → List ℕ → Matching → List ℕ → List ℕ → Worked
-readsPath image v path how out work = worked out work (ran (disc image) (pathReading v (length work) path how))
+readsPath image v path matching out work = worked out work (ran (disc image) (pathReading v (length work) path matching))
 
 -- ---- paths, by a choice of matching
 
@@ -97,7 +97,7 @@ abbrev pub looked : List ℕ → Ran LongAd → Looked
 looked work r = record { found = foundOf r; work = cleared work }
 
 abbrev pub finds : List ℕ → VolumeRecord → List ℕ → Matching → List ℕ → Looked
-finds image v path how work = looked work (ran (disc image) (finding v (length work) path how))
+finds image v path matching work = looked work (ran (disc image) (finding v (length work) path matching))
 
 -- the component that failed; the number and the count are the lookup's
 pub record Lost : Type 0 where
@@ -110,7 +110,7 @@ abbrev pub lost : List ℕ → Ran Sought → Lost
 lost work r = record { component = failedOf r .component .bytes; answer = failedOf r .answer; count = failedOf r .count; work = cleared work }
 
 abbrev pub fails : List ℕ → VolumeRecord → List ℕ → Matching → List ℕ → Lost
-fails image v path how work = lost work (ran (disc image) (seeking v (length work) path how))
+fails image v path matching work = lost work (ran (disc image) (seeking v (length work) path matching))
 
 -- the same by its place in the path: the reply has its length
 pub record LostPlace : Type 0 where
@@ -122,7 +122,7 @@ abbrev pub lostPlace : List ℕ → Ran Sought → LostPlace
 lostPlace work r = record { reply = failedReply (failedOf r); at = failedOf r .component .at; work = cleared work }
 
 abbrev pub failsAt : List ℕ → VolumeRecord → List ℕ → Matching → List ℕ → LostPlace
-failsAt image v path how work = lostPlace work (ran (disc image) (seeking v (length work) path how))
+failsAt image v path matching work = lostPlace work (ran (disc image) (seeking v (length work) path matching))
 
 -- ---- the uncopied part of an embedded file
 

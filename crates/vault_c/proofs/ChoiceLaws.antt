@@ -9,10 +9,10 @@ use Rattle.vault.specs.Calls.{Looked, finds, LostPlace, failsAt, Worked, readsP
 
 module _ (image : List ℕ) (v : VolumeRecord) (path work : List ℕ) (n : ℕ) {m : Matching} (h : m ≡ matchingOf n) where
   pub found-by : {x : Looked} → x ≡ finds image v path m work → x ≡ finds image v path (matchingOf n) work
-  found-by e = e ∙ ap (λ (how : Matching). finds image v path how work) h
+  found-by e = e ∙ ap (λ (matching : Matching). finds image v path matching work) h
 
   pub failed-by : {x : LostPlace} → x ≡ failsAt image v path m work → x ≡ failsAt image v path (matchingOf n) work
-  failed-by e = e ∙ ap (λ (how : Matching). failsAt image v path how work) h
+  failed-by e = e ∙ ap (λ (matching : Matching). failsAt image v path matching work) h
 
   pub read-by : (out : List ℕ) {x : Worked} → x ≡ readsPath image v path m out work → x ≡ readsPath image v path (matchingOf n) out work
-  read-by out e = e ∙ ap (λ (how : Matching). readsPath image v path how out work) h
+  read-by out e = e ∙ ap (λ (matching : Matching). readsPath image v path matching out work) h

@@ -55,9 +55,9 @@ endOf r = record { found = foundTo (andThen (r .outcome) icbOf) (reported (r .co
 
 -- the end that a place leads to: it is there already, or the rest of the path is yet to be walked
 unfoldable pub leadsTo : Disc → Matching → Mount → ℕ → List ℕ → PathPlace → End
-leadsTo d how v work path p =
+leadsTo d matching v work path p =
     pick (p .going)
-    (endOf (after (p .count) (ran d (seeking how v work (componentsFrom (p .from) (drop (p .from) path)) (p .icb) (p .directory)))))
+    (endOf (after (p .count) (ran d (seeking matching v work (componentsFrom (p .from) (drop (p .from) path)) (p .icb) (p .directory)))))
     (record {
       found = record { answer = p .answer; count = p .count; icb = p .icb };
       lost = record { bytes = take (p .end - p .from) (drop (p .from) path); at = p .from };
@@ -75,14 +75,14 @@ abbrev pub stepsLeft : List ℕ → PathPlace → ℕ
 stepsLeft path p = pick (p .going) (1 + (length path - p .from)) 0
 
 -- one step: to a place on the path, nearer the end, that leads to the same end
-pub record Steps (d : Disc) (how : Matching) (v : Mount) (work : ℕ) (path : List ℕ) (p q : PathPlace) : Type 0 where
-  pub same : leadsTo d how v work path q ≡ leadsTo d how v work path p
+pub record Steps (d : Disc) (matching : Matching) (v : Mount) (work : ℕ) (path : List ℕ) (p q : PathPlace) : Type 0 where
+  pub same : leadsTo d matching v work path q ≡ leadsTo d matching v work path p
   pub on : On path q
   pub less : stepsLeft path q < stepsLeft path p
 
 -- a whole walk
-pub record Walks (d : Disc) (how : Matching) (v : Mount) (work : ℕ) (root : LongAd) (path : List ℕ) (q : PathPlace) : Type 0 where
-  pub found : record { answer = q .answer; count = q .count; icb = q .icb } ≡ endOf (ran d (seekPath how v work root path)) .found
-  pub lost : record { bytes = take (q .end - q .from) (drop (q .from) path); at = q .from } ≡ endOf (ran d (seekPath how v work root path)) .lost
+pub record Walks (d : Disc) (matching : Matching) (v : Mount) (work : ℕ) (root : LongAd) (path : List ℕ) (q : PathPlace) : Type 0 where
+  pub found : record { answer = q .answer; count = q .count; icb = q .icb } ≡ endOf (ran d (seekPath matching v work root path)) .found
+  pub lost : record { bytes = take (q .end - q .from) (drop (q .from) path); at = q .from } ≡ endOf (ran d (seekPath matching v work root path)) .lost
   pub ordered : q .from ≤ q .end
   pub within : q .end ≤ length path
