@@ -1,4 +1,5 @@
 // The first example of the README: opens the image on standard input, which is kept sparse, looks cue 10.1A up and prints it.
+use listings::matchings::Matching;
 use programs::lent::front;
 use programs::lent::mebibyte;
 use programs::words::end_line;
@@ -20,7 +21,7 @@ fn print_cue(image: &[u8], path: &[u8], work: &mut [u8], out: &mut [u8]) {
     }
     let record = opened.volume;
     let volume = Volume(record);
-    let cue = volume.lookup(image, path, work);
+    let cue = volume.lookup(image, path, Matching::AsWritten, work);
     if cue.answer != 0 {
         return refuse(b"lookup", cue.answer);
     }

@@ -7,6 +7,7 @@ use names::dstrings::name_size;
 use names::dstrings::put_name;
 use names::fields::field_size;
 use names::fields::write_field;
+use names::matching::Fold;
 use names::matching::is_named;
 use programs::lent::front;
 use programs::words::say;
@@ -90,14 +91,14 @@ fn same(s: &[u8], b: &[u8]) {
     let n = put_name(s, &mut out);
     asked(b"same", front(&out, n));
     asked(b",", b);
-    say_match(is_named(s, b));
+    say_match(is_named(Fold::Lower, s, b));
 }
 
 // Whether a d-string names a component.
 fn named(s: &[u8], component: &[u8]) {
     asked(b"named", s);
     asked(b",", component);
-    say_match(is_named(s, component));
+    say_match(is_named(Fold::Lower, s, component));
 }
 
 // Cases 9 to 13 of the worked table.
@@ -240,9 +241,9 @@ fn long_component() {
     s[0] = 8;
     let component = [0x61u8; 255];
     say(b"named, 255 bytes");
-    say_match(is_named(&s[..255], &component[..254]));
+    say_match(is_named(Fold::Lower, &s[..255], &component[..254]));
     say(b"named, 256 bytes");
-    say_match(is_named(&s, &component));
+    say_match(is_named(Fold::Lower, &s, &component));
 }
 
 fn main() {

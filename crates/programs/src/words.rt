@@ -120,3 +120,37 @@ pub fn say_answer(call: &[u8], answer: u64, count: u64) -> usize
     say_named(call, answer);
     say_named(b" count ", count)
 }
+
+// A byte that is no printable character is \ and two hex digits.
+fn say_character(b: u8) {
+    if (b < 0x20) | (b > 0x7e) | (b == b'\\') {
+        say(b"\\");
+        io::print_hex(STDOUT_FILENO, wide(b), 2);
+        return;
+    }
+    let one = [b];
+    say(&one);
+}
+
+// A word, and a text behind it.
+pub fn say_text(name: &[u8], text: &[u8]) {
+    say(name);
+    let mut i = 0;
+    while i < text.len() {
+        say_character(text[i]);
+        i += 1;
+    }
+}
+
+// Whether the work space came back all zero.
+pub fn say_zero(work: &[u8]) {
+    let mut i = 0;
+    while i < work.len() {
+        if work[i] != 0 {
+            say(b" dirty\n");
+            return;
+        }
+        i += 1;
+    }
+    say(b" zero\n");
+}

@@ -13,6 +13,7 @@ ghost use lib.ListN.{length};
 use disc::moves::least;
 use disc::places::Mount;
 use disc::replies::Reply;
+use listings::matchings::Matching;
 use programs::lent::fill;
 use programs::lent::part;
 use programs::lent::sum;
@@ -106,7 +107,7 @@ fn ask_whole(call: u8, image: &[u8], out: &mut [u8]) {
 
 fn ask_path(call: u8, v: Volume, image: &[u8], path: &[u8], out: &mut [u8], work: &mut [u8]) {
     if call == 3 {
-        let f = v.lookup(image, path, work);
+        let f = v.lookup(image, path, Matching::CaseIgnored, work);
         let icb = f.icb;
         say_line(
             b"lookup",
@@ -119,12 +120,12 @@ fn ask_path(call: u8, v: Volume, image: &[u8], path: &[u8], out: &mut [u8], work
     if call == 4 {
         let mut answer: u64 = 99;
         let mut count: u64 = 99;
-        let c = v.failed(image, path, work, &mut answer, &mut count);
+        let c = v.failed(image, path, Matching::CaseIgnored, work, &mut answer, &mut count);
         let r = reply(answer, count, c.len() as u64);
         say_line(b"failed", r, sum(c), sum(work));
         return;
     }
-    let r = v.read_path(image, path, out, work);
+    let r = v.read_path(image, path, Matching::CaseIgnored, out, work);
     say_line(b"read_path", r, sum(out), sum(work));
 }
 

@@ -8,15 +8,16 @@ ghost use Prim.Native.Nat.{_<_};
 ghost use lib.ListN.{length};
 use disc::moves::least;
 use disc::replies::Reply;
-use libc::STDOUT_FILENO;
+use listings::matchings::Matching;
 use programs::lent::fill;
 use programs::lent::mebibyte;
 use programs::lent::part;
 use programs::lent::sum;
-use programs::lent::wide;
 use programs::words::say;
 use programs::words::say_answer;
 use programs::words::say_named;
+use programs::words::say_text;
+use programs::words::say_zero;
 use records::allocations::LongAd;
 use records::allocations::long_at;
 use records::bytes::le16;
@@ -29,38 +30,6 @@ use vault::volume::label;
 const LABEL: u16 = 0;
 
 const PATH: u16 = 1;
-
-fn say_character(b: u8) {
-    if (b < 0x20) | (b > 0x7e) | (b == b'\\') {
-        say(b"\\");
-        io::print_hex(STDOUT_FILENO, wide(b), 2);
-        return;
-    }
-    let one = [b];
-    say(&one);
-}
-
-// A word, and a text behind it.
-fn say_text(name: &[u8], text: &[u8]) {
-    say(name);
-    let mut i = 0;
-    while i < text.len() {
-        say_character(text[i]);
-        i += 1;
-    }
-}
-
-fn say_zero(work: &[u8]) {
-    let mut i = 0;
-    while i < work.len() {
-        if work[i] != 0 {
-            say(b" dirty\n");
-            return;
-        }
-        i += 1;
-    }
-    say(b" zero\n");
-}
 
 fn say_reply(call: &[u8], r: Reply, out: &[u8]) {
     say_answer(call, r.answer, r.count);
@@ -79,7 +48,7 @@ fn say_label(image: &[u8], out: &mut [u8]) {
 
 fn say_lookup(v: Volume, image: &[u8], path: &[u8], work: &mut [u8]) {
     fill(work);
-    let r = v.lookup(image, path, work);
+    let r = v.lookup(image, path, Matching::CaseIgnored, work);
     say_answer(b"lookup ", r.answer, r.count);
     let icb = r.icb;
     let recorded = icb.encode();
@@ -91,7 +60,7 @@ fn say_failed(v: Volume, image: &[u8], path: &[u8], work: &mut [u8]) {
     fill(work);
     let mut answer: u64 = 99;
     let mut count: u64 = 99;
-    let component = v.failed(image, path, work, &mut answer, &mut count);
+    let component = v.failed(image, path, Matching::CaseIgnored, work, &mut answer, &mut count);
     say_answer(b"failed ", answer, count);
     say_named(b" length ", component.len() as u64);
     say_text(b" component ", component);
@@ -101,7 +70,7 @@ fn say_failed(v: Volume, image: &[u8], path: &[u8], work: &mut [u8]) {
 fn say_read_path(v: Volume, image: &[u8], path: &[u8], out: &mut [u8], work: &mut [u8]) {
     fill(out);
     fill(work);
-    let r = v.read_path(image, path, out, work);
+    let r = v.read_path(image, path, Matching::CaseIgnored, out, work);
     say_reply(b"read_path ", r, out);
     say_zero(work);
 }

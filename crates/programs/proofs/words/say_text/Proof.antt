@@ -1,9 +1,9 @@
--- `vault_cases::say_text` is safe and ends: the index stays within the text. Assumes nothing.
+-- `programs::words::say_text` is safe and ends: the index stays within the text. Assumes nothing.
 use Prim.Native.Nat.{_≤_, _-_}
 use lib.ListN.{length}
 use borrow.Author.Needs.{needs}
-use Rattle.vault_cases.proofs.say_text.Statement.{statement}
-use Rattle.vault_cases.proofs.say_text.Tie as tie
+use Rattle.programs.proofs.words.say_text.Statement.{statement}
+use Rattle.programs.proofs.words.say_text.Tie as tie
 
 abbrev Inv-loop : tie.InvT-loop
 Inv-loop name text i₀ i = i ≤ length text

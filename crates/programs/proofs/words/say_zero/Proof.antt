@@ -1,9 +1,9 @@
--- `vault_cases::say_zero` is safe and ends: the index stays within the work space. Assumes nothing.
+-- `programs::words::say_zero` is safe and ends: the index stays within the work space. Assumes nothing.
 use Prim.Native.Nat.{_≤_, _-_}
 use lib.ListN.{length}
 use borrow.Author.Needs.{needs}
-use Rattle.vault_cases.proofs.say_zero.Statement.{statement}
-use Rattle.vault_cases.proofs.say_zero.Tie as tie
+use Rattle.programs.proofs.words.say_zero.Statement.{statement}
+use Rattle.programs.proofs.words.say_zero.Tie as tie
 
 abbrev Inv-loop : tie.InvT-loop
 Inv-loop work i₀ t3 t4 i = i ≤ length work
