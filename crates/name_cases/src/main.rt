@@ -101,6 +101,13 @@ fn named(s: &[u8], component: &[u8]) {
     say_match(is_named(Fold::Lower, s, component));
 }
 
+// Whether it does byte for byte.
+fn written(s: &[u8], component: &[u8]) {
+    asked(b"written", s);
+    asked(b",", component);
+    say_match(is_named(Fold::AsIs, s, component));
+}
+
 // Cases 9 to 13 of the worked table.
 fn worked() {
     name(b"\x08A\x00B");
@@ -246,6 +253,20 @@ fn long_component() {
     say_match(is_named(Fold::Lower, &s, &component));
 }
 
+// Byte for byte: case counts, and bytes outside ASCII are compared as UTF-8.
+fn written_components() {
+    written(b"\x0810.1A", b"10.1A");
+    written(b"\x0810.1A", b"10.1a");
+    written(b"\x10\x00A\x00b", b"Ab");
+    written(b"\x10\x00A\x00b", b"AB");
+    written(b"\x08\xe9", b"\xc3\xa9");
+    written(b"\x08\xe9", b"\xe9");
+    written(b"\x10\x20\xac\x00Z", b"\xe2\x82\xacZ");
+    written(b"\x10\x20\xac\x00Z", b"\xe2\x82\xacz");
+    written(b"\x08BDMV", b"BDM");
+    written(b"\xfe", b"");
+}
+
 fn main() {
     worked();
     read_ids();
@@ -262,4 +283,5 @@ fn main() {
     components();
     deleted_components();
     long_component();
+    written_components();
 }

@@ -120,7 +120,14 @@ fn ask_path(call: u8, v: Volume, image: &[u8], path: &[u8], out: &mut [u8], work
     if call == 4 {
         let mut answer: u64 = 99;
         let mut count: u64 = 99;
-        let c = v.failed(image, path, Matching::CaseIgnored, work, &mut answer, &mut count);
+        let c = v.failed(
+            image,
+            path,
+            Matching::CaseIgnored,
+            work,
+            &mut answer,
+            &mut count,
+        );
         let r = reply(answer, count, c.len() as u64);
         say_line(b"failed", r, sum(c), sum(work));
         return;

@@ -60,7 +60,14 @@ fn say_failed(v: Volume, image: &[u8], path: &[u8], work: &mut [u8]) {
     fill(work);
     let mut answer: u64 = 99;
     let mut count: u64 = 99;
-    let component = v.failed(image, path, Matching::CaseIgnored, work, &mut answer, &mut count);
+    let component = v.failed(
+        image,
+        path,
+        Matching::CaseIgnored,
+        work,
+        &mut answer,
+        &mut count,
+    );
     say_answer(b"failed ", answer, count);
     say_named(b" length ", component.len() as u64);
     say_text(b" component ", component);
