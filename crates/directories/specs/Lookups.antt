@@ -1,4 +1,4 @@
--- A path looked up by a choice of matching, the component that failed, and a file read by its path: RULES 8.13 to 8.21.
+-- A path looked up by a choice of matching, the component that failed, and a file read by its path: RULES 8.13 to 8.25.
 use Prim.Native.Nat.{ℕ}
 use mathlib.Core.Bool.{Bool, true, false}
 use mathlib.Core.List.{List, [], _∷_}

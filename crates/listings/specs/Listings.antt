@@ -1,4 +1,4 @@
--- What a directory's bytes list, and which entry has a name, by a choice of matching: RULES 8.7 to 8.10 and 8.15.
+-- What a directory's bytes list, and which entry has a name, by a choice of matching: RULES 8.7 to 8.10, 8.15 and 8.22 to 8.24.
 use Prim.Native.Nat.{ℕ}
 use mathlib.Core.Bool.{Bool, true, false}
 use mathlib.Core.List.{List, [], _∷_, _++_}

@@ -1,3 +1,4 @@
 -- What the proofs of the functions cite.
 pub mod SumLaws
 pub mod WordLaws
+pub mod ZeroLaws

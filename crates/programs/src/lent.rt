@@ -2,7 +2,7 @@
 ghost use mathlib.Core.Path.{_≡_};
 ghost use Prim.Native.Nat.{_<_, _^_};
 ghost use lib.ListN.{length, take, replicate};
-ghost use Rattle.programs.specs.Lent.{partOf, summed};
+ghost use Rattle.programs.specs.Lent.{partOf, summed, allZero};
 
 pub fn wide(b: u8) -> u64
     ensures { λ r. ⌜ (r ≡ b) × (r < 2 ^ 8) ⌝ }
@@ -55,6 +55,20 @@ pub fn sum(b: &[u8]) -> u64
         i += 1;
     }
     s
+}
+
+// Whether every byte is 0.
+pub fn is_zero(b: &[u8]) -> bool
+    ensures { λ r. ⌜ r ≡ allZero (now (b .entry)) ⌝ }
+{
+    let mut i = 0;
+    while i < b.len() {
+        if b[i] != 0 {
+            return false;
+        }
+        i += 1;
+    }
+    true
 }
 
 // Room for an image of 512 sectors.

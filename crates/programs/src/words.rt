@@ -5,6 +5,8 @@ ghost use lib.ListN.{length};
 ghost use Rattle.io.specs.Digits.{Fewest};
 ghost use Rattle.disc.specs.Refusals.{number as numberOf};
 ghost use Rattle.programs.specs.Words.{PartitionDigits};
+ghost use Rattle.programs.specs.Lent.{allZero};
+use crate::lent::is_zero;
 use crate::lent::wide;
 use disc::places::PartitionRef;
 use disc::refusals::Refusal;
@@ -132,25 +134,27 @@ fn say_character(b: u8) {
     say(&one);
 }
 
-// A word, and a text behind it.
-pub fn say_text(name: &[u8], text: &[u8]) {
+// A word, and a text behind it: how many bytes the text has.
+pub fn say_text(name: &[u8], text: &[u8]) -> usize
+    ensures { λ r. ⌜ r ≡ length (now (text .entry)) ⌝ }
+{
     say(name);
     let mut i = 0;
     while i < text.len() {
         say_character(text[i]);
         i += 1;
     }
+    i
 }
 
 // Whether the work space came back all zero.
-pub fn say_zero(work: &[u8]) {
-    let mut i = 0;
-    while i < work.len() {
-        if work[i] != 0 {
-            say(b" dirty\n");
-            return;
-        }
-        i += 1;
+pub fn say_zero(work: &[u8]) -> bool
+    ensures { λ r. ⌜ r ≡ allZero (now (work .entry)) ⌝ }
+{
+    if is_zero(work) {
+        say(b" zero\n");
+        return true;
     }
-    say(b" zero\n");
+    say(b" dirty\n");
+    false
 }

@@ -1,4 +1,5 @@
--- The table says "given exactly when". Memory aside, a call is refused by 1 to 4 alone; so 5 is given exactly when the answer has more bytes than the
+-- The table says "given exactly when". Memory aside, a call is refused by 1 to 4 alone, and one that takes a path, under the third choice of matching, by
+-- 9 (Agreeing); so 5 is given exactly when the answer has more bytes than the
 -- output holds, 6 by a listing exactly when the directory's bytes exceed the work space, and 7 exactly when there are more extents than slots.
 -- Of 1, and of 6 along a path: Missing, Overflowing. Assumes nothing.
 use mathlib.Core.Path.{_≡_, refl, ap, _∙_}

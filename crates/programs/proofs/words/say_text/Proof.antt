@@ -1,4 +1,4 @@
--- `programs::words::say_text` is safe and ends: the index stays within the text. Assumes nothing.
+-- `programs::words::say_text` meets its contract: the index ends at the length of the text. Assumes nothing.
 use Prim.Native.Nat.{_≤_, _-_}
 use lib.ListN.{length}
 use borrow.Author.Needs.{needs}
