@@ -1,14 +1,13 @@
 -- One entry read, written and compared, in the form that the functions on it ask for. Assumes nothing.
 use mathlib.Core.Path.{_≡_, refl, sym, ap, _∙_}
-use mathlib.Core.Bool.{Bool, true, false, _||_, not}
+use mathlib.Core.Bool.{Bool, true, false, _||_}
 use mathlib.Core.List.{List, [], _∷_, _++_, append-nil, append-assoc}
 use Prim.Native.Nat.{ℕ, _+_, _-_, _*_, _/_, _%_, _<_, _≤_, zero-le}
 use native.Mathlib.Nat.{add-sub-cancel-left}
 use native.Mathlib.Omega.{arith}
-use lib.Dec.{eqb}
 use lib.ListN.{length, take, drop, length-append, length-drop, drop-of-length-le}
 use lib.Seq.{take-all, drop-drop, drop-at, length-take-le, sets, length-sets, sets-eq}
-use borrow.Author.Tests.{eqb-true, eqb-false}
+use borrow.Author.Tests.{eq-eqb, ne-eqb, eqb-true, eqb-false}
 use borrow.Rule.Slice.PartMut.{midOf, putMid}
 use Rattle.disc.specs.Choice.{pick}
 use Rattle.disc.specs.Refusals.{number}
@@ -18,6 +17,7 @@ use Rattle.disc.specs.declared.refusals.Refusal.{Refusal}
 use Rattle.disc.specs.declared.refusals.Refusal.the-variants.{Ambiguous}
 use Rattle.disc.specs.Moves.{over}
 use Rattle.disc.proofs.RefusalLaws.{refusal-numbered}
+use Rattle.disc.proofs.PickLaws.{not-both}
 use Rattle.disc.proofs.MoveLaws.{over-fits}
 use Rattle.records.specs.Bytes.{byte, u16at, u32at, le16, le32, six}
 use Rattle.records.specs.Allocations.{encodeLong, longOf}
@@ -33,8 +33,8 @@ use Rattle.identifiers.specs.Identifiers.{readIdentifier, identifierRead, recor
 use Rattle.identifiers.specs.inner.Wholes.{Whole}
 use Rattle.identifiers.proofs.IdentifierLaws.{identifier-read, read-identifier}
 use Rattle.listings.specs.Entries.{Entry, entryOf, entryIn, entryRead, isSkipped, nameIn}
-use Rattle.listings.specs.Listings.{recordHead, shown, foldFor, answersTo, unnamed}
-use Rattle.listings.specs.inner.Passes.{Recorded, Puts, icbIn, headIn, recordIn, settled, joinedOf, notedOf}
+use Rattle.listings.specs.Listings.{recordHead, shown, foldFor, foldIn, answersTo, unnamed}
+use Rattle.listings.specs.inner.Passes.{Recorded, Puts, icbIn, headIn, recordIn, wantsOnly, joinedOf, againOf, notedOf}
 use Rattle.listings.specs.declared.finds.Named.{Named}
 use Rattle.listings.specs.declared.matchings.Matching.{Matching}
 use Rattle.listings.specs.declared.matchings.Matching.the-variants.{CaseIgnored, AsWritten, Unambiguous}
@@ -274,36 +274,66 @@ module _ (s : List ℕ) (b : Bytes s) {from n : ℕ} (a : from ≡ nameAt s) (l 
 
 -- ---- what is found with one more entry
 
-module _ (m : Matching) (found : Named) where
-  pub settled-case : m ≡ CaseIgnored → found .found ≡ settled m found
-  settled-case e = rw e refl
+pick-yes : {A : Type 0} (b : Bool) (x y : A) → b ≡ true → x ≡ pick b x y
+pick-yes true x y h = refl
+pick-yes false x y h = not-both h
 
-  pub settled-written : m ≡ AsWritten → found .found ≡ settled m found
-  settled-written e = rw e refl
+pick-no : {A : Type 0} (b : Bool) (x y : A) → b ≡ false → y ≡ pick b x y
+pick-no true x y h = not-both (sym h)
+pick-no false x y h = refl
 
-  pub settled-only : m ≡ Unambiguous → not (eqb (found .answer) 0) ≡ settled m found
-  settled-only e = rw e refl
+module _ (m : Matching) (found : Named) (s component : List ℕ) {f : FileIdentifierDescriptor} where
+  -- where one is found
+  module _ {t : Bool} (u : t ≡ wantsOnly m) where
+    pub again-kept : t ≡ false → Whole s f → found ≡ againOf m found component (entryOf s f)
+    unfolding againOf
+    again-kept h w = rw (← u, h)
 
-  module _ (s component : List ℕ) {f : FileIdentifierDescriptor} {t : Bool} (u : t ≡ settled m found) where
-    pub noted-settled : t ≡ true → Whole s f → found ≡ notedOf m found component (entryOf s f)
+    module _ (n : t ≡ true) {g : Fold} (k : g ≡ foldFor m) {b : Bool} (e : Whole s f → b ≡ answersTo (foldOf g) component (entryOf s f)) where
+      pub again-none : b ≡ false → Whole s f → found ≡ againOf m found component (entryOf s f)
+      unfolding againOf
+      again-none h w = rw (← u, n, ← k, ← e w, h)
+
+      pub again-other : b ≡ true → {n : ℕ} → n ≡ number Ambiguous → {a : Named} → a ≡ unnamed n → Whole s f → a ≡ againOf m found component (entryOf s f)
+      unfolding againOf
+      again-other h q p w = rw (← u, n, ← k, ← e w, h) (p ∙ rw q)
+
+  pub noted-again : found .found ≡ true → {a : Named} → (Whole s f → a ≡ againOf m found component (entryOf s f)) → Whole s f → a ≡ notedOf m found component (entryOf s f)
+  unfolding notedOf
+  noted-again h q w = q w ∙ pick-yes (found .found) _ _ h
+
+  -- where none is
+  module _ (n : found .found ≡ false) {g : Fold} (k : g ≡ foldFor m) {b : Bool} (e : Whole s f → b ≡ answersTo (foldOf g) component (entryOf s f)) where
+    pub noted-none : b ≡ false → Whole s f → found ≡ notedOf m found component (entryOf s f)
     unfolding notedOf
-    noted-settled h w = rw (← u, h)
+    noted-none h w =
+        let z : found ≡ pick (answersTo (foldIn m) component (entryOf s f)) (joinedOf found f) found = rw (← k, ← e w, h) refl in
+        z ∙ pick-no (found .found) _ _ n
 
-    module _ (n : t ≡ false) {g : Fold} (k : g ≡ foldFor m) {b : Bool} (e : Whole s f → b ≡ answersTo (foldOf g) component (entryOf s f)) where
-      pub noted-none : b ≡ false → Whole s f → found ≡ notedOf m found component (entryOf s f)
-      unfolding notedOf
-      noted-none h w = rw (← u, n, ← k, ← e w, h)
-
-      pub noted-this : b ≡ true → {a : Named} → a ≡ joinedOf found f → Whole s f → a ≡ notedOf m found component (entryOf s f)
-      unfolding notedOf
-      noted-this h q w = rw (← u, n, ← k, ← e w, h) q
+    pub noted-this : b ≡ true → {a : Named} → a ≡ joinedOf found f → Whole s f → a ≡ notedOf m found component (entryOf s f)
+    unfolding notedOf
+    noted-this h {a} q w =
+        let z : a ≡ pick (answersTo (foldIn m) component (entryOf s f)) (joinedOf found f) found = rw (← k, ← e w, h) q in
+        z ∙ pick-no (found .found) _ _ n
 
 module _ (found : Named) (f : FileIdentifierDescriptor) where
-  pub joined-again : found .found ≡ true → {n : ℕ} → n ≡ number Ambiguous → {a : Named} → a ≡ unnamed n → a ≡ joinedOf found f
-  joined-again h e q = q ∙ rw (h, e)
+  pub joined-kept : (found .answer ≡ 0 → ⊥) → found ≡ joinedOf found f
+  joined-kept h = rw (ne-eqb (found .answer) 0 h)
 
-  pub joined-first : found .found ≡ false → {q : Bool} → q ≡ isDirectory f → record { answer = 0; found = true; icb = f .icb; directory = q } ≡ joinedOf found f
-  joined-first h e = rw (h, e)
+  pub joined-first : found .answer ≡ 0 → {q : Bool} → q ≡ isDirectory f → record { answer = 0; found = true; icb = f .icb; directory = q } ≡ joinedOf found f
+  joined-first h e = rw (eq-eqb (found .answer) 0 h, e)
+
+-- ---- whether a choice wants the only one
+
+module _ (m : Matching) where
+  pub wants-case : m ≡ CaseIgnored → false ≡ wantsOnly m
+  wants-case e = rw e refl
+
+  pub wants-written : m ≡ AsWritten → false ≡ wantsOnly m
+  wants-written e = rw e refl
+
+  pub wants-one : m ≡ Unambiguous → true ≡ wantsOnly m
+  wants-one e = rw e refl
 
 -- ---- the fold of a choice
 

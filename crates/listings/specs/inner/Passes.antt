@@ -1,7 +1,7 @@
 -- What the passes over a directory's bytes say.
 use Prim.Native.Nat.{ℕ, _+_, _-_, _/_, _%_, _≤_}
 use mathlib.Core.Path.{_≡_}
-use mathlib.Core.Bool.{Bool, true, false, not}
+use mathlib.Core.Bool.{Bool, true, false}
 use mathlib.Core.List.{List, [], _∷_, _++_}
 use lib.ListN.{length, take, drop}
 use lib.Dec.{eqb}
@@ -82,16 +82,20 @@ abbrev pub sizeOfListing : Outcome (List Entry) → ListingSize
 sizeOfListing (answered es) = record { answer = 0; size = length (records es) }
 sizeOfListing (refused why) = record { answer = number why; size = 0 }
 
--- no further entry can change what was found: the first was, or a second one that matches
-abbrev pub settled : Matching → Named → Bool
-settled CaseIgnored found = found .found
-settled AsWritten found = found .found
-settled Unambiguous found = not (eqb (found .answer) 0)
+-- an entry is taken only where no other matches
+abbrev pub wantsOnly : Matching → Bool
+wantsOnly CaseIgnored = false
+wantsOnly AsWritten = false
+wantsOnly Unambiguous = true
 
--- what is found with one more entry that matches
+-- what is found with an entry that matches, where none is found: what was ambiguous stays so
 abbrev pub joinedOf : Named → FileIdentifierDescriptor → Named
-joinedOf found f = pick (found .found) (unnamed (number Ambiguous)) (record { answer = 0; found = true; icb = f .icb; directory = isDirectory f })
+joinedOf found f = pick (eqb (found .answer) 0) (record { answer = 0; found = true; icb = f .icb; directory = isDirectory f }) found
+
+-- what is found with one more entry, where one is found
+unfoldable pub againOf : Matching → Named → List ℕ → Entry → Named
+againOf m found component e = pick (wantsOnly m) (pick (answersTo (foldIn m) component e) (unnamed (number Ambiguous)) found) found
 
 -- what is found with one more entry
 unfoldable pub notedOf : Matching → Named → List ℕ → Entry → Named
-notedOf m found component e = pick (settled m found) found (pick (answersTo (foldIn m) component e) (joinedOf found (e .identifier)) found)
+notedOf m found component e = pick (found .found) (againOf m found component e) (pick (answersTo (foldIn m) component e) (joinedOf found (e .identifier)) found)
