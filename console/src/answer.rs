@@ -77,12 +77,14 @@ pub enum Refusal {
     NoWork,
     /// 7: there are more extents than slots could be lent.
     NoSlot,
+    /// 9: two or more entries of a directory match a component of the path. Given under [`Matching::Unambiguous`](crate::Matching) alone.
+    Ambiguous,
     /// A number that this crate's table doesn't have: the archive is of another version.
     Unknown(u64),
 }
 
 /// The refusals and their numbers.
-const TABLE: [(Refusal, u64); 7] = [
+const TABLE: [(Refusal, u64); 8] = [
     (Refusal::Io, vault::IO),
     (Refusal::Malformed, vault::MALFORMED),
     (Refusal::NotBluray, vault::NOT_BLURAY),
@@ -90,10 +92,11 @@ const TABLE: [(Refusal, u64); 7] = [
     (Refusal::NoRoom, vault::NO_ROOM),
     (Refusal::NoWork, vault::NO_WORK),
     (Refusal::NoSlot, vault::NO_SLOT),
+    (Refusal::Ambiguous, vault::AMBIGUOUS),
 ];
 
 impl Refusal {
-    /// The number that the call answered with, 1 to 7 in the answer table.
+    /// The number that the call answered with: 1 to 7, or 9, in the answer table.
     pub fn number(self) -> u64 {
         match self {
             Refusal::Unknown(number) => number,
@@ -123,6 +126,7 @@ impl fmt::Display for Refusal {
             Refusal::NoRoom => "the answer has more bytes than there is memory for",
             Refusal::NoWork => "a directory has more bytes than there is memory for",
             Refusal::NoSlot => "the file has more extents than there is memory for",
+            Refusal::Ambiguous => "two or more entries of a directory match one name of the path",
             Refusal::Unknown(number) => return write!(f, "the archive answered with {number}, a number that isn't known here"),
         })
     }
@@ -140,7 +144,7 @@ pub struct Refused {
 }
 
 impl Refused {
-    /// The number that the call answered with, 1 to 7 in the answer table.
+    /// The number that the call answered with: 1 to 7, or 9, in the answer table.
     pub fn number(&self) -> u64 {
         self.why.number()
     }
@@ -174,12 +178,12 @@ mod tests {
         for (why, number) in TABLE {
             assert_eq!((Refusal::of(number), why.number()), (Some(why), number));
         }
-        assert_eq!(TABLE.map(|(_, number)| number), [1, 2, 3, 4, 5, 6, 7]);
+        assert_eq!(TABLE.map(|(_, number)| number), [1, 2, 3, 4, 5, 6, 7, 9]);
     }
 
     #[test]
     fn a_number_that_the_table_lacks_shows_itself() {
-        for number in [8, 9, 15, 256 + 7, u64::MAX] {
+        for number in [8, 10, 255, 256 + 7, u64::MAX] {
             let why = Refusal::of(number).unwrap();
             assert_eq!((why, why.number()), (Refusal::Unknown(number), number));
             assert!(why.to_string().contains(&number.to_string()), "{why}");

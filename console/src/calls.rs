@@ -13,6 +13,7 @@
 #![allow(unsafe_code)]
 
 use crate::answer::{Answer, Refusal, Refused, Result};
+use crate::matching::Matching;
 use crate::records::LongAd;
 use strandlodge_sys::vault::*;
 
@@ -66,19 +67,19 @@ pub fn label(image: &[u8], out: &mut Vec<u8>) -> Result<()> {
     filled(out, |to, room| unsafe { vault_label(image.as_ptr(), image.len(), to, room) })
 }
 
-pub fn lookup(volume: Volume, image: &[u8], path: &[u8], work: &mut Vec<u8>) -> Result<LongAd> {
-    let (work, w) = space(work);
+pub fn lookup(volume: Volume, image: &[u8], path: &[u8], matching: Matching, work: &mut Vec<u8>) -> Result<LongAd> {
+    let ((work, w), m) = (space(work), matching.number());
     // SAFETY: the head of this module; `w` bytes from `work` on are the vector's own.
-    let found = unsafe { vault_lookup(volume, image.as_ptr(), image.len(), path.as_ptr(), path.len(), work, w) };
+    let found = unsafe { vault_lookup(volume, image.as_ptr(), image.len(), path.as_ptr(), path.len(), m, work, w) };
     answered(found.answer, found.count, LongAd::of_c(found.icb))
 }
 
 /// The component at which the lookup is refused by 3, or none where the path is there.
-pub fn failed<'p>(volume: Volume, image: &[u8], path: &'p [u8], work: &mut Vec<u8>) -> Result<Option<&'p [u8]>> {
-    let (work, w) = space(work);
+pub fn failed<'p>(volume: Volume, image: &[u8], path: &'p [u8], matching: Matching, work: &mut Vec<u8>) -> Result<Option<&'p [u8]>> {
+    let ((work, w), m) = (space(work), matching.number());
     let mut at = 0;
     // SAFETY: the head of this module; `w` bytes from `work` on are the vector's own, and `at` is a number of this function's.
-    let reply = unsafe { vault_failed(volume, image.as_ptr(), image.len(), path.as_ptr(), path.len(), work, w, &mut at) };
+    let reply = unsafe { vault_failed(volume, image.as_ptr(), image.len(), path.as_ptr(), path.len(), m, work, w, &mut at) };
     match Refusal::of(reply.answer) {
         Some(Refusal::NotBluray) => Ok(Answer { value: Some(named(path, at, reply.length)), sectors: reply.count }),
         _ => answered(reply.answer, reply.count, None),
@@ -108,8 +109,8 @@ pub fn extents(volume: Volume, image: &[u8], icb: LongAd, row: &mut Vec<Extent>)
     filled(row, |to, slots| unsafe { vault_extents(volume, image.as_ptr(), image.len(), icb.to_c(), to, slots) })
 }
 
-pub fn read_path(volume: Volume, image: &[u8], path: &[u8], out: &mut Vec<u8>, work: &mut Vec<u8>) -> Result<()> {
-    let (work, w) = space(work);
+pub fn read_path(volume: Volume, image: &[u8], path: &[u8], matching: Matching, out: &mut Vec<u8>, work: &mut Vec<u8>) -> Result<()> {
+    let ((work, w), m) = (space(work), matching.number());
     // SAFETY: the head of this module; `room` bytes from `to` on are `out`'s own, and `w` from `work` on are the other vector's.
-    filled(out, |to, room| unsafe { vault_read_path(volume, image.as_ptr(), image.len(), path.as_ptr(), path.len(), to, room, work, w) })
+    filled(out, |to, room| unsafe { vault_read_path(volume, image.as_ptr(), image.len(), path.as_ptr(), path.len(), m, to, room, work, w) })
 }

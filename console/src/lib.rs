@@ -12,6 +12,12 @@
 //! }
 //! ```
 //!
+//! # Names of the same letters
+//!
+//! Cues 10.1A and 10.1a may stand side by side. [`Vault::lookup`] ignores ASCII case and takes the first entry that matches, as the
+//! original does: it gives one of the two for either name. [`Vault::lookup_as`], [`Vault::read_path_as`] and [`Vault::failed_as`] take a
+//! choice, [`Matching`]: the name as it is written, or a refusal where more than one entry matches.
+//!
 //! # The image stands still
 //!
 //! A `&[u8]` says that nobody writes to its bytes while it is borrowed. Memory of one's own is such a slice by itself. A map of a file is one
@@ -34,6 +40,7 @@ compile_error!("the archive is x86-64 code for Linux");
 
 mod answer;
 mod calls;
+mod matching;
 mod records;
 mod room;
 mod vault;
@@ -45,6 +52,7 @@ mod input;
 mod replays;
 
 pub use answer::{Answer, Refusal, Refused, Result};
+pub use matching::Matching;
 pub use records::{AllocExtent, DirEntry, LbAddr, LongAd};
 pub use vault::{SECTOR_SIZE, Vault, probe_vrs, read_volume_label};
 

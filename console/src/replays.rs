@@ -6,6 +6,7 @@
 use crate::answer::{Answer, Result};
 use crate::calls;
 use crate::input::Input;
+use crate::matching::Matching;
 use crate::records::LongAd;
 use strandlodge_sys::sparse::expand;
 use strandlodge_sys::vault::{Extent, Mount, Volume};
@@ -80,13 +81,15 @@ fn ask(call: u8, v: Volume, image: &[u8], q: &Lends) -> String {
         0 => format!("probe {} 0 0 0", u8::from(calls::probe(image))),
         1 => line("open", &calls::open(image), 0, |v| (sum_mount(v.mount), sum_icb(LongAd::of_c(v.root)))),
         2 => line("label", &calls::label(image, &mut out), as_it_came, |()| written(&out)),
-        3 => line("lookup", &calls::lookup(v, image, q.path, &mut work), 0, |icb| (0, sum_icb(*icb))),
-        4 => failed(&calls::failed(v, image, q.path, &mut work)),
+        3 => line("lookup", &calls::lookup(v, image, q.path, Matching::CaseIgnored, &mut work), 0, |icb| (0, sum_icb(*icb))),
+        4 => failed(&calls::failed(v, image, q.path, Matching::CaseIgnored, &mut work)),
         5 => line("list", &calls::list(v, image, q.icb, &mut out, &mut work), as_it_came, |()| written(&out)),
         6 => line("read", &calls::read(v, image, q.icb, &mut out), as_it_came, |()| written(&out)),
         7 => line("part", &calls::part(v, image, q.icb), 0, |part| (part.len() as u64, sum(part.iter().copied()))),
         8 => extents(v, image, q),
-        _ => line("read_path", &calls::read_path(v, image, q.path, &mut out, &mut work), as_it_came, |()| written(&out)),
+        _ => line("read_path", &calls::read_path(v, image, q.path, Matching::CaseIgnored, &mut out, &mut work), as_it_came, |()| {
+            written(&out)
+        }),
     }
 }
 

@@ -2,6 +2,7 @@
 
 use crate::answer::{Answer, Refusal, Refused, Result};
 use crate::calls;
+use crate::matching::Matching;
 use crate::records::{AllocExtent, DirEntry, LongAd, entries, text};
 use crate::room::{FIRST, MOST_DIRECTORY, Room, most_file, retry};
 use std::fmt;
@@ -84,15 +85,28 @@ impl<'a> Vault<'a> {
 
     /// The ICB that a path names. Components stand between slashes and empty ones are dropped; of a directory's entries the first is
     /// taken that is equal with ASCII case ignored. The empty path names the root.
+    ///
+    /// What it gives may have another name than was asked for: [`Vault::lookup_as`] is for cues whose names differ in case alone.
     pub fn lookup(&self, path: impl AsRef<[u8]>) -> Result<LongAd> {
+        self.lookup_as(path, Matching::CaseIgnored)
+    }
+
+    /// The same, with components matched as is said.
+    pub fn lookup_as(&self, path: impl AsRef<[u8]>, matching: Matching) -> Result<LongAd> {
         let path = path.as_ref();
-        retry::<u8, _>(&mut Room::none(), &mut work_space(), |_, work| calls::lookup(self.volume, self.image, path, work))
+        retry::<u8, _>(&mut Room::none(), &mut work_space(), |_, work| calls::lookup(self.volume, self.image, path, matching, work))
     }
 
     /// The component at which [`Vault::lookup`] finds nothing, as a part of the path; none where the path is there.
     pub fn failed<'p>(&self, path: &'p (impl AsRef<[u8]> + ?Sized)) -> Result<Option<&'p [u8]>> {
+        self.failed_as(path, Matching::CaseIgnored)
+    }
+
+    /// The same for [`Vault::lookup_as`]. A component that is ambiguous isn't one at which nothing is found: the call is then refused as the
+    /// lookup is.
+    pub fn failed_as<'p>(&self, path: &'p (impl AsRef<[u8]> + ?Sized), matching: Matching) -> Result<Option<&'p [u8]>> {
         let path = path.as_ref();
-        retry::<u8, _>(&mut Room::none(), &mut work_space(), |_, work| calls::failed(self.volume, self.image, path, work))
+        retry::<u8, _>(&mut Room::none(), &mut work_space(), |_, work| calls::failed(self.volume, self.image, path, matching, work))
     }
 
     /// The entries of a directory in the disc's order, without those that are deleted and the parent.
@@ -112,10 +126,15 @@ impl<'a> Vault<'a> {
 
     /// Looks a path up and reads what it names; the count is that of both.
     pub fn read_path(&self, path: impl AsRef<[u8]>) -> Result<Vec<u8>> {
+        self.read_path_as(path, Matching::CaseIgnored)
+    }
+
+    /// The same, with components matched as is said.
+    pub fn read_path_as(&self, path: impl AsRef<[u8]>, matching: Matching) -> Result<Vec<u8>> {
         let path = path.as_ref();
-        let held = || self.lookup(path).map_or(0, |icb| self.held(icb.value));
+        let held = || self.lookup_as(path, matching).map_or(0, |icb| self.held(icb.value));
         self.fitted(held, |out| {
-            let call = |_: &mut Vec<u8>, work: &mut Vec<u8>| calls::read_path(self.volume, self.image, path, out, work);
+            let call = |_: &mut Vec<u8>, work: &mut Vec<u8>| calls::read_path(self.volume, self.image, path, matching, out, work);
             retry(&mut Room::none(), &mut work_space(), call)
         })
     }
