@@ -8,7 +8,7 @@ use std::ffi::OsStr;
 use std::os::unix::ffi::OsStrExt;
 use std::process::{Command, Stdio};
 
-const UPPER: &str = "cue 10.1A\nfront wash 80, blue backs 40, follow 6 seconds\n";
+const BLACKOUT: &str = "cue 11\nblackout\n";
 
 fn with_show() -> Folder {
     let folder = Folder::new();
@@ -26,9 +26,13 @@ fn no_words_give_the_tour() {
     let folder = Folder::new();
     let said = folder.vault::<&str>(&[]);
     assert_eq!((said.status, said.error.as_str()), (0, ""));
-    for line in ["10.1A\n10.1a\n", "front wash 80", "front wash 20", "$ vault cat show.img SHOW/10.1a\ncue 10.1A\n", "entry    10.1A\n"] {
+    for line in ["10.1A\n10.1a\n", "front wash 80", "$ vault cat show.img SHOW/10.1a\ncue 10.1A\n", "is ambiguous, 2 entries match"] {
         assert!(said.out.contains(line), "{line}");
     }
+    // It ends with how the other cue is had.
+    let last = said.out.split("$ vault cat ").last().unwrap();
+    assert!(last.starts_with("--as-written show.img SHOW/10.1a\ncue 10.1a\nfront wash 20"), "{last}");
+    assert!(last.contains("entry    10.1a\n"), "{last}");
     assert!(folder.names().is_empty());
 }
 
@@ -46,7 +50,7 @@ fn the_tour_can_be_typed() {
         assert_eq!((said.out + &said.error).trim_end(), answer, "{line}");
         typed += 1;
     }
-    assert_eq!(typed, 5);
+    assert_eq!(typed, 7);
 }
 
 #[test]
@@ -54,16 +58,16 @@ fn every_command_answers() {
     let folder = with_show();
     answers(&folder.vault(&["label", "show.img"]), "SHOW 1\n");
     answers(&folder.vault(&["ls", "show.img"]), "SHOW/\n");
-    answers(&folder.vault(&["ls", "show.img", "/show/"]), "9\n10.1A\n10.1a\n11\n");
+    answers(&folder.vault(&["ls", "show.img", "/SHOW/"]), "9\n10.1A\n10.1a\n11\n");
     answers(&folder.vault(&["ls", "show.img", "SHOW/9"]), "9\n");
-    answers(&folder.vault(&["cat", "show.img", "SHOW/10.1A"]), UPPER);
+    answers(&folder.vault(&["cat", "show.img", "SHOW/11"]), BLACKOUT);
     answers(&folder.vault(&["probe", "show.img"]), "no\n");
     answers(&folder.vault(&["check", "show.img"]), "19 descriptors, each in place\n");
-    answers(&folder.vault(&["get", "show.img", "SHOW/10.1A", "cue"]), "");
-    assert_eq!(std::fs::read_to_string(folder.at("cue")).unwrap(), UPPER);
+    answers(&folder.vault(&["get", "show.img", "SHOW/11", "cue"]), "");
+    assert_eq!(std::fs::read_to_string(folder.at("cue")).unwrap(), BLACKOUT);
     let stat = "path     SHOW/11\nentry    11\nkind     file\nicb      block 11, partition 5, 2048 bytes, type 0\n\
                 storage  extents: 1, with 16 bytes in all\nextent   16 bytes, type 0 (recorded), block 12, partition none\n\
-                sectors  open 6, lookup 2, lookup 1, read_directory 1, part 1, extents 1\n";
+                sectors  open 6, lookup 2, read_directory 1, read_directory 1, part 1, extents 1\n";
     answers(&folder.vault(&["stat", "show.img", "SHOW/11"]), stat);
     let stat = "path     \nentry    none, this is the root\nkind     directory\nicb      block 3, partition 5, 2048 bytes, type 0\n\
                 storage  embedded, 84 bytes\nsectors  open 6, lookup 0, part 1, extents 1\n";
@@ -80,6 +84,8 @@ fn a_copied_image_answers_the_same() {
         &["ls", "show.img"],
         &["ls", "show.img", "SHOW"],
         &["cat", "show.img", "SHOW/10.1a"],
+        &["cat", "--as-written", "show.img", "SHOW/10.1a"],
+        &["cat", "--unambiguous", "show.img", "SHOW/10.1a"],
         &["stat", "show.img", "SHOW/11"],
         &["probe", "show.img"],
         &["check", "show.img"],
@@ -89,25 +95,17 @@ fn a_copied_image_answers_the_same() {
         let (mapped, copied) = (folder.vault(words), folder.vault(&[&["--copy"], words].concat()));
         assert_eq!((mapped.status, mapped.out, mapped.error), (copied.status, copied.out, copied.error), "{words:?}");
     }
-    answers(&folder.vault(&["get", "show.img", "SHOW/10.1A", "cue", "--copy"]), "");
-    assert_eq!(std::fs::read_to_string(folder.at("cue")).unwrap(), UPPER);
+    answers(&folder.vault(&["get", "show.img", "SHOW/11", "cue", "--copy"]), "");
+    assert_eq!(std::fs::read_to_string(folder.at("cue")).unwrap(), BLACKOUT);
     refuses(&folder, &["--copy", "get", "show.img", "SHOW/9", "./show.img"], 64, "this is the image itself");
-}
-
-#[test]
-fn a_remark_where_a_path_gives_another_of_the_same_letters() {
-    let folder = with_show();
-    let said = folder.vault(&["cat", "show.img", "SHOW/10.1a"]);
-    assert_eq!((said.status, said.out.as_str()), (0, UPPER));
-    assert_eq!(said.error, "vault: the path gives 10.1A, which stands first, and not 10.1a\n");
 }
 
 #[test]
 fn sectors_are_counted_on_standard_error() {
     let folder = with_show();
-    let said = folder.vault(&["--sectors", "cat", "show.img", "SHOW/10.1A"]);
-    assert_eq!((said.status, said.out.as_str()), (0, UPPER));
-    assert_eq!(said.error, "vault: sectors asked for: open 6, lookup 2, lookup 1, read_directory 1, read_file 2\n");
+    let said = folder.vault(&["--sectors", "cat", "show.img", "SHOW/11"]);
+    assert_eq!((said.status, said.out.as_str()), (0, BLACKOUT));
+    assert_eq!(said.error, "vault: sectors asked for: open 6, lookup 2, read_directory 1, read_directory 1, read_file 2\n");
     let said = folder.vault(&["ls", "show.img", "no", "--sectors"]);
     assert_eq!((said.status, said.error.lines().next()), (3, Some("vault: sectors asked for: open 6, lookup 1, failed 1")));
     assert_eq!(folder.vault(&["--sectors", "probe", "show.img"]).error, "vault: sectors asked for: none are counted\n");
@@ -196,6 +194,9 @@ fn wrong_usage_is_said() {
     refuses(&folder, &["sample"], 64, "sample needs FILE");
     refuses(&folder, &["ls", "show.img", "SHOW", "more"], 64, "more follows");
     refuses(&folder, &["-l", "show.img"], 64, "there is no option -l");
+    refuses(&folder, &["--as-written", "--unambiguous", "ls", "show.img"], 64, "two choices");
+    refuses(&folder, &["--as-written", "label", "show.img"], 64, "are for a PATH");
+    refuses(&folder, &["--unambiguous"], 64, "are for a PATH");
     refuses(&folder, &["\u{1b}[2J"], 64, "\\u{1b}[2J");
 }
 
@@ -205,10 +206,10 @@ fn get_writes_the_file_whole_or_not_at_all() {
     std::fs::create_dir(folder.at("folder")).unwrap();
     folder.write("old", b"an older cue that is longer than the new one, and is replaced");
     answers(&folder.vault(&["get", "show.img", "SHOW/11", "old"]), "");
-    assert_eq!(std::fs::read(folder.at("old")).unwrap(), b"cue 11\nblackout\n");
+    assert_eq!(std::fs::read_to_string(folder.at("old")).unwrap(), BLACKOUT);
     std::os::unix::fs::symlink("old", folder.at("link")).unwrap();
-    answers(&folder.vault(&["get", "show.img", "SHOW/10.1A", "link"]), "");
-    assert_eq!(std::fs::read_to_string(folder.at("old")).unwrap(), UPPER);
+    answers(&folder.vault(&["get", "--as-written", "show.img", "SHOW/10.1a", "link"]), "");
+    assert!(std::fs::read_to_string(folder.at("old")).unwrap().starts_with("cue 10.1a\n"));
     assert!(folder.at("link").is_symlink());
     refuses(&folder, &["get", "show.img", "SHOW/9", "folder"], 74, "this is a directory");
     refuses(&folder, &["get", "show.img", "SHOW/9", "none/new"], 74, "the file can't be written");
@@ -329,6 +330,7 @@ fn a_terminal_is_not_tricked_by_names() {
     answers(&folder.vault(&["ls", "tricks.img"]), "a\\u{1b}[2J\\u{202e}\\u{200b}\\u{a}\\\\\nb\\u{9b}c/\n");
     answers(&folder.vault(&["label", "tricks.img"]), "\\u{1b}HOW 1\n");
     let said = folder.vault(&["stat", "tricks.img", "A\u{1b}[2J\u{202e}\u{200b}\n\\"]);
-    assert_eq!(said.status, 0);
+    assert_eq!((said.status, said.error.lines().count()), (0, 1));
     assert!(said.out.contains("path     A\\u{1b}[2J") && said.out.contains("entry    a\\u{1b}[2J"), "{said:?}");
+    assert!(said.error.starts_with("vault: \"A\\u{1b}[2J\\u{202e}\\u{200b}\\u{a}\\\\\" under the root gives \"a\\u{1b}[2J"), "{said:?}");
 }

@@ -4,7 +4,7 @@ mod common;
 
 use common::command::Folder;
 use common::{SECTOR, show};
-use strandlodge::{LongAd, Refused, Result, Vault};
+use strandlodge::{DirEntry, LongAd, Matching, Refused, Result, Vault};
 
 /// Numbers below a bound, the same in each run.
 struct Random(u64);
@@ -68,18 +68,37 @@ fn hold_file(vault: &Vault, path: &[u8], icb: LongAd) {
     }
 }
 
+/// The other choices: the first entry of the very name, and the only one of its letters or 9. `above` is a path that all three give.
+fn hold_matching(vault: &Vault, above: &[u8], entries: &[DirEntry], name: &str) {
+    let path = [above, b"/", name.as_bytes()].concat();
+    let written = entries.iter().find(|entry| entry.name == name).unwrap();
+    assert_eq!(vault.lookup_as(&path, Matching::AsWritten).unwrap().value, written.icb);
+    let alike: Vec<&DirEntry> = entries.iter().filter(|entry| entry.name.eq_ignore_ascii_case(name)).collect();
+    let (only, count) = parts(vault.lookup_as(&path, Matching::Unambiguous));
+    let expected = if alike.len() == 1 { Ok(alike[0].icb) } else { Err(9) };
+    assert_eq!((only, count), (expected, vault.lookup(&path).unwrap().sectors));
+}
+
+/// Whether all three choices give what a path gives, so that what stands below it can be told.
+fn is_plain(vault: &Vault, path: &[u8], icb: LongAd) -> bool {
+    [Matching::AsWritten, Matching::Unambiguous].iter().all(|m| vault.lookup_as(path, *m).is_ok_and(|found| found.value == icb))
+}
+
 /// In a directory a path gives the first entry of its name, and so on below. Gives how many paths were held.
 fn hold(vault: &Vault, path: &[u8], icb: LongAd, levels: u32) -> u32 {
     hold_file(vault, path, icb);
     let (Ok(entries), true) = (vault.read_directory(icb).inspect_err(early), levels > 0) else {
         return 1;
     };
-    let mut held = 1;
+    let (mut held, plain) = (1, is_plain(vault, path, icb));
     for name in entries.iter().map(|entry| &entry.name).filter(|name| !name.is_empty() && !name.contains('/')) {
         let below = [path, b"/", name.as_bytes()].concat();
         let first = entries.iter().find(|entry| entry.name.eq_ignore_ascii_case(name)).unwrap();
         assert_eq!(vault.lookup(&below).unwrap().value, first.icb);
         assert_eq!(vault.failed(&below).unwrap().value, None);
+        if plain {
+            hold_matching(vault, path, &entries, name);
+        }
         held += if first.is_directory { hold(vault, &below, first.icb, levels - 1) } else { 1 };
         hold_file(vault, &below, first.icb);
     }

@@ -6,7 +6,7 @@ mod common;
 
 use common::input::Input;
 use std::str::Lines;
-use strandlodge::{LbAddr, LongAd, Vault, probe_vrs, read_volume_label};
+use strandlodge::{LbAddr, LongAd, Matching, Vault, probe_vrs, read_volume_label};
 use strandlodge_sys::sparse::expand;
 
 /// The lines of a stored output.
@@ -106,6 +106,20 @@ fn listing(entries: &[strandlodge::DirEntry]) -> Vec<u8> {
     listing
 }
 
+/// What the other choices come to beside the first: an unambiguous path is the first choice's or refused by 9, as no other is; and where a
+/// path gives something as it is written and is unambiguous, both are the same.
+fn hold_matching(vault: &Vault, path: &[u8]) {
+    let [first, written, only] =
+        [Matching::CaseIgnored, Matching::AsWritten, Matching::Unambiguous].map(|matching| vault.lookup_as(path, matching));
+    assert!(answer(&first).0 != 9 && answer(&written).0 != 9);
+    if answer(&only).0 != 9 {
+        assert_eq!(only, first);
+    }
+    if let (Ok(written), Ok(only)) = (written, only) {
+        assert_eq!(written, only);
+    }
+}
+
 /// A path: looked up, the component that failed, read. True if the query lent too little.
 fn by_path(vault: &Vault, path: &[u8], room: usize, expected: &mut Expected) -> bool {
     let (lookup, failed, read) = (expected.next(), expected.next(), expected.next());
@@ -117,6 +131,7 @@ fn by_path(vault: &Vault, path: &[u8], room: usize, expected: &mut Expected) -> 
         let lost = vault.failed(path).map_or(0, |answer| answer.value.map_or(0, |component| component.len()));
         assert_eq!(numbers(failed)[..3], [number, count, lost as u64], "{failed}");
     }
+    hold_matching(vault, path);
     held(read, room, &vault.read_path(path))
 }
 

@@ -87,7 +87,7 @@ fn genisoimage() {
     assert!(std::fs::read(folder.at("copy")).unwrap() == noise(3_000_000));
 }
 
-/// Two names that differ in case alone: both are listed, and either path gives the first.
+/// Two names that differ in case alone: both are listed, either path gives the first, and each is had by its name as it is written.
 #[test]
 fn genisoimage_with_two_cases() {
     let Some(tool) = tool("genisoimage") else {
@@ -103,6 +103,9 @@ fn genisoimage_with_two_cases() {
     assert!(listed == "10.1A\n10.1a\n" || listed == "10.1a\n10.1A\n", "{listed}");
     assert_eq!(folder.vault(&["cat", "disc.iso", "10.1A"]).out, first);
     assert_eq!(folder.vault(&["cat", "disc.iso", "10.1a"]).out, first);
+    assert_eq!(folder.vault(&["cat", "--as-written", "disc.iso", "10.1A"]).out, "upper");
+    assert_eq!(folder.vault(&["cat", "--as-written", "disc.iso", "10.1a"]).out, "lower");
+    assert_eq!(folder.vault(&["cat", "--unambiguous", "disc.iso", "10.1a"]).status, 9);
 }
 
 /// An image of 32 MiB by mkudffs, and what the label and the root then come to.

@@ -3,7 +3,7 @@
 mod common;
 
 use common::{Disc, SECTOR, continuation, continued, identifier, named, noise, short_ad, show};
-use strandlodge::{AllocExtent, Answer, Refusal, Refused, Vault, probe_vrs, read_volume_label};
+use strandlodge::{AllocExtent, Answer, Matching, Refusal, Refused, Vault, probe_vrs, read_volume_label};
 
 const UPPER: &[u8] = b"cue 10.1A\nfront wash 80, blue backs 40, follow 6 seconds\n";
 const LOWER: &[u8] = b"cue 10.1a\nfront wash 20, the look before the interval\n";
@@ -152,9 +152,12 @@ fn room_grows_until_the_answer_fits() {
     let read = vault.read_file(last).unwrap();
     assert_eq!((read.sectors, read.capacity()), (of_file, bytes.len()));
     assert!(read.value == bytes);
-    let read = vault.read_path("wide/last").unwrap();
-    assert_eq!(read.sectors, 2 + sectors + of_file);
-    assert!(read.value == bytes);
+    for matching in [Matching::CaseIgnored, Matching::AsWritten, Matching::Unambiguous] {
+        let read = vault.read_path_as("wide/last", matching).unwrap();
+        assert_eq!(read.sectors, 2 + sectors + of_file);
+        assert!(read.value == bytes);
+    }
+    assert_eq!(vault.failed_as("wide/LAST", Matching::AsWritten).unwrap().value, Some(&b"LAST"[..]));
     assert_eq!(vault.failed("wide/none").unwrap().value, Some(&b"none"[..]));
 }
 
@@ -207,15 +210,17 @@ fn an_absurd_disc_is_refused_by_its_number() {
     assert_eq!(refused(vault.read_path("file")).0, Refusal::NoRoom);
     assert_eq!(refused(vault.read_file(vault.lookup("file").unwrap())).0, Refusal::NoRoom);
     assert_eq!(vault.read_path("empty").unwrap().value, []);
-    assert_eq!(refused(vault.lookup("absurd/below")).0, Refusal::NoWork);
+    for matching in [Matching::CaseIgnored, Matching::AsWritten, Matching::Unambiguous] {
+        assert_eq!(refused(vault.lookup_as("absurd/below", matching)).0, Refusal::NoWork);
+    }
     assert_eq!(refused(vault.read_directory(vault.lookup("absurd").unwrap())).0, Refusal::NoWork);
 }
 
 #[test]
 fn refusals_have_their_numbers_and_a_sentence_each() {
     use Refusal::*;
-    let all = [Io, Malformed, NotBluray, Unsupported, NoRoom, NoWork, NoSlot];
-    assert_eq!(all.map(Refusal::number), [1, 2, 3, 4, 5, 6, 7]);
+    let all = [Io, Malformed, NotBluray, Unsupported, NoRoom, NoWork, NoSlot, Ambiguous];
+    assert_eq!(all.map(Refusal::number), [1, 2, 3, 4, 5, 6, 7, 9]);
     let sentences: std::collections::HashSet<String> = all.iter().map(|why| why.to_string()).collect();
     assert_eq!(sentences.len(), all.len());
     let refused = Refused { why: Io, sectors: 1 };

@@ -114,3 +114,13 @@ pub fn identifier(recorded: &[u8], block: u32, is_directory: bool) -> Vec<u8> {
 pub fn named(name: &str, block: u32, is_directory: bool) -> Vec<u8> {
     identifier(&[b"\x08", name.as_bytes()].concat(), block, is_directory)
 }
+
+/// The characteristics of an entry that isn't listed.
+pub const DELETED: u8 = 4;
+pub const PARENT: u8 = 8;
+
+/// An identifier with more characteristics.
+pub fn marked(mut identifier: Vec<u8>, characteristics: u8) -> Vec<u8> {
+    identifier[18] |= characteristics;
+    identifier
+}

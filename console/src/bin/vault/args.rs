@@ -4,6 +4,7 @@ use crate::failure::Failure;
 use crate::names::shown;
 use std::ffi::{OsStr, OsString};
 use std::os::unix::ffi::{OsStrExt, OsStringExt};
+use strandlodge::Matching;
 
 pub const HELP: &str = "\
 vault: look into a UDF disc. An image is a file or a drive; it is only read.
@@ -18,17 +19,18 @@ vault: look into a UDF disc. An image is a file or a drive; it is only read.
   vault check IMAGE            which descriptors aren't where their tags say
   vault sample FILE            writes the sample show's image, to try these on
 
-  --copy       read the whole image into memory first, and look at that
-  --sectors    print on standard error how many sectors each call asked for
-  --help       print this
-  --           what follows is no option
+  --as-written    take a name on PATH byte for byte; else ASCII case is ignored
+  --unambiguous   ignore case, but refuse a name that two or more entries match
+  --copy          read the whole image into memory first, and look at that
+  --sectors       print on standard error how many sectors each call asked for
+  --help, --      print this; what follows is no option
 
-Names on a path stand between slashes. ASCII case is ignored, and the first
-entry that is equal so is taken. Control characters are printed as \\u{..}.
-Nobody may write to an image while it is mapped: where one may, use --copy.
+Names on a path stand between slashes; the first entry that matches is taken.
+Control characters in names are printed as \\u{..}. Nobody may write to an
+image while it is mapped: where one may, use --copy.
 
-Status: 0 done, 1 to 7 refused by that number, 64 wrong usage, 65 not in place,
-66 no image, 67 not all checked, 70 unknown answer, 74 output not written.
+Status: 0 done, 1 to 7 and 9 refused by that number, 64 wrong usage, 65 not in
+place, 66 no image, 67 not all checked, 70 unknown answer, 74 no output.
 ";
 
 /// A path on the disc, in bytes: names there need not be this system's.
@@ -40,6 +42,13 @@ pub enum Command {
     Tour,
     Sample { file: OsString },
     Ask { image: OsString, question: Question },
+}
+
+impl Command {
+    /// Names on a disc are asked for.
+    fn has_path(&self) -> bool {
+        matches!(self, Command::Ask { question, .. } if !matches!(question, Question::Label | Question::Probe))
+    }
 }
 
 /// What is asked of an image.
@@ -60,23 +69,43 @@ pub struct Args {
     pub sectors: bool,
     /// The image is copied, and not mapped.
     pub copy: bool,
+    /// How names on a path are matched.
+    pub matching: Matching,
 }
 
 pub fn parse(given: impl IntoIterator<Item = OsString>) -> Result<Args, Failure> {
     let (mut sectors, mut copy, mut help, mut words) = (false, false, false, Vec::new());
+    let (mut as_written, mut unambiguous) = (false, false);
     let mut given = given.into_iter();
     while let Some(word) = given.next() {
         match word.as_bytes() {
             b"--" => words.extend(given.by_ref()),
             b"--sectors" => sectors = true,
             b"--copy" => copy = true,
+            b"--as-written" => as_written = true,
+            b"--unambiguous" => unambiguous = true,
             b"--help" | b"-h" => help = true,
             [b'-', _, ..] => return Err(Failure::usage(format!("there is no option {}", shown(word.as_bytes())))),
             _ => words.push(word),
         }
     }
-    let command = if help { Command::Help } else { command(words)? };
-    Ok(Args { command, sectors, copy })
+    if help {
+        return Ok(Args { command: Command::Help, sectors, copy, matching: Matching::default() });
+    }
+    let (command, matching) = (command(words)?, matching(as_written, unambiguous)?);
+    if matching != Matching::default() && !command.has_path() {
+        return Err(Failure::usage("--as-written and --unambiguous are for a PATH: that of ls, cat, get or stat"));
+    }
+    Ok(Args { command, sectors, copy, matching })
+}
+
+fn matching(as_written: bool, unambiguous: bool) -> Result<Matching, Failure> {
+    match (as_written, unambiguous) {
+        (false, false) => Ok(Matching::CaseIgnored),
+        (true, false) => Ok(Matching::AsWritten),
+        (false, true) => Ok(Matching::Unambiguous),
+        (true, true) => Err(Failure::usage("--as-written and --unambiguous are two choices, of which one can be taken")),
+    }
 }
 
 fn command(words: Vec<OsString>) -> Result<Command, Failure> {
@@ -140,7 +169,7 @@ mod tests {
     #[test]
     fn options_stand_anywhere() {
         let label = |image: &str| Command::Ask { image: image.into(), question: Question::Label };
-        let asked = |sectors, copy| Args { command: label("a"), sectors, copy };
+        let asked = |sectors, copy| Args { command: label("a"), sectors, copy, matching: Matching::CaseIgnored };
         assert_eq!(parsed("label a").unwrap(), asked(false, false));
         assert_eq!(parsed("--sectors label a").unwrap(), asked(true, false));
         assert_eq!(parsed("label a --sectors").unwrap(), asked(true, false));
@@ -149,6 +178,21 @@ mod tests {
         assert_eq!(parsed("label a --help").unwrap().command, Command::Help);
         assert_eq!(parsed("label -- --help").unwrap().command, label("--help"));
         assert_eq!(parsed("").unwrap().command, Command::Tour);
+    }
+
+    #[test]
+    fn matching_is_for_paths() {
+        for (line, matching) in [
+            ("ls a", Matching::CaseIgnored),
+            ("ls a --as-written", Matching::AsWritten),
+            ("--as-written cat a b --as-written", Matching::AsWritten),
+            ("get --unambiguous a b c", Matching::Unambiguous),
+            ("stat a b --unambiguous", Matching::Unambiguous),
+            ("stat a -- --unambiguous", Matching::CaseIgnored),
+        ] {
+            assert_eq!(parsed(line).unwrap().matching, matching, "{line}");
+        }
+        assert_eq!(parsed("--help --as-written").unwrap().command, Command::Help);
     }
 
     #[test]
@@ -170,6 +214,12 @@ mod tests {
             "--sector",
             "--copies",
             "label a -v",
+            "--as-writen ls a",
+            "--as-written --unambiguous ls a",
+            "--as-written label a",
+            "probe a --unambiguous",
+            "sample a --as-written",
+            "--unambiguous",
         ] {
             assert_eq!(parsed(line).unwrap_err().status, crate::failure::USAGE, "{line}");
         }

@@ -11,10 +11,17 @@ use crate::names::shown;
 use std::ffi::OsStr;
 use std::io::{self, Write};
 use std::os::unix::ffi::OsStrExt;
-use strandlodge::{AllocExtent, DirEntry, probe_vrs, read_volume_label};
+use strandlodge::{AllocExtent, DirEntry, Matching, probe_vrs, read_volume_label};
 
 /// Answers a question on an image, which goes by `name`.
-pub fn ask(question: &Question, image: &[u8], name: &OsStr, out: &mut impl Write, log: &mut Log) -> Result<(), Failure> {
+pub fn ask(
+    question: &Question,
+    matching: Matching,
+    image: &[u8],
+    name: &OsStr,
+    out: &mut impl Write,
+    log: &mut Log,
+) -> Result<(), Failure> {
     let name = &shown(name.as_bytes());
     match question {
         Question::Probe => line(out, if probe_vrs(image) { "yes" } else { "no" }),
@@ -22,17 +29,17 @@ pub fn ask(question: &Question, image: &[u8], name: &OsStr, out: &mut impl Write
             let label = log.count("label", read_volume_label(image)).map_err(|refused| Failure::refused(name, refused))?;
             line(out, &shown(label.as_bytes()))
         }
-        Question::Ls { path } => ls(&mut Disc::open(image, name, log)?, path, out),
-        Question::Stat { path } => stat(&mut Disc::open(image, name, log)?, path, out),
+        Question::Ls { path } => ls(&mut Disc::open(image, name, matching, log)?, path, out),
+        Question::Stat { path } => stat(&mut Disc::open(image, name, matching, log)?, path, out),
         Question::Check => check::check(image, name, out, log),
         Question::Cat { path } => {
-            let bytes = cat(&mut Disc::open(image, name, log)?, path)?;
+            let bytes = cat(&mut Disc::open(image, name, matching, log)?, path)?;
             out.write_all(&bytes).map_err(Failure::output)
         }
         Question::Get { path, file } => {
             let target = file::Target::at(file)?;
             let word = Word::new("reading");
-            let bytes = cat(&mut Disc::open(image, name, log)?, path)?;
+            let bytes = cat(&mut Disc::open(image, name, matching, log)?, path)?;
             drop(word);
             target.write(&bytes)
         }

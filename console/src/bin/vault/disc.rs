@@ -1,15 +1,17 @@
 //! An opened image, and what a path on it gives.
 
-use crate::failure::{Failure, USAGE};
+use crate::failure::{Failure, NO_IMAGE, USAGE};
 use crate::log::Log;
 use crate::names::shown;
-use strandlodge::{DirEntry, LongAd, Refusal, Refused, Vault};
+use crate::steps::{Step, names, quoted};
+use strandlodge::{DirEntry, LongAd, Matching, Refusal, Refused, Vault};
 
-/// An opened image with the name that it goes by in messages. Every call is counted.
+/// An opened image with the name that it goes by in messages, and how names on it are matched. Every call is counted.
 pub struct Disc<'a, 'l> {
     pub vault: Vault<'a>,
     pub log: &'l mut Log,
     name: &'l str,
+    matching: Matching,
 }
 
 /// What a path gives.
@@ -26,9 +28,9 @@ impl Found {
 }
 
 impl<'a, 'l> Disc<'a, 'l> {
-    pub fn open(image: &'a [u8], name: &'l str, log: &'l mut Log) -> Result<Disc<'a, 'l>, Failure> {
+    pub fn open(image: &'a [u8], name: &'l str, matching: Matching, log: &'l mut Log) -> Result<Disc<'a, 'l>, Failure> {
         let vault = log.count("open", Vault::open(image)).map_err(|refused| Failure::refused(name, refused))?;
-        Ok(Disc { vault, log, name })
+        Ok(Disc { vault, log, name, matching })
     }
 
     /// Notes the count of a call on what a path gave, and gives its value.
@@ -48,26 +50,21 @@ impl<'a, 'l> Disc<'a, 'l> {
         self.count(path, "read_file", self.vault.read_file(icb))
     }
 
-    fn lookup(&mut self, path: &[u8]) -> Result<LongAd, Failure> {
-        self.log.count("lookup", self.vault.lookup(path)).map_err(|refused| self.lost(path, refused))
-    }
-
-    /// Looks a path up and finds its entry in the directory above. Both go by one rule, so they give the same entry.
+    /// Looks a path up, and then walks it over the directories' listings: for the entry that it gives, and for what has to be remarked of each
+    /// name. Both go by one rule, so they give the same entry of an image that stands still.
     pub fn find(&mut self, path: &[u8]) -> Result<Found, Failure> {
-        let icb = self.lookup(path)?;
-        let Some((above, name)) = split(path) else {
+        let icb = self.log.count("lookup", self.vault.lookup_as(path, self.matching)).map_err(|refused| self.lost(path, refused))?;
+        let steps = self.steps(path)?;
+        let Some(last) = steps.last() else {
             return Ok(Found { icb, entry: None });
         };
-        let directory = self.lookup(above)?;
-        let entries = self.list(above, directory)?;
-        let entry = entries.iter().find(|entry| entry.name.as_bytes().eq_ignore_ascii_case(name)).cloned();
-        if let Some(given) = entry.as_ref().filter(|given| given.name.as_bytes() != name)
-            && entries.iter().any(|entry| entry.name.as_bytes() == name)
-        {
-            let (given, name) = (shown(given.name.as_bytes()), shown(name));
-            self.log.remarks.push(format!("the path gives {given}, which stands first, and not {name}"));
-        }
-        Ok(Found { icb, entry })
+        let entry = last.taken(self.matching).filter(|entry| entry.icb == icb && names(path).count() == steps.len());
+        let Some(entry) = entry.cloned() else {
+            let says = format!("{}: {} changed while it was looked at: use --copy", self.name, quoted(path));
+            return Err(Failure::new(NO_IMAGE, says));
+        };
+        self.log.remarks.extend(steps.iter().filter_map(|step| step.remark(self.matching)));
+        Ok(Found { icb, entry: Some(entry) })
     }
 
     /// The same, for what must be a file.
@@ -79,40 +76,39 @@ impl<'a, 'l> Disc<'a, 'l> {
         Ok(found)
     }
 
-    /// A lookup that was refused: where nothing was found, with the name that isn't there.
-    fn lost(&mut self, path: &[u8], refused: Refused) -> Failure {
-        if refused.why != Refusal::NotBluray {
-            return self.refused(path, refused);
+    /// The names of a path as far as they are there.
+    fn steps<'p>(&mut self, path: &'p [u8]) -> Result<Vec<Step<'p>>, Failure> {
+        let (mut directory, mut steps) = (Some(self.vault.root_directory_icb()), Vec::new());
+        for (above, name) in names(path) {
+            let Some(icb) = directory else { break };
+            let step = Step::new((above, name), self.list(above, icb)?);
+            directory = step.taken(self.matching).filter(|entry| entry.is_directory).map(|entry| entry.icb);
+            steps.push(step);
         }
-        let Ok(Some(component)) = self.log.count("failed", self.vault.failed(path)) else {
-            return self.refused(path, refused);
+        Ok(steps)
+    }
+
+    /// A lookup that was refused: where nothing was found, with the name that isn't there, and where too much was, with the entries.
+    fn lost(&mut self, path: &[u8], refused: Refused) -> Failure {
+        let says = match refused.why {
+            Refusal::NotBluray => self.not_there(path),
+            Refusal::Ambiguous => self.steps(path).ok().and_then(|steps| steps.last()?.ambiguity()),
+            _ => None,
         };
+        says.map_or_else(|| self.refused(path, refused), |says| Failure::with_number(refused, format!("{}: {says}", self.name)))
+    }
+
+    /// Which name isn't there, and what is in another case where that was not enough.
+    fn not_there(&mut self, path: &[u8]) -> Option<String> {
+        let component = self.log.count("failed", self.vault.failed_as(path, self.matching)).ok()??;
         // The component is a part of the path, so its place is the distance of the two.
         let above = path.get(..component.as_ptr().addr() - path.as_ptr().addr()).unwrap_or_default();
-        let says = format!("{}: there is nothing named \"{}\" under {}", self.name, shown(component), quoted(above));
-        Failure::with_number(refused, says)
+        let mut says = format!("there is nothing named \"{}\" under {}", shown(component), quoted(above));
+        if self.matching == Matching::AsWritten
+            && let Some(alike) = self.steps(path).ok()?.last().filter(|step| step.above == above).and_then(Step::in_another_case)
+        {
+            says += &format!("; {alike}");
+        }
+        Some(says)
     }
-}
-
-/// A path in quotes; the empty one is the root.
-fn quoted(path: &[u8]) -> String {
-    match trimmed(path) {
-        [] => "the root".to_string(),
-        path => format!("\"{}\"", shown(path)),
-    }
-}
-
-/// Without the slashes at its end.
-fn trimmed(mut path: &[u8]) -> &[u8] {
-    while let [front @ .., b'/'] = path {
-        path = front;
-    }
-    path
-}
-
-/// What stands above the last component, and that; none for the root.
-fn split(path: &[u8]) -> Option<(&[u8], &[u8])> {
-    let path = trimmed(path);
-    let at = path.iter().rposition(|byte| *byte == b'/').map_or(0, |slash| slash + 1);
-    (!path.is_empty()).then(|| path.split_at(at))
 }

@@ -75,7 +75,7 @@ mod tests {
     /// 256 would be a status of 0, and 320 that of wrong usage.
     #[test]
     fn an_unknown_number_is_no_status() {
-        for number in [9, 256, 320] {
+        for number in [8, 256, 320] {
             let failure = Failure::refused("a.img", Refused { why: Refusal::Unknown(number), sectors: 3 });
             assert_eq!(failure.status, UNKNOWN);
             assert_eq!(failure.says.unwrap(), format!("a.img: the archive answered with {number}, a number that isn't known here"));

@@ -13,6 +13,7 @@ mod map;
 mod names;
 mod records;
 mod report;
+mod steps;
 mod tour;
 mod walk;
 
@@ -54,7 +55,7 @@ fn answer(args: &Args, out: &mut impl Write, log: &mut Log) -> Result<(), Failur
             if let Question::Get { file, .. } = question {
                 apart(image, file)?;
             }
-            commands::ask(question, &Image::open(image, args.copy)?, image, out, log)
+            commands::ask(question, args.matching, &Image::open(image, args.copy)?, image, out, log)
         }
     }
 }

@@ -3,11 +3,12 @@
 use crate::args::Question;
 use crate::commands;
 use crate::disc::Disc;
-use crate::failure::{Failure, NO_IMAGE};
+use crate::failure::{Failure, NO_IMAGE, NO_OUTPUT};
 use crate::log::Log;
 use crate::names::shown;
 use std::ffi::OsStr;
 use std::io::Write;
+use strandlodge::Matching;
 use strandlodge_sys::sparse;
 
 /// The input of the program `first_cue`: a show with four cues, kept sparse. tools/show_image.py writes it.
@@ -27,17 +28,23 @@ pub fn sample() -> Result<Vec<u8>, Failure> {
 }
 
 pub fn give(out: &mut impl Write) -> Result<(), Failure> {
+    use Matching::{AsWritten, CaseIgnored, Unambiguous};
     let image = sample()?;
+    let cat = |path: &[u8]| Question::Cat { path: path.into() };
     text(out, BEGIN)?;
-    step(&image, Question::Label, "label show.img", out)?;
-    step(&image, Question::Ls { path: DIRECTORY.into() }, "ls show.img SHOW", out)?;
+    step(&image, Question::Label, CaseIgnored, "label show.img", out)?;
+    step(&image, Question::Ls { path: DIRECTORY.into() }, CaseIgnored, "ls show.img SHOW", out)?;
     text(out, "Two cues have names that differ in case alone. They are two entries:\n\n")?;
     looks(&image, out)?;
     text(out, MATCHING)?;
-    step(&image, Question::Cat { path: UPPER.into() }, "cat show.img SHOW/10.1A", out)?;
-    step(&image, Question::Cat { path: LOWER.into() }, "cat show.img SHOW/10.1a", out)?;
-    step(&image, Question::Stat { path: LOWER.into() }, "stat show.img SHOW/10.1a", out)?;
-    text(out, MEANING)
+    step(&image, cat(UPPER), CaseIgnored, "cat show.img SHOW/10.1A", out)?;
+    step(&image, cat(LOWER), CaseIgnored, "cat show.img SHOW/10.1a", out)?;
+    text(out, MEANING)?;
+    step(&image, cat(LOWER), Unambiguous, "cat --unambiguous show.img SHOW/10.1a", out)?;
+    text(out, WRITTEN)?;
+    step(&image, cat(LOWER), AsWritten, "cat --as-written show.img SHOW/10.1a", out)?;
+    step(&image, Question::Stat { path: LOWER.into() }, AsWritten, "stat --as-written show.img SHOW/10.1a", out)?;
+    text(out, CONSOLE)
 }
 
 const BEGIN: &str = "\
@@ -48,15 +55,24 @@ line behind a $ can be typed. `vault --help` has all commands.
 
 const MATCHING: &str = "\
 A path ignores ASCII case, and takes the first entry that is equal so. Either
-name gives 10.1A:
+name gives 10.1A, and standard error has a remark:
 
 ";
 
 const MEANING: &str = "\
-For a show this means: a path can't tell such cues apart, and what it gave may
-have another name than was asked for. `stat` says which entry it is. A console
-that must have 10.1a lists the directory (read_directory), takes the entry with
-exactly that name, and reads by its ICB (read_file).
+For a show this means: what a path gave may have another name than was asked
+for. Who would rather be refused than be given another says --unambiguous:
+
+";
+
+const WRITTEN: &str = "\
+And cue 10.1a itself is had by its name as it is written:
+
+";
+
+const CONSOLE: &str = "\
+A console has the same choice: lookup_as and read_path_as, with
+Matching::AsWritten or Matching::Unambiguous.
 ";
 
 fn text(out: &mut impl Write, text: &str) -> Result<(), Failure> {
@@ -64,12 +80,16 @@ fn text(out: &mut impl Write, text: &str) -> Result<(), Failure> {
 }
 
 /// A command as it is typed, its answer, and what it would say on standard error.
-fn step(image: &[u8], question: Question, typed: &str, out: &mut impl Write) -> Result<(), Failure> {
+fn step(image: &[u8], question: Question, matching: Matching, typed: &str, out: &mut impl Write) -> Result<(), Failure> {
     let mut log = Log::default();
     text(out, &format!("$ vault {typed}\n"))?;
-    commands::ask(&question, image, OsStr::new(NAME), out, &mut log)?;
-    for remark in &log.remarks {
-        text(out, &format!("vault: {remark}\n"))?;
+    let refused = match commands::ask(&question, matching, image, OsStr::new(NAME), out, &mut log) {
+        // What is written is the tour itself.
+        Err(failure) if failure.status == NO_OUTPUT || failure.says.is_none() => return Err(failure),
+        asked => asked.err().and_then(|failure| failure.says),
+    };
+    for line in log.remarks.iter().chain(&refused) {
+        text(out, &format!("vault: {line}\n"))?;
     }
     text(out, "\n")
 }
@@ -77,7 +97,7 @@ fn step(image: &[u8], question: Question, typed: &str, out: &mut impl Write) -> 
 /// The last line of each of the two cues, read by the ICB of its entry.
 fn looks(image: &[u8], out: &mut impl Write) -> Result<(), Failure> {
     let mut log = Log::default();
-    let mut disc = Disc::open(image, NAME, &mut log)?;
+    let mut disc = Disc::open(image, NAME, Matching::CaseIgnored, &mut log)?;
     let directory = disc.find(DIRECTORY)?.icb;
     for entry in disc.list(DIRECTORY, directory)?.iter().filter(|entry| entry.name.eq_ignore_ascii_case("10.1a")) {
         let cue = disc.read(DIRECTORY, entry.icb)?;
