@@ -1,5 +1,7 @@
 //! The calls of include/vault.h: what is asked, and what was answered.
 
+use strandlodge_sys::vault::{AS_WRITTEN, CASE_IGNORED};
+
 #[derive(Clone, Copy, PartialEq, Eq, Debug, PartialOrd, Ord)]
 #[repr(u8)]
 pub enum Call {
@@ -87,6 +89,29 @@ pub struct Volume {
     pub label: [u8; 32],
 }
 
+/// The choices of matching.
+#[derive(Clone, Copy, PartialEq, Eq, Debug, PartialOrd, Ord)]
+pub enum Choice {
+    CaseIgnored,
+    AsWritten,
+    Unambiguous,
+}
+
+impl Choice {
+    /// The one that a number is for: any beyond the three is for the last.
+    pub fn of(matching: u32) -> Choice {
+        match matching {
+            CASE_IGNORED => Choice::CaseIgnored,
+            AS_WRITTEN => Choice::AsWritten,
+            _ => Choice::Unambiguous,
+        }
+    }
+
+    pub fn name(self) -> &'static str {
+        ["case ignored", "as written", "unambiguous"][self as usize]
+    }
+}
+
 /// What is asked of an image. Room counts bytes, and slots for the extent list.
 #[derive(Clone, Debug)]
 pub struct Query {
@@ -94,6 +119,8 @@ pub struct Query {
     pub volume: Volume,
     pub icb: Icb,
     pub path: Vec<u8>,
+    /// How names on the path are matched, as the interface has it: any number.
+    pub matching: u32,
     pub room: usize,
     pub work: usize,
 }
@@ -103,7 +130,7 @@ pub const PLENTY: usize = usize::MAX;
 
 impl Query {
     pub fn of(call: Call, volume: Volume) -> Query {
-        Query { call, volume, icb: Icb::default(), path: Vec::new(), room: PLENTY, work: PLENTY }
+        Query { call, volume, icb: Icb::default(), path: Vec::new(), matching: CASE_IGNORED, room: PLENTY, work: PLENTY }
     }
 
     pub fn on(call: Call, volume: Volume, icb: Icb) -> Query {
@@ -112,6 +139,10 @@ impl Query {
 
     pub fn along(call: Call, volume: Volume, path: &[u8]) -> Query {
         Query { path: path.to_vec(), ..Query::of(call, volume) }
+    }
+
+    pub fn matched(self, matching: u32) -> Query {
+        Query { matching, ..self }
     }
 
     pub fn with(&self, room: usize, work: usize) -> Query {

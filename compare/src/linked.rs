@@ -45,7 +45,7 @@ pub unsafe fn make(q: &Query, lends: Lends) -> Values {
     let mount = Mount { start: q.volume.start, partition: q.volume.partition };
     let v = face::Volume { mount, root: lent(q.volume.root), label: q.volume.label };
     let Lends { image: d, image_length: n, path: p, out, work, place } = lends;
-    let (icb, m, mut values) = (lent(q.icb), q.path.len(), Values::default());
+    let (icb, m, matching, mut values) = (lent(q.icb), q.path.len(), q.matching, Values::default());
     // SAFETY: the caller's word; and a place is a number that was lent.
     let reply = unsafe {
         match q.call {
@@ -58,16 +58,16 @@ pub unsafe fn make(q: &Query, lends: Lends) -> Values {
             }
             Call::Label => vault_label(d, n, out, q.room),
             Call::Lookup => {
-                let f = vault_lookup(v, d, n, p, m, work, q.work);
+                let f = vault_lookup(v, d, n, p, m, matching, work, q.work);
                 values.icb = given(f.icb);
                 Reply { answer: f.answer, count: f.count, length: 0 }
             }
-            Call::Failed => vault_failed(v, d, n, p, m, work, q.work, place),
+            Call::Failed => vault_failed(v, d, n, p, m, matching, work, q.work, place),
             Call::List => vault_list(v, d, n, icb, out, q.room, work, q.work),
             Call::Read => vault_read(v, d, n, icb, out, q.room),
             Call::Part => vault_part(v, d, n, icb, place),
             Call::Extents => vault_extents(v, d, n, icb, out.cast(), q.room),
-            Call::ReadPath => vault_read_path(v, d, n, p, m, out, q.room, work, q.work),
+            Call::ReadPath => vault_read_path(v, d, n, p, m, matching, out, q.room, work, q.work),
         }
     };
     if q.call.has_place() {

@@ -13,7 +13,7 @@ use crate::udf::{UdfDisc, within};
 use std::hint::black_box;
 use std::io::Cursor;
 use std::time::Instant;
-use strandlodge_sys::vault::{DONE, NOT_BLURAY};
+use strandlodge_sys::vault::{AS_WRITTEN, CASE_IGNORED, DONE, NOT_BLURAY, UNAMBIGUOUS};
 
 const ROUNDS: usize = 9;
 const MIB: usize = 1 << 20;
@@ -54,6 +54,13 @@ fn pairs(letters: &[u8]) -> Vec<u8> {
 /// The last of 5,000 looked up.
 fn last_of(name: &str, digits: usize, record: fn(&[u8]) -> Vec<u8>) -> Row {
     entries_of(&format!("lookup, last of 5,000, {name}"), 5000, digits, record, Call::Lookup, 2 * MIB)
+}
+
+/// The last of 5,000 looked up under another choice of matching.
+fn last_as(name: &str, matching: u32) -> Row {
+    let mut r = entries(&format!("lookup, last of 5,000, {name}"), 5000, Call::Lookup, MIB);
+    r.query.matching = matching;
+    r
 }
 
 /// A name that none of 5,000 has; it differs from the last one's in its last letter alone.
@@ -126,6 +133,8 @@ fn rows() -> Vec<Box<dyn FnOnce() -> Row>> {
         Box::new(|| last_of("of 100 letters", 100, name8)),
         Box::new(|| last_of("of 100 letters in pairs of bytes", 100, pairs)),
         Box::new(none_of),
+        Box::new(|| last_as("as written", AS_WRITTEN)),
+        Box::new(|| last_as("unambiguous", UNAMBIGUOUS)),
         Box::new(|| entries("list, 5,000 entries", 5000, Call::List, MIB)),
         Box::new(|| extents("read, 4 KiB", 4096, 1)),
         Box::new(|| extents("read, 256 MiB in one extent", 256 * MIB, 1)),
@@ -152,6 +161,11 @@ fn original(image: &[u8], q: &Query, times: u32) -> u64 {
     for _ in 0..times {
         match q.call {
             Call::Open => drop(black_box(UdfDisc::open(Cursor::new(image)))),
+            // The original has one choice: for another its listing of the root is searched.
+            Call::Lookup if q.matching != CASE_IGNORED => {
+                let listed = disc.read_directory(long(q.volume.root));
+                drop(black_box(listed.map(|entries| entries.iter().filter(|e| e.name.eq_ignore_ascii_case(path)).count())));
+            }
             Call::Lookup => drop(black_box(disc.lookup(path))),
             Call::List => drop(black_box(disc.read_directory(long(q.icb)))),
             _ => drop(black_box(disc.read_file(long(q.icb)))),

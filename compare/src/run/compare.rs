@@ -1,19 +1,21 @@
 //! The comparison: images made, asked about on both sides, and held to each other.
 
 use super::aborts;
-use super::calls::{Call, Given, HELD, Query};
+use super::calls::{Call, Choice, Given, HELD, Query};
 use super::damage::damage;
 use super::disc::Disc;
 use super::expect::Expected;
 use super::ours::{Ask, Noise, Ours};
-use super::queries::{Case, Depth, cases};
+use super::queries::{Case, Depth, cases, matched};
 use super::random::Random;
 use super::raw::{RAW_HELD, RawAsk, RawCall, RawGiven, shown};
 use super::raw_cases::{RawCase, batch};
 use super::tally::Tally;
-use super::{shapes_deleted, shapes_directories, shapes_files, shapes_opening, sparse, volumes};
+use super::volumes::Sort;
+use super::{shapes_deleted, shapes_directories, shapes_files, shapes_matching, shapes_opening, sparse, volumes};
 use std::panic::{AssertUnwindSafe, catch_unwind};
 use std::path::{Path, PathBuf};
+use strandlodge_sys::vault::AMBIGUOUS;
 
 /// So many absurd information lengths are tried on the original: a process each.
 const CHILDREN: u64 = 60;
@@ -34,12 +36,15 @@ pub struct Comparison {
     pub tally: Tally,
     /// For the raw records alone: the images are the same with them and without.
     random: Random,
+    /// For the other choices of matching alone: what is asked under the original's is the same with them and without.
+    matchings: Random,
 }
 
 impl Comparison {
     pub fn new(ours: Box<dyn Ours>, seed: u64, enough: u64) -> Comparison {
         let random = Random::new(seed ^ 0x7261_7773);
-        Comparison { ours, seed, enough, tally: Tally::new(), random }
+        let matchings = Random::new(seed ^ 0x6d61_7463);
+        Comparison { ours, seed, enough, tally: Tally::new(), random, matchings }
     }
 
     /// Every shape first, and then volumes at random, whole and damaged, until the time is over.
@@ -51,11 +56,18 @@ impl Comparison {
                 return;
             }
         }
+        for (name, disc) in shapes_matching::shapes() {
+            let random = Random::new(self.matchings.next());
+            self.image(&name, &disc, Depth::All, random);
+            if self.is_over() {
+                return;
+            }
+        }
         let mut number = 0u64;
         while self.tally.seconds() < seconds && !self.is_over() {
             number += 1;
             let mut random = Random::new(self.seed.wrapping_mul(0x2545_f491_4f6c_dd1d) ^ number);
-            let whole = volumes::volume(&mut random, false);
+            let whole = volumes::volume(&mut random, Sort::Usual);
             for part in 0..6 {
                 if self.is_over() {
                     return;
@@ -68,6 +80,21 @@ impl Comparison {
                 self.image(&format!("random {number}.{part}"), &disc, Depth::Some, more);
                 self.raws();
             }
+            self.meeting(number);
+        }
+    }
+
+    /// A volume whose names meet, whole and then damaged.
+    fn meeting(&mut self, number: u64) {
+        let mut random = Random::new(self.matchings.next());
+        let mut disc = volumes::volume(&mut random, Sort::Meeting);
+        for part in ["meeting", "meeting, damaged"] {
+            if self.is_over() {
+                return;
+            }
+            let more = Random::new(random.next());
+            self.image(&format!("random {number}, {part}"), &disc, Depth::Some, more);
+            damage(&mut random, &mut disc);
         }
     }
 
@@ -77,7 +104,12 @@ impl Comparison {
 
     fn image(&mut self, name: &str, disc: &Disc, depth: Depth, mut random: Random) {
         // A panic here is the original's, or a walk that isn't the original's own: either is worth a look.
-        let made = catch_unwind(AssertUnwindSafe(|| cases(&mut random, disc, depth)));
+        let matchings = &mut self.matchings;
+        let made = catch_unwind(AssertUnwindSafe(|| {
+            let mut all = cases(&mut random, disc, depth);
+            all.extend(matched(matchings, disc, depth));
+            all
+        }));
         let Ok(cases) = made else {
             self.keep(name, Some(disc), "the original stopped by a panic");
             return;
@@ -113,10 +145,11 @@ impl Comparison {
 
     fn case(&mut self, name: &str, disc: &Disc, case: &Case, given: &Given) {
         let e = &case.expected;
+        let choice = Choice::of(case.query.matching);
         if case.in_noise {
             self.tally.in_noise += 1;
         } else {
-            *self.tally.asked.entry((case.query.call, e.values.answer)).or_insert(0) += 1;
+            *self.tally.asked.entry((choice, case.query.call, e.values.answer)).or_insert(0) += 1;
         }
         self.tally.by_the_rule[0] += u64::from(e.by_the_rule);
         if let Some(what) = difference(e, given) {
@@ -124,7 +157,7 @@ impl Comparison {
             self.keep(name, Some(disc), &format!("{what}\n{text}"));
         }
         // The process of its own has the original as it is.
-        if e.absurd && !e.by_the_rule {
+        if e.absurd && !e.by_the_rule && choice == Choice::CaseIgnored {
             self.absurd(name, disc, case);
         }
     }
@@ -219,8 +252,9 @@ fn told(q: &Query, in_noise: bool, e: &Expected, given: &Given) -> String {
         format!("{v:?} ({n} bytes written)")
     };
     format!(
-        "call {} in noise {in_noise}\nquery {q:?}\npath {:?}\nexpected {}\ngiven    {} held {}\nsectors {:?}\n",
+        "call {}, {}, in noise {in_noise}\nquery {q:?}\npath {:?}\nexpected {}\ngiven    {} held {}\nsectors {:?}\n",
         q.call.name(),
+        Choice::of(q.matching).name(),
         String::from_utf8_lossy(&q.path),
         brief(&e.values),
         brief(&given.values),
@@ -266,8 +300,13 @@ pub fn unreached(tally: &Tally) -> Vec<String> {
             Call::Extents => &[0, 1, 2, 4, 7],
             Call::ReadPath => &[0, 1, 2, 3, 4, 5, 6],
         };
-        let never = numbers.iter().filter(|n| !tally.asked.contains_key(&(call, **n)));
+        let never = numbers.iter().filter(|n| !tally.asked.contains_key(&(Choice::CaseIgnored, call, **n)));
         all.extend(never.map(|n| format!("{} {n}", call.name())));
+        for choice in [Choice::AsWritten, Choice::Unambiguous].into_iter().filter(|_| call.has_path()) {
+            let ambiguous = (choice == Choice::Unambiguous).then_some(&AMBIGUOUS);
+            let never = numbers.iter().chain(ambiguous).filter(|n| !tally.asked.contains_key(&(choice, call, **n)));
+            all.extend(never.map(|n| format!("{}, {} {n}", call.name(), choice.name())));
+        }
     }
     for call in RawCall::ALL {
         let never = call.numbers().iter().filter(|n| !tally.raw.contains_key(&(*call, **n)));

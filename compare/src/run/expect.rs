@@ -1,8 +1,9 @@
 //! What a query must be answered with: the original's answer, with the refusals that lent memory adds.
 
-use super::calls::{Call, Icb, Query, Values, slot};
+use super::calls::{Call, Choice, Icb, Query, Values, slot};
 use super::original::{self, Came, Original, icb};
-use crate::udf::within;
+use crate::udf::{DirEntry, within};
+use strandlodge_sys::vault::AMBIGUOUS;
 
 /// The answer, and what it took.
 pub struct Expected {
@@ -183,6 +184,16 @@ impl Walk {
     }
 }
 
+/// The entries that a component matches, in the disc's order. The original's listing leaves out those that are deleted or the parent.
+fn matches<'e>(entries: &'e [DirEntry], component: &[u8], choice: Choice) -> Vec<&'e DirEntry> {
+    let spoken = spoken(component);
+    let is_match = |e: &&DirEntry| match choice {
+        Choice::AsWritten => e.name.as_bytes() == component,
+        Choice::CaseIgnored | Choice::Unambiguous => e.name.eq_ignore_ascii_case(spoken),
+    };
+    entries.iter().filter(is_match).collect()
+}
+
 /// A lookup, a component at a time, by the original's reading and listing of each directory.
 fn walk(o: &mut Original, q: &Query) -> Walk {
     let mut w = Walk { answer: 0, asked: Vec::new(), icb: q.volume.root, lost: None, directories: Vec::new() };
@@ -205,9 +216,11 @@ fn walk(o: &mut Original, q: &Query) -> Walk {
             Err(n) => return w.refused(n),
             Ok(entries) => entries,
         };
-        let name = spoken(&q.path[from..from + length]);
-        let Some(entry) = entries.iter().find(|e| e.name.eq_ignore_ascii_case(name)) else {
-            return w.lost((from, length));
+        let choice = Choice::of(q.matching);
+        let entry = match matches(&entries, &q.path[from..from + length], choice)[..] {
+            [] => return w.lost((from, length)),
+            [_, _, ..] if choice == Choice::Unambiguous => return w.refused(AMBIGUOUS),
+            [first, ..] => first,
         };
         w.icb = icb(entry.icb);
         is_directory = entry.is_directory;
@@ -221,6 +234,11 @@ fn spoken_path(path: &[u8]) -> String {
     parts.join("/")
 }
 
+/// Whether the original has the choice of a query: it ignores case, and takes the first entry.
+fn is_own(q: &Query) -> bool {
+    Choice::of(q.matching) == Choice::CaseIgnored
+}
+
 /// The walk has to be the original's own lookup, where there is work space enough and nothing absurd.
 fn agree<T: PartialEq + std::fmt::Debug>(walked: (u64, &[u64], Option<&T>), own: &Came<T>) {
     let came = (own.value.as_ref().err().copied().unwrap_or(0), own.asked.as_slice(), own.value.as_ref().ok());
@@ -231,7 +249,7 @@ fn looking_up(image: &[u8], q: &Query) -> Expected {
     let mut o = Original::new(image, q.volume);
     let w = walk(&mut o, q);
     let (absurd, fits) = (o.absurd, w.answer != 6);
-    if !absurd && fits {
+    if !absurd && fits && is_own(q) {
         let own = o.lookup(&spoken_path(&q.path));
         agree((w.answer, &w.asked, (w.answer == 0).then_some(&w.icb)), &own);
     }
@@ -262,7 +280,7 @@ fn reading_path(image: &[u8], q: &Query) -> Expected {
         }
     }
     let absurd = o.absurd;
-    if !absurd && answer != 6 {
+    if !absurd && answer != 6 && is_own(q) {
         let own = o.read_path(&spoken_path(&q.path));
         agree((answer, &asked, bytes.as_ref()), &own);
     }

@@ -13,6 +13,7 @@ use super::damage::damage;
 use super::disc::Disc;
 use super::queries::{Case, Depth, cases};
 use super::random::Random;
+use super::volumes::Sort;
 use super::{sparse, volumes, wire};
 use std::collections::BTreeMap;
 use std::fmt::Write;
@@ -142,7 +143,7 @@ pub fn write(folder: &Path) -> std::io::Result<()> {
     }
     for i in 0..80 {
         let mut random = Random::new(SEED << 20 | i);
-        let mut disc = volumes::volume(&mut random, true);
+        let mut disc = volumes::volume(&mut random, Sort::Thrifty);
         if i % 4 > 0 {
             damage(&mut random, &mut disc);
         }

@@ -23,6 +23,7 @@ mod raw_records;
 mod shapes_deleted;
 mod shapes_directories;
 mod shapes_files;
+mod shapes_matching;
 mod shapes_opening;
 mod tally;
 #[cfg(udfread)]

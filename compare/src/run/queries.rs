@@ -6,6 +6,7 @@ use super::expect::{Expected, expected};
 use super::original;
 use super::random::Random;
 use crate::udf::within;
+use strandlodge_sys::vault::{AS_WRITTEN, UNAMBIGUOUS};
 
 pub struct Case {
     pub query: Query,
@@ -141,18 +142,48 @@ fn sizes(random: &mut Random, q: &Query, e: &Expected, depth: Depth) -> Vec<(usi
     all
 }
 
-/// The cases of an image. The first size of each query is asked in noise too, and others once in a while.
+/// The cases of an image under the original's own choice of matching.
 pub fn cases(random: &mut Random, disc: &Disc, depth: Depth) -> Vec<Case> {
+    let queries = plain(random, disc, depth);
+    queries.iter().flat_map(|q| sized(random, disc, q, depth)).collect()
+}
+
+/// A query with memory of each size. The first is asked in noise too, and others once in a while.
+fn sized(random: &mut Random, disc: &Disc, q: &Query, depth: Depth) -> Vec<Case> {
     let mut all = Vec::new();
-    for q in plain(random, disc, depth) {
-        let spare = expected(&disc.image, &q.with(PLENTY, PLENTY));
-        for (i, (room, work)) in sizes(random, &q, &spare, depth).into_iter().enumerate() {
-            let query = q.with(room, work);
-            let in_noise = q.call != Call::Probe && (i == 0 || random.once_in(4));
-            all.push(Case { expected: expected(&disc.image, &query), query: query.clone(), in_noise: false });
-            if in_noise {
-                all.push(Case { expected: expected(&disc.image, &query), query, in_noise: true });
-            }
+    let spare = expected(&disc.image, &q.with(PLENTY, PLENTY));
+    for (i, (room, work)) in sizes(random, q, &spare, depth).into_iter().enumerate() {
+        let query = q.with(room, work);
+        let in_noise = q.call != Call::Probe && (i == 0 || random.once_in(4));
+        all.push(Case { expected: expected(&disc.image, &query), query: query.clone(), in_noise: false });
+        if in_noise {
+            all.push(Case { expected: expected(&disc.image, &query), query, in_noise: true });
+        }
+    }
+    all
+}
+
+/// A path with some of its letters in the other case.
+fn recased(random: &mut Random, path: &[u8]) -> Vec<u8> {
+    let seldom = *random.pick(&[1, 2, 8]);
+    path.iter().map(|b| if b.is_ascii_alphabetic() && random.once_in(seldom) { *b ^ 0x20 } else { *b }).collect()
+}
+
+/// The cases of the other choices: calls along paths that are there, that nearly are, and in other cases. A number beyond the choices is
+/// now and then in the place of the last.
+pub fn matched(random: &mut Random, disc: &Disc, depth: Depth) -> Vec<Case> {
+    let v = volume(random, disc, depth);
+    let mut along = paths(random, disc, depth);
+    for i in 1..along.len() {
+        let other = recased(random, &along[i]);
+        along.push(other);
+    }
+    let mut all = Vec::new();
+    for path in along {
+        let other = if random.once_in(8) { 3 + random.odd() as u32 % (u32::MAX - 2) } else { UNAMBIGUOUS };
+        for matching in [AS_WRITTEN, other] {
+            let call = *random.pick(&[Call::Lookup, Call::Failed, Call::ReadPath]);
+            all.extend(sized(random, disc, &Query::along(call, v, &path).matched(matching), depth));
         }
     }
     all

@@ -1,16 +1,25 @@
 //! What was compared, by call and answer number.
 
-use super::calls::Call;
+use super::calls::{Call, Choice};
 use super::raw::RawCall;
 use std::collections::BTreeMap;
 use std::fmt;
 use std::time::Instant;
 
+/// The answer numbers.
+const NUMBERS: [u64; 9] = [0, 1, 2, 3, 4, 5, 6, 7, 9];
+
+/// A row of a table: a name, and how many of each number.
+fn row(f: &mut fmt::Formatter, name: &str, of: impl Fn(u64) -> u64) -> fmt::Result {
+    let numbers: String = NUMBERS.iter().map(|n| format!("{:>10}", of(*n))).collect();
+    writeln!(f, "{name:22}{numbers}")
+}
+
 pub struct Tally {
     began: Instant,
     said: u64,
     pub images: u64,
-    pub asked: BTreeMap<(Call, u64), u64>,
+    pub asked: BTreeMap<(Choice, Call, u64), u64>,
     pub raw: BTreeMap<(RawCall, u64), u64>,
     pub in_noise: u64,
     pub mismatches: u64,
@@ -71,14 +80,18 @@ impl Tally {
 
 impl fmt::Display for Tally {
     fn fmt(&self, f: &mut fmt::Formatter) -> fmt::Result {
-        writeln!(f, "{:22}{}", "call", (0..8).map(|n| format!("{n:>10}")).collect::<String>())?;
+        row(f, "call", |n| n)?;
+        let asked = |choice, call, n| self.asked.get(&(choice, call, n)).copied().unwrap_or(0);
         for call in Call::ALL {
-            let row: String = (0..8).map(|n| format!("{:>10}", self.asked.get(&(call, n)).unwrap_or(&0))).collect();
-            writeln!(f, "{:22}{row}", call.name())?;
+            row(f, call.name(), |n| asked(Choice::CaseIgnored, call, n))?;
+        }
+        for choice in [Choice::AsWritten, Choice::Unambiguous] {
+            for call in Call::ALL.into_iter().filter(|call| call.has_path()) {
+                row(f, &format!("{}, {}", call.name(), choice.name()), |n| asked(choice, call, n))?;
+            }
         }
         for call in RawCall::ALL {
-            let row: String = (0..8).map(|n| format!("{:>10}", self.raw.get(&(*call, n)).unwrap_or(&0))).collect();
-            writeln!(f, "{:22}{row}", call.name())?;
+            row(f, call.name(), |n| self.raw.get(&(*call, n)).copied().unwrap_or(0))?;
         }
         let (images, queries, in_noise, raws) = (self.images, self.queries(), self.in_noise, self.raws());
         writeln!(f, "images {images}, queries {queries}, again in noise {in_noise}, raw records {raws}, seconds {}", self.seconds())?;

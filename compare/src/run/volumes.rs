@@ -5,6 +5,16 @@ use super::disc::{Disc, Layout, contents};
 use super::random::Random;
 use super::records::*;
 
+/// What a volume is for.
+#[derive(Clone, Copy, PartialEq)]
+pub enum Sort {
+    Usual,
+    /// For the list that is kept: short, and mostly zero.
+    Thrifty,
+    /// Large directories with names of one or two letters, so that many of them are equal, or equal but for case.
+    Meeting,
+}
+
 /// Names come from few letters, so that they meet.
 const LETTERS: [u16; 18] =
     [0x41, 0x61, 0x42, 0x62, 0x5a, 0x7a, 0x30, 0x2e, 0x20, 0x2f, 0xe9, 0xc9, 0xdf, 0x3042, 0xd83d, 0xdc00, 0x212a, 0xffff];
@@ -31,6 +41,24 @@ fn name(random: &mut Random) -> Vec<u8> {
 fn deleted_name(random: &mut Random) -> Vec<u8> {
     let n = random.below(6);
     [vec![*random.pick(&[254, 255])], random.bytes(n)].concat()
+}
+
+/// A name that others of its directory may have, in the same letters or in the other case, recorded in either width.
+fn meeting_name(random: &mut Random) -> Vec<u8> {
+    let letters: Vec<u16> = (0..random.between(1, 2)).map(|_| *random.pick(&[0x41, 0x61, 0x42, 0x62, 0x5a, 0x7a, 0xe9, 0xc9])).collect();
+    match random.once_in(3) {
+        true => name16(&letters),
+        false => name8(&letters.iter().map(|letter| *letter as u8).collect::<Vec<_>>()),
+    }
+}
+
+fn recorded_name(random: &mut Random, sort: Sort) -> Vec<u8> {
+    match sort {
+        Sort::Meeting => meeting_name(random),
+        Sort::Usual if random.once_in(30) => deleted_name(random),
+        // Not in the list that is kept, which is to stay as it is.
+        Sort::Usual | Sort::Thrifty => name(random),
+    }
 }
 
 /// A layout at random; most are plain enough to be read.
@@ -66,28 +94,27 @@ fn odd_information(random: &mut Random, n: usize) -> Option<u64> {
     })
 }
 
-fn file(random: &mut Random, disc: &mut Disc, thrifty: bool) -> Icb {
+fn file(random: &mut Random, disc: &mut Disc, sort: Sort) -> Icb {
     let n = match random.below(8) {
         0 => 0,
         1 => random.between(1, 50),
         2 => 2048 * random.between(1, 3) + random.below(3) - 1,
-        3 if !thrifty => random.below(20_000),
+        3 if sort != Sort::Thrifty => random.below(20_000),
         _ => random.below(4000),
     };
-    let bytes = contents(random, n, thrifty);
+    let bytes = contents(random, n, sort == Sort::Thrifty);
     let layout = Layout { information: odd_information(random, n), ..layout(random, disc.volume.partition) };
     disc.store(&bytes, &layout).0
 }
 
-fn directory(random: &mut Random, disc: &mut Disc, path: &str, depth: usize, thrifty: bool) -> Icb {
-    let many = if random.once_in(4) { 12 } else { 5 };
+fn directory(random: &mut Random, disc: &mut Disc, path: &str, depth: usize, sort: Sort) -> Icb {
+    let many = if random.once_in(4) || sort == Sort::Meeting { 12 } else { 5 };
     let mut items = Vec::new();
     if random.once_in(2) {
         items.push(Item::new(vec![], disc.volume.root, PARENT | DIRECTORY));
     }
     for _ in 0..random.below(many) {
-        // Not in the list that is kept, which is to stay as it is.
-        let recorded = if !thrifty && random.once_in(30) { deleted_name(random) } else { name(random) };
+        let recorded = recorded_name(random, sort);
         let here = format!("{path}{}", spoken(&recorded));
         disc.path(here.as_bytes());
         let inner = depth > 0 && random.below(10) < 4;
@@ -95,11 +122,11 @@ fn directory(random: &mut Random, disc: &mut Disc, path: &str, depth: usize, thr
             // Two names for one thing, and a name for nothing.
             0 if !disc.icbs.is_empty() => *random.pick(&disc.icbs),
             1 => Icb { length: random.odd() as u32 & 0x3fff_ffff, block: random.below(300) as u32, ..Icb::default() },
-            _ if inner => directory(random, disc, &format!("{here}/"), depth - 1, thrifty),
-            _ => file(random, disc, thrifty),
+            _ if inner => directory(random, disc, &format!("{here}/"), depth - 1, sort),
+            _ => file(random, disc, sort),
         };
         let mut c = if inner { DIRECTORY } else { 0 };
-        if random.once_in(12) {
+        if random.once_in(if sort == Sort::Meeting { 4 } else { 12 }) {
             c ^= *random.pick(&[DELETED, PARENT, DIRECTORY, 1, 0x10]);
         }
         let uses = if random.once_in(8) { random.below(30) } else { 0 };
@@ -142,17 +169,17 @@ fn sequence(random: &mut Random, disc: &Disc, file_set: Icb) -> Vec<Vec<u8>> {
     all
 }
 
-pub fn volume(random: &mut Random, thrifty: bool) -> Disc {
+pub fn volume(random: &mut Random, sort: Sort) -> Disc {
     let start = match random.below(10) {
         0 => random.below(16) as u32,
         1 => random.between(200, 300) as u32,
-        2 if !thrifty => random.between(300, 1200) as u32,
+        2 if sort != Sort::Thrifty => random.between(300, 1200) as u32,
         _ => 40,
     };
     let number = *random.pick(&[0, 0, 1, 5, 255, 256, 32768, 65535]);
     let mut disc = Disc::new(start, number);
     let depth = *random.pick(&[1, 2, 3, 8]);
-    let root = directory(random, &mut disc, "", depth, thrifty);
+    let root = directory(random, &mut disc, "", depth, sort);
     let recognitions: [[&[u8; 5]; 3]; 3] = [[b"BEA01", b"NSR02", b"TEA01"], [b"BEA01", b"NSR03", b"TEA01"], [b"CD001", b"BEA01", b"NSR03"]];
     let ids = random.pick(&recognitions);
     disc.recognise(ids);

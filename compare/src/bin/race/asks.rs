@@ -3,11 +3,15 @@
 use crate::faults;
 use crate::memory::{Piece, Side, Store};
 use crate::stage::Raced;
-use common::calls::{Call, Query, Values};
+use common::calls::{Call, Choice, Query, Values};
 use common::linked::{self, Lends};
+use strandlodge_sys::vault::{AMBIGUOUS, AS_WRITTEN, CASE_IGNORED, NO_SLOT, UNAMBIGUOUS};
 
-/// The table ends here.
-const LAST_ANSWER: u64 = strandlodge_sys::vault::NO_SLOT;
+/// The table's numbers: up to this one, and one more.
+const LAST_ANSWER: u64 = NO_SLOT;
+
+/// The choices of matching, by turns along the paths.
+const MATCHINGS: [u32; 3] = [CASE_IGNORED, AS_WRITTEN, UNAMBIGUOUS];
 
 /// More than any answer here has, in bytes and in slots.
 const PLENTY: usize = 1 << 19;
@@ -69,7 +73,8 @@ impl Lender {
 
 /// The numbers of an answer.
 fn in_range(q: &Query, v: &Values, image_length: usize) -> Result<(), String> {
-    if v.answer > LAST_ANSWER {
+    let ambiguous = v.answer == AMBIGUOUS && q.call.has_path() && q.matching == UNAMBIGUOUS;
+    if v.answer > LAST_ANSWER && !ambiguous {
         return Err(format!("the answer is {}, which isn't in the table", v.answer));
     }
     if v.answer == 0 && q.call.has_room() && v.length > q.room as u64 {
@@ -140,6 +145,9 @@ fn queries(raced: &Raced, still: &mut impl FnMut(&Query) -> Result<[Values; 2], 
         let works = if q.call.has_work() { &works[..] } else { &[0] };
         queries.extend(rooms.iter().flat_map(|room| works.iter().map(|work| q.with(*room, *work))));
     }
+    for (i, q) in queries.iter_mut().filter(|q| q.call.has_path()).enumerate() {
+        q.matching = MATCHINGS[i % MATCHINGS.len()];
+    }
     Ok(queries)
 }
 
@@ -167,7 +175,7 @@ fn distinct(mut numbers: Vec<usize>) -> Vec<usize> {
 
 fn words(raced: &Raced, q: &Query) -> String {
     let what = match q.call {
-        call if call.has_path() => format!(" along \"{}\"", q.path.escape_ascii()),
+        call if call.has_path() => format!(" along \"{}\", {}", q.path.escape_ascii(), Choice::of(q.matching).name()),
         Call::Probe | Call::Open | Call::Label => String::new(),
         _ => format!(" of block {}", q.icb.block),
     };
