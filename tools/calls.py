@@ -17,7 +17,7 @@ sys.dont_write_bytecode = True
 from kit import ROOT, STRICT, Failed, did, linked, ran, unproved
 
 FACE, SHOW = "vault_c/src/lib.rt", ROOT / "crates/first_cue/stdin"
-OUT, WORK, IMAGE, PATH = r"out: &mut \[u8\]", r"work: &mut \[u8\]", r"image: &\[u8\]", r"path: &\[u8\]"
+OUT, WORK, IMAGE, PATH, MATCHING = r"out: &mut \[u8\]", r"work: &mut \[u8\]", r"image: &\[u8\]", r"path: &\[u8\]", "matching: u32"
 
 
 def turned(call, one, other):
@@ -31,6 +31,7 @@ FAULTS = (
     turned("vault_list", OUT, WORK),
     turned("vault_read_path", OUT, WORK),
     turned("vault_read_path", PATH, OUT),
+    turned("vault_read_path", MATCHING, OUT),
     turned("vault_read_path", IMAGE, PATH),
     turned("vault_lookup", PATH, WORK),
     turned("vault_failed", WORK, "component_at: &mut usize"),

@@ -5,6 +5,7 @@
 #include "show.h"
 
 static const char cue[] = "cue 10.1A\nfront wash 80, blue backs 40, follow 6 seconds\n";
+static const char other[] = "cue 10.1a\nfront wash 20, the look before the interval\n";
 
 static void lend(void) {
     memset(out, FREE, OUT);
@@ -57,22 +58,44 @@ static void label(void) {
     EXPECT(is_reply(vault_label(image, IMAGE, out, 5), VAULT_NO_ROOM, 6, 0) && holds("", 0));
 }
 
-static vault_long_ad found(vault_volume v, const char *path, uint64_t count, uint32_t block) {
+static vault_long_ad found(vault_volume v, const char *path, uint32_t matching, uint64_t count, uint32_t block) {
     lend();
-    vault_found r = vault_lookup(v, image, IMAGE, (const uint8_t *)path, strlen(path), work, WORK);
+    vault_found r = vault_lookup(v, image, IMAGE, (const uint8_t *)path, strlen(path), matching, work, WORK);
     EXPECT(r.answer == VAULT_DONE && r.count == count && is_icb(r.icb, block));
     EXPECT(is_all(work, WORK, 0) && holds("", 0));
     return r.icb;
 }
 
+static void refused(vault_volume v, const char *path, uint32_t matching, uint64_t answer, uint64_t count) {
+    lend();
+    vault_found r = vault_lookup(v, image, IMAGE, (const uint8_t *)path, strlen(path), matching, work, WORK);
+    EXPECT(r.answer == answer && r.count == count && r.icb.length == 0 && r.icb.location.block == 0);
+    EXPECT(is_all(work, WORK, 0) && holds("", 0));
+}
+
+/* Two cues differ in case alone. A number beyond the choices is the last of them. */
+static void matched(vault_volume v) {
+    found(v, "SHOW/10.1a", VAULT_CASE_IGNORED, 2, 7);
+    found(v, "SHOW/10.1a", VAULT_AS_WRITTEN, 2, 9);
+    refused(v, "show/10.1a", VAULT_AS_WRITTEN, VAULT_NOT_BLURAY, 1);
+    found(v, "show/11", VAULT_UNAMBIGUOUS, 2, 11);
+    refused(v, "SHOW/10.1a", VAULT_UNAMBIGUOUS, VAULT_AMBIGUOUS, 2);
+    refused(v, "SHOW/10.1a", UINT32_MAX, VAULT_AMBIGUOUS, 2);
+}
+
 static void failed(vault_volume v) {
     size_t at = 99;
     lend();
-    EXPECT(is_reply(vault_failed(v, image, IMAGE, (const uint8_t *)"SHOW/12.5", 9, work, WORK, &at), VAULT_NOT_BLURAY, 2, 4));
+    const uint8_t *path = (const uint8_t *)"SHOW/12.5";
+    EXPECT(is_reply(vault_failed(v, image, IMAGE, path, 9, VAULT_CASE_IGNORED, work, WORK, &at), VAULT_NOT_BLURAY, 2, 4));
     EXPECT(at == 5 && is_all(work, WORK, 0));
     lend();
-    EXPECT(is_reply(vault_failed(v, image, IMAGE, (const uint8_t *)"SHOW/11", 7, work, 8, &at), VAULT_NO_WORK, 1, 0));
+    path = (const uint8_t *)"SHOW/11";
+    EXPECT(is_reply(vault_failed(v, image, IMAGE, path, 7, VAULT_CASE_IGNORED, work, 8, &at), VAULT_NO_WORK, 1, 0));
     EXPECT(at == 0 && is_all(work, 8, 0) && is_all(work + 8, WORK - 8, FREE));
+    path = (const uint8_t *)"SHOW/10.1a/11";
+    EXPECT(is_reply(vault_failed(v, image, IMAGE, path, 13, VAULT_AS_WRITTEN, work, WORK, &at), VAULT_NOT_BLURAY, 2, 2) && at == 11);
+    EXPECT(is_reply(vault_failed(v, image, IMAGE, path, 13, VAULT_UNAMBIGUOUS, work, WORK, &at), VAULT_AMBIGUOUS, 2, 0) && at == 0);
 }
 
 /* A record of each cue: 44 45 0, the ICB, the name's length, the name. */
@@ -92,12 +115,19 @@ static void list(vault_volume v, vault_long_ad directory) {
 }
 
 static void read_cue(vault_volume v, vault_long_ad icb) {
-    size_t n = sizeof cue - 1;
+    size_t n = sizeof cue - 1, m = sizeof other - 1;
+    const uint8_t *path = (const uint8_t *)"/SHOW/10.1a";
     lend();
     EXPECT(is_reply(vault_read(v, image, IMAGE, icb, out, OUT), VAULT_DONE, 2, n) && holds(cue, n));
     lend();
-    EXPECT(is_reply(vault_read_path(v, image, IMAGE, (const uint8_t *)"/show/10.1a", 11, out, OUT, work, WORK), VAULT_DONE, 4, n));
+    EXPECT(is_reply(vault_read_path(v, image, IMAGE, path, 11, VAULT_CASE_IGNORED, out, OUT, work, WORK), VAULT_DONE, 4, n));
     EXPECT(holds(cue, n) && is_all(work, WORK, 0));
+    lend();
+    EXPECT(is_reply(vault_read_path(v, image, IMAGE, path, 11, VAULT_AS_WRITTEN, out, OUT, work, WORK), VAULT_DONE, 4, m));
+    EXPECT(holds(other, m) && is_all(work, WORK, 0));
+    lend();
+    EXPECT(is_reply(vault_read_path(v, image, IMAGE, path, 11, VAULT_UNAMBIGUOUS, out, OUT, work, WORK), VAULT_AMBIGUOUS, 2, 0));
+    EXPECT(holds("", 0) && is_all(work, WORK, 0));
 }
 
 /* A directory of this show is embedded in its entry; a cue is not. */
@@ -121,7 +151,8 @@ int main(void) {
     probe();
     vault_volume v = opened();
     label();
-    vault_long_ad directory = found(v, "SHOW", 1, 4), icb = found(v, "SHOW/10.1A", 2, 7);
+    vault_long_ad directory = found(v, "SHOW", VAULT_CASE_IGNORED, 1, 4), icb = found(v, "SHOW/10.1A", VAULT_CASE_IGNORED, 2, 7);
+    matched(v);
     failed(v);
     list(v, directory);
     read_cue(v, icb);

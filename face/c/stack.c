@@ -16,6 +16,7 @@ static vault_volume volume;
 static vault_long_ad icb;
 static const char *path;
 static size_t length, room, at;
+static uint32_t matching;
 
 /* What is called. A reply in memory is asked for by a first argument that is also the result. */
 static void (*volatile callee)(void);
@@ -30,13 +31,13 @@ __attribute__((naked)) static void tell(void) { __asm__("movq %%rsp, %0\n\tmovq 
 CALL(vault_probe, DISC)
 CALL(vault_open, DISC)
 CALL(vault_label, DISC, out, room)
-CALL(vault_lookup, volume, DISC, PATH, work, WORK)
-CALL(vault_failed, volume, DISC, PATH, work, WORK, &at)
+CALL(vault_lookup, volume, DISC, PATH, matching, work, WORK)
+CALL(vault_failed, volume, DISC, PATH, matching, work, WORK, &at)
 CALL(vault_list, volume, DISC, icb, out, room, work, WORK)
 CALL(vault_read, volume, DISC, icb, out, room)
 CALL(vault_part, volume, DISC, icb, &at)
 CALL(vault_extents, volume, DISC, icb, row, SLOTS)
-CALL(vault_read_path, volume, DISC, PATH, out, room, work, WORK)
+CALL(vault_read_path, volume, DISC, PATH, matching, out, room, work, WORK)
 
 static const struct {
     const char *name;
@@ -71,11 +72,12 @@ static size_t most(size_t n) {
     static const char *const paths[] = {"", "SHOW", "SHOW/10.1A", "show/11", "SHOW/12.5", "SHOW/9/9"};
     static const uint32_t blocks[] = {3, 4, 5, 7};
     size_t top = 0;
-    for (size_t i = 0; i < 6 * 4 * 2 * 2; i++) {
+    for (size_t i = 0; i < 6 * 4 * 2 * 2 * 3; i++) {
         path = paths[i % 6];
         icb.location.block = blocks[i / 6 % 4];
         length = i / 24 % 2 ? IMAGE : START * SECTOR;
-        room = i / 48 ? OUT : 0;
+        room = i / 48 % 2 ? OUT : 0;
+        matching = (uint32_t)(i / 96);
         size_t now = taken(n);
         if (now > top) top = now;
     }
