@@ -197,7 +197,7 @@ fn remarks(said: &Said, out: &str, lines: &[&str]) {
 }
 
 const CASE: &str = "(--as-written takes the very name alone)";
-const BOTH: &str = "(--as-written takes the very name, --unambiguous refuses)";
+const BOTH: &str = "(--as-written takes the very name alone, --unambiguous refuses)";
 
 #[test]
 fn the_wrong_look_is_not_given_without_a_word() {

@@ -46,25 +46,25 @@ impl<'p> Step<'p> {
             return (!self.is_written(given)).then(|| says + " (--as-written takes the very name alone)");
         }
         // Of entries that all have the very name no choice gives another than the first.
-        let cure = if matches.iter().all(|entry| self.is_written(entry)) { "" } else { "--as-written takes the very name, " };
+        let cure = if matches.iter().all(|entry| self.is_written(entry)) { "" } else { "--as-written takes the very name alone, " };
         let (count, given, others) = (matches.len(), placed(given), listed(others));
         Some(format!("{} gives {given}, the first of {count} that match, and not {others} ({cure}--unambiguous refuses)", self.asked()))
     }
 
     /// Which entries match, where that is more than one.
     pub fn ambiguity(&self) -> Option<String> {
-        let all: Vec<&DirEntry> = self.alike.iter().collect();
+        let all = self.matches(Matching::Unambiguous);
         (all.len() > 1).then(|| format!("{} is ambiguous, {} entries match: {}", self.asked(), all.len(), listed(&all)))
     }
 
     /// What there is in another case.
     pub fn in_another_case(&self) -> Option<String> {
-        let all: Vec<&DirEntry> = self.alike.iter().collect();
+        let all = self.matches(Matching::CaseIgnored);
         (!all.is_empty()).then(|| format!("in another case there is {}", listed(&all)))
     }
 
     /// The name with its place on the path.
-    pub fn asked(&self) -> String {
+    fn asked(&self) -> String {
         format!("\"{}\" under {}", shown(self.name), quoted(self.above))
     }
 }
@@ -154,7 +154,7 @@ mod tests {
 
     #[test]
     fn other_entries_that_match_are_remarked() {
-        let cure = "(--as-written takes the very name, --unambiguous refuses)";
+        let cure = "(--as-written takes the very name alone, --unambiguous refuses)";
         for (name, entries) in [("a", ["A", "a"]), ("A", ["A", "a"])] {
             let says =
                 format!("\"{name}\" under \"SHOW\" gives \"A\" in block 1, the first of 2 that match, and not \"a\" in block 2 {cure}");
