@@ -79,7 +79,7 @@ pub enum Refusal {
     NoSlot,
     /// 9: two or more entries of a directory match a component of the path. Given under [`Matching::Unambiguous`](crate::Matching) alone.
     Ambiguous,
-    /// A number that this crate's table doesn't have: the archive is of another version.
+    /// A number that this crate's table doesn't have.
     Unknown(u64),
 }
 

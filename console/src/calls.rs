@@ -8,6 +8,9 @@
 //! pointer, and asks nothing of the values: a volume or an ICB may be any. The proofs take the image as standing still, which a `&[u8]`
 //! says of itself; lib.rs has what a map of a file has to see to.
 //!
+//! The calls take what they are declared to take if the archive is of the version that is declared. The three that need no volume see to that
+//! first, and every volume comes from one of them.
+//!
 //! What is lent for writing isn't initialised: it is handed over as a pointer, and only what the call says it wrote is looked at. (Of an
 //! image that changes meanwhile a call may say that it wrote bytes which it found gone when it came to copy them.)
 #![allow(unsafe_code)]
@@ -51,18 +54,28 @@ fn named(whole: &[u8], at: usize, length: u64) -> &[u8] {
     whole.get(at..).and_then(|rest| rest.get(..length as usize)).unwrap_or_default()
 }
 
+/// Stops where an archive of another version was linked: its calls may take something else than they are given.
+fn see_version() {
+    // SAFETY: nothing is lent.
+    let version = unsafe { vault_version() };
+    assert_eq!(version, VERSION, "the archive that was linked is of another version than this crate");
+}
+
 pub fn probe(image: &[u8]) -> bool {
+    see_version();
     // SAFETY: the head of this module; nothing is lent for writing.
     unsafe { vault_probe(image.as_ptr(), image.len()) }
 }
 
 pub fn open(image: &[u8]) -> Result<Volume> {
+    see_version();
     // SAFETY: the head of this module; nothing is lent for writing.
     let opened = unsafe { vault_open(image.as_ptr(), image.len()) };
     answered(opened.answer, opened.count, opened.volume)
 }
 
 pub fn label(image: &[u8], out: &mut Vec<u8>) -> Result<()> {
+    see_version();
     // SAFETY: the head of this module; `room` bytes from `to` on are `out`'s own.
     filled(out, |to, room| unsafe { vault_label(image.as_ptr(), image.len(), to, room) })
 }

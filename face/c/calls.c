@@ -148,6 +148,7 @@ static void extents(vault_volume v, vault_long_ad icb) {
 
 int main(void) {
     unpack();
+    EXPECT(vault_version() == VAULT_VERSION);
     probe();
     vault_volume v = opened();
     label();

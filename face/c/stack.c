@@ -28,6 +28,7 @@ __attribute__((naked)) static void tell(void) { __asm__("movq %%rsp, %0\n\tmovq 
     static void name##_made(void) { ((__typeof__(name) *)callee)(__VA_ARGS__); }
 #define ROW(name) {#name, (void (*)(void))name, name##_made}
 
+CALL(vault_version, )
 CALL(vault_probe, DISC)
 CALL(vault_open, DISC)
 CALL(vault_label, DISC, out, room)
@@ -42,8 +43,8 @@ CALL(vault_read_path, volume, DISC, PATH, matching, out, room, work, WORK)
 static const struct {
     const char *name;
     void (*call)(void), (*made)(void);
-} calls[] = {ROW(vault_probe), ROW(vault_open), ROW(vault_label),   ROW(vault_lookup),  ROW(vault_failed),
-             ROW(vault_list),  ROW(vault_read), ROW(vault_part), ROW(vault_extents), ROW(vault_read_path)};
+} calls[] = {ROW(vault_version), ROW(vault_probe), ROW(vault_open), ROW(vault_label), ROW(vault_lookup),   ROW(vault_failed),
+             ROW(vault_list),    ROW(vault_read),  ROW(vault_part), ROW(vault_extents), ROW(vault_read_path)};
 
 /* Makes a call on the painted stack. */
 static void make(void (*call)(void), void (*made)(void)) {
