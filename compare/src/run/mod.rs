@@ -25,6 +25,7 @@ mod shapes_directories;
 mod shapes_files;
 mod shapes_matching;
 mod shapes_opening;
+mod stored;
 mod tally;
 #[cfg(udfread)]
 mod udfread;
@@ -42,7 +43,8 @@ use ways::Way;
 
 const USAGE: &str = "usage: compare [--seconds N] [--seed S] [--first] [--port | --port=PROGRAM]
        compare --bench [--port | --port=PROGRAM]
-       compare --list FOLDER";
+       compare --list FOLDER
+       compare --stored FOLDER";
 
 fn usage() -> ! {
     eprintln!("{USAGE}");
@@ -60,6 +62,7 @@ struct Options {
     program: Option<String>,
     bench: bool,
     list: Option<String>,
+    stored: Option<String>,
     child: bool,
 }
 
@@ -76,6 +79,7 @@ fn options() -> Options {
             "--port" => o.port = true,
             "--bench" => o.bench = true,
             "--list" => o.list = Some(next()),
+            "--stored" => o.stored = Some(next()),
             "--original-child" => o.child = true,
             _ => o.program = Some(word.strip_prefix("--port=").unwrap_or_else(|| usage()).to_string()),
         }
@@ -90,6 +94,17 @@ pub fn main() {
     }
     if let Some(folder) = o.list {
         return list::write(Path::new(&folder)).expect("the list is written");
+    }
+    if let Some(folder) = o.stored {
+        return match stored::held(Path::new(&folder)).expect("the files are there, and whole") {
+            Ok(queries) => {
+                println!("compare: {queries} queries stored in {folder}, each answered as by the walk over the original's listings")
+            }
+            Err(what) => {
+                eprintln!("compare: {folder}: {what}");
+                exit(1);
+            }
+        };
     }
     let way = match &o.program {
         Some(program) => Way::Program(program),
