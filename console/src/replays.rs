@@ -1,5 +1,6 @@
 //! The raw calls on stored images, with memory of exactly the size that each query lends: refusals 5, 6 and 7 are among the answers. What
-//! is expected are the original's answers, stored with the programs `replay` and `file_cases`, whose sources say the form of the files.
+//! is expected are the original's answers, stored with the programs `replay` and `file_cases`, whose sources say the form of the files; and
+//! what a model says of the choices of matching, stored with `matching_cases`.
 //!
 //! What a call leaves in memory that it doesn't answer with is seen by those programs and by `compare`, and not here.
 
@@ -38,9 +39,13 @@ fn sum_lent(out: &[u8], room: usize) -> u64 {
     sum(out.iter().copied().chain(std::iter::repeat_n(0xa5, room - out.len())))
 }
 
-fn sum_icb(icb: LongAd) -> u64 {
+fn recorded(icb: LongAd) -> Vec<u8> {
     let (place, raw) = (icb.location, icb.length | u32::from(icb.extent_type) << 30);
-    sum([&raw.to_le_bytes()[..], &place.block.to_le_bytes(), &place.partition_ref.to_le_bytes(), &icb.implementation_use].concat())
+    [&raw.to_le_bytes()[..], &place.block.to_le_bytes(), &place.partition_ref.to_le_bytes(), &icb.implementation_use].concat()
+}
+
+fn sum_icb(icb: LongAd) -> u64 {
+    sum(recorded(icb))
 }
 
 fn sum_mount(mount: Mount) -> u64 {
@@ -173,4 +178,63 @@ fn the_files_of_the_gate() {
         }
     }
     assert_eq!((expected.next(), asked), (None, 387));
+}
+
+/// Printable bytes as they are, and every other as \ and two digits.
+fn shown(bytes: &[u8]) -> String {
+    let byte = |b: &u8| if (0x20..0x7f).contains(b) && *b != b'\\' { (*b as char).to_string() } else { format!("\\{b:02x}") };
+    bytes.iter().map(byte).collect()
+}
+
+/// The four lines of a query of `matching_cases`, without whether the work space came back all zero.
+fn matching_case(v: Volume, image: &[u8], path: &[u8], matching: Matching, lent: usize, space: usize) -> [String; 4] {
+    let head = |call: &str, number: u64, count: u64| format!("{call} {number} count {count}");
+    let (mut out, mut work) = (room(lent), room(space));
+    let lookup = match calls::lookup(v, image, path, matching, &mut work) {
+        Ok(a) => head("lookup", 0, a.sectors) + " icb " + &shown(&recorded(a.value)),
+        Err(r) => head("lookup", r.number(), r.sectors) + " icb " + &shown(&[0; 16]),
+    };
+    // The component stands in an answer here, where the list has the lookup's 3.
+    let (number, count, lost) = match calls::failed(v, image, path, matching, &mut work) {
+        Ok(Answer { value: Some(component), sectors }) => (3, sectors, component),
+        Ok(Answer { value: None, sectors }) => (0, sectors, &path[..0]),
+        Err(r) => (r.number(), r.sectors, &path[..0]),
+    };
+    let failed = head("failed", number, count) + " component " + &shown(lost);
+    let failed_at =
+        head("failed_at", number, count) + &format!(" length {} at {}", lost.len(), lost.as_ptr().addr() - path.as_ptr().addr());
+    let read = match calls::read_path(v, image, path, matching, &mut out, &mut work) {
+        Ok(a) => head("read_path", 0, a.sectors) + &format!(" length {}", out.len()),
+        Err(r) => head("read_path", r.number(), r.sectors) + " length 0",
+    } + &format!(" sum {}", sum_lent(&out, lent));
+    [lookup, failed, failed_at, read]
+}
+
+#[test]
+fn the_choices_of_the_gate() {
+    let mut all = Input(include_bytes!("../../crates/matching_cases/data/images"));
+    let mut expected = include_str!("../../crates/matching_cases/stdout").lines();
+    let mut asked = 0;
+    while !all.0.is_empty() {
+        assert_eq!(expected.next().unwrap().as_bytes(), [b"image ", all.sized(2)].concat());
+        let image = all.image();
+        let opened = calls::open(&image).unwrap();
+        assert_eq!(expected.next().unwrap(), format!("open 0 count {}", opened.sectors));
+        let mut queries = Input(all.sized(4));
+        while !queries.0.is_empty() {
+            let matching = match queries.number(4) {
+                0 => Matching::CaseIgnored,
+                1 => Matching::AsWritten,
+                _ => Matching::Unambiguous,
+            };
+            let (lent, space) = (queries.number(4), queries.number(4));
+            let what = expected.next().unwrap();
+            let path = queries.sized(2);
+            for given in matching_case(opened.value, &image, path, matching, lent, space) {
+                assert_eq!(given + " zero", expected.next().unwrap(), "{what}");
+            }
+            asked += 1;
+        }
+    }
+    assert_eq!((expected.next(), asked), (None, 804));
 }
