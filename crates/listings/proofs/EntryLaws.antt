@@ -1,10 +1,11 @@
 -- One entry read, written and compared, in the form that the functions on it ask for. Assumes nothing.
 use mathlib.Core.Path.{_≡_, refl, sym, ap, _∙_}
-use mathlib.Core.Bool.{Bool, true, false, _||_}
+use mathlib.Core.Bool.{Bool, true, false, _||_, not}
 use mathlib.Core.List.{List, [], _∷_, _++_, append-nil, append-assoc}
 use Prim.Native.Nat.{ℕ, _+_, _-_, _*_, _/_, _%_, _<_, _≤_, zero-le}
 use native.Mathlib.Nat.{add-sub-cancel-left}
 use native.Mathlib.Omega.{arith}
+use lib.Dec.{eqb}
 use lib.ListN.{length, take, drop, length-append, length-drop, drop-of-length-le}
 use lib.Seq.{take-all, drop-drop, drop-at, length-take-le, sets, length-sets, sets-eq}
 use borrow.Author.Tests.{eq-eqb, ne-eqb, eqb-true, eqb-false}
@@ -34,7 +35,7 @@ use Rattle.identifiers.specs.inner.Wholes.{Whole}
 use Rattle.identifiers.proofs.IdentifierLaws.{identifier-read, read-identifier}
 use Rattle.listings.specs.Entries.{Entry, entryOf, entryIn, entryRead, isSkipped, nameIn}
 use Rattle.listings.specs.Listings.{recordHead, shown, foldFor, foldIn, answersTo, unnamed}
-use Rattle.listings.specs.inner.Passes.{Recorded, Puts, icbIn, headIn, recordIn, wantsOnly, joinedOf, againOf, notedOf}
+use Rattle.listings.specs.inner.Passes.{Recorded, Puts, icbIn, headIn, recordIn, wantsOnly, settled, joinedOf, notedOf}
 use Rattle.listings.specs.declared.finds.Named.{Named}
 use Rattle.listings.specs.declared.matchings.Matching.{Matching}
 use Rattle.listings.specs.declared.matchings.Matching.the-variants.{CaseIgnored, AsWritten, Unambiguous}
@@ -282,46 +283,46 @@ pick-no : {A : Type 0} (b : Bool) (x y : A) → b ≡ false → y ≡ pick b x y
 pick-no true x y h = not-both (sym h)
 pick-no false x y h = refl
 
-module _ (m : Matching) (found : Named) (s component : List ℕ) {f : FileIdentifierDescriptor} where
-  -- where one is found
-  module _ {t : Bool} (u : t ≡ wantsOnly m) where
-    pub again-kept : t ≡ false → Whole s f → found ≡ againOf m found component (entryOf s f)
-    unfolding againOf
-    again-kept h w = rw (← u, h)
+module _ (m : Matching) (found : Named) where
+  pub settled-not : found .found ≡ false → false ≡ settled m found
+  settled-not h = pick-no (found .found) _ _ h
 
-    module _ (n : t ≡ true) {g : Fold} (k : g ≡ foldFor m) {b : Bool} (e : Whole s f → b ≡ answersTo (foldOf g) component (entryOf s f)) where
-      pub again-none : b ≡ false → Whole s f → found ≡ againOf m found component (entryOf s f)
-      unfolding againOf
-      again-none h w = rw (← u, n, ← k, ← e w, h)
+  pub settled-found : found .found ≡ true → {t : Bool} → t ≡ wantsOnly m → not t ≡ settled m found
+  settled-found h e = ap not e ∙ pick-yes (found .found) _ _ h
 
-      pub again-other : b ≡ true → {n : ℕ} → n ≡ number Ambiguous → {a : Named} → a ≡ unnamed n → Whole s f → a ≡ againOf m found component (entryOf s f)
-      unfolding againOf
-      again-other h q p w = rw (← u, n, ← k, ← e w, h) (p ∙ rw q)
-
-  pub noted-again : found .found ≡ true → {a : Named} → (Whole s f → a ≡ againOf m found component (entryOf s f)) → Whole s f → a ≡ notedOf m found component (entryOf s f)
-  unfolding notedOf
-  noted-again h q w = q w ∙ pick-yes (found .found) _ _ h
-
-  -- where none is
-  module _ (n : found .found ≡ false) {g : Fold} (k : g ≡ foldFor m) {b : Bool} (e : Whole s f → b ≡ answersTo (foldOf g) component (entryOf s f)) where
-    pub noted-none : b ≡ false → Whole s f → found ≡ notedOf m found component (entryOf s f)
+  module _ (s component : List ℕ) {f : FileIdentifierDescriptor} {t : Bool} (u : t ≡ settled m found) where
+    pub noted-settled : t ≡ true → Whole s f → found ≡ notedOf m found component (entryOf s f)
     unfolding notedOf
-    noted-none h w =
-        let z : found ≡ pick (answersTo (foldIn m) component (entryOf s f)) (joinedOf found f) found = rw (← k, ← e w, h) refl in
-        z ∙ pick-no (found .found) _ _ n
+    noted-settled h w = pick-yes (settled m found) _ _ (sym u ∙ h)
 
-    pub noted-this : b ≡ true → {a : Named} → a ≡ joinedOf found f → Whole s f → a ≡ notedOf m found component (entryOf s f)
-    unfolding notedOf
-    noted-this h {a} q w =
-        let z : a ≡ pick (answersTo (foldIn m) component (entryOf s f)) (joinedOf found f) found = rw (← k, ← e w, h) q in
-        z ∙ pick-no (found .found) _ _ n
+    module _ (n : t ≡ false) {g : Fold} (k : g ≡ foldFor m) {b : Bool} (e : Whole s f → b ≡ answersTo (foldOf g) component (entryOf s f)) where
+      answers : Whole s f → b ≡ answersTo (foldIn m) component (entryOf s f)
+      answers w = e w ∙ ap (λ (x : Fold). answersTo (foldOf x) component (entryOf s f)) k
+
+      pub noted-none : b ≡ false → Whole s f → found ≡ notedOf m found component (entryOf s f)
+      unfolding notedOf
+      noted-none h w = pick-no (answersTo (foldIn m) component (entryOf s f)) _ _ (sym (answers w) ∙ h) ∙ pick-no (settled m found) _ _ (sym u ∙ n)
+
+      pub noted-this : b ≡ true → {a : Named} → a ≡ joinedOf found f → Whole s f → a ≡ notedOf m found component (entryOf s f)
+      unfolding notedOf
+      noted-this h q w = q ∙ pick-yes (answersTo (foldIn m) component (entryOf s f)) _ _ (sym (answers w) ∙ h) ∙ pick-no (settled m found) _ _ (sym u ∙ n)
 
 module _ (found : Named) (f : FileIdentifierDescriptor) where
-  pub joined-kept : (found .answer ≡ 0 → ⊥) → found ≡ joinedOf found f
-  joined-kept h = rw (ne-eqb (found .answer) 0 h)
+  pub joined-again : found .found ≡ true → {n : ℕ} → n ≡ number Ambiguous → {a : Named} → a ≡ unnamed n → a ≡ joinedOf found f
+  unfolding joinedOf
+  joined-again h e q = q ∙ ap unnamed e ∙ pick-yes (found .found) _ _ h
 
-  pub joined-first : found .answer ≡ 0 → {q : Bool} → q ≡ isDirectory f → record { answer = 0; found = true; icb = f .icb; directory = q } ≡ joinedOf found f
-  joined-first h e = rw (eq-eqb (found .answer) 0 h, e)
+  module _ (n : found .found ≡ false) where
+    pub joined-kept : (found .answer ≡ 0 → ⊥) → found ≡ joinedOf found f
+    unfolding joinedOf
+    joined-kept h = pick-no (eqb (found .answer) 0) _ _ (ne-eqb (found .answer) 0 h) ∙ pick-no (found .found) _ _ n
+
+    pub joined-first : found .answer ≡ 0 → {q : Bool} → q ≡ isDirectory f → record { answer = 0; found = true; icb = f .icb; directory = q } ≡ joinedOf found f
+    unfolding joinedOf
+    joined-first h {q} e =
+        ap (λ (d : Bool). record { answer = 0; found = true; icb = f .icb; directory = d }) e
+        ∙ pick-yes (eqb (found .answer) 0) _ _ (eq-eqb (found .answer) 0 h)
+        ∙ pick-no (found .found) _ _ n
 
 -- ---- whether a choice wants the only one
 

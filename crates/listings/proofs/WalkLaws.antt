@@ -19,7 +19,7 @@ use Rattle.disc.specs.Ask.{Outcome, andThen}
 use Rattle.disc.specs.Ask.Outcome.{answered, refused}
 use Rattle.disc.specs.Replies.{Replied}
 use Rattle.disc.specs.declared.refusals.Refusal.{Refusal}
-use Rattle.disc.specs.declared.refusals.Refusal.the-variants.{NoRoom, Ambiguous}
+use Rattle.disc.specs.declared.refusals.Refusal.the-variants.{NoRoom}
 use Rattle.disc.specs.declared.replies.Reply.{Reply}
 use Rattle.disc.proofs.MoveLaws.{over-fits, sets-append, sets-whole}
 use Rattle.disc.proofs.RefusalLaws.{refusal-numbered}
@@ -30,7 +30,7 @@ use Rattle.identifiers.specs.Identifiers.{readIdentifier, identifierRead, nameA
 use Rattle.identifiers.specs.inner.Wholes.{Whole}
 use Rattle.listings.specs.Entries.{Entry, entryOf, entryRead, isSkipped, inFront, entriesFrom, entries}
 use Rattle.listings.specs.Listings.{shown, records, listing, foldIn, answersTo, allNamed, chosen, findIn, unnamed, namedOf}
-use Rattle.listings.specs.inner.Passes.{tail, GoodAt, Comes, Puts, sizeOfListing, wantsOnly, joinedOf, againOf, notedOf}
+use Rattle.listings.specs.inner.Passes.{tail, GoodAt, Comes, Puts, sizeOfListing, settled, joinedOf, notedOf}
 use Rattle.listings.specs.declared.directory_entries.Put.{Put}
 use Rattle.listings.specs.declared.finds.Named.{Named}
 use Rattle.listings.specs.declared.listing.ListingSize.{ListingSize}
@@ -284,12 +284,11 @@ module _ {raw d₀ d : List ℕ} {n at : ℕ} (m : Filling raw d₀ d n at) wher
 -- one more entry, by a choice of matching: what is done with those that matched is what was found
 noted-chosen : (m : Matching) (component : List ℕ) (e : Entry) (xs : List Entry)
     → notedOf m (namedOf (chosen m xs)) component e ≡ namedOf (chosen m (xs ++ pick (answersTo (foldIn m) component e) (e ∷ []) []))
-unfolding notedOf againOf chosen
+unfolding notedOf joinedOf chosen
 noted-chosen m component e xs = by m (answersTo (foldIn m) component e) xs
   where
     by : (m : Matching) (t : Bool) (xs : List Entry)
-        → pick (namedOf (chosen m xs) .found) (pick (wantsOnly m) (pick t (unnamed (number Ambiguous)) (namedOf (chosen m xs))) (namedOf (chosen m xs)))
-        (pick t (joinedOf (namedOf (chosen m xs)) (e .identifier)) (namedOf (chosen m xs)))
+        → pick (settled m (namedOf (chosen m xs))) (namedOf (chosen m xs)) (pick t (joinedOf (namedOf (chosen m xs)) (e .identifier)) (namedOf (chosen m xs)))
         ≡ namedOf (chosen m (xs ++ pick t (e ∷ []) []))
     by CaseIgnored true [] = refl
     by CaseIgnored false [] = refl

@@ -5,7 +5,7 @@ ghost use lib.ListN.{length};
 ghost use Rattle.identifiers.specs.inner.Wholes.{Whole};
 ghost use Rattle.listings.specs.Entries.{entryOf};
 ghost use Rattle.listings.specs.Listings.{findIn, namedOf, unnamed};
-ghost use Rattle.listings.specs.inner.Passes.{joinedOf, againOf, notedOf};
+ghost use Rattle.listings.specs.inner.Passes.{settled, joinedOf, notedOf};
 use crate::directory_entries::answers_to;
 use crate::directory_entries::entry_at;
 use crate::matchings::Matching;
@@ -37,10 +37,23 @@ pub fn no_entry(answer: u64) -> Named
     }
 }
 
-// The entry f, where none matched before it: a component that was ambiguous stays so.
+// Whether no further entry can change what was found. In most turns none was, and the choice isn't looked at.
+fn is_settled(matching: Matching, found: Named) -> bool
+    ensures { λ r. ⌜ r ≡ settled matching found ⌝ }
+{
+    if !found.found {
+        return false;
+    }
+    !wants_only(matching)
+}
+
+// What is found with one more entry that matches. What was ambiguous stays so.
 fn joined(found: Named, f: FileIdentifierDescriptor) -> Named
     ensures { λ r. ⌜ r ≡ joinedOf found f ⌝ }
 {
+    if found.found {
+        return no_entry(Refusal::Ambiguous.number());
+    }
     if found.answer != DONE {
         return found;
     }
@@ -53,27 +66,7 @@ fn joined(found: Named, f: FileIdentifierDescriptor) -> Named
     }
 }
 
-// What is found where an entry matched before, and whether this one does isn't known yet: only the third choice asks.
-fn again(
-    matching: Matching,
-    found: Named,
-    s: &[u8],
-    f: FileIdentifierDescriptor,
-    component: &[u8],
-) -> Named
-    requires { ⌜ f .«name_at» + f .«name_length» ≤ length (now s) ⌝ }
-    ensures { λ r. ⌜ (Whole (now (s .entry)) f → r ≡ againOf matching found (now (component .entry)) (entryOf (now (s .entry)) f)) ⌝ }
-{
-    if !wants_only(matching) {
-        return found;
-    }
-    if answers_to(fold_for(matching), s, f, component) {
-        return no_entry(Refusal::Ambiguous.number());
-    }
-    found
-}
-
-// What is found with the entry f, read at the front of s. In most turns none matched before, and the choice isn't looked at.
+// What is found with the entry f, read at the front of s.
 fn noted(
     matching: Matching,
     found: Named,
@@ -84,8 +77,8 @@ fn noted(
     requires { ⌜ f .«name_at» + f .«name_length» ≤ length (now s) ⌝ }
     ensures { λ r. ⌜ (Whole (now (s .entry)) f → r ≡ notedOf matching found (now (component .entry)) (entryOf (now (s .entry)) f)) ⌝ }
 {
-    if found.found {
-        return again(matching, found, s, f, component);
+    if is_settled(matching, found) {
+        return found;
     }
     if answers_to(fold_for(matching), s, f, component) {
         return joined(found, f);

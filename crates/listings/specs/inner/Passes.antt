@@ -1,7 +1,7 @@
 -- What the passes over a directory's bytes say.
 use Prim.Native.Nat.{ℕ, _+_, _-_, _/_, _%_, _≤_}
 use mathlib.Core.Path.{_≡_}
-use mathlib.Core.Bool.{Bool, true, false}
+use mathlib.Core.Bool.{Bool, true, false, not}
 use mathlib.Core.List.{List, [], _∷_, _++_}
 use lib.ListN.{length, take, drop}
 use lib.Dec.{eqb}
@@ -88,14 +88,16 @@ wantsOnly CaseIgnored = false
 wantsOnly AsWritten = false
 wantsOnly Unambiguous = true
 
--- what is found with an entry that matches, where none is found: what was ambiguous stays so
-abbrev pub joinedOf : Named → FileIdentifierDescriptor → Named
-joinedOf found f = pick (eqb (found .answer) 0) (record { answer = 0; found = true; icb = f .icb; directory = isDirectory f }) found
+-- no further entry can change what was found
+abbrev pub settled : Matching → Named → Bool
+settled m found = pick (found .found) (not (wantsOnly m)) false
 
--- what is found with one more entry, where one is found
-unfoldable pub againOf : Matching → Named → List ℕ → Entry → Named
-againOf m found component e = pick (wantsOnly m) (pick (answersTo (foldIn m) component e) (unnamed (number Ambiguous)) found) found
+-- what is found with one more entry that matches: what was ambiguous stays so
+unfoldable pub joinedOf : Named → FileIdentifierDescriptor → Named
+joinedOf found f =
+    pick (found .found) (unnamed (number Ambiguous))
+    (pick (eqb (found .answer) 0) (record { answer = 0; found = true; icb = f .icb; directory = isDirectory f }) found)
 
 -- what is found with one more entry
 unfoldable pub notedOf : Matching → Named → List ℕ → Entry → Named
-notedOf m found component e = pick (found .found) (againOf m found component e) (pick (answersTo (foldIn m) component e) (joinedOf found (e .identifier)) found)
+notedOf m found component e = pick (settled m found) found (pick (answersTo (foldIn m) component e) (joinedOf found (e .identifier)) found)
