@@ -21,6 +21,7 @@ use Rattle.volumes.specs.Openings.{opening, openedBy, openedOf}
 use Rattle.volumes.specs.Labels.{labelOf, labelling}
 use Rattle.volumes.specs.declared.openings.VolumeRecord.{VolumeRecord}
 use Rattle.volumes.specs.declared.openings.Opened.{Opened}
+use Rattle.volumes.specs.declared.openings.How.{How}
 
 module _ (d : Disc) {o : Opened} {lent : List ℕ} {p : Reply} where
   no-volume : (r : Ran VolumeRecord) → o ≡ openedOf r → (o .answer ≡ 0 → ⊥) → p ≡ record { answer = o .answer; count = o .count; length = 0 }
@@ -48,13 +49,13 @@ module _ (d : Disc) {o : Opened} {lent : List ℕ} {p : Reply} where
           rw (ran-ended d (labelOf v), add-zero, ← a, c) (record { says = recount NoRoom (length lent) 0 (reported n) (labelOf (o .volume)) (q .says); leaves = q .leaves })
       by (refused w) n e h q = absurd (refusal-numbered w (sym (ap (λ (z : Opened). z .answer) e) ∙ h))
 
-module _ (image : List ℕ) {o : Opened} (e : o ≡ openedOf (ran (disc image) opening)) {lent : List ℕ} {p : Reply} where
+module _ (image : List ℕ) (how : How) {o : Opened} (e : o ≡ openedOf (ran (disc image) (opening how))) {lent : List ℕ} {p : Reply} where
   pub label-refused : (o .answer ≡ 0 → ⊥) → p ≡ record { answer = o .answer; count = o .count; length = 0 }
-      → Replied NoRoom (ran (disc image) labelling) lent lent p
+      → Replied NoRoom (ran (disc image) (labelling how)) lent lent p
   unfolding labelling
-  label-refused h q = rw (ran-then (disc image) opening (λ v. ended (labelOf v))) (no-volume (disc image) (ran (disc image) opening) e h q)
+  label-refused h q = rw (ran-then (disc image) (opening how) (λ v. ended (labelOf v))) (no-volume (disc image) (ran (disc image) (opening how)) e h q)
 
   pub label-written : {after : List ℕ} → o .answer ≡ 0 → Replied NoRoom (told (nameOfField (o .volume .label))) lent after p
-      → Replied NoRoom (ran (disc image) labelling) lent after (record { answer = p .answer; count = o .count; length = p .length })
+      → Replied NoRoom (ran (disc image) (labelling how)) lent after (record { answer = p .answer; count = o .count; length = p .length })
   unfolding labelling
-  label-written h q = rw (ran-then (disc image) opening (λ v. ended (labelOf v))) (a-volume (disc image) (ran (disc image) opening) e h q)
+  label-written h q = rw (ran-then (disc image) (opening how) (λ v. ended (labelOf v))) (a-volume (disc image) (ran (disc image) (opening how)) e h q)

@@ -4,4 +4,5 @@ pub mod SequenceLaws
 pub mod OpeningLaws
 pub mod LabelLaws
 pub mod NamedLaws
+pub mod Prevailing
 pub mod Promises

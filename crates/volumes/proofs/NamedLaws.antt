@@ -15,6 +15,7 @@ use Rattle.disc.specs.Places.{standing}
 use Rattle.disc.specs.declared.refusals.Refusal.{Refusal}
 use Rattle.disc.specs.declared.refusals.Refusal.the-variants.{Io, NotBluray, Unsupported}
 use Rattle.disc.proofs.OnlyLaws.{Only, only-then}
+use Rattle.disc.proofs.PickLaws.{pick-both}
 use Rattle.records.specs.Bytes.{u16at}
 use Rattle.names.specs.Names.{nameOf, nameOfField}
 use Rattle.descriptors.specs.Volumes.{readAnchor, readPartition, readPrimary, readLogical}
@@ -29,7 +30,8 @@ use Rattle.descriptors.specs.declared.partitions.PartitionRead.the-variants.{Re
 use Rattle.descriptors.proofs.AnswerLaws.{primary-good}
 use Rattle.volumes.specs.declared.sequences.Kept.{Kept}
 use Rattle.volumes.specs.declared.openings.VolumeRecord.{VolumeRecord}
-use Rattle.volumes.specs.Sequences.{nothing, Parsed, prevailing, keptOf, Says, primaryIn, partitionIn, logicalIn, saysIn, goOn, scan}
+use Rattle.volumes.specs.declared.openings.How.{How}
+use Rattle.volumes.specs.Sequences.{nothing, Parsed, Order, orderOf, counts, replacing, prevailing, keptOf, Says, primaryIn, partitionIn, logicalIn, saysIn, goOn, scan}
 use Rattle.volumes.specs.Sequences.Parsed.{primary, partition, logical}
 use Rattle.volumes.specs.Sequences.Says.{found, passed, over, fails}
 use Rattle.volumes.specs.Openings.{fileSetIn, volumeIn, mounting, anchored, opening}
@@ -74,15 +76,18 @@ unfoldable AllLabelled : List Parsed → Type 0
 AllLabelled [] = Unit {0}
 AllLabelled (p ∷ ps) = Labelled p × AllLabelled ps
 
-prevailing-named : (k : Kept) (p : Parsed) → Named (k .label) → Labelled p → Named (prevailing k p .label)
-prevailing-named k (primary d) h l = l
-prevailing-named k (partition d) h l = h
-prevailing-named k (logical d) h l = h
+replacing-named : (k : Kept) (p : Parsed) → Named (k .label) → Labelled p → Named (replacing k p .label)
+replacing-named k (primary d) h l = l
+replacing-named k (partition d) h l = h
+replacing-named k (logical d) h l = h
 
-kept-named : (k : Kept) (ps : List Parsed) → Named (k .label) → AllLabelled ps → Named (keptOf k ps .label)
+prevailing-named : (o : Order) (k : Kept) (p : Parsed) → Named (k .label) → Labelled p → Named (prevailing o k p .label)
+prevailing-named o k p h l = pick-both (λ (x : Kept). Named (x .label)) (counts o k p) (replacing-named k p h l) h
+
+kept-named : (o : Order) (k : Kept) (ps : List Parsed) → Named (k .label) → AllLabelled ps → Named (keptOf o k ps .label)
 unfolding keptOf AllLabelled
-kept-named k [] h l = h
-kept-named k (p ∷ ps) h l = kept-named (prevailing k p) ps (prevailing-named k p h (l .0)) (l .1)
+kept-named o k [] h l = h
+kept-named o k (p ∷ ps) h l = kept-named o (prevailing o k p) ps (prevailing-named o k p h (l .0)) (l .1)
 
 -- ---- the sequence
 
@@ -147,12 +152,12 @@ mounting-named k h = by (k .«has_primary») (k .«has_partition») (k .«has_lo
     by true false v w = tt
     by false u v w = tt
 
-pub opening-named : Answers Titled opening
+pub opening-named : (how : How) → Answers Titled (opening how)
 unfolding Only opening
-opening-named = λ b. by (readAnchor b)
+opening-named how = λ b. by (readAnchor b)
   where
-    by : (x : AnchorRead) → Answers Titled (anchored x)
+    by : (x : AnchorRead) → Answers Titled (anchored how x)
     by (NoAnchor r) = tt
     by (AnAnchor a) =
-        only-then (λ why. Unit {0}) AllLabelled Titled (scan _ _) (λ ps. mounting (keptOf nothing ps)) (scan-labelled _ _)
-        (λ ps l. mounting-named (keptOf nothing ps) (kept-named nothing ps nothing-named l))
+        only-then (λ why. Unit {0}) AllLabelled Titled (scan _ _) (λ ps. mounting (keptOf (orderOf how) nothing ps)) (scan-labelled _ _)
+        (λ ps l. mounting-named (keptOf (orderOf how) nothing ps) (kept-named (orderOf how) nothing ps nothing-named l))

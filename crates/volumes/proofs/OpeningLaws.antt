@@ -38,7 +38,7 @@ use Rattle.descriptors.specs.declared.anchors.AnchorRead.{AnchorRead}
 use Rattle.descriptors.specs.declared.anchors.AnchorRead.the-variants.{Read as AnAnchor, Refused as NoAnchor}
 use Rattle.descriptors.specs.declared.file_sets.FileSetDescriptor.{FileSetDescriptor}
 use Rattle.descriptors.specs.declared.file_sets.FileSetRead.{FileSetRead}
-use Rattle.volumes.specs.Sequences.{nothing, Parsed, keptOf, Says, saysIn, goOn, scan, scannedBy, scannedOf}
+use Rattle.volumes.specs.Sequences.{nothing, Parsed, orderOf, keptOf, Says, saysIn, goOn, scan, scannedBy, scannedOf}
 use Rattle.volumes.specs.Sequences.Says.{found, passed, over, fails}
 use Rattle.volumes.specs.Openings.{noVolume, mountIn, fileSetIn, volumeIn, mounting, anchored, opening, openedBy, openedOf}
 use Rattle.volumes.specs.inner.Steps.{mountable, fileSetAt}
@@ -46,6 +46,7 @@ use Rattle.volumes.specs.declared.sequences.Kept.{Kept}
 use Rattle.volumes.specs.declared.sequences.Scanned.{Scanned}
 use Rattle.volumes.specs.declared.openings.VolumeRecord.{VolumeRecord}
 use Rattle.volumes.specs.declared.openings.Opened.{Opened}
+use Rattle.volumes.specs.declared.openings.How.{How}
 
 -- the return of `no_volume`
 pub volume-none : {root : LongAd} → root ≡ noLong → record { mount = record { start = 0; partition = 0 }; root = root; label = replicate 32 0 } ≡ noVolume
@@ -188,15 +189,15 @@ scan-count d zero at = rw ran-done (omega arith)
 scan-count d (suc n) at = ask-count d at _ n (λ b e. scan-turn d n (saysIn b) (scan n (at + 1)) (scan-count d n (at + 1)))
 
 -- what the descriptors of a sequence lead to
-abbrev leads : List Parsed → Ask VolumeRecord
-leads ps = mounting (keptOf nothing ps)
+abbrev leads : How → List Parsed → Ask VolumeRecord
+leads how ps = mounting (keptOf (orderOf how) nothing ps)
 
 -- one call behind another
-then-count : (d : Disc) (m : Ask (List Parsed)) (n : ℕ) → ran d m .count ≤ n → ((k : Kept) → ran d (mounting k) .count ≤ 1) → ran d (then m leads) .count ≤ 1 + n
-then-count d m n h g = rw (ran-then d m leads) (by (ran d m .outcome) (ran d m .count) h)
+then-count : (d : Disc) (how : How) (m : Ask (List Parsed)) (n : ℕ) → ran d m .count ≤ n → ((k : Kept) → ran d (mounting k) .count ≤ 1) → ran d (then m (leads how)) .count ≤ 1 + n
+then-count d how m n h g = rw (ran-then d m (leads how)) (by (ran d m .outcome) (ran d m .count) h)
   where
-    by : (o : Outcome (List Parsed)) (c : ℕ) → c ≤ n → onward o c (λ ps. ran d (leads ps)) .count ≤ 1 + n
-    by (answered ps) c h = let z = g (keptOf nothing ps) in omega arith
+    by : (o : Outcome (List Parsed)) (c : ℕ) → c ≤ n → onward o c (λ ps. ran d (leads how ps)) .count ≤ 1 + n
+    by (answered ps) c h = let z = g (keptOf (orderOf how) nothing ps) in omega arith
     by (refused r) c h = omega arith
 
 mount-count : (d : Disc) (k : Kept) → ran d (mounting k) .count ≤ 1
@@ -214,18 +215,18 @@ mount-count d k = by (mounts k)
     by (stops r e z) = rw (e, ran-refuse {A = VolumeRecord} d r) (omega arith)
 
 -- as the code reports it
-scanned-count : (r : Ran (List Parsed)) → scannedOf nothing r .count ≡ r .count
-scanned-count r = by (r .outcome)
+scanned-count : (how : How) (r : Ran (List Parsed)) → scannedOf (orderOf how) nothing r .count ≡ r .count
+scanned-count how r = by (r .outcome)
   where
-    by : (o : Outcome (List Parsed)) → scannedBy nothing o (r .count) .count ≡ r .count
+    by : (o : Outcome (List Parsed)) → scannedBy (orderOf how) nothing o (r .count) .count ≡ r .count
     by (answered k) = refl
     by (refused w) = refl
 
 -- the main sequence has a length of 32 bits, so a count has room for the anchor's sector and the file set descriptor's
-module _ (d : Disc) (l at : ℕ) {s : Scanned} (h : l < 2 ^ 32) (e : s ≡ scannedOf nothing (ran d (scan (l / 2048) at))) where
+module _ (d : Disc) (how : How) (l at : ℕ) {s : Scanned} (h : l < 2 ^ 32) (e : s ≡ scannedOf (orderOf how) nothing (ran d (scan (l / 2048) at))) where
   scan-within : s .count ≤ l / 2048
   scan-within =
-      let c : s .count ≡ ran d (scan (l / 2048) at) .count = rw e (scanned-count (ran d (scan (l / 2048) at))) in
+      let c : s .count ≡ ran d (scan (l / 2048) at) .count = rw e (scanned-count how (ran d (scan (l / 2048) at))) in
       rw c (scan-count d (l / 2048) at)
 
   pub scan-few : s .count + 1 < 2 ^ 32
@@ -236,23 +237,23 @@ module _ (d : Disc) (l at : ℕ) {s : Scanned} (h : l < 2 ^ 32) (e : s ≡ scann
 
 -- ---- behind the anchor
 
-pub anchor-not : (image : List ℕ) {x : AnchorRead} {why : Refusal} {n : ℕ} {o : Opened}
+pub anchor-not : (image : List ℕ) (how : How) {x : AnchorRead} {why : Refusal} {n : ℕ} {o : Opened}
     → x ≡ NoAnchor why
     → n ≡ number why
     → o ≡ record { answer = n; count = 1; volume = noVolume }
-    → o ≡ openedOf (after 1 (ran (disc image) (anchored x)))
-anchor-not image {x} {why} e q k = refused-after (disc image) why 1 (rw e) q (omega arith) k
+    → o ≡ openedOf (after 1 (ran (disc image) (anchored how x)))
+anchor-not image how {x} {why} e q k = refused-after (disc image) why 1 (rw e) q (omega arith) k
 
 -- a scan, and what follows it, after one sector
-module _ (d : Disc) {s : Scanned} {o : Opened} where
-  scan-refuses : (r : Ran (List Parsed)) → s ≡ scannedOf nothing r → (s .answer ≡ 0 → ⊥) → s .count + 1 < 2 ^ 32
+module _ (d : Disc) (how : How) {s : Scanned} {o : Opened} where
+  scan-refuses : (r : Ran (List Parsed)) → s ≡ scannedOf (orderOf how) nothing r → (s .answer ≡ 0 → ⊥) → s .count + 1 < 2 ^ 32
       → o ≡ record { answer = s .answer; count = s .count + 1; volume = noVolume }
-      → o ≡ openedOf (after 1 (onward (r .outcome) (r .count) (λ ps. ran d (leads ps))))
+      → o ≡ openedOf (after 1 (onward (r .outcome) (r .count) (λ ps. ran d (leads how ps))))
   scan-refuses r = by (r .outcome) (r .count)
     where
-      by : (x : Outcome (List Parsed)) (n : ℕ) → s ≡ scannedBy nothing x n → (s .answer ≡ 0 → ⊥) → s .count + 1 < 2 ^ 32
+      by : (x : Outcome (List Parsed)) (n : ℕ) → s ≡ scannedBy (orderOf how) nothing x n → (s .answer ≡ 0 → ⊥) → s .count + 1 < 2 ^ 32
           → o ≡ record { answer = s .answer; count = s .count + 1; volume = noVolume }
-          → o ≡ openedOf (after 1 (onward x n (λ ps. ran d (leads ps))))
+          → o ≡ openedOf (after 1 (onward x n (λ ps. ran d (leads how ps))))
       by (answered k) n e h m q = absurd (h (ap (λ (z : Scanned). z .answer) e))
       by (refused w) n e h m q =
           let a : s .answer ≡ number w = ap (λ (z : Scanned). z .answer) e in
@@ -260,18 +261,18 @@ module _ (d : Disc) {s : Scanned} {o : Opened} where
           let c : reported (1 + n) ≡ s .count + 1 = omega arith in
           rw (c, ← a) q
 
-  scan-mounts : (r : Ran (List Parsed)) → s ≡ scannedOf nothing r → s .answer ≡ 0
+  scan-mounts : (r : Ran (List Parsed)) → s ≡ scannedOf (orderOf how) nothing r → s .answer ≡ 0
       → o ≡ openedOf (after (s .count + 1) (ran d (mounting (s .kept))))
-      → o ≡ openedOf (after 1 (onward (r .outcome) (r .count) (λ ps. ran d (leads ps))))
+      → o ≡ openedOf (after 1 (onward (r .outcome) (r .count) (λ ps. ran d (leads how ps))))
   scan-mounts r = by (r .outcome) (r .count)
     where
-      by : (x : Outcome (List Parsed)) (n : ℕ) → s ≡ scannedBy nothing x n → s .answer ≡ 0
+      by : (x : Outcome (List Parsed)) (n : ℕ) → s ≡ scannedBy (orderOf how) nothing x n → s .answer ≡ 0
           → o ≡ openedOf (after (s .count + 1) (ran d (mounting (s .kept))))
-          → o ≡ openedOf (after 1 (onward x n (λ ps. ran d (leads ps))))
+          → o ≡ openedOf (after 1 (onward x n (λ ps. ran d (leads how ps))))
       by (answered ps) n e h q =
-          let a : s .kept ≡ keptOf nothing ps = ap (λ (z : Scanned). z .kept) e in
+          let a : s .kept ≡ keptOf (orderOf how) nothing ps = ap (λ (z : Scanned). z .kept) e in
           let b : s .count ≡ n = ap (λ (z : Scanned). z .count) e in
-          let c : 1 + (n + ran d (leads ps) .count) ≡ s .count + 1 + ran d (leads ps) .count = omega arith in
+          let c : 1 + (n + ran d (leads how ps) .count) ≡ s .count + 1 + ran d (leads how ps) .count = omega arith in
           rw c (rw a at q)
       by (refused w) n e h q = absurd (refusal-numbered w (sym (ap (λ (z : Scanned). z .answer) e) ∙ h))
 
@@ -279,26 +280,26 @@ module _ (d : Disc) {s : Scanned} {o : Opened} where
 abbrev mainScan : AnchorVolumeDescriptorPointer → Ask (List Parsed)
 mainScan a = scan (a .«main_volume_descriptor_sequence» .length / 2048) (a .«main_volume_descriptor_sequence» .location)
 
-module _ (image : List ℕ) {x : AnchorRead} {a : AnchorVolumeDescriptorPointer} (e : x ≡ AnAnchor a) {s : Scanned} (f : s ≡ scannedOf nothing (ran (disc image) (mainScan a))) {o : Opened} where
+module _ (image : List ℕ) (how : How) {x : AnchorRead} {a : AnchorVolumeDescriptorPointer} (e : x ≡ AnAnchor a) {s : Scanned} (f : s ≡ scannedOf (orderOf how) nothing (ran (disc image) (mainScan a))) {o : Opened} where
   pub anchor-stops : a .«main_volume_descriptor_sequence» .length < 2 ^ 32
       → (s .answer ≡ 0 → ⊥)
       → o ≡ record { answer = s .answer; count = s .count + 1; volume = noVolume }
-      → o ≡ openedOf (after 1 (ran (disc image) (anchored x)))
+      → o ≡ openedOf (after 1 (ran (disc image) (anchored how x)))
   anchor-stops few h q =
-      let m = scan-few (disc image) (a .«main_volume_descriptor_sequence» .length) (a .«main_volume_descriptor_sequence» .location) few f in
-      rw (e, ran-then (disc image) (mainScan a) leads) (scan-refuses (disc image) (ran (disc image) (mainScan a)) f h m q)
+      let m = scan-few (disc image) how (a .«main_volume_descriptor_sequence» .length) (a .«main_volume_descriptor_sequence» .location) few f in
+      rw (e, ran-then (disc image) (mainScan a) (leads how)) (scan-refuses (disc image) how (ran (disc image) (mainScan a)) f h m q)
 
   pub anchor-leads : s .answer ≡ 0
       → o ≡ openedOf (after (s .count + 1) (ran (disc image) (mounting (s .kept))))
-      → o ≡ openedOf (after 1 (ran (disc image) (anchored x)))
-  anchor-leads h q = rw (e, ran-then (disc image) (mainScan a) leads) (scan-mounts (disc image) (ran (disc image) (mainScan a)) f h q)
+      → o ≡ openedOf (after 1 (ran (disc image) (anchored how x)))
+  anchor-leads h q = rw (e, ran-then (disc image) (mainScan a) (leads how)) (scan-mounts (disc image) how (ran (disc image) (mainScan a)) f h q)
 
 -- ---- the whole call
 
-module _ (image : List ℕ) {m : ℕ} (g : m ≡ heldFrom image 256) where
-  pub opening-gone : {o : Opened} → m ≡ 0 → o ≡ record { answer = 1; count = 1; volume = noVolume } → o ≡ openedOf (ran (disc image) opening)
+module _ (image : List ℕ) (how : How) {m : ℕ} (g : m ≡ heldFrom image 256) where
+  pub opening-gone : {o : Opened} → m ≡ 0 → o ≡ record { answer = 1; count = 1; volume = noVolume } → o ≡ openedOf (ran (disc image) (opening how))
   unfolding opening
-  opening-gone z q = rw (ran-missing (disc image) 256 (λ b. anchored (readAnchor b)) (missing image 256 (gone (length image) g))) q
+  opening-gone z q = rw (ran-missing (disc image) 256 (λ b. anchored how (readAnchor b)) (missing image 256 (gone (length image) g))) q
     where
       gone : (l : ℕ) → m ≡ l / 2048 - 256 → l < 2048 * 256 + 2048
       gone l u = omega arith
@@ -307,13 +308,13 @@ module _ (image : List ℕ) {m : ℕ} (g : m ≡ heldFrom image 256) where
       → (m ≡ 0 → ⊥)
       → b ≡ bytesIn (disc image 256)
       → x ≡ readAnchor b
-      → o ≡ openedOf (after 1 (ran (disc image) (anchored x)))
-      → o ≡ openedOf (ran (disc image) opening)
+      → o ≡ openedOf (after 1 (ran (disc image) (anchored how x)))
+      → o ≡ openedOf (ran (disc image) (opening how))
   unfolding opening
   opening-there {b} {x} z u f q =
       let p = held image 256 (there (length image) g) in
       let v : disc image 256 ≡ holds b = p ∙ ap holds (sym (u ∙ rw p)) in
-      rw (ran-there (disc image) 256 (λ b. anchored (readAnchor b)) b v, ← f) q
+      rw (ran-there (disc image) 256 (λ b. anchored how (readAnchor b)) b v, ← f) q
     where
       there : (l : ℕ) → m ≡ l / 2048 - 256 → 2048 * 256 + 2048 ≤ l
       there l u = omega (arith, z)
@@ -325,7 +326,7 @@ abbrev pub mainLengthIn : AnchorRead → ℕ
 mainLengthIn (AnAnchor a) = a .«main_volume_descriptor_sequence» .length
 mainLengthIn (NoAnchor r) = 0
 
-pub anchored-count : (d : Disc) (x : AnchorRead) → ran d (anchored x) .count ≤ 1 + mainLengthIn x / 2048
-anchored-count d (AnAnchor a) =
-    then-count d (mainScan a) (a .«main_volume_descriptor_sequence» .length / 2048) (scan-count d _ _) (mount-count d)
-anchored-count d (NoAnchor r) = rw (ran-refuse {A = VolumeRecord} d r) (omega arith)
+pub anchored-count : (d : Disc) (how : How) (x : AnchorRead) → ran d (anchored how x) .count ≤ 1 + mainLengthIn x / 2048
+anchored-count d how (AnAnchor a) =
+    then-count d how (mainScan a) (a .«main_volume_descriptor_sequence» .length / 2048) (scan-count d _ _) (mount-count d)
+anchored-count d how (NoAnchor r) = rw (ran-refuse {A = VolumeRecord} d r) (omega arith)

@@ -1,55 +1,61 @@
 -- What is promised of the calls on an image, beside their contracts: a contract leaves one result, how many sectors are asked for, and
 -- that nothing but those decides. Assumes nothing.
 use mathlib.Core.Path.{_≡_, refl, ap, sym, _∙_}
-use mathlib.Core.List.{List, [], _∷_, append-nil}
+use mathlib.Core.List.{List, [], _∷_, _++_, append-nil}
 use Prim.Native.Nat.{ℕ, _+_, _/_, _≤_}
 use native.Mathlib.Omega.{arith}
 use lib.ListN.{length}
 use Rattle.disc.specs.Counts.{reported}
-use Rattle.disc.specs.Ask.{Held, Disc, Outcome, outcome, asked, ended, Agree}
+use Rattle.disc.specs.Ask.{Held, Disc, Ask, Outcome, outcome, asked, then, ended, Agree}
+use Rattle.disc.specs.Ask.Ask.{refuse, ask}
 use Rattle.disc.specs.Ask.Held.{holds, lacks}
 use Rattle.disc.specs.Ask.Outcome.{answered, refused}
 use Rattle.disc.specs.Images.{disc}
-use Rattle.disc.specs.Ran.{Ran, ran}
+use Rattle.disc.specs.Ran.{Ran, ran, followed}
 use Rattle.disc.specs.Replies.{Replied}
 use Rattle.disc.specs.declared.refusals.Refusal.{Refusal}
 use Rattle.disc.specs.declared.refusals.Refusal.the-variants.{NoRoom}
 use Rattle.disc.specs.declared.replies.Reply.{Reply}
 use Rattle.disc.proofs.AskLaws.{askedBehind, asked-then}
-use Rattle.disc.proofs.RanLaws.{ran-missing, same-ran}
+use Rattle.disc.proofs.RanLaws.{ran-missing, ran-then, same-ran}
 use Rattle.disc.proofs.ReplyLaws.{replied-one, same-replied}
 use Rattle.descriptors.specs.Volumes.{readAnchor}
-use Rattle.volumes.specs.Openings.{noVolume, anchored, opening, openedBy, openedOf}
+use Rattle.descriptors.specs.declared.anchors.AnchorRead.{AnchorRead}
+use Rattle.descriptors.specs.declared.anchors.AnchorRead.the-variants.{Read as AnAnchor, Refused as NoAnchor}
+use Rattle.volumes.specs.Sequences.{nothing, Parsed, orderOf, keptOf, scan}
+use Rattle.volumes.specs.Openings.{noVolume, mounting, anchored, opening, openedBy, openedOf}
 use Rattle.volumes.specs.Labels.{labelOf, labelling}
 use Rattle.volumes.specs.declared.openings.VolumeRecord.{VolumeRecord}
 use Rattle.volumes.specs.declared.openings.Opened.{Opened}
+use Rattle.volumes.specs.declared.openings.How.{How}
 use Rattle.volumes.proofs.OpeningLaws.{ask-count, mainLengthIn, anchored-count}
 use Rattle.volumes.proofs.NamedLaws.{refused-before, opening-named}
+use Rattle.volumes.proofs.Prevailing.{Rising, rising-order}
 
 -- ---- a contract leaves one result
 
-pub opened-one : (image : List ℕ) {o o′ : Opened} → o ≡ openedOf (ran (disc image) opening) → o′ ≡ openedOf (ran (disc image) opening) → o ≡ o′
-opened-one image e f = e ∙ sym f
+pub opened-one : (how : How) (image : List ℕ) {o o′ : Opened} → o ≡ openedOf (ran (disc image) (opening how)) → o′ ≡ openedOf (ran (disc image) (opening how)) → o ≡ o′
+opened-one how image e f = e ∙ sym f
 
-pub label-one : (image : List ℕ) {before after after′ : List ℕ} {p p′ : Reply}
-    → Replied NoRoom (ran (disc image) labelling) before after p
-    → Replied NoRoom (ran (disc image) labelling) before after′ p′
+pub label-one : (how : How) (image : List ℕ) {before after after′ : List ℕ} {p p′ : Reply}
+    → Replied NoRoom (ran (disc image) (labelling how)) before after p
+    → Replied NoRoom (ran (disc image) (labelling how)) before after′ p′
     → (p ≡ p′) × (after ≡ after′)
-label-one image e f = replied-one e f
+label-one how image e f = replied-one e f
 
 -- ---- RULES 2.7: images that agree on the sectors of a call's list give the same answer, count, volume and output
 
-pub opening-same : (image other : List ℕ) → Agree (disc image) (disc other) (asked (disc image) opening) → {o o′ : Opened}
-    → o ≡ openedOf (ran (disc image) opening)
-    → o′ ≡ openedOf (ran (disc other) opening)
+pub opening-same : (how : How) (image other : List ℕ) → Agree (disc image) (disc other) (asked (disc image) (opening how)) → {o o′ : Opened}
+    → o ≡ openedOf (ran (disc image) (opening how))
+    → o′ ≡ openedOf (ran (disc other) (opening how))
     → o ≡ o′
-opening-same image other h e f = e ∙ ap openedOf (same-ran opening (disc image) (disc other) h) ∙ sym f
+opening-same how image other h e f = e ∙ ap openedOf (same-ran (opening how) (disc image) (disc other) h) ∙ sym f
 
-pub label-same : (image other : List ℕ) → Agree (disc image) (disc other) (asked (disc image) labelling) → {before after after′ : List ℕ} {p p′ : Reply}
-    → Replied NoRoom (ran (disc image) labelling) before after p
-    → Replied NoRoom (ran (disc other) labelling) before after′ p′
+pub label-same : (how : How) (image other : List ℕ) → Agree (disc image) (disc other) (asked (disc image) (labelling how)) → {before after after′ : List ℕ} {p p′ : Reply}
+    → Replied NoRoom (ran (disc image) (labelling how)) before after p
+    → Replied NoRoom (ran (disc other) (labelling how)) before after′ p′
     → (p ≡ p′) × (after ≡ after′)
-label-same image other h e f = replied-one (same-replied labelling (disc image) (disc other) h e) f
+label-same how image other h e f = replied-one (same-replied (labelling how) (disc image) (disc other) h e) f
 
 -- the label's list is opening's
 nothing-behind : (d : Disc) (o : Outcome VolumeRecord) → askedBehind d o (λ v. ended (labelOf v)) ≡ []
@@ -61,14 +67,14 @@ nothing-behind d (answered v) = by (labelOf v)
     by (answered name) = refl
     by (refused why) = refl
 
-pub label-asks : (d : Disc) → asked d labelling ≡ asked d opening
+pub label-asks : (how : How) (d : Disc) → asked d (labelling how) ≡ asked d (opening how)
 unfolding labelling
-label-asks d = asked-then d opening (λ v. ended (labelOf v)) ∙ rw (nothing-behind d (outcome d opening)) (append-nil (asked d opening))
+label-asks how d = asked-then d (opening how) (λ v. ended (labelOf v)) ∙ rw (nothing-behind d (outcome d (opening how))) (append-nil (asked d (opening how)))
 
 -- and its refusals are opening's, with 5 behind them: opening has refused a label that is no name
-pub label-refuses : (d : Disc) {why : Refusal} → outcome d labelling ≡ refused why → outcome d opening ≡ refused why
+pub label-refuses : (how : How) (d : Disc) {why : Refusal} → outcome d (labelling how) ≡ refused why → outcome d (opening how) ≡ refused why
 unfolding labelling
-label-refuses d e = refused-before d opening labelOf opening-named e
+label-refuses how d e = refused-before d (opening how) labelOf (opening-named how) e
 
 -- ---- how many sectors opening asks for
 
@@ -78,10 +84,10 @@ mainLength (holds b) = mainLengthIn (readAnchor b)
 mainLength lacks = 0
 
 -- on any disc, at most 2 + main length div 2,048
-pub opening-count : (d : Disc) → length (asked d opening) ≤ 2 + mainLength (d 256) / 2048
+pub opening-count : (how : How) (d : Disc) → length (asked d (opening how)) ≤ 2 + mainLength (d 256) / 2048
 unfolding opening ran
-opening-count d =
-    let h = ask-count d 256 (λ b. anchored (readAnchor b)) (1 + mainLength (d 256) / 2048) (λ b e. rw e (anchored-count d (readAnchor b))) in
+opening-count how d =
+    let h = ask-count d 256 (λ b. anchored how (readAnchor b)) (1 + mainLength (d 256) / 2048) (λ b e. rw e (anchored-count d how (readAnchor b))) in
     omega arith
 
 -- and so is the count that is reported
@@ -92,18 +98,84 @@ reported-within n r h = by (r .outcome)
     by (answered v) = omega arith
     by (refused w) = omega arith
 
-pub opened-count : (d : Disc) → openedOf (ran d opening) .count ≤ 2 + mainLength (d 256) / 2048
+pub opened-count : (how : How) (d : Disc) → openedOf (ran d (opening how)) .count ≤ 2 + mainLength (d 256) / 2048
 unfolding ran
-opened-count d = reported-within (2 + mainLength (d 256) / 2048) (ran d opening) (opening-count d)
+opened-count how d = reported-within (2 + mainLength (d 256) / 2048) (ran d (opening how)) (opening-count how d)
 
 -- ---- nothing at sector 256: that sector alone is asked for
 
-pub opening-nothing : (image : List ℕ) → disc image 256 ≡ lacks → asked (disc image) opening ≡ 256 ∷ []
+pub opening-nothing : (how : How) (image : List ℕ) → disc image 256 ≡ lacks → asked (disc image) (opening how) ≡ 256 ∷ []
 unfolding opening asked
-opening-nothing image h = rw h
+opening-nothing how image h = rw h
 
-pub opened-nothing : (image : List ℕ) → disc image 256 ≡ lacks → {o : Opened}
-    → o ≡ openedOf (ran (disc image) opening)
+pub opened-nothing : (how : How) (image : List ℕ) → disc image 256 ≡ lacks → {o : Opened}
+    → o ≡ openedOf (ran (disc image) (opening how))
     → o ≡ record { answer = 1; count = 1; volume = noVolume }
 unfolding opening
-opened-nothing image h e = e ∙ ap openedOf (ran-missing (disc image) 256 (λ b. anchored (readAnchor b)) h)
+opened-nothing how image h e = e ∙ ap openedOf (ran-missing (disc image) 256 (λ b. anchored how (readAnchor b)) h)
+
+-- ---- the choice on opening
+
+-- the anchor and the main sequence: no choice goes into what is asked there, into what is refused there, or into the list of descriptors
+abbrev pub sequenceIn : AnchorRead → Ask (List Parsed)
+sequenceIn (NoAnchor r) = refuse r
+sequenceIn (AnAnchor a) = scan (a .«main_volume_descriptor_sequence» .length / 2048) (a .«main_volume_descriptor_sequence» .location)
+
+unfoldable pub sequence : Ask (List Parsed)
+sequence = ask 256 (λ b. sequenceIn (readAnchor b))
+
+-- what a choice makes of the list of descriptors
+abbrev pub chosen : How → List Parsed → Ask VolumeRecord
+chosen how ps = mounting (keptOf (orderOf how) nothing ps)
+
+pub opening-is : (how : How) → opening how ≡ then sequence (chosen how)
+unfolding opening sequence then
+opening-is how = λ i. ask 256 (λ b. by (readAnchor b) i)
+  where
+    by : (x : AnchorRead) → anchored how x ≡ then (sequenceIn x) (chosen how)
+    by (NoAnchor r) = refl
+    by (AnAnchor a) = refl
+
+opening-runs : (d : Disc) (how : How) → ran d (opening how) ≡ followed (ran d sequence) (λ ps. ran d (chosen how ps))
+opening-runs d how = ap (ran d) (opening-is how) ∙ ran-then d sequence (chosen how)
+
+-- the sectors up to and with the sequence are the same, whatever is chosen; where they end in a refusal, all is
+pub record Sequenced (d : Disc) (how : How) : Type 0 where
+  pub asks : asked d (opening how) ≡ asked d sequence ++ askedBehind d (outcome d sequence) (chosen how)
+  pub refuses : {why : Refusal} → outcome d sequence ≡ refused why
+      → (asked d (opening how) ≡ asked d sequence) × (ran d (opening how) ≡ record { outcome = refused why; count = length (asked d sequence) })
+
+pub scan-same : (d : Disc) (how : How) → Sequenced d how
+unfolding ran
+scan-same d how = record {
+  asks = lists;
+  refuses = λ e. (lists ∙ rw e (append-nil (asked d sequence)), opening-runs d how ∙ rw e);
+}
+  where
+    lists : asked d (opening how) ≡ asked d sequence ++ askedBehind d (outcome d sequence) (chosen how)
+    lists = ap (asked d) (opening-is how) ∙ asked-then d sequence (chosen how)
+
+-- where each kind's numbers never fall along the sequence, every choice opens the same volume, asks for the same sectors, or refuses the same
+module _ (d : Disc) {ps : List Parsed} (e : outcome d sequence ≡ answered ps) (r : Rising ps) (how how′ : How) where
+  rising-chosen : chosen how ps ≡ chosen how′ ps
+  rising-chosen = ap mounting (rising-order how ps r ∙ sym (rising-order how′ ps r))
+
+  rising-behind : askedBehind d (outcome d sequence) (chosen how) ≡ askedBehind d (outcome d sequence) (chosen how′)
+  rising-behind = rw (e, rising-chosen)
+
+  pub rising-asks : asked d (opening how) ≡ asked d (opening how′)
+  rising-asks = scan-same d how .asks ∙ ap (λ l. asked d sequence ++ l) rising-behind ∙ sym (scan-same d how′ .asks)
+
+  rising-follows : followed (ran d sequence) (λ qs. ran d (chosen how qs)) ≡ followed (ran d sequence) (λ qs. ran d (chosen how′ qs))
+  unfolding ran
+  rising-follows = rw (e, rising-chosen)
+
+  pub rising-same : ran d (opening how) ≡ ran d (opening how′)
+  rising-same = opening-runs d how ∙ rising-follows ∙ sym (opening-runs d how′)
+
+  rising-labels : followed (ran d (opening how)) (λ v. ran d (ended (labelOf v))) ≡ followed (ran d (opening how′)) (λ v. ran d (ended (labelOf v)))
+  rising-labels = ap (λ (x : Ran VolumeRecord). followed x (λ v. ran d (ended (labelOf v)))) rising-same
+
+  pub rising-label : ran d (labelling how) ≡ ran d (labelling how′)
+  unfolding labelling
+  rising-label = ran-then d (opening how) (λ v. ended (labelOf v)) ∙ rising-labels ∙ sym (ran-then d (opening how′) (λ v. ended (labelOf v)))

@@ -1,7 +1,7 @@
 -- One sector of a volume descriptor sequence: which case of its definition the code is in. Assumes nothing.
 use Prim.Native.Nat.{ℕ}
 use mathlib.Core.Path.{_≡_, ap, _∙_}
-use mathlib.Core.Bool.{false}
+use mathlib.Core.Bool.{Bool, true, false}
 use mathlib.Core.List.{List}
 use borrow.Author.Tests.{ne-eqb}
 use Rattle.disc.specs.Refusals.{number}
@@ -18,74 +18,93 @@ use Rattle.descriptors.specs.declared.partitions.PartitionRead.{PartitionRead}
 use Rattle.descriptors.specs.declared.partitions.PartitionRead.the-variants.{Read as APartition, Refused as NoPartition}
 use Rattle.descriptors.specs.declared.logicals.LogicalVolumeDescriptor.{LogicalVolumeDescriptor}
 use Rattle.descriptors.specs.declared.logicals.LogicalRead.{LogicalRead}
-use Rattle.volumes.specs.Sequences.{nothing, primaryIn, partitionIn, logicalIn, saysIn, turnOf}
+use Rattle.volumes.specs.Sequences.{nothing, orderOf, counts, replacing, primaryIn, partitionIn, logicalIn, saysIn, turnOf}
 use Rattle.volumes.specs.Sequences.Parsed.{primary, partition, logical}
 use Rattle.volumes.specs.Sequences.Says.{found, passed, over}
 use Rattle.volumes.specs.declared.sequences.Kept.{Kept}
 use Rattle.volumes.specs.declared.sequences.SectorTurn.{SectorTurn}
+use Rattle.volumes.specs.declared.openings.How.{How}
 
 -- ---- a descriptor that was parsed
 
-module _ (k : Kept) {t : SectorTurn} where
+module _ (how : How) (k : Kept) {t : SectorTurn} where
   module _ (b : List ℕ) {r : PrimaryRead} (q : r ≡ primaryRead (readPrimary b)) where
-    pub primary-fails : (r .answer ≡ 0 → ⊥) → t ≡ record { going = false; answer = r .answer; kept = nothing } → t ≡ turnOf k (primaryIn (readPrimary b))
+    pub primary-fails : (r .answer ≡ 0 → ⊥) → t ≡ record { going = false; answer = r .answer; kept = nothing } → t ≡ turnOf (orderOf how) k (primaryIn (readPrimary b))
     primary-fails h e = told (readPrimary b) q
       where
-        told : (o : Outcome PrimaryVolumeDescriptor) → r ≡ primaryRead o → t ≡ turnOf k (primaryIn o)
+        told : (o : Outcome PrimaryVolumeDescriptor) → r ≡ primaryRead o → t ≡ turnOf (orderOf how) k (primaryIn o)
         told (answered d) p = absurd (h (ap (λ (x : PrimaryRead). x .answer) p))
         told (refused why) p = e ∙ rw p
 
-    pub primary-taken : r .answer ≡ 0 → t ≡ turnOf k (found (primary (r .descriptor))) → t ≡ turnOf k (primaryIn (readPrimary b))
-    primary-taken h e = told (readPrimary b) q
+    primary-met : r .answer ≡ 0 → t ≡ turnOf (orderOf how) k (found (primary (r .descriptor))) → t ≡ turnOf (orderOf how) k (primaryIn (readPrimary b))
+    primary-met h e = told (readPrimary b) q
       where
-        told : (o : Outcome PrimaryVolumeDescriptor) → r ≡ primaryRead o → t ≡ turnOf k (primaryIn o)
+        told : (o : Outcome PrimaryVolumeDescriptor) → r ≡ primaryRead o → t ≡ turnOf (orderOf how) k (primaryIn o)
         told (answered d) p = e ∙ rw p
         told (refused why) p = absurd (refusal-numbered why (rw p at h))
+
+    module _ (h : r .answer ≡ 0) {x : Bool} (g : x ≡ counts (orderOf how) k (primary (r .descriptor))) where
+      pub primary-taken : x ≡ true → t ≡ record { going = true; answer = 0; kept = replacing k (primary (r .descriptor)) } → t ≡ turnOf (orderOf how) k (primaryIn (readPrimary b))
+      primary-taken y e = primary-met h (e ∙ rw (← g, y))
+
+      pub primary-passed : x ≡ false → t ≡ record { going = true; answer = 0; kept = k } → t ≡ turnOf (orderOf how) k (primaryIn (readPrimary b))
+      primary-passed y e = primary-met h (e ∙ rw (← g, y))
 
   pub partition-fails : {r : PartitionRead} {why : Refusal} {n : ℕ}
       → r ≡ NoPartition why
       → n ≡ number why
       → t ≡ record { going = false; answer = n; kept = nothing }
-      → t ≡ turnOf k (partitionIn r)
+      → t ≡ turnOf (orderOf how) k (partitionIn r)
   partition-fails h m e = rw (h, ← m) e
 
-  pub partition-taken : {r : PartitionRead} {d : PartitionDescriptor} → r ≡ APartition d → t ≡ turnOf k (found (partition d)) → t ≡ turnOf k (partitionIn r)
-  partition-taken h e = rw h e
+  module _ {r : PartitionRead} {d : PartitionDescriptor} (h : r ≡ APartition d) {x : Bool} (g : x ≡ counts (orderOf how) k (partition d)) where
+    pub partition-taken : x ≡ true → t ≡ record { going = true; answer = 0; kept = replacing k (partition d) } → t ≡ turnOf (orderOf how) k (partitionIn r)
+    partition-taken y e = rw (h, ← g, y) e
+
+    pub partition-passed : x ≡ false → t ≡ record { going = true; answer = 0; kept = k } → t ≡ turnOf (orderOf how) k (partitionIn r)
+    partition-passed y e = rw (h, ← g, y) e
 
   module _ (b : List ℕ) {r : LogicalRead} (q : r ≡ logicalRead (readLogical b)) where
-    pub logical-fails : (r .answer ≡ 0 → ⊥) → t ≡ record { going = false; answer = r .answer; kept = nothing } → t ≡ turnOf k (logicalIn (readLogical b))
+    pub logical-fails : (r .answer ≡ 0 → ⊥) → t ≡ record { going = false; answer = r .answer; kept = nothing } → t ≡ turnOf (orderOf how) k (logicalIn (readLogical b))
     logical-fails h e = told (readLogical b) q
       where
-        told : (o : Outcome LogicalVolumeDescriptor) → r ≡ logicalRead o → t ≡ turnOf k (logicalIn o)
+        told : (o : Outcome LogicalVolumeDescriptor) → r ≡ logicalRead o → t ≡ turnOf (orderOf how) k (logicalIn o)
         told (answered d) p = absurd (h (ap (λ (x : LogicalRead). x .answer) p))
         told (refused why) p = e ∙ rw p
 
-    pub logical-taken : r .answer ≡ 0 → t ≡ turnOf k (found (logical (r .descriptor))) → t ≡ turnOf k (logicalIn (readLogical b))
-    logical-taken h e = told (readLogical b) q
+    logical-met : r .answer ≡ 0 → t ≡ turnOf (orderOf how) k (found (logical (r .descriptor))) → t ≡ turnOf (orderOf how) k (logicalIn (readLogical b))
+    logical-met h e = told (readLogical b) q
       where
-        told : (o : Outcome LogicalVolumeDescriptor) → r ≡ logicalRead o → t ≡ turnOf k (logicalIn o)
+        told : (o : Outcome LogicalVolumeDescriptor) → r ≡ logicalRead o → t ≡ turnOf (orderOf how) k (logicalIn o)
         told (answered d) p = e ∙ rw p
         told (refused why) p = absurd (refusal-numbered why (rw p at h))
 
+    module _ (h : r .answer ≡ 0) {x : Bool} (g : x ≡ counts (orderOf how) k (logical (r .descriptor))) where
+      pub logical-taken : x ≡ true → t ≡ record { going = true; answer = 0; kept = replacing k (logical (r .descriptor)) } → t ≡ turnOf (orderOf how) k (logicalIn (readLogical b))
+      logical-taken y e = logical-met h (e ∙ rw (← g, y))
+
+      pub logical-passed : x ≡ false → t ≡ record { going = true; answer = 0; kept = k } → t ≡ turnOf (orderOf how) k (logicalIn (readLogical b))
+      logical-passed y e = logical-met h (e ∙ rw (← g, y))
+
 -- ---- a sector, by its id
 
-module _ (k : Kept) (b : List ℕ) {id : ℕ} (i : id ≡ u16at b 0) where
-  pub id-primary : {t : SectorTurn} → id ≡ 1 → t ≡ turnOf k (primaryIn (readPrimary b)) → t ≡ turnOf k (saysIn b)
+module _ (how : How) (k : Kept) (b : List ℕ) {id : ℕ} (i : id ≡ u16at b 0) where
+  pub id-primary : {t : SectorTurn} → id ≡ 1 → t ≡ turnOf (orderOf how) k (primaryIn (readPrimary b)) → t ≡ turnOf (orderOf how) k (saysIn b)
   unfolding saysIn
   id-primary h e = rw (← i, h) e
 
-  pub id-partition : {r : PartitionRead} {t : SectorTurn} → id ≡ 5 → r ≡ readPartition b → t ≡ turnOf k (partitionIn r) → t ≡ turnOf k (saysIn b)
+  pub id-partition : {r : PartitionRead} {t : SectorTurn} → id ≡ 5 → r ≡ readPartition b → t ≡ turnOf (orderOf how) k (partitionIn r) → t ≡ turnOf (orderOf how) k (saysIn b)
   unfolding saysIn
   id-partition h q e = rw (← i, h, ← q) e
 
-  pub id-logical : {t : SectorTurn} → id ≡ 6 → t ≡ turnOf k (logicalIn (readLogical b)) → t ≡ turnOf k (saysIn b)
+  pub id-logical : {t : SectorTurn} → id ≡ 6 → t ≡ turnOf (orderOf how) k (logicalIn (readLogical b)) → t ≡ turnOf (orderOf how) k (saysIn b)
   unfolding saysIn
   id-logical h e = rw (← i, h) e
 
-  pub id-terminating : {t : SectorTurn} → id ≡ 8 → t ≡ turnOf k over → t ≡ turnOf k (saysIn b)
+  pub id-terminating : {t : SectorTurn} → id ≡ 8 → t ≡ turnOf (orderOf how) k over → t ≡ turnOf (orderOf how) k (saysIn b)
   unfolding saysIn
   id-terminating h e = rw (← i, h) e
 
-  pub id-other : {t : SectorTurn} → (id ≡ 1 → ⊥) → (id ≡ 5 → ⊥) → (id ≡ 6 → ⊥) → (id ≡ 8 → ⊥) → t ≡ turnOf k passed → t ≡ turnOf k (saysIn b)
+  pub id-other : {t : SectorTurn} → (id ≡ 1 → ⊥) → (id ≡ 5 → ⊥) → (id ≡ 6 → ⊥) → (id ≡ 8 → ⊥) → t ≡ turnOf (orderOf how) k passed → t ≡ turnOf (orderOf how) k (saysIn b)
   unfolding saysIn
   id-other p q r s e = rw (← i, ne-eqb id 1 p, ne-eqb id 5 q, ne-eqb id 6 r, ne-eqb id 8 s) e

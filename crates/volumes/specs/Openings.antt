@@ -23,7 +23,8 @@ use Rattle.descriptors.specs.declared.file_sets.FileSetDescriptor.{FileSetDescr
 use Rattle.volumes.specs.declared.sequences.Kept.{Kept}
 use Rattle.volumes.specs.declared.openings.VolumeRecord.{VolumeRecord}
 use Rattle.volumes.specs.declared.openings.Opened.{Opened}
-use Rattle.volumes.specs.Sequences.{nothing, keptOf, scan}
+use Rattle.volumes.specs.declared.openings.How.{How}
+use Rattle.volumes.specs.Sequences.{nothing, orderOf, keptOf, scan}
 
 -- ---- behind the sequence
 
@@ -55,15 +56,16 @@ mounting k =
 
 -- ---- the whole call
 
--- behind the anchor: the main sequence, as many whole sectors as its length has (3/8.4.2.1), and then the volume
-abbrev pub anchored : AnchorRead → Ask VolumeRecord
-anchored (NoAnchor r) = refuse r
-anchored (AnAnchor a) =
-    then (scan (a .«main_volume_descriptor_sequence» .length / 2048) (a .«main_volume_descriptor_sequence» .location)) (λ ps. mounting (keptOf nothing ps))
+-- behind the anchor: the main sequence, as many whole sectors as its length has (3/8.4.2.1), and then the volume that the descriptors give
+-- which prevail
+abbrev pub anchored : How → AnchorRead → Ask VolumeRecord
+anchored how (NoAnchor r) = refuse r
+anchored how (AnAnchor a) =
+    then (scan (a .«main_volume_descriptor_sequence» .length / 2048) (a .«main_volume_descriptor_sequence» .location)) (λ ps. mounting (keptOf (orderOf how) nothing ps))
 
 -- the anchor stands in sector 256 (3/8.4.2.1)
-unfoldable pub opening : Ask VolumeRecord
-opening = ask 256 (λ b. anchored (readAnchor b))
+unfoldable pub opening : How → Ask VolumeRecord
+opening how = ask 256 (λ b. anchored how (readAnchor b))
 
 -- ---- as the code reports it
 

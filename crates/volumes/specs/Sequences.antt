@@ -1,9 +1,9 @@
 -- The volume descriptor sequence (ECMA-167 3/8.4.2): RULES 5.3 to 5.6.
 use Prim.Native.Nat.{ℕ, zero, suc, _+_}
-use mathlib.Core.Bool.{true, false}
+use mathlib.Core.Bool.{Bool, true, false}
 use mathlib.Core.List.{List, [], _∷_}
 use lib.ListN.{replicate}
-use lib.Dec.{eqb}
+use lib.Dec.{eqb, leb}
 use Rattle.disc.specs.Choice.{pick}
 use Rattle.disc.specs.Refusals.{number}
 use Rattle.disc.specs.Ask.{Ask, Outcome, then}
@@ -22,17 +22,21 @@ use Rattle.descriptors.specs.declared.logicals.LogicalVolumeDescriptor.{Logical
 use Rattle.volumes.specs.declared.sequences.Kept.{Kept}
 use Rattle.volumes.specs.declared.sequences.SectorTurn.{SectorTurn}
 use Rattle.volumes.specs.declared.sequences.Scanned.{Scanned}
+use Rattle.volumes.specs.declared.openings.How.{How}
 
 -- ---- what is kept of the descriptors found so far
 
 abbrev pub nothing : Kept
 nothing = record {
   «has_primary» = false;
+  «primary_sequence» = 0;
   label = replicate 32 0;
   «has_partition» = false;
+  «partition_sequence» = 0;
   «partition_number» = 0;
   «partition_start» = 0;
   «has_logical» = false;
+  «logical_sequence» = 0;
   «block_size» = 0;
   «file_set» = noLong;
 }
@@ -43,43 +47,79 @@ pub data Parsed : Type 0 where
   partition : PartitionDescriptor → Parsed
   logical : LogicalVolumeDescriptor → Parsed
 
--- which descriptor prevails: a later one replaces an earlier one
-abbrev pub prevailing : Kept → Parsed → Kept
-prevailing k (primary d) = record {
+-- which of two descriptors of one kind counts, by their volume descriptor sequence numbers (3/8.4.2, 10.1.2, 10.5.2, 10.6.2): whether the
+-- later of the two does. The earlier one's number comes first
+abbrev pub Order : Type 0
+Order = ℕ → ℕ → Bool
+
+-- the last one wins: the original's rule
+abbrev pub latest : Order
+latest earlier later = true
+
+-- the highest number, and of equal ones the later
+abbrev pub highest : Order
+highest earlier later = leb earlier later
+
+-- the order that was chosen on opening
+abbrev pub orderOf : How → Order
+orderOf how earlier later = pick (how .highest) (highest earlier later) (latest earlier later)
+
+-- a descriptor counts where none of its kind was kept before, or where it prevails over the one that was
+abbrev pub counts : Order → Kept → Parsed → Bool
+counts prevails k (primary d) = pick (k .«has_primary») (prevails (k .«primary_sequence») (d .«volume_descriptor_sequence_number»)) true
+counts prevails k (partition d) = pick (k .«has_partition») (prevails (k .«partition_sequence») (d .«volume_descriptor_sequence_number»)) true
+counts prevails k (logical d) = pick (k .«has_logical») (prevails (k .«logical_sequence») (d .«volume_descriptor_sequence_number»)) true
+
+-- it takes the place of the one that was kept of its kind
+abbrev pub replacing : Kept → Parsed → Kept
+replacing k (primary d) = record {
   «has_primary» = true;
+  «primary_sequence» = d .«volume_descriptor_sequence_number»;
   label = d .«volume_identifier»;
   «has_partition» = k .«has_partition»;
+  «partition_sequence» = k .«partition_sequence»;
   «partition_number» = k .«partition_number»;
   «partition_start» = k .«partition_start»;
   «has_logical» = k .«has_logical»;
+  «logical_sequence» = k .«logical_sequence»;
   «block_size» = k .«block_size»;
   «file_set» = k .«file_set»;
 }
-prevailing k (partition d) = record {
+replacing k (partition d) = record {
   «has_primary» = k .«has_primary»;
+  «primary_sequence» = k .«primary_sequence»;
   label = k .label;
   «has_partition» = true;
+  «partition_sequence» = d .«volume_descriptor_sequence_number»;
   «partition_number» = d .«partition_number»;
   «partition_start» = d .«partition_starting_location»;
   «has_logical» = k .«has_logical»;
+  «logical_sequence» = k .«logical_sequence»;
   «block_size» = k .«block_size»;
   «file_set» = k .«file_set»;
 }
-prevailing k (logical d) = record {
+replacing k (logical d) = record {
   «has_primary» = k .«has_primary»;
+  «primary_sequence» = k .«primary_sequence»;
   label = k .label;
   «has_partition» = k .«has_partition»;
+  «partition_sequence» = k .«partition_sequence»;
   «partition_number» = k .«partition_number»;
   «partition_start» = k .«partition_start»;
   «has_logical» = true;
+  «logical_sequence» = d .«volume_descriptor_sequence_number»;
   «block_size» = d .«logical_block_size»;
   «file_set» = d .«file_set_descriptor_location»;
 }
 
+-- what is kept once it has been met
+abbrev pub prevailing : Order → Kept → Parsed → Kept
+prevailing prevails k p = pick (counts prevails k p) (replacing k p) k
+
 -- what is kept of the descriptors of a sequence, in their order
-unfoldable pub keptOf : Kept → List Parsed → Kept
-keptOf k [] = k
-keptOf k (p ∷ ps) = keptOf (prevailing k p) ps
+unfoldable pub keptOf : Order → Kept → List Parsed → Kept
+keptOf prevails k [] = k
+keptOf prevails k (p ∷ ps) = keptOf prevails (prevailing prevails k p) ps
 
 -- ---- one sector
 
@@ -126,15 +166,15 @@ scan (suc n) at = ask at (λ b. goOn (saysIn b) (scan n (at + 1)))
 
 -- ---- as the code reports it, where k was kept before
 
-abbrev pub turnOf : Kept → Says → SectorTurn
-turnOf k (found p) = record { going = true; answer = 0; kept = prevailing k p }
-turnOf k passed = record { going = true; answer = 0; kept = k }
-turnOf k over = record { going = false; answer = 0; kept = k }
-turnOf k (fails r) = record { going = false; answer = number r; kept = nothing }
+abbrev pub turnOf : Order → Kept → Says → SectorTurn
+turnOf prevails k (found p) = record { going = true; answer = 0; kept = prevailing prevails k p }
+turnOf prevails k passed = record { going = true; answer = 0; kept = k }
+turnOf prevails k over = record { going = false; answer = 0; kept = k }
+turnOf prevails k (fails r) = record { going = false; answer = number r; kept = nothing }
 
-abbrev pub scannedBy : Kept → Outcome (List Parsed) → ℕ → Scanned
-scannedBy k (answered ps) n = record { answer = 0; count = n; kept = keptOf k ps }
-scannedBy k (refused r) n = record { answer = number r; count = n; kept = nothing }
+abbrev pub scannedBy : Order → Kept → Outcome (List Parsed) → ℕ → Scanned
+scannedBy prevails k (answered ps) n = record { answer = 0; count = n; kept = keptOf prevails k ps }
+scannedBy prevails k (refused r) n = record { answer = number r; count = n; kept = nothing }
 
-abbrev pub scannedOf : Kept → Ran (List Parsed) → Scanned
-scannedOf k r = scannedBy k (r .outcome) (r .count)
+abbrev pub scannedOf : Order → Kept → Ran (List Parsed) → Scanned
+scannedOf prevails k r = scannedBy prevails k (r .outcome) (r .count)

@@ -25,6 +25,12 @@ use disc::places::Sector;
 use records::allocations::LongAd;
 use records::allocations::no_long;
 
+// The choices that are made on opening. They leave no trace in the volume's record, which is what came out.
+pub struct How {
+    // Of several descriptors of one kind the one with the highest sequence number counts, the later of equals; else the last one does.
+    pub highest: bool,
+}
+
 // An opened volume. It holds no pointer: copy it, keep it, or make one by hand.
 #[repr(C)]
 pub struct VolumeRecord {
@@ -150,14 +156,14 @@ fn mount(image: &[u8], kept: Kept, count: u64) -> Opened
 }
 
 // What the anchor leads to.
-fn open_from(image: &[u8], anchor: AnchorRead) -> Opened
-    ensures { λ r. ⌜ r ≡ openedOf (after 1 (ran (disc (now (image .entry))) (anchored anchor))) ⌝ }
+fn open_from(image: &[u8], how: How, anchor: AnchorRead) -> Opened
+    ensures { λ r. ⌜ r ≡ openedOf (after 1 (ran (disc (now (image .entry))) (anchored how anchor))) ⌝ }
 {
     match anchor {
         AnchorRead::Refused(why) => refused(why.number(), 1),
         AnchorRead::Read(a) => {
             let main = a.main_volume_descriptor_sequence;
-            let scanned = scan_sequence(image, main.location, main.length / 2048);
+            let scanned = scan_sequence(image, how, main.location, main.length / 2048);
             if scanned.answer != DONE {
                 return refused(scanned.answer, scanned.count + 1);
             }
@@ -167,14 +173,15 @@ fn open_from(image: &[u8], anchor: AnchorRead) -> Opened
 }
 
 // Opens the volume of an image: the anchor, the main volume descriptor sequence, and the file set descriptor.
-pub fn open_volume(image: &[u8]) -> Opened
-    ensures { λ r. ⌜ r ≡ openedOf (ran (disc (now (image .entry))) opening) ⌝ }
+pub fn open_volume(image: &[u8], how: How) -> Opened
+    ensures { λ r. ⌜ r ≡ openedOf (ran (disc (now (image .entry))) (opening how)) ⌝ }
 {
     if held_from(image, Sector(256)) == 0 {
         return refused(IO, 1);
     }
     open_from(
         image,
+        how,
         AnchorVolumeDescriptorPointer::parse(sector_at(image, Sector(256))),
     )
 }

@@ -1,10 +1,12 @@
 // The volume descriptor sequence: one pass over its sectors, each looked at where it stands in the image.
 ghost use mathlib.Core.Path.{_≡_};
 ghost use mathlib.Core.Bool.{true, false};
+ghost use Rattle.disc.specs.Choice.{pick};
 ghost use Rattle.disc.specs.Ran.{ran};
 ghost use Rattle.disc.specs.Images.{disc};
 ghost use Rattle.descriptors.specs.Volumes.{readPrimary, readLogical};
-ghost use Rattle.volumes.specs.Sequences.{nothing, primaryIn, partitionIn, logicalIn, saysIn, turnOf, scan, scannedOf};
+ghost use Rattle.volumes.specs.Sequences.{nothing, orderOf, primaryIn, partitionIn, logicalIn, saysIn, turnOf, scan, scannedOf};
+use crate::openings::How;
 use descriptors::logicals::LogicalVolumeDescriptor;
 use descriptors::partitions::PartitionDescriptor;
 use descriptors::partitions::PartitionRead;
@@ -18,14 +20,17 @@ use records::allocations::LongAd;
 use records::allocations::no_long;
 use records::bytes::le16;
 
-// What is kept of the three descriptors between sectors.
+// What is kept of the three descriptors between sectors, each with its volume descriptor sequence number.
 pub struct Kept {
     pub has_primary: bool,
+    pub primary_sequence: u32,
     pub label: [u8; 32],
     pub has_partition: bool,
+    pub partition_sequence: u32,
     pub partition_number: u16,
     pub partition_start: u32,
     pub has_logical: bool,
+    pub logical_sequence: u32,
     pub block_size: u32,
     pub file_set: LongAd,
 }
@@ -50,11 +55,14 @@ pub fn nothing_kept() -> Kept
 {
     Kept {
         has_primary: false,
+        primary_sequence: 0,
         label: [0; 32],
         has_partition: false,
+        partition_sequence: 0,
         partition_number: 0,
         partition_start: 0,
         has_logical: false,
+        logical_sequence: 0,
         block_size: 0,
         file_set: no_long(),
     }
@@ -80,36 +88,68 @@ fn fails(answer: u64) -> SectorTurn
     }
 }
 
-fn take_primary(k: Kept, b: &[u8]) -> SectorTurn
-    ensures { λ t. ⌜ t ≡ turnOf k (primaryIn (readPrimary (now (b .entry)))) ⌝ }
+// Whether the later of two descriptors of one kind counts, by their sequence numbers.
+fn is_prevailing(how: How, earlier: u32, later: u32) -> bool
+    ensures { λ r. ⌜ r ≡ orderOf how earlier later ⌝ }
+{
+    if how.highest {
+        return earlier <= later;
+    }
+    true
+}
+
+// Whether a descriptor counts: none of its kind was kept before, or it prevails over the one that was.
+fn is_taken(how: How, kept: bool, earlier: u32, later: u32) -> bool
+    ensures { λ r. ⌜ r ≡ pick kept (orderOf how earlier later) true ⌝ }
+{
+    if kept {
+        return is_prevailing(how, earlier, later);
+    }
+    true
+}
+
+fn take_primary(how: How, k: Kept, b: &[u8]) -> SectorTurn
+    ensures { λ t. ⌜ t ≡ turnOf (orderOf how) k (primaryIn (readPrimary (now (b .entry)))) ⌝ }
 {
     let r = PrimaryVolumeDescriptor::parse(b);
     if r.answer != DONE {
         return fails(r.answer);
     }
     let d = r.descriptor;
+    let number = d.volume_descriptor_sequence_number;
+    if !is_taken(how, k.has_primary, k.primary_sequence, number) {
+        return goes_on(k);
+    }
     let label = d.volume_identifier;
     let file_set = k.file_set;
     goes_on(Kept {
         has_primary: true,
+        primary_sequence: number,
         label,
         has_partition: k.has_partition,
+        partition_sequence: k.partition_sequence,
         partition_number: k.partition_number,
         partition_start: k.partition_start,
         has_logical: k.has_logical,
+        logical_sequence: k.logical_sequence,
         block_size: k.block_size,
         file_set,
     })
 }
 
-fn take_partition(k: Kept, r: PartitionRead) -> SectorTurn
-    ensures { λ t. ⌜ t ≡ turnOf k (partitionIn r) ⌝ }
+fn take_partition(how: How, k: Kept, r: PartitionRead) -> SectorTurn
+    ensures { λ t. ⌜ t ≡ turnOf (orderOf how) k (partitionIn r) ⌝ }
 {
     match r {
         PartitionRead::Refused(why) => fails(why.number()),
         PartitionRead::Read(d) => {
+            let number = d.volume_descriptor_sequence_number;
+            if !is_taken(how, k.has_partition, k.partition_sequence, number) {
+                return goes_on(k);
+            }
             let mut next = k;
             next.has_partition = true;
+            next.partition_sequence = number;
             next.partition_number = d.partition_number;
             next.partition_start = d.partition_starting_location;
             goes_on(next)
@@ -117,41 +157,48 @@ fn take_partition(k: Kept, r: PartitionRead) -> SectorTurn
     }
 }
 
-fn take_logical(k: Kept, b: &[u8]) -> SectorTurn
-    ensures { λ t. ⌜ t ≡ turnOf k (logicalIn (readLogical (now (b .entry)))) ⌝ }
+fn take_logical(how: How, k: Kept, b: &[u8]) -> SectorTurn
+    ensures { λ t. ⌜ t ≡ turnOf (orderOf how) k (logicalIn (readLogical (now (b .entry)))) ⌝ }
 {
     let r = LogicalVolumeDescriptor::parse(b);
     if r.answer != DONE {
         return fails(r.answer);
     }
     let d = r.descriptor;
+    let number = d.volume_descriptor_sequence_number;
+    if !is_taken(how, k.has_logical, k.logical_sequence, number) {
+        return goes_on(k);
+    }
     let label = k.label;
     let file_set = d.file_set_descriptor_location;
     goes_on(Kept {
         has_primary: k.has_primary,
+        primary_sequence: k.primary_sequence,
         label,
         has_partition: k.has_partition,
+        partition_sequence: k.partition_sequence,
         partition_number: k.partition_number,
         partition_start: k.partition_start,
         has_logical: true,
+        logical_sequence: number,
         block_size: d.logical_block_size,
         file_set,
     })
 }
 
 // One sector of the sequence, by its id.
-fn take_sector(k: Kept, b: &[u8]) -> SectorTurn
-    ensures { λ t. ⌜ t ≡ turnOf k (saysIn (now (b .entry))) ⌝ }
+fn take_sector(how: How, k: Kept, b: &[u8]) -> SectorTurn
+    ensures { λ t. ⌜ t ≡ turnOf (orderOf how) k (saysIn (now (b .entry))) ⌝ }
 {
     let id = le16(b, 0);
     if id == 1 {
-        return take_primary(k, b);
+        return take_primary(how, k, b);
     }
     if id == 5 {
-        return take_partition(k, PartitionDescriptor::parse(b));
+        return take_partition(how, k, PartitionDescriptor::parse(b));
     }
     if id == 6 {
-        return take_logical(k, b);
+        return take_logical(how, k, b);
     }
     if id == 8 {
         return SectorTurn {
@@ -174,8 +221,8 @@ fn scan_refused(answer: u64, count: u64) -> Scanned
 }
 
 // n sectors of the sequence, from `first` on.
-pub fn scan_sequence(image: &[u8], first: u32, n: u32) -> Scanned
-    ensures { λ r. ⌜ r ≡ scannedOf nothing (ran (disc (now (image .entry))) (scan n first)) ⌝ }
+pub fn scan_sequence(image: &[u8], how: How, first: u32, n: u32) -> Scanned
+    ensures { λ r. ⌜ r ≡ scannedOf (orderOf how) nothing (ran (disc (now (image .entry))) (scan n first)) ⌝ }
 {
     let mut kept = nothing_kept();
     let mut i: u32 = 0;
@@ -184,7 +231,7 @@ pub fn scan_sequence(image: &[u8], first: u32, n: u32) -> Scanned
         if held_from(image, Sector(at)) == 0 {
             return scan_refused(IO, i as u64 + 1);
         }
-        let turn = take_sector(kept, sector_at(image, Sector(at)));
+        let turn = take_sector(how, kept, sector_at(image, Sector(at)));
         let next = turn.kept;
         if !turn.going {
             return Scanned {
