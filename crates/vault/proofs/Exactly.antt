@@ -32,6 +32,7 @@ use Rattle.listings.proofs.Promises.{entries-refused}
 use Rattle.vault.specs.Calls.{reading, parting, extentListing, listing, finding, pathReading, labels, reads, lists, readsPath, extents}
 use Rattle.listings.specs.declared.matchings.Matching.{Matching}
 use Rattle.listings.specs.declared.matchings.Matching.the-variants.{Unambiguous}
+use Rattle.volumes.specs.declared.openings.How.{How}
 use Rattle.volumes.specs.declared.openings.VolumeRecord.{VolumeRecord}
 use Rattle.vault.proofs.Orders.{entriesAnswer, listingAnswer, slotted, extents-order, list-order}
 use Rattle.vault.proofs.Refusing.{bytes-only, part-only, list-only, opening-only, label-only, lookup-only, path-only, listing-only}
@@ -43,11 +44,11 @@ abbrev pub Original : Refusal → Type 0
 Original why = number why ≤ 4
 
 module _ (d : Disc) where
-  pub open-original : Within Original (outcome d opening)
-  open-original = refuses-within Original (omega arith) d (opening-only Original (omega arith) (omega arith) (omega arith))
+  pub open-original : (how : How) → Within Original (outcome d (opening how))
+  open-original how = refuses-within Original (omega arith) d (opening-only Original (omega arith) (omega arith) (omega arith) how)
 
-  pub label-original : Within Original (outcome d labelling)
-  label-original = refuses-within Original (omega arith) d (label-only Original (omega arith) (omega arith) (omega arith))
+  pub label-original : (how : How) → Within Original (outcome d (labelling how))
+  label-original how = refuses-within Original (omega arith) d (label-only Original (omega arith) (omega arith) (omega arith) how)
 
   pub read-original : (v : VolumeRecord) (icb : LongAd) → Within Original (outcome d (reading v icb))
   read-original v icb = refuses-within Original (omega arith) d (bytes-only Original (omega arith) (omega arith) (v .mount) icb)
@@ -91,9 +92,10 @@ five room n (answered b) p = by (leb (length b) room)
     by true = refl
     by false = refl
 
-pub label-5 : (image out : List ℕ) → eqb (labels image out .reply .answer) 5 ≡ overfull (length out) (ran (disc image) labelling .outcome)
+pub label-5 : (image : List ℕ) (how : How) (out : List ℕ) → eqb (labels image how out .reply .answer) 5 ≡ overfull (length out) (ran (disc image) (labelling how) .outcome)
 unfolding ran
-label-5 image out = five (length out) _ (outcome (disc image) labelling) (refuses-within ButRoom (λ e. omega arith) (disc image) (label-only ButRoom (λ e. omega arith) (λ e. omega arith) (λ e. omega arith)))
+label-5 image how out =
+    five (length out) _ (outcome (disc image) (labelling how)) (refuses-within ButRoom (λ e. omega arith) (disc image) (label-only ButRoom (λ e. omega arith) (λ e. omega arith) (λ e. omega arith) how))
 
 module _ (image : List ℕ) (v : VolumeRecord) where
   pub read-5 : (icb : LongAd) (out : List ℕ) → eqb (reads image v icb out .reply .answer) 5 ≡ overfull (length out) (ran (disc image) (reading v icb) .outcome)

@@ -10,3 +10,4 @@ pub mod Overflowing
 pub mod Matching
 pub mod Cues
 pub mod Agreeing
+pub mod Prevailing

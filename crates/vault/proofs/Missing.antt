@@ -23,6 +23,7 @@ use Rattle.areas.specs.declared.AllocExtent.{AllocExtent}
 use Rattle.volumes.specs.Openings.{opening, openedBy}
 use Rattle.volumes.specs.Labels.{labelling}
 use Rattle.listings.specs.declared.matchings.Matching.{Matching}
+use Rattle.volumes.specs.declared.openings.How.{How}
 use Rattle.volumes.specs.declared.openings.VolumeRecord.{VolumeRecord}
 use Rattle.vault.specs.Calls.{reading, parting, extentListing, listing, finding, pathReading, opens, labels, reads, lists, readsPath, finds, fails, failsAt, parts, partsAt, extents}
 use Rattle.vault.proofs.Refusing.{bytes-only, part-only, list-only, opening-only, label-only, lookup-only, path-only, listing-only}
@@ -57,15 +58,15 @@ each-io f (refused why) = refl
 -- ---- each call
 
 module _ (image : List ℕ) where
-  pub open-1 : eqb (opens image .answer) 1 ≡ lacking image opening
+  pub open-1 : (how : How) → eqb (opens image how .answer) 1 ≡ lacking image (opening how)
   unfolding ran
-  open-1 = open-answer-1 _ (outcome (disc image) opening) ∙ refused-missing image (opening-only ButIo (λ e. omega arith) (λ e. omega arith) (λ e. omega arith))
+  open-1 how = open-answer-1 _ (outcome (disc image) (opening how)) ∙ refused-missing image (opening-only ButIo (λ e. omega arith) (λ e. omega arith) (λ e. omega arith) how)
 
-  pub label-1 : (out : List ℕ) → eqb (labels image out .reply .answer) 1 ≡ lacking image labelling
+  pub label-1 : (how : How) (out : List ℕ) → eqb (labels image how out .reply .answer) 1 ≡ lacking image (labelling how)
   unfolding ran
-  label-1 out =
-      reply-1 NoRoom (λ e. omega arith) (length out) _ (outcome (disc image) labelling)
-      ∙ refused-missing image (label-only ButIo (λ e. omega arith) (λ e. omega arith) (λ e. omega arith))
+  label-1 how out =
+      reply-1 NoRoom (λ e. omega arith) (length out) _ (outcome (disc image) (labelling how))
+      ∙ refused-missing image (label-only ButIo (λ e. omega arith) (λ e. omega arith) (λ e. omega arith) how)
 
   module _ (v : VolumeRecord) where
     pub read-1 : (icb : LongAd) (out : List ℕ) → eqb (reads image v icb out .reply .answer) 1 ≡ lacking image (reading v icb)

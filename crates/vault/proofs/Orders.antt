@@ -29,6 +29,7 @@ use Rattle.directories.specs.Lookups.{readPathOf}
 use Rattle.directories.proofs.SpaceLaws.{ran-known}
 use Rattle.vault.specs.Calls.{reading, extentListing, listing, finding, pathReading, labels, reads, lists, readsPath, extents}
 use Rattle.listings.specs.declared.matchings.Matching.{Matching}
+use Rattle.volumes.specs.declared.openings.How.{How}
 use Rattle.volumes.specs.declared.openings.VolumeRecord.{VolumeRecord}
 
 -- ---- 5 comes after every other refusal
@@ -46,8 +47,8 @@ room-last room n (answered b) = by (leb (length b) room)
     by true = refl
     by false = refl
 
-pub label-order : (image out : List ℕ) → labels image out .reply .answer ≡ roomed (length out) (ran (disc image) labelling .outcome)
-label-order image out = room-last (length out) _ (ran (disc image) labelling .outcome)
+pub label-order : (image : List ℕ) (how : How) (out : List ℕ) → labels image how out .reply .answer ≡ roomed (length out) (ran (disc image) (labelling how) .outcome)
+label-order image how out = room-last (length out) _ (ran (disc image) (labelling how) .outcome)
 
 pub read-order : (image : List ℕ) (v : VolumeRecord) (icb : LongAd) (out : List ℕ) → reads image v icb out .reply .answer ≡ roomed (length out) (ran (disc image) (reading v icb) .outcome)
 read-order image v icb out = room-last (length out) _ (ran (disc image) (reading v icb) .outcome)

@@ -45,9 +45,10 @@ use Rattle.entries.specs.FileEntries.{readEntry}
 use Rattle.entries.specs.declared.«file_entries».EntryRead.{EntryRead}
 use Rattle.entries.specs.declared.«file_entries».EntryRead.the-variants.{Read, Refused as NoEntry}
 use Rattle.entries.proofs.EntryLaws.{read-entry-refused}
+use Rattle.volumes.specs.declared.openings.How.{How}
 use Rattle.volumes.specs.declared.openings.VolumeRecord.{VolumeRecord}
 use Rattle.volumes.specs.declared.sequences.Kept.{Kept}
-use Rattle.volumes.specs.Sequences.{nothing, Parsed, keptOf, Says, primaryIn, partitionIn, logicalIn, saysIn, goOn, scan}
+use Rattle.volumes.specs.Sequences.{nothing, Parsed, orderOf, keptOf, Says, primaryIn, partitionIn, logicalIn, saysIn, goOn, scan}
 use Rattle.volumes.specs.Sequences.Says.{found, passed, over, fails}
 use Rattle.volumes.specs.Openings.{fileSetIn, volumeIn, mounting, anchored, opening}
 use Rattle.volumes.specs.Labels.{labelOf, labelling}
@@ -232,17 +233,17 @@ module _ (P : Refusal → Type 0) (malformed : P Malformed) (missing : P NotBlur
       by b (answered d) e = done-only tt
       by b (refused r) e = refuse-only (subst P (sym (file-set-refused b e)) malformed)
 
-  pub opening-only : Refuses P Any opening
+  pub opening-only : (how : How) → Refuses P Any (opening how)
   unfolding opening
-  opening-only = ask-only (λ b. by b (readAnchor b) refl)
+  opening-only how = ask-only (λ b. by b (readAnchor b) refl)
     where
-      by : (b : List ℕ) (x : AnchorRead) → x ≡ readAnchor b → Refuses P Any (anchored x)
+      by : (b : List ℕ) (x : AnchorRead) → x ≡ readAnchor b → Refuses P Any (anchored how x)
       by b (NoAnchor r) e = refuse-only (subst P (sym (anchor-refused b e refl)) malformed)
-      by b (AnAnchor a) e = then-only (scan-only _ _) (λ ps q. mounting-only (keptOf nothing ps))
+      by b (AnAnchor a) e = then-only (scan-only _ _) (λ ps q. mounting-only (keptOf (orderOf how) nothing ps))
 
-  pub label-only : Refuses P Any labelling
+  pub label-only : (how : How) → Refuses P Any (labelling how)
   unfolding labelling
-  label-only = then-only opening-only (λ v q. by v (labelOf v) refl)
+  label-only how = then-only (opening-only how) (λ v q. by v (labelOf v) refl)
     where
       by : (v : VolumeRecord) (x : Outcome (List ℕ)) → labelOf v ≡ x → Refuses P Any (ended x)
       by v (answered name) e = done-only tt

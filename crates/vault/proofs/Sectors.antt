@@ -24,6 +24,7 @@ use Rattle.records.specs.declared.allocations.LongAd.{LongAd}
 use Rattle.volumes.specs.Openings.{opening, openedBy, openedOf}
 use Rattle.volumes.specs.Labels.{labelling}
 use Rattle.listings.specs.declared.matchings.Matching.{Matching}
+use Rattle.volumes.specs.declared.openings.How.{How}
 use Rattle.volumes.specs.declared.openings.VolumeRecord.{VolumeRecord}
 use Rattle.files.specs.Files.{fileVisited, visitsIn}
 use Rattle.files.proofs.Promises.{read-bound}
@@ -40,11 +41,11 @@ same : {A R : Type 0} (told : Ran A → R) (call : Ask A) (image other : List �
 same told call image other h = ap told (same-ran call (disc image) (disc other) h)
 
 module _ (image other : List ℕ) where
-  pub open-same : Agree (disc image) (disc other) (asked (disc image) opening) → opens image ≡ opens other
-  open-same h = same openedOf opening image other h
+  pub open-same : (how : How) → Agree (disc image) (disc other) (asked (disc image) (opening how)) → opens image how ≡ opens other how
+  open-same how h = same openedOf (opening how) image other h
 
-  pub label-same : (out : List ℕ) → Agree (disc image) (disc other) (asked (disc image) labelling) → labels image out ≡ labels other out
-  label-same out h = same (written out) labelling image other h
+  pub label-same : (how : How) (out : List ℕ) → Agree (disc image) (disc other) (asked (disc image) (labelling how)) → labels image how out ≡ labels other how out
+  label-same how out h = same (written out) (labelling how) image other h
 
   module _ (v : VolumeRecord) where
     pub read-same : (icb : LongAd) (out : List ℕ) → Agree (disc image) (disc other) (asked (disc image) (reading v icb)) → reads image v icb out ≡ reads other v icb out
@@ -93,12 +94,12 @@ opened-counts (answered v) n = refl
 opened-counts (refused why) n = refl
 
 module _ (image : List ℕ) where
-  pub open-counts : opens image .count ≡ listed image opening
+  pub open-counts : (how : How) → opens image how .count ≡ listed image (opening how)
   unfolding ran
-  open-counts = opened-counts (outcome (disc image) opening) (listed image opening)
+  open-counts how = opened-counts (outcome (disc image) (opening how)) (listed image (opening how))
 
-  pub label-counts : (out : List ℕ) → labels image out .reply .count ≡ listed image labelling
-  label-counts out = written-counts image out labelling
+  pub label-counts : (how : How) (out : List ℕ) → labels image how out .reply .count ≡ listed image (labelling how)
+  label-counts how out = written-counts image out (labelling how)
 
   module _ (v : VolumeRecord) where
     pub read-counts : (icb : LongAd) (out : List ℕ) → reads image v icb out .reply .count ≡ listed image (reading v icb)

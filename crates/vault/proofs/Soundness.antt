@@ -27,6 +27,7 @@ use Rattle.volumes.specs.Openings.{opening, noVolume, openedBy}
 use Rattle.volumes.specs.Labels.{labelling}
 use Rattle.listings.specs.declared.matchings.Matching.{Matching}
 use Rattle.listings.specs.declared.matchings.Matching.the-variants.{Unambiguous}
+use Rattle.volumes.specs.declared.openings.How.{How}
 use Rattle.volumes.specs.declared.openings.VolumeRecord.{VolumeRecord}
 use Rattle.areas.specs.declared.AllocExtent.{AllocExtent}
 use Rattle.files.specs.Files.{Part}
@@ -124,8 +125,8 @@ unfolding ran
 written-sound image out m w = sound-by Listed (omega arith) (omega arith) out _ (outcome (disc image) m) w
 
 module _ (image : List ℕ) (v : VolumeRecord) (icb : LongAd) (path : List ℕ) (matching : Matching) (out work : List ℕ) where
-  pub label-sound : Sound Listed (labels image out .reply .answer) (labels image out .reply .length) out (labels image out .out)
-  label-sound = written-sound image out labelling (widened image (outcome (disc image) labelling) (label-original (disc image)))
+  pub label-sound : (how : How) → Sound Listed (labels image how out .reply .answer) (labels image how out .reply .length) out (labels image how out .out)
+  label-sound how = written-sound image out (labelling how) (widened image (outcome (disc image) (labelling how)) (label-original (disc image) how))
 
   pub read-sound : Sound Listed (reads image v icb out .reply .answer) (reads image v icb out .reply .length) out (reads image v icb out .out)
   read-sound = written-sound image out (reading v icb) (widened image (outcome (disc image) (reading v icb)) (read-original (disc image) v icb))
@@ -153,9 +154,9 @@ module _ (image : List ℕ) (v : VolumeRecord) (icb : LongAd) (path : List ℕ) 
 
 -- ---- calls that give a value: zeros where they are refused
 
-pub open-sound : (image : List ℕ) → (opens image .answer ≤ 7) × ((opens image .answer ≡ 0 → ⊥) → opens image .volume ≡ noVolume)
+pub open-sound : (image : List ℕ) (how : How) → (opens image how .answer ≤ 7) × ((opens image how .answer ≡ 0 → ⊥) → opens image how .volume ≡ noVolume)
 unfolding ran Within
-open-sound image = by (outcome (disc image) opening) _ (open-original (disc image))
+open-sound image how = by (outcome (disc image) (opening how)) _ (open-original (disc image) how)
   where
     by : (o : Outcome VolumeRecord) (n : ℕ) → Within Original o → (openedBy n o .answer ≤ 7) × ((openedBy n o .answer ≡ 0 → ⊥) → openedBy n o .volume ≡ noVolume)
     by (answered v) n w = (omega arith, λ h. absurd (h refl))

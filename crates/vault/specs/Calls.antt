@@ -15,6 +15,7 @@ use Rattle.disc.specs.declared.replies.Reply.{Reply}
 use Rattle.records.specs.declared.allocations.LongAd.{LongAd}
 use Rattle.volumes.specs.Openings.{opening, openedOf}
 use Rattle.volumes.specs.Labels.{labelling}
+use Rattle.volumes.specs.declared.openings.How.{How}
 use Rattle.volumes.specs.declared.openings.VolumeRecord.{VolumeRecord}
 use Rattle.volumes.specs.declared.openings.Opened.{Opened}
 use Rattle.areas.specs.declared.AllocExtent.{AllocExtent}
@@ -48,10 +49,10 @@ finding v work path matching = lookupOf matching (v .mount) work (v .root) path
 abbrev pub pathReading : VolumeRecord → ℕ → List ℕ → Matching → Ask (List ℕ)
 pathReading v work path matching = readPathOf matching (v .mount) work (v .root) path
 
--- ---- opening
+-- ---- opening, as it was chosen
 
-abbrev pub opens : List ℕ → Opened
-opens image = openedOf (ran (disc image) opening)
+abbrev pub opens : List ℕ → How → Opened
+opens image how = openedOf (ran (disc image) (opening how))
 
 -- ---- calls that write bytes over the front of the output: more than it holds are refused by 5, after every other refusal
 
@@ -62,8 +63,8 @@ pub record Written : Type 0 where
 abbrev pub written : List ℕ → Ran (List ℕ) → Written
 written out r = record { reply = replyOf NoRoom (length out) r; out = leftBy out (r .outcome) }
 
-abbrev pub labels : List ℕ → List ℕ → Written
-labels image out = written out (ran (disc image) labelling)
+abbrev pub labels : List ℕ → How → List ℕ → Written
+labels image how out = written out (ran (disc image) (labelling how))
 
 abbrev pub reads : List ℕ → VolumeRecord → LongAd → List ℕ → Written
 reads image v icb out = written out (ran (disc image) (reading v icb))

@@ -14,6 +14,7 @@ use layouts::lists::file_words;
 use layouts::parts::file_part;
 use listings::matchings::Matching;
 use records::allocations::LongAd;
+use volumes::openings::How;
 use volumes::openings::Opened;
 use volumes::openings::VolumeRecord;
 use volumes::openings::open_volume;
@@ -24,10 +25,10 @@ pub struct Volume(pub VolumeRecord);
 
 impl Volume {
     // Opens the volume that an image holds.
-    pub fn open(image: &[u8]) -> Opened
-        ensures { λ r. ⌜ r ≡ opens (now (image .entry)) ⌝ }
+    pub fn open(image: &[u8], how: How) -> Opened
+        ensures { λ r. ⌜ r ≡ opens (now (image .entry)) how ⌝ }
     {
-        open_volume(image)
+        open_volume(image, how)
     }
 
     // The ICB that a path names, by a choice of matching. The work space holds one directory at a time, and is all zero on return.
@@ -147,10 +148,10 @@ impl Volume {
 }
 
 // Opens an image and writes the name in its label, as UTF-8, over the front of out.
-pub fn label(image: &[u8], out: &mut [u8]) -> Reply
-    ensures { λ r. ⌜ record { reply = r; out = now (out .exit) } ≡ labels (now (image .entry)) (now (out .entry)) ⌝ }
+pub fn label(image: &[u8], how: How, out: &mut [u8]) -> Reply
+    ensures { λ r. ⌜ record { reply = r; out = now (out .exit) } ≡ labels (now (image .entry)) how (now (out .entry)) ⌝ }
 {
-    volumes::labels::label(image, out)
+    volumes::labels::label(image, how, out)
 }
 
 // Whether the image has a volume recognition sequence.

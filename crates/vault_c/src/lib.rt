@@ -17,9 +17,14 @@ ghost use mathlib.Core.Path.{_≡_};
 ghost use Rattle.layouts.specs.Calls.{wordsOf};
 ghost use Rattle.listings.specs.Listings.{matchingOf};
 ghost use Rattle.probes.specs.Probes.{probed};
-ghost use Rattle.vault.specs.Calls.{opens, labels, reads, lists, readsPath, finds, failsAt, partsAt, extents};
+ghost use Rattle.vault_c.specs.Choosing.{opensAs, labelsAs};
+ghost use Rattle.vault.specs.Calls.{reads, lists, readsPath, finds, failsAt, partsAt, extents};
+use crate::choices::Chosen;
+use crate::choices::chosen;
 use directories::lookups::Found;
+use disc::answers::UNSUPPORTED;
 use disc::replies::Reply;
+use disc::replies::refusal;
 use listings::matchings::AS_WRITTEN;
 use listings::matchings::CASE_IGNORED;
 use listings::matchings::UNAMBIGUOUS;
@@ -29,6 +34,9 @@ use vault::volume::Volume;
 use vault::volume::label;
 use vault::volume::probe;
 use volumes::openings::Opened;
+use volumes::openings::refused;
+
+mod choices;
 
 // ASCII case is ignored, and the first entry that matches is taken.
 pub const VAULT_CASE_IGNORED: u32 = CASE_IGNORED;
@@ -58,20 +66,27 @@ pub extern "C" fn vault_probe(image: &[u8]) -> bool
     probe(image)
 }
 
-// Opens the volume of an image.
+// Opens the volume of an image. `how` is the sum of the choices, 0 for none of them; any other bit is VAULT_UNSUPPORTED with a count of 0.
+// The volume holds no trace of them: it is what came out.
 #[no_mangle]
-pub extern "C" fn vault_open(image: &[u8]) -> Opened
-    ensures { λ r. ⌜ r ≡ opens (now (image .entry)) ⌝ }
+pub extern "C" fn vault_open(image: &[u8], how: u32) -> Opened
+    ensures { λ r. ⌜ r ≡ opensAs (now (image .entry)) how ⌝ }
 {
-    Volume::open(image)
+    match chosen(how) {
+        Chosen::Unknown => refused(UNSUPPORTED, 0),
+        Chosen::Known(choices) => Volume::open(image, choices),
+    }
 }
 
-// Opens an image and writes its label to `out`, as UTF-8 with no zero behind it; `length` is the label's.
+// Opens an image, as vault_open does, and writes its label to `out`, as UTF-8 with no zero behind it; `length` is the label's.
 #[no_mangle]
-pub extern "C" fn vault_label(image: &[u8], out: &mut [u8]) -> Reply
-    ensures { λ r. ⌜ record { reply = r; out = now (out .exit) } ≡ labels (now (image .entry)) (now (out .entry)) ⌝ }
+pub extern "C" fn vault_label(image: &[u8], how: u32, out: &mut [u8]) -> Reply
+    ensures { λ r. ⌜ record { reply = r; out = now (out .exit) } ≡ labelsAs (now (image .entry)) how (now (out .entry)) ⌝ }
 {
-    label(image, out)
+    match chosen(how) {
+        Chosen::Unknown => refusal(UNSUPPORTED, 0),
+        Chosen::Known(choices) => label(image, choices, out),
+    }
 }
 
 // The ICB that a path names. Components stand between slashes, and empty ones are dropped; the empty path names the root. `matching` says how

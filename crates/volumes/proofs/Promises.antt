@@ -1,36 +1,46 @@
 -- What is promised of the calls on an image, beside their contracts: a contract leaves one result, how many sectors are asked for, and
 -- that nothing but those decides. Assumes nothing.
 use mathlib.Core.Path.{_≡_, refl, ap, sym, _∙_}
+use mathlib.Core.Bool.{Bool, true, false}
+use mathlib.Core.Option.{Option, none, some}
 use mathlib.Core.List.{List, [], _∷_, _++_, append-nil}
-use Prim.Native.Nat.{ℕ, _+_, _/_, _≤_}
+use Prim.Native.Nat.{ℕ, _+_, _/_, _<_, _≤_}
 use native.Mathlib.Omega.{arith}
 use lib.ListN.{length}
+use lib.Dec.{eqb}
+use Rattle.disc.specs.Choice.{pick}
 use Rattle.disc.specs.Counts.{reported}
-use Rattle.disc.specs.Ask.{Held, Disc, Ask, Outcome, outcome, asked, then, ended, Agree}
+use Rattle.disc.specs.Ask.{Held, Disc, Ask, Outcome, outcome, asked, then, given, ended, Agree}
 use Rattle.disc.specs.Ask.Ask.{refuse, ask}
 use Rattle.disc.specs.Ask.Held.{holds, lacks}
 use Rattle.disc.specs.Ask.Outcome.{answered, refused}
 use Rattle.disc.specs.Images.{disc}
-use Rattle.disc.specs.Ran.{Ran, ran, followed}
+use Rattle.disc.specs.Ran.{Ran, ran, onward, followed}
+use Rattle.disc.specs.Places.{standing}
 use Rattle.disc.specs.Replies.{Replied}
 use Rattle.disc.specs.declared.refusals.Refusal.{Refusal}
-use Rattle.disc.specs.declared.refusals.Refusal.the-variants.{NoRoom}
+use Rattle.disc.specs.declared.refusals.Refusal.the-variants.{Io, NotBluray, Unsupported, NoRoom}
 use Rattle.disc.specs.declared.replies.Reply.{Reply}
 use Rattle.disc.proofs.AskLaws.{askedBehind, asked-then}
 use Rattle.disc.proofs.RanLaws.{ran-missing, ran-then, same-ran}
 use Rattle.disc.proofs.ReplyLaws.{replied-one, same-replied}
 use Rattle.descriptors.specs.Volumes.{readAnchor}
+use Rattle.descriptors.specs.FileSets.{readFileSet}
+use Rattle.descriptors.specs.declared.file_sets.FileSetDescriptor.{FileSetDescriptor}
 use Rattle.descriptors.specs.declared.anchors.AnchorRead.{AnchorRead}
 use Rattle.descriptors.specs.declared.anchors.AnchorRead.the-variants.{Read as AnAnchor, Refused as NoAnchor}
-use Rattle.volumes.specs.Sequences.{nothing, Parsed, orderOf, keptOf, scan}
-use Rattle.volumes.specs.Openings.{noVolume, mounting, anchored, opening, openedBy, openedOf}
+use Rattle.volumes.specs.Sequences.{nothing, Parsed, highest, orderOf, keptOf, scan}
+use Rattle.volumes.specs.Openings.{noVolume, mountIn, fileSetIn, volumeIn, mounting, anchored, opening, openedBy, openedOf}
 use Rattle.volumes.specs.Labels.{labelOf, labelling}
+use Rattle.volumes.specs.inner.Steps.{fileSetAt}
+use Rattle.volumes.specs.declared.sequences.Kept.{Kept}
 use Rattle.volumes.specs.declared.openings.VolumeRecord.{VolumeRecord}
 use Rattle.volumes.specs.declared.openings.Opened.{Opened}
 use Rattle.volumes.specs.declared.openings.How.{How}
 use Rattle.volumes.proofs.OpeningLaws.{ask-count, mainLengthIn, anchored-count}
 use Rattle.volumes.proofs.NamedLaws.{refused-before, opening-named}
-use Rattle.volumes.proofs.Prevailing.{Rising, rising-order}
+use Rattle.volumes.proofs.Prevailing.{Kind, hasOf, Prevails, highest-prevails, Rising, rising-order}
+use Rattle.volumes.proofs.Prevailing.Kind.{primaries, partitions, logicals}
 
 -- ---- a contract leaves one result
 
@@ -179,3 +189,66 @@ module _ (d : Disc) {ps : List Parsed} (e : outcome d sequence ≡ answered ps) 
   pub rising-label : ran d (labelling how) ≡ ran d (labelling how′)
   unfolding labelling
   rising-label = ran-then d (opening how) (λ v. ended (labelOf v)) ∙ rising-labels ∙ sym (ran-then d (opening how′) (λ v. ended (labelOf v)))
+
+-- ---- what an opened volume is made of
+
+-- of what was kept, there being one of each kind
+pub record Mounted (k : Kept) (v : VolumeRecord) : Type 0 where
+  pub has : (kind : Kind) → hasOf kind k ≡ true
+  pub mounted : v .mount ≡ mountIn k
+  pub labelled : v .label ≡ k .label
+
+-- behind the checks of what was kept: where the file set descriptor stands, its sector, and its parse
+module _ (d : Disc) (k : Kept) {v : VolumeRecord} (all : (kind : Kind) → hasOf kind k ≡ true) where
+  made-of : (x : Outcome FileSetDescriptor) → outcome d (ended (volumeIn k x)) ≡ answered v → Mounted k v
+  unfolding outcome
+  made-of (answered f) e =
+      let w : record { mount = mountIn k; root = f .«root_directory_icb»; label = k .label } ≡ v = cc in
+      record { has = all; mounted = sym (ap (λ (x : VolumeRecord). x .mount) w); labelled = sym (ap (λ (x : VolumeRecord). x .label) w) }
+  made-of (refused why) e = absurd (let z : _≡_ {A = ℕ} 0 1 = cc in omega arith)
+
+  made-in : (x : Held) → given x (λ b. outcome d (ended (volumeIn k (readFileSet b)))) (refused Io) ≡ answered v → Mounted k v
+  made-in (holds b) e = made-of (readFileSet b) e
+  made-in lacks e = absurd (let z : _≡_ {A = ℕ} 0 1 = cc in omega arith)
+
+  made-at : (o : Option ℕ) → outcome d (standing o (fileSetAt k)) ≡ answered v → Mounted k v
+  unfolding outcome
+  made-at none e = absurd (let z : _≡_ {A = ℕ} 0 1 = cc in omega arith)
+  made-at (some s) e = made-in (d s) e
+
+mounting-made : (d : Disc) (k : Kept) {v : VolumeRecord} → outcome d (mounting k) ≡ answered v → Mounted k v
+unfolding mounting outcome
+mounting-made d k {v} = by (k .«has_primary») (k .«has_partition») (k .«has_logical») (eqb (k .«block_size») 2048) refl refl refl
+  where
+    all : k .«has_primary» ≡ true → k .«has_partition» ≡ true → k .«has_logical» ≡ true → (kind : Kind) → hasOf kind k ≡ true
+    all p q r primaries = p
+    all p q r partitions = q
+    all p q r logicals = r
+
+    by : (t u w x : Bool) → k .«has_primary» ≡ t → k .«has_partition» ≡ u → k .«has_logical» ≡ w
+        → outcome d (pick t (pick u (pick w (pick x (standing (fileSetIn k) (fileSetAt k)) (refuse Unsupported)) (refuse NotBluray)) (refuse NotBluray)) (refuse NotBluray)) ≡ answered v
+        → Mounted k v
+    by true true true true p q r e = made-at d k (all p q r) (fileSetIn k) e
+    by true true true false p q r e = absurd (let z : _≡_ {A = ℕ} 0 1 = cc in omega arith)
+    by true true false x p q r e = absurd (let z : _≡_ {A = ℕ} 0 1 = cc in omega arith)
+    by true false w x p q r e = absurd (let z : _≡_ {A = ℕ} 0 1 = cc in omega arith)
+    by false u w x p q r e = absurd (let z : _≡_ {A = ℕ} 0 1 = cc in omega arith)
+
+-- of a list of descriptors, by the order that was chosen
+pub record Made (d : Disc) (how : How) (v : VolumeRecord) : Type 0 where
+  pub parsed : List Parsed
+  pub scanned : outcome d sequence ≡ answered parsed
+  pub made : Mounted (keptOf (orderOf how) nothing parsed) v
+
+pub opened-made : (d : Disc) (how : How) {v : VolumeRecord} → outcome d (opening how) ≡ answered v → Made d how v
+unfolding ran
+opened-made d how {v} e = by (outcome d sequence) refl (sym (ap (λ (r : Ran VolumeRecord). r .outcome) (opening-runs d how)) ∙ e)
+  where
+    by : (x : Outcome (List Parsed)) → outcome d sequence ≡ x → onward x (length (asked d sequence)) (λ ps. ran d (chosen how ps)) .outcome ≡ answered v → Made d how v
+    by (answered ps) s h = record { parsed = ps; scanned = s; made = mounting-made d (keptOf (orderOf how) nothing ps) h }
+    by (refused why) s h = absurd (let z : _≡_ {A = ℕ} 0 1 = cc in omega arith)
+
+-- so the volume that is opened by the highest numbers has its label and its partition of the descriptors that prevail by them
+pub highest-opened : (d : Disc) {v : VolumeRecord} (m : Made d (record { highest = true }) v) (kind : Kind)
+    → Prevails (λ n o. n ≤ o) (λ n o. n < o) kind (m .parsed) (keptOf highest nothing (m .parsed))
+highest-opened d m kind = highest-prevails kind (m .parsed) (m .made .has kind)

@@ -66,7 +66,8 @@ fn no_volume() -> VolumeRecord
     }
 }
 
-fn refused(answer: u64, count: u64) -> Opened
+// An opening that was refused.
+pub fn refused(answer: u64, count: u64) -> Opened
     ensures { λ r. ⌜ r ≡ record { answer = answer; count = count; volume = noVolume } ⌝ }
 {
     Opened {

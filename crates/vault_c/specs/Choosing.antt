@@ -1,0 +1,44 @@
+-- The choices on opening as one number, a bit to a choice: RULES 5.18.
+use Prim.Native.Nat.{ℕ, _/_, _%_}
+use mathlib.Core.Bool.{Bool}
+use mathlib.Core.Option.{Option, none, some}
+use mathlib.Core.List.{List}
+use lib.Dec.{eqb}
+use Rattle.disc.specs.Choice.{pick}
+use Rattle.volumes.specs.Openings.{noVolume}
+use Rattle.volumes.specs.declared.openings.How.{How}
+use Rattle.volumes.specs.declared.openings.Opened.{Opened}
+use Rattle.vault.specs.Calls.{opens, Written, labels}
+use Rattle.vault_c.specs.declared.choices.Chosen.{Chosen}
+use Rattle.vault_c.specs.declared.choices.Chosen.the-variants.{Known, Unknown}
+
+-- 4 chooses the highest number; the bits 1 and 2, and those from 8 on, are of no choice
+abbrev pub howOf : ℕ → Option How
+howOf n =
+    pick (eqb (n / 8) 0)
+    (pick (eqb (n % 4) 0)
+    (some (record { highest = eqb (n / 4) 1 }))
+    none)
+    none
+
+-- ---- the calls: a number with a bit of no choice is refused by 4, and nothing is asked for
+
+abbrev pub opensBy : List ℕ → Option How → Opened
+opensBy image (some how) = opens image how
+opensBy image none = record { answer = 4; count = 0; volume = noVolume }
+
+abbrev pub opensAs : List ℕ → ℕ → Opened
+opensAs image n = opensBy image (howOf n)
+
+abbrev pub labelsBy : List ℕ → Option How → List ℕ → Written
+labelsBy image (some how) out = labels image how out
+labelsBy image none out = record { reply = record { answer = 4; count = 0; length = 0 }; out = out }
+
+abbrev pub labelsAs : List ℕ → ℕ → List ℕ → Written
+labelsAs image n out = labelsBy image (howOf n) out
+
+-- ---- as the code reports it
+
+abbrev pub chosenOf : Option How → Chosen
+chosenOf (some how) = Known how
+chosenOf none = Unknown
