@@ -52,6 +52,12 @@ enum {
     VAULT_VERSION = 2, /* Goes up whenever a struct or a call changes. */
 };
 
+enum {
+    /* A choice for `how`: of several primary volume, partition or logical volume descriptors the one with the
+     * highest volume descriptor sequence number counts, the later of equals. Without it the last one does. */
+    VAULT_HIGHEST = 4,
+};
+
 /* How a volume is read: where its partition starts, and the partition's number. */
 typedef struct {
     uint32_t start; /* The sector in which the partition starts. */
@@ -115,11 +121,13 @@ uint32_t vault_version(void);
 /* Whether the image has a volume recognition sequence. Opening doesn't depend on it. */
 bool vault_probe(const uint8_t *image, size_t image_length);
 
-/* Opens the volume of an image. */
-vault_opened vault_open(const uint8_t *image, size_t image_length);
+/* Opens the volume of an image. `how` is the sum of the choices, 0 for none of them; any other bit is
+ * VAULT_UNSUPPORTED with a count of 0. The volume holds no trace of them: it is what came out. */
+vault_opened vault_open(const uint8_t *image, size_t image_length, uint32_t how);
 
-/* Opens an image and writes its label to `out`, as UTF-8 with no zero behind it; `length` is the label's. */
-vault_reply vault_label(const uint8_t *image, size_t image_length, uint8_t *out, size_t out_length);
+/* Opens an image, as vault_open does, and writes its label to `out`, as UTF-8 with no zero behind it; `length` is
+ * the label's. */
+vault_reply vault_label(const uint8_t *image, size_t image_length, uint32_t how, uint8_t *out, size_t out_length);
 
 /* The ICB that a path names. Components stand between slashes, and empty ones are dropped; the empty path names the
  * root. `matching` says how a component is matched with the names of a directory's entries that are neither deleted

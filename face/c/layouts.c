@@ -31,6 +31,7 @@ HOLDS(VAULT_CASE_IGNORED == 0);
 HOLDS(VAULT_AS_WRITTEN == 1);
 HOLDS(VAULT_UNAMBIGUOUS == 2);
 HOLDS(VAULT_VERSION == 2);
+HOLDS(VAULT_HIGHEST == 4);
 
 HOLDS(sizeof(vault_mount) == 8 && ALIGN(vault_mount) == 4);
 FIELD(vault_mount, start, 0, 4, uint32_t *);

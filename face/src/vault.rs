@@ -47,6 +47,10 @@ pub const UNAMBIGUOUS: u32 = 2;
 /// Goes up whenever a struct or a call changes.
 pub const VERSION: u32 = 2;
 
+/// A choice for `how`: of several primary volume, partition or logical volume descriptors the one with the highest
+/// volume descriptor sequence number counts, the later of equals. Without it the last one does.
+pub const HIGHEST: u32 = 4;
+
 structs! {
     /// How a volume is read: where its partition starts, and the partition's number.
     vault_mount as Mount, 8 aligned to 4 {
@@ -136,11 +140,13 @@ unsafe extern "C" {
     /// Whether the image has a volume recognition sequence. Opening doesn't depend on it.
     pub fn vault_probe(image: *const u8, image_length: usize) -> bool;
 
-    /// Opens the volume of an image.
-    pub fn vault_open(image: *const u8, image_length: usize) -> Opened;
+    /// Opens the volume of an image. `how` is the sum of the choices, 0 for none of them; any other bit is
+    /// VAULT_UNSUPPORTED with a count of 0. The volume holds no trace of them: it is what came out.
+    pub fn vault_open(image: *const u8, image_length: usize, how: u32) -> Opened;
 
-    /// Opens an image and writes its label to `out`, as UTF-8 with no zero behind it; `length` is the label's.
-    pub fn vault_label(image: *const u8, image_length: usize, out: *mut u8, out_length: usize) -> Reply;
+    /// Opens an image, as vault_open does, and writes its label to `out`, as UTF-8 with no zero behind it; `length` is
+    /// the label's.
+    pub fn vault_label(image: *const u8, image_length: usize, how: u32, out: *mut u8, out_length: usize) -> Reply;
 
     /// The ICB that a path names. Components stand between slashes, and empty ones are dropped; the empty path names
     /// the root. `matching` says how a component is matched with the names of a directory's entries that are neither

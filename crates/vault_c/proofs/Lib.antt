@@ -1,2 +1,3 @@
--- Laws of the calls for C.
+-- Laws of the choices as numbers, and what is promised of them.
 pub mod ChoiceLaws
+pub mod MatchingLaws

@@ -9,8 +9,8 @@ use Rattle.volumes.specs.Openings.{noVolume}
 use Rattle.volumes.specs.declared.openings.How.{How}
 use Rattle.volumes.specs.declared.openings.Opened.{Opened}
 use Rattle.vault.specs.Calls.{opens, Written, labels}
-use Rattle.vault_c.specs.declared.choices.Chosen.{Chosen}
-use Rattle.vault_c.specs.declared.choices.Chosen.the-variants.{Known, Unknown}
+use Rattle.vault_c.specs.declared.choices.Choice.{Choice}
+use Rattle.vault_c.specs.declared.choices.Choice.the-variants.{Known, Unknown}
 
 -- 4 chooses the highest number; the bits 1 and 2, and those from 8 on, are of no choice
 abbrev pub howOf : ℕ → Option How
@@ -39,6 +39,6 @@ labelsAs image n out = labelsBy image (howOf n) out
 
 -- ---- as the code reports it
 
-abbrev pub chosenOf : Option How → Chosen
-chosenOf (some how) = Known how
-chosenOf none = Unknown
+abbrev pub choiceOf : Option How → Choice
+choiceOf (some how) = Known how
+choiceOf none = Unknown

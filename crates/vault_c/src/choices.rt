@@ -1,6 +1,6 @@
 // The choices on opening as one number.
 ghost use mathlib.Core.Path.{_≡_};
-ghost use Rattle.vault_c.specs.Choosing.{howOf, chosenOf};
+ghost use Rattle.vault_c.specs.Choosing.{howOf, choiceOf};
 use volumes::openings::How;
 
 // A choice for `how`: of several primary volume, partition or logical volume descriptors the one with the highest volume descriptor
@@ -8,21 +8,21 @@ use volumes::openings::How;
 pub const HIGHEST: u32 = 4;
 
 // The choices, or that a bit is of none.
-pub(crate) enum Chosen {
+pub(crate) enum Choice {
     Known(How),
     Unknown,
 }
 
-pub(crate) fn chosen(how: u32) -> Chosen
-    ensures { λ r. ⌜ r ≡ chosenOf (howOf how) ⌝ }
+pub(crate) fn chosen(how: u32) -> Choice
+    ensures { λ r. ⌜ r ≡ choiceOf (howOf how) ⌝ }
 {
     if how / 8 != 0 {
-        return Chosen::Unknown;
+        return Choice::Unknown;
     }
     if how % HIGHEST != 0 {
-        return Chosen::Unknown;
+        return Choice::Unknown;
     }
-    Chosen::Known(How {
+    Choice::Known(How {
         highest: how / HIGHEST == 1,
     })
 }

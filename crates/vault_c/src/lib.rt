@@ -19,7 +19,7 @@ ghost use Rattle.listings.specs.Listings.{matchingOf};
 ghost use Rattle.probes.specs.Probes.{probed};
 ghost use Rattle.vault_c.specs.Choosing.{opensAs, labelsAs};
 ghost use Rattle.vault.specs.Calls.{reads, lists, readsPath, finds, failsAt, partsAt, extents};
-use crate::choices::Chosen;
+use crate::choices::Choice;
 use crate::choices::chosen;
 use directories::lookups::Found;
 use disc::answers::UNSUPPORTED;
@@ -73,8 +73,8 @@ pub extern "C" fn vault_open(image: &[u8], how: u32) -> Opened
     ensures { λ r. ⌜ r ≡ opensAs (now (image .entry)) how ⌝ }
 {
     match chosen(how) {
-        Chosen::Unknown => refused(UNSUPPORTED, 0),
-        Chosen::Known(choices) => Volume::open(image, choices),
+        Choice::Unknown => refused(UNSUPPORTED, 0),
+        Choice::Known(choices) => Volume::open(image, choices),
     }
 }
 
@@ -84,8 +84,8 @@ pub extern "C" fn vault_label(image: &[u8], how: u32, out: &mut [u8]) -> Reply
     ensures { λ r. ⌜ record { reply = r; out = now (out .exit) } ≡ labelsAs (now (image .entry)) how (now (out .entry)) ⌝ }
 {
     match chosen(how) {
-        Chosen::Unknown => refusal(UNSUPPORTED, 0),
-        Chosen::Known(choices) => label(image, choices, out),
+        Choice::Unknown => refusal(UNSUPPORTED, 0),
+        Choice::Known(choices) => label(image, choices, out),
     }
 }
 

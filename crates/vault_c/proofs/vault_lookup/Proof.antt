@@ -1,6 +1,6 @@
 -- `vault_c::vault_lookup` meets its contract: the lookup by the choice that has the number. Assumes nothing.
 use borrow.Author.Needs.{needs}
-use Rattle.vault_c.proofs.ChoiceLaws.{found-by}
+use Rattle.vault_c.proofs.MatchingLaws.{found-by}
 use Rattle.vault_c.proofs.vault_lookup.Statement.{statement}
 use Rattle.vault_c.proofs.vault_lookup.Tie as tie
 

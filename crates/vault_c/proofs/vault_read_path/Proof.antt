@@ -1,6 +1,6 @@
 -- `vault_c::vault_read_path` meets its contract: the read by the choice that has the number. Assumes nothing.
 use borrow.Author.Needs.{needs}
-use Rattle.vault_c.proofs.ChoiceLaws.{read-by}
+use Rattle.vault_c.proofs.MatchingLaws.{read-by}
 use Rattle.vault_c.proofs.vault_read_path.Statement.{statement}
 use Rattle.vault_c.proofs.vault_read_path.Tie as tie
 
