@@ -114,7 +114,7 @@ def of_vault_cases():
 def of_volume_cases():
     """The root of each volume, which the stored output has too."""
     cases, text = stored("volume_cases")
-    form = r"^start (\d+) partition (\d+)\nroot (\d+) type (\d) block (\d+) partition (\d+) use((?: [0-9a-f]{2}){6})$"
+    form = r"^opened.*\nstart (\d+) partition (\d+)\nroot (\d+) type (\d) block (\d+) partition (\d+) use((?: [0-9a-f]{2}){6})$"
     volumes = iter(re.findall(form, text, re.M))
     while cases.left():
         name, packed, held = cases.sized(2), cases.sized(4), next(volumes)

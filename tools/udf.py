@@ -60,7 +60,7 @@ def ext_ad(length, block, kind=RECORDED, partition=PARTITION, recorded=None, inf
 DESCRIPTOR = [short_ad, long_ad, ext_ad]  # By the kind of the area.
 
 
-# ---- descriptors of a volume; a ruined one has a wrong checksum
+# ---- descriptors of a volume; a ruined one has a wrong checksum, and `sequence` is the volume descriptor sequence number
 
 
 def field(text, size):
@@ -72,19 +72,19 @@ def anchor(sector=ANCHOR, identifier=2, location=MAIN, length=16 * SECTOR, ruine
     return filled(SECTOR, (0, tag(identifier, sector, wrong=ruined)), (16, struct.pack("<IIII", length, location, length, 64)))
 
 
-def primary(sector, label=b"\x08VOLUME", ruined=False, raw=None):
-    return filled(SECTOR, (0, tag(1, sector, wrong=ruined)), (16, struct.pack("<II", 1, 0)), (24, raw or field(label, 32)))
+def primary(sector, label=b"\x08VOLUME", ruined=False, raw=None, sequence=1):
+    return filled(SECTOR, (0, tag(1, sector, wrong=ruined)), (16, struct.pack("<II", sequence, 0)), (24, raw or field(label, 32)))
 
 
-def partition(sector, number=0, start=START, ruined=False):
-    return filled(SECTOR, (0, tag(5, sector, wrong=ruined)), (16, struct.pack("<IHH", 2, 1, number)), (188, struct.pack("<II", start, 32)))
+def partition(sector, number=0, start=START, ruined=False, sequence=2):
+    return filled(SECTOR, (0, tag(5, sector, wrong=ruined)), (16, struct.pack("<IHH", sequence, 1, number)), (188, struct.pack("<II", start, 32)))
 
 
-def logical(sector, number=0, block=BLOCK, size=SECTOR, label=b"\x08LOGICAL", ruined=False):
+def logical(sector, number=0, block=BLOCK, size=SECTOR, label=b"\x08LOGICAL", ruined=False, sequence=3):
     return filled(
         SECTOR,
         (0, tag(6, sector, wrong=ruined)),
-        (16, struct.pack("<I", 3)),
+        (16, struct.pack("<I", sequence)),
         (84, field(label, 128)),
         (212, struct.pack("<I", size)),
         (248, long_ad(SECTOR, block, partition=number, use=b"")),

@@ -54,6 +54,33 @@ def labelled(label):
     return image(sequence=instead(0, made(primary, label=label)))
 
 
+# Several descriptors of one kind, told apart by what they say: the first, the second, the third.
+LABELS = [b"\x08ONE", b"\x08TWO", b"\x08THREE"]
+STARTS = [START, START + 4, START + 8]  # There is a file set descriptor in block 2 of each.
+BLOCKS = [BLOCK, BLOCK + 4, BLOCK + 8]  # The same sectors, of the first partition.
+LAST = 0xFFFFFFFF
+
+
+def several(numbers, kinds="pdl"):
+    """A sequence with as many descriptors of each kind as there are numbers, which are their sequence numbers; one of each kind not named."""
+    makers = {
+        "p": [made(primary, label=label, sequence=n) for label, n in zip(LABELS, numbers)],
+        "d": [made(partition, start=start, sequence=n) for start, n in zip(STARTS, numbers)],
+        "l": [made(logical, block=block, sequence=n) for block, n in zip(BLOCKS, numbers)],
+    }
+    alone = {"p": primary, "d": partition, "l": logical}
+    return [make for kind in "pdl" for make in (makers[kind] if kind in kinds else [alone[kind]])]
+
+
+def placed(sequence):
+    """An image with that sequence, and a file set descriptor wherever one of those partitions and blocks can place it; each has its own root."""
+    held, length = image(sequence=sequence + [TERMINATOR])
+    for k in range(5):
+        sector = START + BLOCK + 4 * k
+        held[sector] = file_set(sector, root=long_ad(SECTOR, 10 + k, partition=0))
+    return held, length
+
+
 CASES = {
     "good": image(),
     # each refusal in turn
@@ -93,6 +120,51 @@ CASES = {
     "two_logicals": image(sequence=[primary, partition, made(logical, size=512), logical, TERMINATOR]),
     "later_primary_ruined": image(sequence=[primary, made(primary, ruined=True), partition, logical, TERMINATOR]),
     "partition_number_7": image(sequence=[primary, made(partition, number=7), made(logical, number=7), TERMINATOR]),
+    # which counts by the highest number
+    **{
+        f"{name}_{what}": placed(several(numbers, kinds))
+        for name, kinds in (("primaries", "p"), ("partitions", "d"), ("logicals", "l"), ("all", "pdl"))
+        for what, numbers in (
+            ("rising", [4, 5]),
+            ("falling", [5, 4]),
+            ("equal", [4, 4]),
+            ("from_zero", [0, LAST]),
+            ("to_zero", [LAST, 0]),
+            ("all_zero", [0, 0]),
+            ("of_three_rising", [4, 5, 6]),
+            ("of_three_falling", [6, 5, 4]),
+            ("of_three_first", [6, 4, 5]),
+            ("of_three_middle", [4, 6, 5]),
+            ("of_three_first_two_equal", [6, 6, 5]),
+            ("of_three_outer_equal", [6, 5, 6]),
+            ("of_three_last_numbers", [LAST, LAST - 1, LAST]),
+        )
+    },
+    # in 32 bits, and not by one byte of them
+    "high_byte_decides": placed(several([0x01000000, 0x00FFFFFF])),
+    "low_byte_decides": placed(several([0xFFFFFF01, 0xFFFFFF00])),
+    # the numbers of one kind say nothing of another's
+    "numbers_across_kinds": placed(
+        [made(primary, sequence=9), made(partition, sequence=5), made(partition, start=STARTS[1], sequence=4), made(logical, sequence=1), made(logical, block=BLOCKS[1], sequence=0)]
+    ),
+    "one_of_each_with_falling_numbers": placed([made(primary, sequence=3), made(partition, sequence=2), made(logical, sequence=1)]),
+    "kinds_between_each_other": placed([m for trio in zip(*[several([6, 5, 6], "pdl")[3 * k : 3 * k + 3] for k in range(3)]) for m in trio]),
+    # of partitions of two numbers too: the one that counts is not the one that the file set names
+    "highest_of_another_partition": placed([primary, made(partition, number=7, sequence=9), made(partition, sequence=8), logical]),
+    "highest_block_size": placed([primary, partition, made(logical, sequence=5, size=512), made(logical, sequence=4)]),
+    "lower_block_size": placed([primary, partition, made(logical, sequence=5), made(logical, sequence=4, size=512)]),
+    "highest_file_set_missing": image(sequence=[primary, made(partition, start=4096, sequence=9), made(partition, sequence=8), logical, TERMINATOR]),
+    # a bad one refuses, wherever it stands and whatever its number is
+    "lower_primary_ruined": placed([made(primary, sequence=5), made(primary, sequence=4, ruined=True), partition, logical]),
+    "higher_partition_ruined": placed([primary, partition, made(partition, sequence=9, ruined=True), logical]),
+    "lower_partition_ruined": placed([primary, made(partition, sequence=1, ruined=True), partition, logical]),
+    "lower_logical_label_of_id_9": placed([primary, partition, logical, made(logical, sequence=1, label=b"\x09LOGICAL")]),
+    "higher_primary_label_of_id_9": placed([made(primary, sequence=9, label=b"\x09VOLUME"), primary, partition, logical]),
+    # one behind the terminator, or behind the sequence, isn't seen
+    "higher_behind_the_terminator": placed(several([5, 4]) + [TERMINATOR] + several([9, 9])),
+    "higher_behind_the_sequence": image(sequence=GOOD[:3] + [made(primary, label=LABELS[1], sequence=9)], anchored=made(anchor, length=3 * SECTOR)),
+    # a number that is no descriptor's of the three kinds
+    "higher_of_ids_skipped": placed([primary, other(4), other(7), made(primary, label=LABELS[1], sequence=0), partition, logical]),
     # the end of the sequence
     "terminator_first": image(sequence=[TERMINATOR] + GOOD),
     "terminator_with_a_ruined_tag": image(sequence=GOOD[:3] + [made(TERMINATOR, ruined=True)]),

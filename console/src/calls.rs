@@ -67,17 +67,18 @@ pub fn probe(image: &[u8]) -> bool {
     unsafe { vault_probe(image.as_ptr(), image.len()) }
 }
 
-pub fn open(image: &[u8]) -> Result<Volume> {
+/// `how` is the sum of the choices.
+pub fn open(image: &[u8], how: u32) -> Result<Volume> {
     see_version();
     // SAFETY: the head of this module; nothing is lent for writing.
-    let opened = unsafe { vault_open(image.as_ptr(), image.len()) };
+    let opened = unsafe { vault_open(image.as_ptr(), image.len(), how) };
     answered(opened.answer, opened.count, opened.volume)
 }
 
-pub fn label(image: &[u8], out: &mut Vec<u8>) -> Result<()> {
+pub fn label(image: &[u8], how: u32, out: &mut Vec<u8>) -> Result<()> {
     see_version();
     // SAFETY: the head of this module; `room` bytes from `to` on are `out`'s own.
-    filled(out, |to, room| unsafe { vault_label(image.as_ptr(), image.len(), to, room) })
+    filled(out, |to, room| unsafe { vault_label(image.as_ptr(), image.len(), how, to, room) })
 }
 
 pub fn lookup(volume: Volume, image: &[u8], path: &[u8], matching: Matching, work: &mut Vec<u8>) -> Result<LongAd> {

@@ -40,9 +40,11 @@ compile_error!("the archive is x86-64 code for Linux");
 
 mod answer;
 mod calls;
+mod how;
 mod matching;
 mod records;
 mod room;
+mod sequence;
 mod vault;
 
 #[cfg(test)]
@@ -52,9 +54,11 @@ mod input;
 mod replays;
 
 pub use answer::{Answer, Refusal, Refused, Result};
+pub use how::How;
 pub use matching::Matching;
 pub use records::{AllocExtent, DirEntry, LbAddr, LongAd};
-pub use vault::{SECTOR_SIZE, Vault, probe_vrs, read_volume_label};
+pub use sequence::{Kind, VolumeDescriptor, volume_descriptors};
+pub use vault::{SECTOR_SIZE, Vault, probe_vrs, read_volume_label, read_volume_label_as};
 
 /// The code in README.md is compiled with the tests.
 #[cfg(doctest)]

@@ -84,8 +84,8 @@ fn ask(call: u8, v: Volume, image: &[u8], q: &Lends) -> String {
     let written = |out: &[u8]| (out.len() as u64, sum_lent(out, q.room));
     match call {
         0 => format!("probe {} 0 0 0", u8::from(calls::probe(image))),
-        1 => line("open", &calls::open(image), 0, |v| (sum_mount(v.mount), sum_icb(LongAd::of_c(v.root)))),
-        2 => line("label", &calls::label(image, &mut out), as_it_came, |()| written(&out)),
+        1 => line("open", &calls::open(image, 0), 0, |v| (sum_mount(v.mount), sum_icb(LongAd::of_c(v.root)))),
+        2 => line("label", &calls::label(image, 0, &mut out), as_it_came, |()| written(&out)),
         3 => line("lookup", &calls::lookup(v, image, q.path, Matching::CaseIgnored, &mut work), 0, |icb| (0, sum_icb(*icb))),
         4 => failed(&calls::failed(v, image, q.path, Matching::CaseIgnored, &mut work)),
         5 => line("list", &calls::list(v, image, q.icb, &mut out, &mut work), as_it_came, |()| written(&out)),
@@ -218,7 +218,7 @@ fn the_choices_of_the_gate() {
     while !all.0.is_empty() {
         assert_eq!(expected.next().unwrap().as_bytes(), [b"image ", all.sized(2)].concat());
         let image = all.image();
-        let opened = calls::open(&image).unwrap();
+        let opened = calls::open(&image, 0).unwrap();
         assert_eq!(expected.next().unwrap(), format!("open 0 count {}", opened.sectors));
         let mut queries = Input(all.sized(4));
         while !queries.0.is_empty() {

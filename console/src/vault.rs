@@ -2,6 +2,7 @@
 
 use crate::answer::{Answer, Refusal, Refused, Result};
 use crate::calls;
+use crate::how::How;
 use crate::matching::Matching;
 use crate::records::{AllocExtent, DirEntry, LongAd, entries, text};
 use crate::room::{FIRST, MOST_DIRECTORY, Room, most_file, retry};
@@ -27,8 +28,13 @@ pub fn probe_vrs(image: &[u8]) -> bool {
 
 /// Opens an image and gives its label.
 pub fn read_volume_label(image: &[u8]) -> Result<String> {
+    read_volume_label_as(image, How::default())
+}
+
+/// The same, opened as it is chosen.
+pub fn read_volume_label_as(image: &[u8], how: How) -> Result<String> {
     let mut out = Room::new(LABEL, LABEL);
-    let answer = calls::label(image, &mut out.lent)?;
+    let answer = calls::label(image, how.number(), &mut out.lent)?;
     kept(answer, Refusal::NoRoom, |()| text(&out.lent))
 }
 
@@ -44,6 +50,7 @@ fn kept<T, U>(answer: Answer<T>, full: Refusal, make: impl FnOnce(T) -> Option<U
 pub struct Vault<'a> {
     image: &'a [u8],
     volume: Volume,
+    how: How,
 }
 
 impl fmt::Debug for Vault<'_> {
@@ -60,7 +67,12 @@ impl fmt::Debug for Vault<'_> {
 impl<'a> Vault<'a> {
     /// Opens the volume of an image.
     pub fn open(image: &'a [u8]) -> Result<Vault<'a>> {
-        Ok(calls::open(image)?.map(|volume| Vault { image, volume }))
+        Vault::open_as(image, How::default())
+    }
+
+    /// The same, as it is chosen: which of several descriptors of one kind counts.
+    pub fn open_as(image: &'a [u8], how: How) -> Result<Vault<'a>> {
+        Ok(calls::open(image, how.number())?.map(|volume| Vault { image, volume, how }))
     }
 
     /// The sector in which the partition starts.
@@ -80,7 +92,7 @@ impl<'a> Vault<'a> {
 
     /// The volume's name. The count is that of opening: the call opens the image again.
     pub fn label(&self) -> Result<String> {
-        read_volume_label(self.image)
+        read_volume_label_as(self.image, self.how)
     }
 
     /// The ICB that a path names. Components stand between slashes and empty ones are dropped; of a directory's entries the first is

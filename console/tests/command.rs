@@ -3,7 +3,7 @@
 mod common;
 
 use common::command::{Folder, Said, left_out, tool};
-use common::{Disc, identifier, named, noise, show};
+use common::{Disc, identifier, named, noise, reclosed, show};
 use std::ffi::OsStr;
 use std::os::unix::ffi::OsStrExt;
 use std::process::{Command, Stdio};
@@ -75,6 +75,41 @@ fn every_command_answers() {
     assert!(folder.vault(&["--help"]).out.contains("vault get IMAGE PATH FILE"));
 }
 
+#[test]
+fn the_descriptors_of_a_volume() {
+    let folder = with_show();
+    folder.write("old.img", &reclosed());
+    let found = "found    sector 32, primary volume, number 1, prevails\nfound    sector 33, partition, number 2, prevails\n\
+                 found    sector 34, logical volume, number 3, prevails\n";
+    let volume = "label    SHOW 1\nstart    sector 288, partition 5\nroot     block 3, partition 5, 2048 bytes, type 0\n";
+    answers(&folder.vault(&["stat", "show.img"]), &format!("{found}{volume}sectors  open 6, label 6\n"));
+    answers(&folder.vault(&["stat", "--highest", "show.img"]), &format!("{found}{volume}sectors  open 6, label 6\n"));
+    let older = "found    sector 35, partition, number 1\n";
+    answers(&folder.vault(&["stat", "old.img", "--highest"]), &format!("{found}{older}{volume}sectors  open 7, label 7\n"));
+    // Refused, and the descriptors say why: the older one prevailed.
+    let said = folder.vault(&["stat", "old.img"]);
+    let (newer, older) = ("found    sector 33, partition, number 2\n", "found    sector 35, partition, number 1, prevails\n");
+    assert!(said.out.contains(newer) && said.out.ends_with(older), "{said:?}");
+    assert_eq!((said.status, said.error.lines().count()), (2, 1));
+}
+
+#[test]
+fn every_command_that_opens_can_go_by_the_highest_number() {
+    let folder = with_show();
+    folder.write("old.img", &reclosed());
+    for words in [&["label", "old.img"][..], &["ls", "old.img"], &["cat", "old.img", "SHOW/9"], &["stat", "old.img", "SHOW/9"]] {
+        assert_eq!(folder.vault(words).status, 2, "{words:?}");
+        let (highest, shown) =
+            (folder.vault(&[words, &["--highest"]].concat()), folder.vault(&[&words[..1], &["show.img"], &words[2..]].concat()));
+        // One sector more: the sequence has another descriptor.
+        assert_eq!((highest.status, highest.out.replace("open 7", "open 6")), (0, shown.out), "{words:?}");
+    }
+    assert_eq!(folder.vault(&["get", "old.img", "SHOW/9", "cue"]).status, 2);
+    answers(&folder.vault(&["get", "old.img", "SHOW/9", "cue", "--highest"]), "");
+    assert_eq!(std::fs::read_to_string(folder.at("cue")).unwrap(), folder.vault(&["cat", "show.img", "SHOW/9"]).out);
+    assert_eq!(folder.vault(&["probe", "old.img", "--highest"]).out, folder.vault(&["probe", "show.img"]).out);
+}
+
 /// A copy gives what a map gives, refusals and remarks too.
 #[test]
 fn a_copied_image_answers_the_same() {
@@ -87,6 +122,7 @@ fn a_copied_image_answers_the_same() {
         &["cat", "--as-written", "show.img", "SHOW/10.1a"],
         &["cat", "--unambiguous", "show.img", "SHOW/10.1a"],
         &["stat", "show.img", "SHOW/11"],
+        &["stat", "show.img"],
         &["probe", "show.img"],
         &["check", "show.img"],
         &["cat", "show.img", "no"],

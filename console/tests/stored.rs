@@ -6,7 +6,8 @@ mod common;
 
 use common::input::Input;
 use std::str::Lines;
-use strandlodge::{LbAddr, LongAd, Matching, Vault, probe_vrs, read_volume_label};
+use strandlodge::{How, Kind, LbAddr, LongAd, Matching, Vault};
+use strandlodge::{probe_vrs, read_volume_label, read_volume_label_as, volume_descriptors};
 use strandlodge_sys::sparse::expand;
 
 /// The lines of a stored output.
@@ -35,28 +36,46 @@ fn volumes_open_and_have_their_labels() {
         let name = String::from_utf8_lossy(all.sized(2));
         let image = expand(all.sized(4)).unwrap();
         assert_eq!(expected.next(), format!("image {name}"));
-        let opened = Vault::open(&image);
-        let (number, count) = answer(&opened);
-        assert_eq!(expected.next(), format!("opened {number} count {count}"), "{name}");
-        let (volume, root) = (expected.next(), expected.next());
-        if let Ok(vault) = opened {
-            let icb = vault.root_directory_icb();
-            assert_eq!(volume, format!("start {} partition {}", vault.partition_start_sector(), vault.partition_number()));
-            let LongAd { length, extent_type, location: LbAddr { block, partition_ref }, implementation_use } = icb;
-            let used = hex(&implementation_use);
-            assert_eq!(root, format!("root {length} type {extent_type} block {block} partition {partition_ref} use{used}"));
-        }
+        opens(&name, "opened", &Vault::open(&image), &read_volume_label(&image), &mut expected);
+        prevails(&image, How::default());
         expected.next();
-        let label = read_volume_label(&image);
-        let (number, count) = answer(&label);
-        let bytes = label.as_ref().map_or(&[][..], |label| label.as_bytes());
-        let left = 64 - bytes.len();
-        assert_eq!(expected.next(), format!("label {number} count {count} length {} left {left} bytes{}", bytes.len(), hex(bytes)));
-        expected.next();
+        let how = How { highest: true };
+        opens(&name, "highest", &Vault::open_as(&image, how), &read_volume_label_as(&image, how), &mut expected);
+        prevails(&image, how);
         assert_eq!(expected.next(), format!("probe {}", if probe_vrs(&image) { "yes" } else { "no" }), "{name}");
         volumes += 1;
     }
-    assert_eq!((volumes, expected.0.next()), (75, None));
+    assert_eq!((volumes, expected.0.next()), (144, None));
+}
+
+/// The partition descriptor that is said to prevail is the one that was opened by.
+fn prevails(image: &[u8], how: How) {
+    if let Ok(vault) = Vault::open_as(image, how) {
+        let all = volume_descriptors(image, how);
+        let mut ones = all.iter().filter(|one| one.prevails && one.kind == Kind::Partition);
+        let mut all = Input(&image[ones.next().unwrap().sector as usize * 2048 + 188..]);
+        assert_eq!((all.number(4) as u64, ones.next()), (vault.partition_start_sector(), None));
+    }
+}
+
+/// Holds what opening and the label gave to their stored lines.
+fn opens(name: &str, word: &str, opened: &strandlodge::Result<Vault>, label: &strandlodge::Result<String>, expected: &mut Expected) {
+    let (number, count) = answer(opened);
+    assert_eq!(expected.next(), format!("{word} {number} count {count}"), "{name}");
+    let (volume, root) = (expected.next(), expected.next());
+    if let Ok(vault) = opened {
+        let icb = vault.root_directory_icb();
+        assert_eq!(volume, format!("start {} partition {}", vault.partition_start_sector(), vault.partition_number()));
+        let LongAd { length, extent_type, location: LbAddr { block, partition_ref }, implementation_use } = icb;
+        let used = hex(&implementation_use);
+        assert_eq!(root, format!("root {length} type {extent_type} block {block} partition {partition_ref} use{used}"));
+        assert_eq!(vault.label().unwrap().value, label.as_ref().unwrap().value, "{name}");
+    }
+    expected.next();
+    let (number, count) = answer(label);
+    let bytes = label.as_ref().map_or(&[][..], |label| label.as_bytes());
+    let left = 64 - bytes.len();
+    assert_eq!(expected.next(), format!("label {number} count {count} length {} left {left} bytes{}", bytes.len(), hex(bytes)));
 }
 
 /// The numbers behind the words of a line.

@@ -2,8 +2,9 @@
 
 mod common;
 
-use common::{Disc, SECTOR, continuation, continued, identifier, named, noise, short_ad, show};
-use strandlodge::{AllocExtent, Answer, Matching, Refusal, Refused, Vault, probe_vrs, read_volume_label};
+use common::{Disc, SECTOR, continuation, continued, identifier, named, noise, reclosed, short_ad, show};
+use strandlodge::{AllocExtent, Answer, How, Kind, Matching, Refusal, Refused, Vault};
+use strandlodge::{probe_vrs, read_volume_label, read_volume_label_as, volume_descriptors};
 
 const UPPER: &[u8] = b"cue 10.1A\nfront wash 80, blue backs 40, follow 6 seconds\n";
 const LOWER: &[u8] = b"cue 10.1a\nfront wash 20, the look before the interval\n";
@@ -87,6 +88,54 @@ fn refusals_of_opening() {
     // The partition descriptor under an id that is passed over; a block size of 4,096.
     assert_eq!(refused(Vault::open(&changed(33, 0, 0x77))).0, Refusal::NotBluray);
     assert_eq!(refused(Vault::open(&changed(34, 213, 16))).0, Refusal::Unsupported);
+}
+
+#[test]
+fn the_highest_number_prevails_where_it_is_chosen() {
+    let (image, how) = (reclosed(), How { highest: true });
+    assert_eq!(refused(Vault::open(&image)), (Refusal::Malformed, 7));
+    assert_eq!(refused(read_volume_label(&image)), (Refusal::Malformed, 7));
+    let vault = Vault::open_as(&image, how).unwrap();
+    assert_eq!((vault.sectors, vault.partition_start_sector(), vault.partition_number()), (7, 288, 5));
+    let show = show();
+    let shown = Vault::open(&show).unwrap();
+    assert_eq!(vault.read_path("SHOW/10.1A").unwrap(), shown.read_path("SHOW/10.1A").unwrap());
+    // The label call opens the image again, in the same way.
+    assert_eq!(vault.label().unwrap(), Answer { value: "SHOW 1".to_string(), sectors: 7 });
+    assert_eq!(read_volume_label_as(&image, how), vault.label());
+    // Where no number falls both choices are one.
+    assert_eq!(format!("{:?}", Vault::open_as(&show, how)), format!("{:?}", Vault::open(&show)));
+}
+
+#[test]
+fn descriptors_of_the_sequence() {
+    let found = |image: &[u8], highest| {
+        let all = volume_descriptors(image, How { highest });
+        all.into_iter().map(|one| (one.sector, one.kind, one.number, one.prevails)).collect::<Vec<_>>()
+    };
+    let all = |newer, older| {
+        [
+            (32, Kind::PrimaryVolume, 1, true),
+            (33, Kind::Partition, 2, newer),
+            (34, Kind::LogicalVolume, 3, true),
+            (35, Kind::Partition, 1, older),
+        ]
+    };
+    let image = reclosed();
+    assert_eq!(found(&image, false), all(false, true));
+    assert_eq!(found(&image, true), all(true, false));
+    // Of equal numbers the later.
+    let mut equal = image.clone();
+    equal[35 * SECTOR + 16] = 2;
+    assert_eq!(found(&equal, true)[3], (35, Kind::Partition, 2, true));
+    // One that is refused: those before it, and none prevails. The file set descriptor's refusal is behind them all.
+    let mut bad = image.clone();
+    bad[34 * SECTOR + 4] ^= 1;
+    assert_eq!(found(&bad, true), [(32, Kind::PrimaryVolume, 1, false), (33, Kind::Partition, 2, false)]);
+    let mut bad = show();
+    bad[290 * SECTOR + 4] ^= 1;
+    assert_eq!(found(&bad, false), found(&show(), false));
+    assert_eq!((found(&[], false), found(&noise(300 * SECTOR), true), found(&image[..32 * SECTOR], true)), (vec![], vec![], vec![]));
 }
 
 #[test]

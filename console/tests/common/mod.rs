@@ -11,6 +11,18 @@ pub fn show() -> Vec<u8> {
     sparse::expand(include_bytes!("../../../crates/first_cue/stdin")).unwrap()
 }
 
+/// The sample show closed once more, with the older partition descriptor behind the newer, as some burners leave it: sectors 32 to 36 have
+/// the primary volume descriptor, the partition's (number 2), the logical volume's, the older partition's (number 1), and the terminating
+/// one. In the older one the partition starts where nothing is.
+pub fn reclosed() -> Vec<u8> {
+    let mut image = show();
+    image.copy_within(35 * SECTOR..36 * SECTOR, 36 * SECTOR);
+    image.copy_within(33 * SECTOR..34 * SECTOR, 35 * SECTOR);
+    image[35 * SECTOR + 16] = 1;
+    image[35 * SECTOR + 188..][..4].copy_from_slice(&200u32.to_le_bytes());
+    image
+}
+
 pub const SECTOR: usize = 2048;
 const START: usize = 288;
 const ROOT: u32 = 3;

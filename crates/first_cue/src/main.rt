@@ -7,6 +7,7 @@ use programs::words::say;
 use programs::words::say_refused;
 use sparse::expand;
 use vault::volume::Volume;
+use volumes::openings::How;
 
 fn refuse(call: &[u8], answer: u64) {
     say(call);
@@ -15,7 +16,7 @@ fn refuse(call: &[u8], answer: u64) {
 }
 
 fn print_cue(image: &[u8], path: &[u8], work: &mut [u8], out: &mut [u8]) {
-    let opened = Volume::open(image);
+    let opened = Volume::open(image, How::usual());
     if opened.answer != 0 {
         return refuse(b"open", opened.answer);
     }

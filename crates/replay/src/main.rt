@@ -29,6 +29,7 @@ use sparse::expand;
 use vault::volume::Volume;
 use vault::volume::label;
 use vault::volume::probe;
+use volumes::openings::How;
 use volumes::openings::VolumeRecord;
 
 fn say_line(call: &[u8], r: Reply, sum: u64, work: u64) {
@@ -78,7 +79,7 @@ fn sum_row(row: &[[u32; 4]]) -> u64 {
 // ---- the calls, by the number of each
 
 fn ask_open(image: &[u8]) {
-    let o = Volume::open(image);
+    let o = Volume::open(image, How::usual());
     let v = o.volume;
     let root = v.root;
     let name = v.label;
@@ -101,7 +102,7 @@ fn ask_whole(call: u8, image: &[u8], out: &mut [u8]) {
         ask_open(image);
         return;
     }
-    let r = label(image, out);
+    let r = label(image, How::usual(), out);
     say_line(b"label", r, sum(out), 0);
 }
 

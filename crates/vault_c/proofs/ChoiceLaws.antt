@@ -8,7 +8,7 @@ use native.Mathlib.Omega.{arith}
 use lib.Dec.{eqb}
 use borrow.Author.Tests.{eqb-true, ne-eqb}
 use Rattle.disc.specs.declared.replies.Reply.{Reply}
-use Rattle.volumes.specs.Openings.{noVolume}
+use Rattle.volumes.specs.Openings.{usual, noVolume}
 use Rattle.volumes.specs.declared.openings.How.{How}
 use Rattle.volumes.specs.declared.openings.Opened.{Opened}
 use Rattle.vault.specs.Calls.{opens, Written, labels}
@@ -62,7 +62,7 @@ module _ (image : List ℕ) (n : ℕ) {c : Choice} (q : c ≡ choiceOf (howOf n)
 
 -- ---- what a number comes to: 0 is the default, 4 the highest number, and every other one is refused
 
-pub none-chosen : howOf 0 ≡ some (record { highest = false })
+pub none-chosen : howOf 0 ≡ some usual
 none-chosen = refl
 
 pub highest-chosen : howOf 4 ≡ some (record { highest = true })

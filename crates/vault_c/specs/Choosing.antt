@@ -1,4 +1,4 @@
--- The choices on opening as one number, a bit to a choice: RULES 5.18.
+-- The choices on opening as one number, a bit to a choice: RULES 5.23.
 use Prim.Native.Nat.{ℕ, _/_, _%_}
 use mathlib.Core.Bool.{Bool}
 use mathlib.Core.Option.{Option, none, some}

@@ -25,6 +25,7 @@ use records::bytes::le32;
 use sparse::expand;
 use vault::volume::Volume;
 use vault::volume::label;
+use volumes::openings::How;
 
 // What is asked: the label, or by a path; else by an ICB.
 const LABEL: u16 = 0;
@@ -41,7 +42,7 @@ fn say_reply(call: &[u8], r: Reply, out: &[u8]) {
 
 fn say_label(image: &[u8], out: &mut [u8]) {
     fill(out);
-    let r = label(image, out);
+    let r = label(image, How::usual(), out);
     say_reply(b"label ", r, out);
     say(b"\n");
 }
@@ -164,7 +165,7 @@ fn queries(v: Volume, image: &[u8], all: &[u8], out: &mut [u8], work: &mut [u8])
 // ---- the file of images
 
 fn ask_all(image: &[u8], all: &[u8], out: &mut [u8], work: &mut [u8]) {
-    let opened = Volume::open(image);
+    let opened = Volume::open(image, How::usual());
     let v = opened.volume;
     say_answer(b"open ", opened.answer, opened.count);
     let mount = v.mount;

@@ -1,6 +1,6 @@
-// Opens each image of the file `images`, writes its label and probes it, and prints what each call answers. The file has one record
-// after the other: the length of a name in 16 bits, the name, the length of a packed image in 32 bits (both little-endian), and the
-// packed image, as the crate `sparse` has it.
+// Opens each image of the file `images`, writes its label, does both again by the highest sequence numbers, probes it, and prints what each
+// call answers. The file has one record after the other: the length of a name in 16 bits, the name, the length of a packed image in 32 bits
+// (both little-endian), and the packed image, as the crate `sparse` has it.
 ghost use Prim.Native.Nat.{_≤_};
 ghost use lib.ListN.{length};
 use disc::replies::Reply;
@@ -17,6 +17,7 @@ use records::bytes::le16;
 use records::bytes::le32;
 use sparse::expand;
 use volumes::labels::label;
+use volumes::openings::How;
 use volumes::openings::Opened;
 use volumes::openings::VolumeRecord;
 use volumes::openings::open_volume;
@@ -49,8 +50,8 @@ fn say_volume(v: VolumeRecord) {
     say(b"\n");
 }
 
-fn say_opened(opened: Opened) {
-    say_answer(b"opened ", opened.answer, opened.count);
+fn say_opened(word: &[u8], opened: Opened) {
+    say_answer(word, opened.answer, opened.count);
     say(b"\n");
     let v = opened.volume;
     say_volume(v);
@@ -87,7 +88,7 @@ fn say_reply(word: &[u8], reply: Reply, out: &[u8]) {
 fn say_label(word: &[u8], image: &[u8], out: &mut [u8], room: usize)
     requires { ⌜ room ≤ length (now out) ⌝ }
 {
-    let reply = label(image, &mut out[..room]);
+    let reply = label(image, How::usual(), &mut out[..room]);
     say_reply(word, reply, out);
 }
 
@@ -111,9 +112,17 @@ fn say_short(image: &[u8], n: u64) {
 
 fn say_labels(image: &[u8]) {
     let mut out = [0xeeu8; 64];
-    let reply = label(image, &mut out);
+    let reply = label(image, How::usual(), &mut out);
     say_reply(b"label ", reply, &out);
     say_short(image, reply.length);
+}
+
+// By the highest numbers.
+fn say_highest(image: &[u8]) {
+    say_opened(b"highest ", open_volume(image, How { highest: true }));
+    let mut out = [0xeeu8; 64];
+    let reply = label(image, How { highest: true }, &mut out);
+    say_reply(b"label ", reply, &out);
 }
 
 fn say_probe(yes: bool) {
@@ -125,8 +134,9 @@ fn say_probe(yes: bool) {
 }
 
 fn say_image(image: &[u8]) {
-    say_opened(open_volume(image));
+    say_opened(b"opened ", open_volume(image, How::usual()));
     say_labels(image);
+    say_highest(image);
     say_probe(probe(image));
 }
 
@@ -167,7 +177,7 @@ fn say_records(s: &[u8], image: &mut [u8]) {
 }
 
 fn say_file(fd: i32) {
-    let mut file = io::large_buffer();
+    let mut file = mebibyte();
     let n = io::read_full(fd, &mut file);
     let mut image = mebibyte();
     say_records(&file[..n], &mut image);

@@ -1,5 +1,6 @@
 -- Opening a volume: RULES 5.1, 5.11 and 5.14.
 use Prim.Native.Nat.{ℕ, _/_}
+use mathlib.Core.Bool.{false}
 use mathlib.Core.Option.{Option}
 use lib.ListN.{replicate}
 use lib.Dec.{eqb}
@@ -25,6 +26,10 @@ use Rattle.volumes.specs.declared.openings.VolumeRecord.{VolumeRecord}
 use Rattle.volumes.specs.declared.openings.Opened.{Opened}
 use Rattle.volumes.specs.declared.openings.How.{How}
 use Rattle.volumes.specs.Sequences.{nothing, orderOf, keptOf, scan}
+
+-- where nothing is chosen
+abbrev pub usual : How
+usual = record { highest = false }
 
 -- ---- behind the sequence
 

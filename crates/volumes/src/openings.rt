@@ -4,7 +4,7 @@ ghost use Prim.Native.Nat.{_<_, _^_};
 ghost use Rattle.disc.specs.Ran.{ran, after};
 ghost use Rattle.disc.specs.Images.{disc};
 ghost use Rattle.descriptors.specs.FileSets.{readFileSet};
-ghost use Rattle.volumes.specs.Openings.{noVolume, mountIn, volumeIn, mounting, anchored, opening, openedBy, openedOf};
+ghost use Rattle.volumes.specs.Openings.{usual, noVolume, mountIn, volumeIn, mounting, anchored, opening, openedBy, openedOf};
 ghost use Rattle.volumes.specs.inner.Steps.{mountable, fileSetAt};
 use crate::sequences::Kept;
 use crate::sequences::scan_sequence;
@@ -29,6 +29,15 @@ use records::allocations::no_long;
 pub struct How {
     // Of several descriptors of one kind the one with the highest sequence number counts, the later of equals; else the last one does.
     pub highest: bool,
+}
+
+impl How {
+    // Where nothing is chosen.
+    pub fn usual() -> How
+        ensures { λ r. ⌜ r ≡ usual ⌝ }
+    {
+        How { highest: false }
+    }
 }
 
 // An opened volume. It holds no pointer: copy it, keep it, or make one by hand.

@@ -4,7 +4,7 @@ use crate::failure::Failure;
 use crate::names::shown;
 use std::ffi::{OsStr, OsString};
 use std::os::unix::ffi::{OsStrExt, OsStringExt};
-use strandlodge::Matching;
+use strandlodge::{How, Matching};
 
 pub const HELP: &str = "\
 vault: look into a UDF disc. An image is a file or a drive; it is only read.
@@ -14,13 +14,14 @@ vault: look into a UDF disc. An image is a file or a drive; it is only read.
   vault ls IMAGE [PATH]        what a directory holds, in the disc's order
   vault cat IMAGE PATH         a file's bytes, to standard output
   vault get IMAGE PATH FILE    a file's bytes, to FILE, which is replaced
-  vault stat IMAGE PATH        ICB, kind, extents, sectors asked for
+  vault stat IMAGE [PATH]      ICB, kind, extents; or the volume's descriptors
   vault probe IMAGE            whether it has a recognition sequence: yes or no
   vault check IMAGE            which descriptors aren't where their tags say
   vault sample FILE            writes the sample show's image, to try these on
 
   --as-written    take a name on PATH byte for byte; else ASCII case is ignored
   --unambiguous   ignore case, but refuse a name that two or more entries match
+  --highest       of several volume descriptors the highest number counts
   --copy          read the whole image into memory first, and look at that
   --sectors       print on standard error how many sectors each call asked for
   --help, --      print this; what follows is no option
@@ -59,6 +60,7 @@ pub enum Question {
     Cat { path: DiscPath },
     Get { path: DiscPath, file: OsString },
     Stat { path: DiscPath },
+    Descriptors,
     Probe,
     Check,
 }
@@ -69,6 +71,8 @@ pub struct Args {
     pub sectors: bool,
     /// The image is copied, and not mapped.
     pub copy: bool,
+    /// The choices on opening.
+    pub how: How,
     /// How names on a path are matched.
     pub matching: Matching,
 }
@@ -76,6 +80,7 @@ pub struct Args {
 pub fn parse(given: impl IntoIterator<Item = OsString>) -> Result<Args, Failure> {
     let (mut sectors, mut copy, mut help, mut words) = (false, false, false, Vec::new());
     let (mut as_written, mut unambiguous) = (false, false);
+    let mut how = How::default();
     let mut given = given.into_iter();
     while let Some(word) = given.next() {
         match word.as_bytes() {
@@ -84,19 +89,20 @@ pub fn parse(given: impl IntoIterator<Item = OsString>) -> Result<Args, Failure>
             b"--copy" => copy = true,
             b"--as-written" => as_written = true,
             b"--unambiguous" => unambiguous = true,
+            b"--highest" => how.highest = true,
             b"--help" | b"-h" => help = true,
             [b'-', _, ..] => return Err(Failure::usage(format!("there is no option {}", shown(word.as_bytes())))),
             _ => words.push(word),
         }
     }
     if help {
-        return Ok(Args { command: Command::Help, sectors, copy, matching: Matching::default() });
+        return Ok(Args { command: Command::Help, sectors, copy, how, matching: Matching::default() });
     }
     let (command, matching) = (command(words)?, matching(as_written, unambiguous)?);
     if matching != Matching::default() && !command.has_path() {
         return Err(Failure::usage("--as-written and --unambiguous are for a PATH: that of ls, cat, get or stat"));
     }
-    Ok(Args { command, sectors, copy, matching })
+    Ok(Args { command, sectors, copy, how, matching })
 }
 
 fn matching(as_written: bool, unambiguous: bool) -> Result<Matching, Failure> {
@@ -140,11 +146,13 @@ fn question(name: &OsStr, words: &mut impl Iterator<Item = OsString>) -> Result<
     if name == "ls" {
         return Ok(Question::Ls { path: words.next().unwrap_or_default().into_vec() });
     }
+    if name == "stat" {
+        return Ok(words.next().map_or(Question::Descriptors, |path| Question::Stat { path: path.into_vec() }));
+    }
     let path = take(words, name, "PATH")?.into_vec();
     Ok(match name.as_bytes() {
         b"get" => Question::Get { path, file: take(words, name, "FILE")? },
-        b"cat" => Question::Cat { path },
-        _ => Question::Stat { path },
+        _ => Question::Cat { path },
     })
 }
 
@@ -169,12 +177,13 @@ mod tests {
     #[test]
     fn options_stand_anywhere() {
         let label = |image: &str| Command::Ask { image: image.into(), question: Question::Label };
-        let asked = |sectors, copy| Args { command: label("a"), sectors, copy, matching: Matching::CaseIgnored };
+        let asked = |sectors, copy| Args { command: label("a"), sectors, copy, how: How::default(), matching: Matching::CaseIgnored };
         assert_eq!(parsed("label a").unwrap(), asked(false, false));
         assert_eq!(parsed("--sectors label a").unwrap(), asked(true, false));
         assert_eq!(parsed("label a --sectors").unwrap(), asked(true, false));
         assert_eq!(parsed("label --copy a").unwrap(), asked(false, true));
         assert_eq!(parsed("--copy label a --sectors").unwrap(), asked(true, true));
+        assert_eq!(parsed("label --highest a").unwrap(), Args { how: How { highest: true }, ..asked(false, false) });
         assert_eq!(parsed("label a --help").unwrap().command, Command::Help);
         assert_eq!(parsed("label -- --help").unwrap().command, label("--help"));
         assert_eq!(parsed("").unwrap().command, Command::Tour);
@@ -205,7 +214,8 @@ mod tests {
             "ls a b c",
             "cat a",
             "get a b",
-            "stat a",
+            "stat",
+            "stat a b c",
             "probe",
             "check",
             "check a b",

@@ -11,11 +11,12 @@ use crate::names::shown;
 use std::ffi::OsStr;
 use std::io::{self, Write};
 use std::os::unix::ffi::OsStrExt;
-use strandlodge::{AllocExtent, DirEntry, Matching, probe_vrs, read_volume_label};
+use strandlodge::{AllocExtent, DirEntry, How, Matching, VolumeDescriptor, probe_vrs, read_volume_label_as, volume_descriptors};
 
-/// Answers a question on an image, which goes by `name`.
+/// Answers a question on an image, which goes by `name` and is opened as it is chosen.
 pub fn ask(
     question: &Question,
+    how: How,
     matching: Matching,
     image: &[u8],
     name: &OsStr,
@@ -26,20 +27,25 @@ pub fn ask(
     match question {
         Question::Probe => line(out, if probe_vrs(image) { "yes" } else { "no" }),
         Question::Label => {
-            let label = log.count("label", read_volume_label(image)).map_err(|refused| Failure::refused(name, refused))?;
+            let label = log.count("label", read_volume_label_as(image, how)).map_err(|refused| Failure::refused(name, refused))?;
             line(out, &shown(label.as_bytes()))
         }
-        Question::Ls { path } => ls(&mut Disc::open(image, name, matching, log)?, path, out),
-        Question::Stat { path } => stat(&mut Disc::open(image, name, matching, log)?, path, out),
-        Question::Check => check::check(image, name, out, log),
+        Question::Ls { path } => ls(&mut Disc::open(image, how, name, matching, log)?, path, out),
+        Question::Stat { path } => stat(&mut Disc::open(image, how, name, matching, log)?, path, out),
+        Question::Descriptors => {
+            // Before opening: where it is refused, what it was refused for may be seen in them.
+            volume_descriptors(image, how).iter().try_for_each(|one| line(out, &standing(one)))?;
+            volume(&mut Disc::open(image, how, name, matching, log)?, out)
+        }
+        Question::Check => check::check(image, how, name, out, log),
         Question::Cat { path } => {
-            let bytes = cat(&mut Disc::open(image, name, matching, log)?, path)?;
+            let bytes = cat(&mut Disc::open(image, how, name, matching, log)?, path)?;
             out.write_all(&bytes).map_err(Failure::output)
         }
         Question::Get { path, file } => {
             let target = file::Target::at(file)?;
             let word = Word::new("reading");
-            let bytes = cat(&mut Disc::open(image, name, matching, log)?, path)?;
+            let bytes = cat(&mut Disc::open(image, how, name, matching, log)?, path)?;
             drop(word);
             target.write(&bytes)
         }
@@ -69,6 +75,26 @@ fn ls(disc: &mut Disc, path: &[u8], out: &mut impl Write) -> Result<(), Failure>
 fn listed(entry: &DirEntry) -> String {
     let mark = if entry.is_directory { "/" } else { "" };
     shown(entry.name.as_bytes()) + mark
+}
+
+/// A descriptor of the volume, with its number.
+fn standing(one: &VolumeDescriptor) -> String {
+    let prevails = if one.prevails { ", prevails" } else { "" };
+    format!("found    sector {}, {}, number {}{prevails}", one.sector, one.kind, one.number)
+}
+
+/// What the descriptors that prevail lead to.
+fn volume(disc: &mut Disc, out: &mut impl Write) -> Result<(), Failure> {
+    let label = disc.count(b"", "label", disc.vault.label())?;
+    let (vault, root) = (disc.vault, disc.vault.root_directory_icb());
+    line(out, &format!("label    {}", shown(label.as_bytes())))?;
+    line(out, &format!("start    sector {}, partition {}", vault.partition_start_sector(), vault.partition_number()))?;
+    let place = root.location;
+    line(
+        out,
+        &format!("root     block {}, partition {}, {} bytes, type {}", place.block, place.partition_ref, root.length, root.extent_type),
+    )?;
+    line(out, &format!("sectors  {}", disc.log.sectors()))
 }
 
 fn stat(disc: &mut Disc, path: &[u8], out: &mut impl Write) -> Result<(), Failure> {

@@ -4,7 +4,7 @@ use crate::failure::{Failure, NO_IMAGE, USAGE};
 use crate::log::Log;
 use crate::names::shown;
 use crate::steps::{Step, names, quoted};
-use strandlodge::{DirEntry, LongAd, Matching, Refusal, Refused, Vault};
+use strandlodge::{DirEntry, How, LongAd, Matching, Refusal, Refused, Vault};
 
 /// An opened image with the name that it goes by in messages, and how names on it are matched. Every call is counted.
 pub struct Disc<'a, 'l> {
@@ -28,8 +28,8 @@ impl Found {
 }
 
 impl<'a, 'l> Disc<'a, 'l> {
-    pub fn open(image: &'a [u8], name: &'l str, matching: Matching, log: &'l mut Log) -> Result<Disc<'a, 'l>, Failure> {
-        let vault = log.count("open", Vault::open(image)).map_err(|refused| Failure::refused(name, refused))?;
+    pub fn open(image: &'a [u8], how: How, name: &'l str, matching: Matching, log: &'l mut Log) -> Result<Disc<'a, 'l>, Failure> {
+        let vault = log.count("open", Vault::open_as(image, how)).map_err(|refused| Failure::refused(name, refused))?;
         Ok(Disc { vault, log, name, matching })
     }
 

@@ -55,7 +55,7 @@ fn answer(args: &Args, out: &mut impl Write, log: &mut Log) -> Result<(), Failur
             if let Question::Get { file, .. } = question {
                 apart(image, file)?;
             }
-            commands::ask(question, args.matching, &Image::open(image, args.copy)?, image, out, log)
+            commands::ask(question, args.how, args.matching, &Image::open(image, args.copy)?, image, out, log)
         }
     }
 }

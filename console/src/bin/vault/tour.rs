@@ -8,7 +8,7 @@ use crate::log::Log;
 use crate::names::shown;
 use std::ffi::OsStr;
 use std::io::Write;
-use strandlodge::Matching;
+use strandlodge::{How, Matching};
 use strandlodge_sys::sparse;
 
 /// The input of the program `first_cue`: a show with four cues, kept sparse. tools/show_image.py writes it.
@@ -83,7 +83,7 @@ fn text(out: &mut impl Write, text: &str) -> Result<(), Failure> {
 fn step(image: &[u8], question: Question, matching: Matching, typed: &str, out: &mut impl Write) -> Result<(), Failure> {
     let mut log = Log::default();
     text(out, &format!("$ vault {typed}\n"))?;
-    let refused = match commands::ask(&question, matching, image, OsStr::new(NAME), out, &mut log) {
+    let refused = match commands::ask(&question, How::default(), matching, image, OsStr::new(NAME), out, &mut log) {
         // What is written is the tour itself.
         Err(failure) if failure.status == NO_OUTPUT || failure.says.is_none() => return Err(failure),
         asked => asked.err().and_then(|failure| failure.says),
@@ -97,7 +97,7 @@ fn step(image: &[u8], question: Question, matching: Matching, typed: &str, out: 
 /// The last line of each of the two cues, read by the ICB of its entry.
 fn looks(image: &[u8], out: &mut impl Write) -> Result<(), Failure> {
     let mut log = Log::default();
-    let mut disc = Disc::open(image, NAME, Matching::CaseIgnored, &mut log)?;
+    let mut disc = Disc::open(image, How::default(), NAME, Matching::CaseIgnored, &mut log)?;
     let directory = disc.find(DIRECTORY)?.icb;
     for entry in disc.list(DIRECTORY, directory)?.iter().filter(|entry| entry.name.eq_ignore_ascii_case("10.1a")) {
         let cue = disc.read(DIRECTORY, entry.icb)?;

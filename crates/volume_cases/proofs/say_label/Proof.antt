@@ -8,6 +8,7 @@ use Rattle.volume_cases.proofs.say_label.Tie as tie
 pub say-label-spec : {M : Type 1} → statement M
 say-label-spec =
     tie.close (tie.spec
+    (λ c κs. search needs)
     (λ c. search needs)
     (λ c. simp length-take (omega arith))
     (λ c κs. search needs)
