@@ -6,7 +6,7 @@
  *   'I' noise kind (1 byte), noise seed (4), packed length (4), packed image    the image that is asked about from now on, as
  *                                                                               docs/COMPARING.md packs it
  *   'Q' call (1), in noise (1), salt (1),                                       a query; with `in noise`, on an image that holds
- *       volume (55), ICB (17), room (4), work (4), matching (4),                the kept sectors alone, and noise in all others
+ *       volume (55), ICB (17), room (4), work (4), how (4), matching (4),       the kept sectors alone, and noise in all others
  *       path length (4), path, kept sectors (4), each sector's number (4)
  *   'T' times (4), and a query as behind 'Q'                                    the query so many times over: the answer is the
  *                                                                               nanoseconds (8); call 10 copies `room` bytes
@@ -63,7 +63,7 @@ typedef struct {
     uint8_t call, in_noise, salt;
     vault_volume volume;
     vault_long_ad icb;
-    uint32_t room, work, matching, path_length, kept;
+    uint32_t room, work, how, matching, path_length, kept;
 } query;
 
 static buffer image, noise, replies, lent_out, lent_work, path, kept;
@@ -276,13 +276,13 @@ static outcome call(const query *q, const uint8_t *disc, size_t n, uint8_t *out,
     switch (q->call) {
     case PROBE: o.answer = vault_probe(disc, n); break;
     case OPEN: {
-        vault_opened r = vault_open(disc, n);
+        vault_opened r = vault_open(disc, n, q->how);
         o.answer = r.answer;
         o.count = r.count;
         o.volume = r.volume;
         break;
     }
-    case LABEL: from_reply(&o, vault_label(disc, n, out, q->room)); break;
+    case LABEL: from_reply(&o, vault_label(disc, n, q->how, out, q->room)); break;
     case LOOKUP: {
         vault_found r = vault_lookup(q->volume, disc, n, p, length, q->matching, work, q->work);
         o.answer = r.answer;
@@ -320,6 +320,7 @@ static query take_query(void) {
     q.icb = take_icb();
     q.room = (uint32_t)take_number(4);
     q.work = (uint32_t)take_number(4);
+    q.how = (uint32_t)take_number(4);
     q.matching = (uint32_t)take_number(4);
     q.path_length = (uint32_t)take_number(4);
     grow(&path, q.path_length + 1);

@@ -36,6 +36,8 @@ FAULTS = (
     turned("vault_lookup", PATH, WORK),
     turned("vault_failed", WORK, "component_at: &mut usize"),
     turned("vault_label", IMAGE, OUT),
+    turned("vault_open", IMAGE, "how: u32"),
+    turned("vault_label", "how: u32", OUT),
     ("count before answer", "volumes/src/openings.rt", r"(pub struct Opened \{.*?)(pub answer: u64,)(.*?)(pub count: u64,)", r"\1\4\3\2"),
     ("length before count", "disc/src/replies.rt", r"(pub struct Reply \{.*?)(pub count: u64,)(.*?)(pub length: u64,)", r"\1\4\3\2"),
     ("root before mount", "volumes/src/openings.rt", r"(pub mount: Mount,)(\s+// The root directory.\s+)(pub root: LongAd,)", r"\3\2\1"),

@@ -123,6 +123,8 @@ pub struct Query {
     pub matching: u32,
     pub room: usize,
     pub work: usize,
+    /// The choices, for the calls that open.
+    pub how: u32,
 }
 
 /// Memory to spare: more than any answer has.
@@ -130,7 +132,7 @@ pub const PLENTY: usize = usize::MAX;
 
 impl Query {
     pub fn of(call: Call, volume: Volume) -> Query {
-        Query { call, volume, icb: Icb::default(), path: Vec::new(), matching: CASE_IGNORED, room: PLENTY, work: PLENTY }
+        Query { call, volume, icb: Icb::default(), path: Vec::new(), how: 0, matching: CASE_IGNORED, room: PLENTY, work: PLENTY }
     }
 
     pub fn on(call: Call, volume: Volume, icb: Icb) -> Query {

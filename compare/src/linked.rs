@@ -51,12 +51,12 @@ pub unsafe fn make(q: &Query, lends: Lends) -> Values {
         match q.call {
             Call::Probe => Reply { answer: vault_probe(d, n) as u64, count: 0, length: 0 },
             Call::Open => {
-                let o = vault_open(d, n);
+                let o = vault_open(d, n, q.how);
                 let face::Volume { mount: Mount { start, partition }, root, label } = o.volume;
                 values.volume = Volume { start, partition, root: given(root), label };
                 Reply { answer: o.answer, count: o.count, length: 0 }
             }
-            Call::Label => vault_label(d, n, out, q.room),
+            Call::Label => vault_label(d, n, q.how, out, q.room),
             Call::Lookup => {
                 let f = vault_lookup(v, d, n, p, m, matching, work, q.work);
                 values.icb = given(f.icb);

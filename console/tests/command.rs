@@ -226,7 +226,7 @@ fn wrong_usage_is_said() {
     refuses(&folder, &["label"], 64, "label needs IMAGE");
     refuses(&folder, &["cat", "show.img"], 64, "cat needs PATH");
     refuses(&folder, &["get", "show.img", "SHOW/9"], 64, "get needs FILE");
-    refuses(&folder, &["stat", "show.img"], 64, "stat needs PATH");
+    refuses(&folder, &["stat"], 64, "stat needs IMAGE");
     refuses(&folder, &["sample"], 64, "sample needs FILE");
     refuses(&folder, &["ls", "show.img", "SHOW", "more"], 64, "more follows");
     refuses(&folder, &["-l", "show.img"], 64, "there is no option -l");

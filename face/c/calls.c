@@ -42,20 +42,29 @@ static void probe(void) {
 
 /* The anchor, four sectors of the sequence, and the file set. */
 static vault_volume opened(void) {
-    vault_opened r = vault_open(image, IMAGE);
+    vault_opened r = vault_open(image, IMAGE, 0);
     EXPECT(r.answer == VAULT_DONE && r.count == 6);
     EXPECT(r.volume.mount.start == START && r.volume.mount.partition == PARTITION && is_icb(r.volume.root, 3));
     EXPECT(!memcmp(r.volume.label, "\x08SHOW 1", 7) && is_all(r.volume.label + 7, 24, 0) && r.volume.label[31] == 7);
-    r = vault_open(image, START * SECTOR);
+    r = vault_open(image, START * SECTOR, 0);
     EXPECT(r.answer == VAULT_IO && r.count == 6 && r.volume.mount.start == 0 && is_all(r.volume.label, 32, 0));
-    return vault_open(image, IMAGE).volume;
+    for (uint32_t bit = 1; bit; bit *= 2) {
+        r = vault_open(image, IMAGE, bit);
+        if (bit == VAULT_HIGHEST) EXPECT(r.answer == VAULT_DONE && r.count == 6 && r.volume.mount.start == START);
+        else EXPECT(r.answer == VAULT_UNSUPPORTED && r.count == 0 && r.volume.mount.start == 0 && is_all(r.volume.label, 32, 0));
+    }
+    return vault_open(image, IMAGE, 0).volume;
 }
 
 static void label(void) {
     lend();
-    EXPECT(is_reply(vault_label(image, IMAGE, out, OUT), VAULT_DONE, 6, 6) && holds("SHOW 1", 6));
+    EXPECT(is_reply(vault_label(image, IMAGE, 0, out, OUT), VAULT_DONE, 6, 6) && holds("SHOW 1", 6));
     lend();
-    EXPECT(is_reply(vault_label(image, IMAGE, out, 5), VAULT_NO_ROOM, 6, 0) && holds("", 0));
+    EXPECT(is_reply(vault_label(image, IMAGE, 0, out, 5), VAULT_NO_ROOM, 6, 0) && holds("", 0));
+    lend();
+    EXPECT(is_reply(vault_label(image, IMAGE, VAULT_HIGHEST, out, OUT), VAULT_DONE, 6, 6) && holds("SHOW 1", 6));
+    lend();
+    EXPECT(is_reply(vault_label(image, IMAGE, VAULT_HIGHEST + 1, out, OUT), VAULT_UNSUPPORTED, 0, 0) && holds("", 0));
 }
 
 static vault_long_ad found(vault_volume v, const char *path, uint32_t matching, uint64_t count, uint32_t block) {

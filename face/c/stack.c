@@ -30,8 +30,8 @@ __attribute__((naked)) static void tell(void) { __asm__("movq %%rsp, %0\n\tmovq 
 
 CALL(vault_version, )
 CALL(vault_probe, DISC)
-CALL(vault_open, DISC)
-CALL(vault_label, DISC, out, room)
+CALL(vault_open, DISC, 0)
+CALL(vault_label, DISC, 0, out, room)
 CALL(vault_lookup, volume, DISC, PATH, matching, work, WORK)
 CALL(vault_failed, volume, DISC, PATH, matching, work, WORK, &at)
 CALL(vault_list, volume, DISC, icb, out, room, work, WORK)
@@ -93,7 +93,7 @@ static void tell_number(size_t n) {
 
 int main(void) {
     unpack();
-    vault_opened opened = vault_open(image, IMAGE);
+    vault_opened opened = vault_open(image, IMAGE, 0);
     EXPECT(opened.answer == VAULT_DONE);
     volume = opened.volume;
     icb = volume.root;

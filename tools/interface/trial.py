@@ -30,7 +30,7 @@ FAULTS = (
     ("a call that is gone", VAULT, r"pub extern \"C\" fn vault_probe", "pub fn vault_probe"),
     ("a call that isn't public", VAULT, r"pub extern \"C\" fn vault_probe", 'extern "C" fn vault_probe'),
     ("memory that is written", VAULT, r"fn vault_probe\(image: &\[u8\]\)", "fn vault_probe(image: &mut [u8])"),
-    ("another answer", VAULT, r"(fn vault_open\(image: &\[u8\]\)) -> Opened", r"\1 -> Reply"),
+    ("another answer", VAULT, r"(fn vault_open\(image: &\[u8\], how: u32\)) -> Opened", r"\1 -> Reply"),
     ("a type that can't cross", VAULT, r"part_at: &mut usize", "part_at: (usize, usize)"),
     ("a comment that says something else", VAULT, r"Opening doesn't depend on it", "Opening depends on it"),
     ("a slot of other fields", "crates/layouts/src/lists.rt", r"pub extent_type: u32", "pub extent_type: u16"),

@@ -13,7 +13,7 @@ use crate::udf::{UdfDisc, within};
 use std::hint::black_box;
 use std::io::Cursor;
 use std::time::Instant;
-use strandlodge_sys::vault::{AS_WRITTEN, CASE_IGNORED, DONE, NOT_BLURAY, UNAMBIGUOUS};
+use strandlodge_sys::vault::{AS_WRITTEN, CASE_IGNORED, DONE, HIGHEST, NOT_BLURAY, UNAMBIGUOUS};
 
 const ROUNDS: usize = 9;
 const MIB: usize = 1 << 20;
@@ -122,10 +122,17 @@ fn open() -> Row {
     Row { name: "open".to_string(), query: Query::of(Call::Open, r.query.volume), ..r }
 }
 
+/// The same by the highest sequence numbers; the original's time is that of its own opening.
+fn open_by_the_highest() -> Row {
+    let r = open();
+    Row { name: "open, by the highest numbers".to_string(), query: Query { how: HIGHEST, ..r.query.clone() }, ..r }
+}
+
 /// The rows, each made when its turn comes: some take much memory.
 fn rows() -> Vec<Box<dyn FnOnce() -> Row>> {
     let mut all: Vec<Box<dyn FnOnce() -> Row>> = vec![
         Box::new(open),
+        Box::new(open_by_the_highest),
         Box::new(|| nested(1)),
         Box::new(|| nested(8)),
         Box::new(|| entries("lookup, last of 5,000", 5000, Call::Lookup, MIB)),

@@ -6,13 +6,13 @@ use super::damage::damage;
 use super::disc::Disc;
 use super::expect::Expected;
 use super::ours::{Ask, Noise, Ours};
-use super::queries::{Case, Depth, cases, matched};
+use super::queries::{Case, Depth, cases, chosen, matched};
 use super::random::Random;
 use super::raw::{RAW_HELD, RawAsk, RawCall, RawGiven, shown};
 use super::raw_cases::{RawCase, batch};
 use super::tally::Tally;
 use super::volumes::Sort;
-use super::{shapes_deleted, shapes_directories, shapes_files, shapes_matching, shapes_opening, sparse, volumes};
+use super::{shapes_deleted, shapes_directories, shapes_files, shapes_matching, shapes_opening, shapes_prevailing, sparse, volumes};
 use std::panic::{AssertUnwindSafe, catch_unwind};
 use std::path::{Path, PathBuf};
 use strandlodge_sys::vault::AMBIGUOUS;
@@ -49,7 +49,8 @@ impl Comparison {
 
     /// Every shape first, and then volumes at random, whole and damaged, until the time is over.
     pub fn run(&mut self, seconds: u64) {
-        for (i, (name, disc)) in shapes().iter().enumerate() {
+        // Those of the choice aren't in the list that is replayed, which is to stay as it is.
+        for (i, (name, disc)) in shapes().iter().chain(&shapes_prevailing::shapes()).enumerate() {
             self.image(name, disc, Depth::All, Random::new(self.seed ^ i as u64));
             self.raws();
             if self.is_over() {
@@ -108,6 +109,7 @@ impl Comparison {
         let made = catch_unwind(AssertUnwindSafe(|| {
             let mut all = cases(&mut random, disc, depth);
             all.extend(matched(matchings, disc, depth));
+            all.extend(chosen(&mut random, disc));
             all
         }));
         let Ok(cases) = made else {
@@ -152,6 +154,7 @@ impl Comparison {
             *self.tally.asked.entry((choice, case.query.call, e.values.answer)).or_insert(0) += 1;
         }
         self.tally.by_the_rule[0] += u64::from(e.by_the_rule);
+        self.tally.chosen(&disc.image, case);
         if let Some(what) = difference(e, given) {
             let text = told(&case.query, case.in_noise, e, given);
             self.keep(name, Some(disc), &format!("{what}\n{text}"));
@@ -311,6 +314,9 @@ pub fn unreached(tally: &Tally) -> Vec<String> {
     for call in RawCall::ALL {
         let never = call.numbers().iter().filter(|n| !tally.raw.contains_key(&(*call, **n)));
         all.extend(never.map(|n| format!("{} {n}", call.name())));
+    }
+    if tally.chosen.contains(&0) {
+        all.push("a choice on opening, and one that opens another volume".to_string());
     }
     if tally.by_the_rule.contains(&0) {
         all.push("a d-string with id 254 or 255".to_string());

@@ -1,9 +1,10 @@
 //! What a query must be answered with: the original's answer, with the refusals that lent memory adds.
 
-use super::calls::{Call, Choice, Icb, Query, Values, slot};
+use super::calls::{Call, Choice, Icb, Query, Values, Volume, slot};
 use super::original::{self, Came, Original, icb};
+use super::prevailing;
 use crate::udf::{DirEntry, within};
-use strandlodge_sys::vault::AMBIGUOUS;
+use strandlodge_sys::vault::{AMBIGUOUS, HIGHEST};
 
 /// The answer, and what it took.
 pub struct Expected {
@@ -47,7 +48,7 @@ pub fn expected(image: &[u8], q: &Query) -> Expected {
 fn answered(image: &[u8], q: &Query) -> Expected {
     match q.call {
         Call::Probe => Expected::new(original::probe(image) as u64, Vec::new()),
-        Call::Open => opening(image),
+        Call::Open => opening(image, q),
         Call::Label => labelling(image, q),
         Call::Lookup | Call::Failed => looking_up(image, q),
         Call::ReadPath => reading_path(image, q),
@@ -58,8 +59,17 @@ fn answered(image: &[u8], q: &Query) -> Expected {
     }
 }
 
-fn opening(image: &[u8]) -> Expected {
-    let came = original::open(image);
+/// Opened as the query chooses: by the original, or by a model of the highest numbers. Other choices there are none of.
+fn opened(image: &[u8], q: &Query) -> Came<(Volume, String)> {
+    match q.how {
+        0 => original::open(image),
+        HIGHEST => prevailing::open(image),
+        _ => Came { value: Err(4), asked: Vec::new() },
+    }
+}
+
+fn opening(image: &[u8], q: &Query) -> Expected {
+    let came = opened(image, q);
     match came.value {
         Err(n) => Expected::new(n, came.asked),
         Ok((volume, _)) => {
@@ -71,7 +81,7 @@ fn opening(image: &[u8]) -> Expected {
 }
 
 fn labelling(image: &[u8], q: &Query) -> Expected {
-    let came = original::open(image);
+    let came = opened(image, q);
     match came.value {
         Err(n) => Expected::new(n, came.asked),
         Ok((_, name)) => Expected::new(0, came.asked).bytes(name.clone().into_bytes(), name.len(), q.room, 5),

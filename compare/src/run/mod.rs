@@ -13,6 +13,7 @@ mod list;
 mod original;
 mod ours;
 mod port;
+mod prevailing;
 mod queries;
 mod raw;
 mod raw_cases;
@@ -25,6 +26,7 @@ mod shapes_directories;
 mod shapes_files;
 mod shapes_matching;
 mod shapes_opening;
+mod shapes_prevailing;
 mod stored;
 mod tally;
 #[cfg(udfread)]

@@ -6,7 +6,7 @@ use super::expect::{Expected, expected};
 use super::original;
 use super::random::Random;
 use crate::udf::within;
-use strandlodge_sys::vault::{AS_WRITTEN, UNAMBIGUOUS};
+use strandlodge_sys::vault::{AS_WRITTEN, HIGHEST, UNAMBIGUOUS};
 
 pub struct Case {
     pub query: Query,
@@ -139,6 +139,23 @@ fn sizes(random: &mut Random, q: &Query, e: &Expected, depth: Depth) -> Vec<(usi
     let (rooms, works) = (q.call.has_room() as usize, q.call.has_work() as usize);
     all.iter_mut().for_each(|(r, w)| (*r, *w) = (*r * rooms, *w * works));
     all.dedup();
+    all
+}
+
+/// Opening and the label by the highest numbers, and once in a while by a number with a bit that is of no choice.
+pub fn chosen(random: &mut Random, disc: &Disc) -> Vec<Case> {
+    let mut all = Vec::new();
+    let odd = *random.pick(&[1, 2, 5, 8, HIGHEST | 1 << 31, u32::MAX]);
+    let hows = [Some(HIGHEST), random.once_in(4).then_some(odd)];
+    for (how, call) in hows.into_iter().flatten().flat_map(|how| [(how, Call::Open), (how, Call::Label)]) {
+        let q = Query { how, ..Query::of(call, Volume::default()) };
+        let spare = expected(&disc.image, &q);
+        for (room, work) in sizes(random, &q, &spare, Depth::All) {
+            let query = q.with(room, work);
+            all.push(Case { expected: expected(&disc.image, &query), query: query.clone(), in_noise: false });
+            all.push(Case { expected: expected(&disc.image, &query), query, in_noise: true });
+        }
+    }
     all
 }
 

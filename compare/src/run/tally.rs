@@ -1,10 +1,13 @@
 //! What was compared, by call and answer number.
 
-use super::calls::{Call, Choice};
+use super::calls::{Call, Choice, Query};
+use super::expect::expected;
+use super::queries::Case;
 use super::raw::RawCall;
 use std::collections::BTreeMap;
 use std::fmt;
 use std::time::Instant;
+use strandlodge_sys::vault::HIGHEST;
 
 /// The answer numbers.
 const NUMBERS: [u64; 9] = [0, 1, 2, 3, 4, 5, 6, 7, 9];
@@ -28,6 +31,8 @@ pub struct Tally {
     pub absurd: u64,
     /// Queries and raw records that were held to the rule on compression ids 254 and 255, since the original reached such a d-string.
     pub by_the_rule: [u64; 2],
+    /// Queries by a choice on opening; and of those, on how many the volume or the refusal is another than without.
+    pub chosen: [u64; 2],
     /// What became of the original where it was asked for absurd memory, in a process of its own.
     pub ends: BTreeMap<String, u64>,
 }
@@ -45,6 +50,7 @@ impl Tally {
             stopped: false,
             absurd: 0,
             by_the_rule: [0; 2],
+            chosen: [0; 2],
             ends: BTreeMap::new(),
         }
     }
@@ -59,6 +65,15 @@ impl Tally {
 
     pub fn raws(&self) -> u64 {
         self.raw.values().sum()
+    }
+
+    /// Counts a query by a choice.
+    pub fn chosen(&mut self, image: &[u8], case: &Case) {
+        if case.query.how == HIGHEST {
+            let plain = expected(image, &Query { how: 0, ..case.query.clone() });
+            self.chosen[0] += 1;
+            self.chosen[1] += u64::from(plain.values != case.expected.values);
+        }
     }
 
     /// A line now and then, so that whoever waits sees it go on.
@@ -99,6 +114,11 @@ impl fmt::Display for Tally {
         writeln!(f, "absurd information lengths {}; of these the original, in a process of its own: {}", self.absurd, ends.join(", "))?;
         let [queries, raws] = self.by_the_rule;
         writeln!(f, "held to the rule on ids 254 and 255: {queries} queries, with those in noise, and {raws} raw records")?;
+        let [all, others] = self.chosen;
+        writeln!(
+            f,
+            "by the highest sequence numbers: {all} queries, with those in noise; on {others} of them the last ones give another answer"
+        )?;
         write!(f, "mismatches {}", self.mismatches)
     }
 }

@@ -142,7 +142,7 @@ fn directory(random: &mut Random, disc: &mut Disc, path: &str, depth: usize, sor
 }
 
 /// The main sequence: the descriptors in any order, some of them twice, with others in between.
-fn sequence(random: &mut Random, disc: &Disc, file_set: Icb) -> Vec<Vec<u8>> {
+fn sequence(random: &mut Random, disc: &Disc, file_set: Icb, thrifty: bool) -> Vec<Vec<u8>> {
     let v = disc.volume;
     let mut label = name(random);
     if random.once_in(3) {
@@ -160,6 +160,10 @@ fn sequence(random: &mut Random, disc: &Disc, file_set: Icb) -> Vec<Vec<u8>> {
         let (i, j) = (random.below(all.len()), random.below(all.len()));
         all.swap(i, j);
     }
+    // Not in the list that is kept, which is to stay as it is.
+    if !thrifty && random.once_in(2) {
+        numbered(random, &mut all);
+    }
     if random.once_in(6) {
         all.insert(random.below(all.len()), random.bytes(40));
     }
@@ -167,6 +171,24 @@ fn sequence(random: &mut Random, disc: &Disc, file_set: Icb) -> Vec<Vec<u8>> {
         all.push(tagged(8, 512));
     }
     all
+}
+
+/// Gives the descriptors sequence numbers at random, out of few, and some of them a twin that says something else: more of each kind, of which
+/// one counts by its number.
+fn numbered(random: &mut Random, all: &mut Vec<Vec<u8>>) {
+    for _ in 0..random.below(4) {
+        let mut twin = random.pick(all).clone();
+        match twin[0] {
+            1 => twin[24..56].copy_from_slice(&field(&name8(b"twin"), 32)),
+            5 => put32(&mut twin, 188, random.below(300) as u32),
+            6 => put32(&mut twin, 212, *random.pick(&[512, 2048, 4096])),
+            _ => {}
+        }
+        all.insert(random.below(all.len() + 1), twin);
+    }
+    for one in all {
+        put32(one, 16, *random.pick(&[0, 1, 2, 2, 3, 256, u32::MAX]));
+    }
 }
 
 pub fn volume(random: &mut Random, sort: Sort) -> Disc {
@@ -184,7 +206,7 @@ pub fn volume(random: &mut Random, sort: Sort) -> Disc {
     let ids = random.pick(&recognitions);
     disc.recognise(ids);
     let file_set = disc.put_file_set(root);
-    let descriptors = sequence(random, &disc, file_set);
+    let descriptors = sequence(random, &disc, file_set, sort == Sort::Thrifty);
     let more = if random.once_in(4) { random.below(2048) as u32 } else { 0 };
     disc.sequence(30 + random.below(3) as u64, &descriptors, more);
     disc.icbs.push(root);

@@ -22,12 +22,13 @@ pub fn put_volume(to: &mut Vec<u8>, v: &Volume) {
     to.extend(v.label);
 }
 
-/// Volume, ICB, room, work, matching and path.
+/// Volume, ICB, room, work, the choices and path.
 pub fn put_query(to: &mut Vec<u8>, q: &Query) {
     put_volume(to, &q.volume);
     put_icb(to, &q.icb);
     put(to, q.room as u64, 4);
     put(to, q.work as u64, 4);
+    put(to, q.how as u64, 4);
     put(to, q.matching as u64, 4);
     put(to, q.path.len() as u64, 4);
     to.extend(&q.path);
