@@ -178,7 +178,7 @@ fn sequence(random: &mut Random, disc: &Disc, file_set: Icb, thrifty: bool) -> V
 fn numbered(random: &mut Random, all: &mut Vec<Vec<u8>>) {
     for _ in 0..random.below(4) {
         let mut twin = random.pick(all).clone();
-        match twin[0] {
+        match u16::from_le_bytes([twin[0], twin[1]]) {
             1 => twin[24..56].copy_from_slice(&field(&name8(b"twin"), 32)),
             5 => put32(&mut twin, 188, random.below(300) as u32),
             6 => put32(&mut twin, 212, *random.pick(&[512, 2048, 4096])),

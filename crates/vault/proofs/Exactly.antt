@@ -95,7 +95,8 @@ five room n (answered b) p = by (leb (length b) room)
 pub label-5 : (image : List ℕ) (how : How) (out : List ℕ) → eqb (labels image how out .reply .answer) 5 ≡ overfull (length out) (ran (disc image) (labelling how) .outcome)
 unfolding ran
 label-5 image how out =
-    five (length out) _ (outcome (disc image) (labelling how)) (refuses-within ButRoom (λ e. omega arith) (disc image) (label-only ButRoom (λ e. omega arith) (λ e. omega arith) (λ e. omega arith) how))
+    five (length out) _ (outcome (disc image) (labelling how))
+    (refuses-within ButRoom (λ e. omega arith) (disc image) (label-only ButRoom (λ e. omega arith) (λ e. omega arith) (λ e. omega arith) how))
 
 module _ (image : List ℕ) (v : VolumeRecord) where
   pub read-5 : (icb : LongAd) (out : List ℕ) → eqb (reads image v icb out .reply .answer) 5 ≡ overfull (length out) (ran (disc image) (reading v icb) .outcome)

@@ -280,7 +280,8 @@ module _ (d : Disc) (how : How) {s : Scanned} {o : Opened} where
 abbrev mainScan : AnchorVolumeDescriptorPointer → Ask (List Parsed)
 mainScan a = scan (a .«main_volume_descriptor_sequence» .length / 2048) (a .«main_volume_descriptor_sequence» .location)
 
-module _ (image : List ℕ) (how : How) {x : AnchorRead} {a : AnchorVolumeDescriptorPointer} (e : x ≡ AnAnchor a) {s : Scanned} (f : s ≡ scannedOf (orderOf how) nothing (ran (disc image) (mainScan a))) {o : Opened} where
+module _ (image : List ℕ) (how : How) {x : AnchorRead} {a : AnchorVolumeDescriptorPointer} (e : x ≡ AnAnchor a)
+    {s : Scanned} (f : s ≡ scannedOf (orderOf how) nothing (ran (disc image) (mainScan a))) {o : Opened} where
   pub anchor-stops : a .«main_volume_descriptor_sequence» .length < 2 ^ 32
       → (s .answer ≡ 0 → ⊥)
       → o ≡ record { answer = s .answer; count = s .count + 1; volume = noVolume }

@@ -262,7 +262,9 @@ module _ (o : Order) (Before Behind : ℕ → ℕ → Type 0) (law : Lawful o Be
             of-kind = w .of-kind;
             keeps = rw (count, e) (w .keeps);
             over-before = w .over-before;
-            over-behind = every-join (kindOf p) (λ m. Behind m (numberOf (w .one))) (w .behind) (p ∷ []) (w .over-behind) (every-one (kindOf p) (λ m. Behind m (numberOf (w .one))) p (λ q. law .leaves (numberOf (w .one)) (numberOf p) e));
+            over-behind =
+                every-join (kindOf p) (λ m. Behind m (numberOf (w .one))) (w .behind) (p ∷ []) (w .over-behind)
+                (every-one (kindOf p) (λ m. Behind m (numberOf (w .one))) p (λ q. law .leaves (numberOf (w .one)) (numberOf p) e));
           })
 
   met-same : (ps : List Parsed) (k : Kept) (p : Parsed) → Standing (kindOf p) ps k → Standing (kindOf p) (ps ++ (p ∷ [])) (prevailing o k p)

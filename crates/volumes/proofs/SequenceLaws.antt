@@ -43,7 +43,8 @@ kept-none e = rw e
 -- ---- one sector
 
 -- what was found is kept, and what is found behind it is kept after it
-found-keeps : (o : Order) (d : Disc) (k : Kept) (p : Parsed) (n : ℕ) (rest : Ask (List Parsed)) → scannedOf o k (after n (ran d (then rest (λ ps. done (p ∷ ps))))) ≡ scannedOf o (prevailing o k p) (after n (ran d rest))
+found-keeps : (o : Order) (d : Disc) (k : Kept) (p : Parsed) (n : ℕ) (rest : Ask (List Parsed))
+    → scannedOf o k (after n (ran d (then rest (λ ps. done (p ∷ ps))))) ≡ scannedOf o (prevailing o k p) (after n (ran d rest))
 unfolding keptOf
 found-keeps o d k p n rest = rw ran-then (by (ran d rest .outcome) (ran d rest .count))
   where
@@ -107,7 +108,9 @@ module _ {image : List ℕ} {how : How} {first n i : ℕ} {kept : Kept} (p : Sca
 
     turn-rest : scannedOf (orderOf how) nothing (ran (disc image) (scan n first)) ≡ scannedOf (orderOf how) kept (after (i + 1) (ran (disc image) (goOn (saysIn sector) behind)))
     unfolding scan
-    turn-rest = p .rest ∙ rw (one-more, ran-there (disc image) (first + i) _ sector (held image (first + i) there)) (scanned-twice (orderOf how) kept i (ran (disc image) (goOn (saysIn sector) behind)))
+    turn-rest =
+        p .rest
+        ∙ rw (one-more, ran-there (disc image) (first + i) _ sector (held image (first + i) there)) (scanned-twice (orderOf how) kept i (ran (disc image) (goOn (saysIn sector) behind)))
 
     module _ {b : List ℕ} {t : SectorTurn} (g : b ≡ bytesIn (disc image (first + i))) (e : t ≡ turnOf (orderOf how) kept (saysIn b)) where
       same : b ≡ sector

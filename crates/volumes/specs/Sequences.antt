@@ -47,7 +47,7 @@ pub data Parsed : Type 0 where
   partition : PartitionDescriptor → Parsed
   logical : LogicalVolumeDescriptor → Parsed
 
--- which of two descriptors of one kind counts, by their volume descriptor sequence numbers (3/8.4.2, 10.1.2, 10.5.2, 10.6.2): whether the
+-- which of two descriptors of one kind counts, by their volume descriptor sequence numbers (3/8.4.3, 10.1.2, 10.5.2, 10.6.2): whether the
 -- later of the two does. The earlier one's number comes first
 abbrev pub Order : Type 0
 Order = ℕ → ℕ → Bool
