@@ -1,4 +1,4 @@
--- Opening a volume: RULES 5.1, 5.11 and 5.14.
+-- Opening a volume: RULES 5.1, 5.11, 5.14 and 5.20.
 use Prim.Native.Nat.{ℕ, _/_}
 use mathlib.Core.Bool.{false}
 use mathlib.Core.Option.{Option}

@@ -1,4 +1,4 @@
--- The volume descriptor sequence (ECMA-167 3/8.4.2): RULES 5.3 to 5.6.
+-- The volume descriptor sequence (ECMA-167 3/8.4.2), and which of its descriptors prevail: RULES 5.3 to 5.6 and 5.20.
 use Prim.Native.Nat.{ℕ, zero, suc, _+_}
 use mathlib.Core.Bool.{Bool, true, false}
 use mathlib.Core.List.{List, [], _∷_}
