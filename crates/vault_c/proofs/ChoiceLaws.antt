@@ -1,17 +1,19 @@
 -- The choices as one number: which case the code is in, and what every number comes to. Assumes nothing.
-use Prim.Native.Nat.{ℕ, _/_, _%_}
-use mathlib.Core.Path.{_≡_, refl}
+use Prim.Native.Nat.{ℕ, _/_, _%_, _≤_}
+use mathlib.Core.Path.{_≡_, refl, ap}
 use mathlib.Core.Bool.{Bool, true, false}
 use mathlib.Core.Option.{Option, none, some}
-use mathlib.Core.List.{List}
+use mathlib.Core.List.{List, []}
 use native.Mathlib.Omega.{arith}
 use lib.Dec.{eqb}
 use borrow.Author.Tests.{eqb-true, ne-eqb}
 use Rattle.disc.specs.declared.replies.Reply.{Reply}
+use Rattle.records.specs.Allocations.{noLong}
 use Rattle.volumes.specs.Openings.{usual, noVolume}
 use Rattle.volumes.specs.declared.openings.How.{How}
 use Rattle.volumes.specs.declared.openings.Opened.{Opened}
 use Rattle.vault.specs.Calls.{opens, Written, labels}
+use Rattle.vault.proofs.Soundness.{Sound, label-sound, open-sound}
 use Rattle.vault_c.specs.Choosing.{howOf, opensBy, opensAs, labelsBy, labelsAs, choiceOf}
 use Rattle.vault_c.specs.declared.choices.Choice.{Choice}
 use Rattle.vault_c.specs.declared.choices.Choice.the-variants.{Known, Unknown}
@@ -77,3 +79,27 @@ no-other n z f = by (eqb (n / 8) 0) refl
     by : (t : Bool) → eqb (n / 8) 0 ≡ t → howOf n ≡ none
     by true e = let h = eqb-true (n / 8) 0 e in rw (h, ne-eqb (n % 4) 0 (among h))
     by false e = rw e
+
+-- so with every other number nothing is asked for, and every value and every byte is as a refusal has it
+module _ (image : List ℕ) (n : ℕ) (z : n ≡ 0 → ⊥) (f : n ≡ 4 → ⊥) where
+  pub open-other : opensAs image n ≡ record { answer = 4; count = 0; volume = noVolume }
+  open-other = ap (opensBy image) (no-other n z f)
+
+  pub label-other : (out : List ℕ) → labelsAs image n out ≡ record { reply = record { answer = 4; count = 0; length = 0 }; out = out }
+  label-other out = ap (λ o. labelsBy image o out) (no-other n z f)
+
+-- ---- whatever number is handed in, the answer is of the table, and a refusal has zeros and leaves the output as it came
+
+pub open-as-sound : (image : List ℕ) (n : ℕ) → (opensAs image n .answer ≤ 7) × ((opensAs image n .answer ≡ 0 → ⊥) → opensAs image n .volume ≡ noVolume)
+open-as-sound image n = by (howOf n)
+  where
+    by : (o : Option How) → (opensBy image o .answer ≤ 7) × ((opensBy image o .answer ≡ 0 → ⊥) → opensBy image o .volume ≡ noVolume)
+    by (some how) = open-sound image how
+    by none = (omega arith, λ h. refl)
+
+pub label-as-sound : (image : List ℕ) (n : ℕ) (out : List ℕ) → Sound (labelsAs image n out .reply .answer) (labelsAs image n out .reply .length) out (labelsAs image n out .out)
+label-as-sound image n out = by (howOf n)
+  where
+    by : (o : Option How) → Sound (labelsBy image o out .reply .answer) (labelsBy image o out .reply .length) out (labelsBy image o out .out)
+    by (some how) = label-sound image noVolume noLong [] out [] how
+    by none = record { table = omega arith; zeros = λ h. refl; kept = λ h. refl }
