@@ -34,13 +34,13 @@ bit-fits c = ⊎-elim
 bit-is : (c : ℕ) → c < 2 ^ 16 → oneBit c ≡ bitXor (c % 0x8000 * 2) (c / 0x8000 * 0x1021)
 bit-is c k = ⊎-elim
     (λ (h : 0x8000 ≤ c).
-      let e : c / 0x8000 ≡ 1 = omega arith in
-      let f : c * 2 % 0x10000 ≡ c % 0x8000 * 2 = omega arith in
-      bit-set c h ∙ rw (e, f) refl)
+    let e : c / 0x8000 ≡ 1 = omega arith in
+    let f : c * 2 % 0x10000 ≡ c % 0x8000 * 2 = omega arith in
+    bit-set c h ∙ rw (e, f) refl)
     (λ (h : c < 0x8000).
-      let e : c / 0x8000 ≡ 0 = omega arith in
-      let f : c % 0x8000 ≡ c = omega arith in
-      bit-clear c h ∙ rw (e, f) (sym (xor-zero-r (c * 2))))
+    let e : c / 0x8000 ≡ 0 = omega arith in
+    let f : c % 0x8000 ≡ c = omega arith in
+    bit-clear c h ∙ rw (e, f) (sym (xor-zero-r (c * 2))))
     (split 0x8000 c)
 
 -- Of two top bits, and then the register, the polynomial comes in once where one is set, and not where both are.
@@ -85,9 +85,16 @@ eight-linear = twice four (λ c. bit-fits (oneBit (two c))) (twice two (λ c. bi
 eight-low : (l : ℕ) → l < 256 → eightBits l ≡ l * 256
 unfolding eightBits
 eight-low l h =
-    rw (bit-clear l (omega arith), bit-clear (l * 2) (omega arith), bit-clear (l * 2 * 2) (omega arith), bit-clear (l * 2 * 2 * 2) (omega arith),
-    bit-clear (l * 2 * 2 * 2 * 2) (omega arith), bit-clear (l * 2 * 2 * 2 * 2 * 2) (omega arith),
-    bit-clear (l * 2 * 2 * 2 * 2 * 2 * 2) (omega arith), bit-clear (l * 2 * 2 * 2 * 2 * 2 * 2 * 2) (omega arith))
+    rw (
+      bit-clear l (omega arith),
+      bit-clear (l * 2) (omega arith),
+      bit-clear (l * 2 * 2) (omega arith),
+      bit-clear (l * 2 * 2 * 2) (omega arith),
+      bit-clear (l * 2 * 2 * 2 * 2) (omega arith),
+      bit-clear (l * 2 * 2 * 2 * 2 * 2) (omega arith),
+      bit-clear (l * 2 * 2 * 2 * 2 * 2 * 2) (omega arith),
+      bit-clear (l * 2 * 2 * 2 * 2 * 2 * 2 * 2) (omega arith),
+    )
     (omega arith)
 
 -- ---- one byte
@@ -110,3 +117,7 @@ byte-is c b hc hb =
     let fits : k < 2 ^ 8 = xor-lt 8 (c / 256) b (omega arith) hb in
     ap eightBits (byte-meets c b) ∙ eight-linear (c % 256) (k * 256) (omega arith) (omega arith)
     ∙ ap (λ (x : ℕ). bitXor x (eightBits (k * 256))) (eight-low (c % 256) (omega arith))
+
+pub byte-fits : (c b : ℕ) → oneByte c b < 2 ^ 16
+unfolding oneByte
+byte-fits c b = eight-fits (bitXor c (b * 256))

@@ -8,6 +8,8 @@ use native.Mathlib.Omega.{arith}
 use lib.Bits.{bitXor, xor-lt}
 use lib.Dec.{eqb}
 use lib.ListN.{length, getD}
+use mir.Val.{Fits}
+use mir.Syntax.{w64}
 use borrow.Author.Tests.{eqb-true}
 use Rattle.crcs.specs.Crcs.{oneByte, remainder, Remainders}
 use Rattle.crcs.proofs.CrcLaws.{byte-is}
@@ -18,8 +20,8 @@ remaindersFrom i [] = true
 remaindersFrom i (x ∷ t) = eqb x (remainder i) && remaindersFrom (suc i) t
 
 both : (a b : Bool) → (a && b) ≡ true → (a ≡ true) × (b ≡ true)
-both true b e = (refl , e)
-both false b e = let z : false ≡ true = e in (e , cc)
+both true b e = (refl, e)
+both false b e = let z : false ≡ true = e in (e, cc)
 
 at-each : (t : List ℕ) (i : ℕ) → remaindersFrom i t ≡ true → (k : ℕ) → k < length t → getD t k 0 ≡ remainder (i + k)
 at-each [] i e k h = absurd (not-suc-le-zero h)
@@ -31,9 +33,14 @@ at-each (x ∷ t) i e (suc k) h =
 pub table-rule : (t : List ℕ) → length t ≡ 256 → remaindersFrom 0 t ≡ true → Remainders t
 table-rule t n e = record { at = λ b h. at-each t 0 e b (omega arith) ∙ ap remainder (zero-add b) }
 
+-- What moves out is a place of the table.
+pub out-byte : (c b : ℕ) → c < 65536 → b < 2 ^ 8 → bitXor (c / 256) b < 256
+out-byte c b hc hb = xor-lt 8 (c / 256) b (omega arith) hb
+
+pub out-fits : (c b : ℕ) → c < 65536 → b < 2 ^ 8 → Fits w64 (bitXor (c / 256) b * 4)
+out-fits c b hc hb = record { fits = omega (arith, out-byte c b hc hb) }
+
 -- A byte's step by a table that keeps the rule is the step by bits.
-pub table-step : (t : List ℕ) (c b k : ℕ) → Remainders t → c < 2 ^ 16 → b < 2 ^ 8 → k ≡ bitXor (c / 256) b
-    → bitXor (c % 256 * 256) (getD t k 0) ≡ oneByte c b
-table-step t c b k rule hc hb e =
-    let fits : bitXor (c / 256) b < 2 ^ 8 = xor-lt 8 (c / 256) b (omega arith) hb in
-    rw (e, rule .at (bitXor (c / 256) b) fits) (sym (byte-is c b hc hb))
+pub table-step : (t : List ℕ) (c b : ℕ) → Remainders t → c < 65536 → b < 2 ^ 8
+    → bitXor (c % 256 * 256) (getD t (bitXor (c / 256) b) 0) ≡ oneByte c b
+table-step t c b rule hc hb = rw (rule .at (bitXor (c / 256) b) (out-byte c b hc hb)) (sym (byte-is c b hc hb))

@@ -1,42 +1,35 @@
-// The CRC of a descriptor's body, a byte at a time from a table of remainders.
+// The CRC of a descriptor's body, a byte at a time, from a table of 256 remainders.
 mod table;
 
 ghost use mathlib.Core.Path.{_≡_};
-ghost use Prim.Native.Nat.{_/_};
-ghost use lib.Bits.{bitXor};
+ghost use Prim.Native.Nat.{_<_};
 ghost use Rattle.crcs.specs.Crcs.{oneByte, crcOf, Remainders};
 use crate::table::REMAINDERS;
 
-// The byte that moves out of the register c as b comes in.
-fn moved_out(c: u16, b: u8) -> u8
-    ensures { λ r. ⌜ r ≡ bitXor (c / 256) b ⌝ }
-{
-    (c / 256) as u8 ^ b
-}
-
-// The register c after the byte b: its low byte moves up, and the remainder of what moves out comes in.
-fn take_byte(t: &[u16; 256], c: u16, b: u8) -> u16
-    requires { ⌜ Remainders (now t) ⌝ }
+// The register c after the byte b: its low byte moves up, and what moves out with b comes back as its remainder. The register is kept in 32
+// bits, of which it has 16: in a u16 it would be cut for every byte.
+fn take_byte(t: &[u32; 256], c: u32, b: u8) -> u32
+    requires { ⌜ Remainders (now t) ⌝ ∗ ⌜ c < 65536 ⌝ }
     ensures { λ r. ⌜ r ≡ oneByte c b ⌝ }
 {
-    let k = moved_out(c, b) as usize;
-    (c % 256 * 256) ^ t[k]
+    let out = c as usize / 256 ^ b as usize;
+    c % 256 * 256 ^ t[out]
 }
 
-fn take_bytes(t: &[u16; 256], s: &[u8]) -> u16
+fn take_bytes(t: &[u32; 256], s: &[u8]) -> u16
     requires { ⌜ Remainders (now t) ⌝ }
     ensures { λ r. ⌜ r ≡ crcOf (now (s .entry)) ⌝ }
 {
-    let mut c: u16 = 0;
+    let mut c: u32 = 0;
     let mut i = 0;
     while i < s.len() {
         c = take_byte(t, c, s[i]);
         i += 1;
     }
-    c
+    c as u16
 }
 
-// The CRC of the bytes of s.
+// The CRC of the bytes of s. The table is lent once for all of them.
 pub fn crc(s: &[u8]) -> u16
     ensures { λ r. ⌜ r ≡ crcOf (now (s .entry)) ⌝ }
 {

@@ -1,5 +1,6 @@
-// The 256 remainders.
-pub(crate) const REMAINDERS: [u16; 256] = [
+// What each byte leaves of an empty register, at the byte's place. In 32 bits, as the register is: in 16 each lookup has a turn's
+// arithmetic wait for it a cycle longer.
+pub(crate) const REMAINDERS: [u32; 256] = [
     0x0000,
     0x1021,
     0x2042,

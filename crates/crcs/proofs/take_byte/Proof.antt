@@ -1,17 +1,15 @@
 -- `crcs::take_byte` meets its contract: a step by a table that keeps the rule is a step by bits. Assumes nothing.
 use borrow.Author.Needs.{needs}
-use Rattle.crcs.proofs.TableLaws.{table-step}
+use Rattle.crcs.proofs.TableLaws.{out-byte, out-fits, table-step}
 use Rattle.crcs.proofs.take_byte.Statement.{statement}
 use Rattle.crcs.proofs.take_byte.Tie as tie
 
-ruleset steps = (table-step, needs)
+ruleset steps = (out-byte, out-fits, table-step, needs)
 
 pub take-byte-spec : {M : Type 1} → statement M
 take-byte-spec =
     tie.close (tie.spec
-    (λ c κs. search needs)
     (λ c. search needs)
-    (λ c. search needs)
-    (λ c. search needs)
-    (λ c. search needs)
+    (λ c. search steps)
+    (λ c. search steps)
     (λ c. search steps))

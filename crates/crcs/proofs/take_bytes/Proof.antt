@@ -1,17 +1,15 @@
 -- `crcs::take_bytes` meets its contract: what is left gives what the whole gives. Assumes nothing.
-use mathlib.Core.Path.{_≡_}
 use Prim.Native.Nat.{_-_}
-use lib.ListN.{length, drop}
+use lib.ListN.{length}
 use borrow.Author.Needs.{needs}
-use Rattle.crcs.specs.Crcs.{crcFrom, crcOf}
-use Rattle.crcs.proofs.LoopLaws.{bytes-start, bytes-next, bytes-end}
+use Rattle.crcs.proofs.LoopLaws.{Taken, taken-start, taken-fits, taken-next, taken-end}
 use Rattle.crcs.proofs.take_bytes.Statement.{statement}
 use Rattle.crcs.proofs.take_bytes.Tie as tie
 
-ruleset bytes = (bytes-start, bytes-next, bytes-end, needs)
+ruleset bytes = (taken-start, taken-fits, taken-next, taken-end, needs)
 
 abbrev Inv-loop : tie.InvT-loop
-Inv-loop t s c₀ i₀ c i = crcFrom c (drop i s) ≡ crcOf s
+Inv-loop t s c₀ i₀ c i = Taken s c i
 
 abbrev μ-loop : tie.MeasureT-loop
 μ-loop t s c₀ i₀ c i = length s - i
@@ -21,8 +19,9 @@ take-bytes-spec =
     tie.close (tie.spec Inv-loop μ-loop
     (λ c. search bytes)
     (λ c. search needs)
-    (λ c κs. search needs)
+    (λ c κs. search bytes)
     (λ c. search needs)
     (λ c. search needs)
+    (λ c. search bytes)
     (λ c. search bytes)
     (λ c. search bytes))
