@@ -71,10 +71,10 @@ pub eight-fits : (c : ℕ) → eightBits c < 2 ^ 16
 unfolding eightBits
 eight-fits c = bit-fits (oneBit (oneBit (oneBit (oneBit (oneBit (oneBit (oneBit c)))))))
 
-abbrev two : ℕ → ℕ
+abbrev pub two : ℕ → ℕ
 two c = oneBit (oneBit c)
 
-abbrev four : ℕ → ℕ
+abbrev pub four : ℕ → ℕ
 four c = two (two c)
 
 pub eight-linear : Linear eightBits
@@ -82,7 +82,7 @@ unfolding eightBits
 eight-linear = twice four (λ c. bit-fits (oneBit (two c))) (twice two (λ c. bit-fits (oneBit c)) (twice oneBit bit-fits bit-linear))
 
 -- A low byte moves up whole.
-eight-low : (l : ℕ) → l < 256 → eightBits l ≡ l * 256
+pub eight-low : (l : ℕ) → l < 256 → eightBits l ≡ l * 256
 unfolding eightBits
 eight-low l h =
     rw (

@@ -3,3 +3,5 @@ pub mod XorLaws
 pub mod CrcLaws
 pub mod TableLaws
 pub mod LoopLaws
+pub mod ChangeLaws
+pub mod Promises

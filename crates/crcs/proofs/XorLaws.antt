@@ -49,6 +49,17 @@ pub xor-equal : (a b : ℕ) → bitXor a b ≡ 0 → a ≡ b
 xor-equal a b e =
     sym (xor-zero-r a) ∙ ap (bitXor a) (sym (xor-self b)) ∙ sym (xor-assoc a b b) ∙ ap (λ (x : ℕ). bitXor x b) e
 
+-- What two numbers are XORed with can be taken away, on either side.
+pub xor-left : (c a b : ℕ) → bitXor c a ≡ bitXor c b → a ≡ b
+xor-left c a b e =
+    sym (undone a) ∙ ap (bitXor c) e ∙ undone b
+  where
+    undone : (x : ℕ) → bitXor c (bitXor c x) ≡ x
+    undone x = sym (xor-assoc c c x) ∙ ap (λ (z : ℕ). bitXor z x) (xor-self c)
+
+pub xor-right : (c a b : ℕ) → bitXor a c ≡ bitXor b c → a ≡ b
+xor-right c a b e = xor-left c a b (xor-comm c a ∙ e ∙ xor-comm b c)
+
 -- Doubling passes through.
 pub xor-double : (a b : ℕ) → bitXor a b * 2 ≡ bitXor (a * 2) (b * 2)
 xor-double a b =
