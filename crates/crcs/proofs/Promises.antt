@@ -5,7 +5,7 @@ use mathlib.Core.List.{List, [], _∷_, _++_}
 use Prim.Native.Nat.{ℕ, _^_, _<_}
 use lib.Dec.{lit<}
 use Rattle.disc.proofs.ByteLaws.{Bytes}
-use Rattle.crcs.specs.Crcs.{oneBit, eightBits, oneByte, crcFrom, crcOf}
+use Rattle.crcs.specs.Crcs.{oneBit, eightBits, oneByte, crcFrom, crcOf, remainder}
 use Rattle.crcs.proofs.CrcLaws.{byte-fits}
 use Rattle.crcs.proofs.ChangeLaws.{byte-taken, bytes-register, pair-taken}
 
@@ -29,6 +29,11 @@ from-fits (b ∷ s) c h = from-fits s (oneByte c b) (byte-fits c b)
 pub crc-fits : (s : List ℕ) → crcOf s < 2 ^ 16
 unfolding crcOf
 crc-fits s = from-fits s 0 (lit< tt)
+
+-- What the table has of a byte is the CRC of that byte alone.
+pub crc-alone : (b : ℕ) → crcOf (b ∷ []) ≡ remainder b
+unfolding crcOf crcFrom oneByte remainder
+crc-alone b = refl
 
 -- ---- changes
 

@@ -11,7 +11,8 @@ use lib.ListN.{length, getD}
 use mir.Val.{Fits}
 use mir.Syntax.{w64}
 use borrow.Author.Tests.{eqb-true}
-use Rattle.crcs.specs.Crcs.{oneByte, remainder, Remainders}
+use Rattle.crcs.specs.Crcs.{oneByte, remainder}
+use Rattle.crcs.specs.inner.Tables.{Remainders}
 use Rattle.crcs.proofs.CrcLaws.{byte-is}
 
 -- Each entry is the remainder of its place, counted from i.

@@ -1,1 +1,3 @@
+-- What the contracts cite.
 pub mod Crcs
+pub mod inner

@@ -3,7 +3,8 @@ mod table;
 
 ghost use mathlib.Core.Path.{_≡_};
 ghost use Prim.Native.Nat.{_<_};
-ghost use Rattle.crcs.specs.Crcs.{oneByte, crcOf, Remainders};
+ghost use Rattle.crcs.specs.Crcs.{oneByte, crcOf};
+ghost use Rattle.crcs.specs.inner.Tables.{Remainders};
 use crate::table::REMAINDERS;
 
 // The register c after the byte b: its low byte moves up, and what moves out with b comes back as its remainder. The register is kept in 32
