@@ -7,8 +7,8 @@ ghost use Rattle.crcs.specs.Crcs.{oneByte, crcOf};
 ghost use Rattle.crcs.specs.inner.Tables.{Remainders};
 use crate::table::REMAINDERS;
 
-// The register c after the byte b: its low byte moves up, and what moves out with b comes back as its remainder. The register is kept in 32
-// bits, of which it has 16: in a u16 it would be cut for every byte.
+// The register c after the byte b: its low byte moves up, and its high byte, XORed with b, moves out and leaves its remainder. A register of 32
+// bits, of which it uses 16, needs no cut at each byte.
 fn take_byte(t: &[u32; 256], c: u32, b: u8) -> u32
     requires { ⌜ Remainders (now t) ⌝ ∗ ⌜ c < 65536 ⌝ }
     ensures { λ r. ⌜ r ≡ oneByte c b ⌝ }
@@ -30,7 +30,7 @@ fn take_bytes(t: &[u32; 256], s: &[u8]) -> u16
     c as u16
 }
 
-// The CRC of the bytes of s. The table is lent once for all of them.
+// The CRC of the bytes of s. The table is made where it is lent, so once for all of them.
 pub fn crc(s: &[u8]) -> u16
     ensures { λ r. ⌜ r ≡ crcOf (now (s .entry)) ⌝ }
 {

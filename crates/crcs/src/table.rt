@@ -1,5 +1,4 @@
-// What each byte leaves of an empty register, at the byte's place. In 32 bits, as the register is: in 16 each lookup has a turn's
-// arithmetic wait for it a cycle longer.
+// The remainder of each byte, at the byte's place. The entries have 32 bits, as the register has in the code: the loop then cuts nothing.
 pub(crate) const REMAINDERS: [u32; 256] = [
     0x0000,
     0x1021,
