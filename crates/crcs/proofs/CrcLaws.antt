@@ -1,13 +1,12 @@
 -- Laws of the register: a bit, and so a byte, passes through XOR, and what is left of a byte is what the table has. Assumes nothing.
 use mathlib.Core.Path.{_≡_, refl, sym, ap, ap₂, _∙_}
-use mathlib.Core.Logic.{_⊎_, inl, inr, ⊎-elim}
-use Prim.Native.Nat.{ℕ, zero, suc, _+_, _*_, _/_, _%_, _^_, _<_, _≤_}
+use mathlib.Core.Logic.{⊎-elim}
+use Prim.Native.Nat.{ℕ, _+_, _*_, _/_, _%_, _^_, _<_, _≤_}
 use native.Mathlib.Nat.{add-zero}
 use native.Mathlib.Omega.{arith}
 use lib.Bits.{bitXor, xor-lt, xor-shr, xor-mod, xor-comm, xor-block, xor-shifted, xor-zero-r}
-use lib.Dec.{lit<, ltb}
+use lib.Dec.{lit<}
 use borrow.Author.Tests.{lt-ltb, le-ltb}
-use Rattle.disc.specs.Choice.{pick}
 use Rattle.disc.proofs.ImageLaws.{split}
 use Rattle.crcs.specs.Crcs.{oneBit, eightBits, oneByte, remainder}
 use Rattle.crcs.proofs.XorLaws.{digit, xor-medial, xor-double}
@@ -43,7 +42,7 @@ bit-is c k = ⊎-elim
     bit-clear c h ∙ rw (e, f) (sym (xor-zero-r (c * 2))))
     (split 0x8000 c)
 
--- Of two top bits, and then the register, the polynomial comes in once where one is set, and not where both are.
+-- Of two top bits the polynomial comes in where one is set, and not where both are.
 tops : (x y : ℕ) → x < 2 → y < 2 → bitXor x y * 0x1021 ≡ bitXor (x * 0x1021) (y * 0x1021)
 tops x y hx hy =
     digit (λ x. bitXor x y * 0x1021 ≡ bitXor (x * 0x1021) (y * 0x1021)) refl
