@@ -8,7 +8,7 @@ use native.Mathlib.Omega.{arith}
 use lib.Dec.{eqb}
 use lib.ListN.{length, take, drop, length-append, length-drop, drop-of-length-le}
 use lib.Seq.{take-all, drop-drop, drop-at, length-take-le, sets, length-sets, sets-eq}
-use borrow.Author.Tests.{eq-eqb, ne-eqb, eqb-true, eqb-false}
+use borrow.Author.Tests.{eqb-true, eqb-false}
 use borrow.Rule.Slice.PartMut.{midOf, putMid}
 use Rattle.disc.specs.Choice.{pick}
 use Rattle.disc.specs.Refusals.{number}
@@ -18,7 +18,6 @@ use Rattle.disc.specs.declared.refusals.Refusal.{Refusal}
 use Rattle.disc.specs.declared.refusals.Refusal.the-variants.{Ambiguous}
 use Rattle.disc.specs.Moves.{over}
 use Rattle.disc.proofs.RefusalLaws.{refusal-numbered}
-use Rattle.disc.proofs.PickLaws.{not-both}
 use Rattle.disc.proofs.MoveLaws.{over-fits}
 use Rattle.records.specs.Bytes.{byte, u16at, u32at, le16, le32, six}
 use Rattle.records.specs.Allocations.{encodeLong, longOf}
@@ -34,8 +33,8 @@ use Rattle.identifiers.specs.Identifiers.{readIdentifier, identifierRead, recor
 use Rattle.identifiers.specs.inner.Wholes.{Whole}
 use Rattle.identifiers.proofs.IdentifierLaws.{identifier-read, read-identifier}
 use Rattle.listings.specs.Entries.{Entry, entryOf, entryIn, entryRead, isSkipped, nameIn}
-use Rattle.listings.specs.Listings.{recordHead, shown, foldFor, foldIn, answersTo, unnamed}
-use Rattle.listings.specs.inner.Passes.{Recorded, Puts, icbIn, headIn, recordIn, wantsOnly, settled, joinedOf, notedOf}
+use Rattle.listings.specs.Listings.{recordHead, shown, foldFor, answersTo, unnamed}
+use Rattle.listings.specs.inner.Passes.{Recorded, Puts, icbIn, headIn, recordIn, settled, joinedOf, notedOf}
 use Rattle.listings.specs.declared.finds.Named.{Named}
 use Rattle.listings.specs.declared.matchings.Matching.{Matching}
 use Rattle.listings.specs.declared.matchings.Matching.the-variants.{CaseIgnored, AsWritten, Unambiguous}
@@ -275,66 +274,36 @@ module _ (s : List ℕ) (b : Bytes s) {from n : ℕ} (a : from ≡ nameAt s) (l 
 
 -- ---- what is found with one more entry
 
-pick-yes : {A : Type 0} (b : Bool) (x y : A) → b ≡ true → x ≡ pick b x y
-pick-yes true x y h = refl
-pick-yes false x y h = not-both h
-
-pick-no : {A : Type 0} (b : Bool) (x y : A) → b ≡ false → y ≡ pick b x y
-pick-no true x y h = not-both (sym h)
-pick-no false x y h = refl
-
 module _ (m : Matching) (found : Named) where
-  pub settled-not : found .found ≡ false → false ≡ settled m found
-  settled-not h = pick-no (found .found) _ _ h
+  pub settled-case : m ≡ CaseIgnored → found .found ≡ settled m found
+  settled-case e = rw e refl
 
-  pub settled-found : found .found ≡ true → {t : Bool} → t ≡ wantsOnly m → not t ≡ settled m found
-  settled-found h e = ap not e ∙ pick-yes (found .found) _ _ h
+  pub settled-written : m ≡ AsWritten → found .found ≡ settled m found
+  settled-written e = rw e refl
+
+  pub settled-only : m ≡ Unambiguous → not (eqb (found .answer) 0) ≡ settled m found
+  settled-only e = rw e refl
 
   module _ (s component : List ℕ) {f : FileIdentifierDescriptor} {t : Bool} (u : t ≡ settled m found) where
     pub noted-settled : t ≡ true → Whole s f → found ≡ notedOf m found component (entryOf s f)
     unfolding notedOf
-    noted-settled h w = pick-yes (settled m found) _ _ (sym u ∙ h)
+    noted-settled h w = rw (← u, h)
 
     module _ (n : t ≡ false) {g : Fold} (k : g ≡ foldFor m) {b : Bool} (e : Whole s f → b ≡ answersTo (foldOf g) component (entryOf s f)) where
-      answers : Whole s f → b ≡ answersTo (foldIn m) component (entryOf s f)
-      answers w = e w ∙ ap (λ (x : Fold). answersTo (foldOf x) component (entryOf s f)) k
-
       pub noted-none : b ≡ false → Whole s f → found ≡ notedOf m found component (entryOf s f)
       unfolding notedOf
-      noted-none h w = pick-no (answersTo (foldIn m) component (entryOf s f)) _ _ (sym (answers w) ∙ h) ∙ pick-no (settled m found) _ _ (sym u ∙ n)
+      noted-none h w = rw (← u, n, ← k, ← e w, h)
 
       pub noted-this : b ≡ true → {a : Named} → a ≡ joinedOf found f → Whole s f → a ≡ notedOf m found component (entryOf s f)
       unfolding notedOf
-      noted-this h q w = q ∙ pick-yes (answersTo (foldIn m) component (entryOf s f)) _ _ (sym (answers w) ∙ h) ∙ pick-no (settled m found) _ _ (sym u ∙ n)
+      noted-this h q w = rw (← u, n, ← k, ← e w, h) q
 
 module _ (found : Named) (f : FileIdentifierDescriptor) where
   pub joined-again : found .found ≡ true → {n : ℕ} → n ≡ number Ambiguous → {a : Named} → a ≡ unnamed n → a ≡ joinedOf found f
-  unfolding joinedOf
-  joined-again h e q = q ∙ ap unnamed e ∙ pick-yes (found .found) _ _ h
+  joined-again h e q = q ∙ rw (h, e)
 
-  module _ (n : found .found ≡ false) where
-    pub joined-kept : (found .answer ≡ 0 → ⊥) → found ≡ joinedOf found f
-    unfolding joinedOf
-    joined-kept h = pick-no (eqb (found .answer) 0) _ _ (ne-eqb (found .answer) 0 h) ∙ pick-no (found .found) _ _ n
-
-    pub joined-first : found .answer ≡ 0 → {q : Bool} → q ≡ isDirectory f → record { answer = 0; found = true; icb = f .icb; directory = q } ≡ joinedOf found f
-    unfolding joinedOf
-    joined-first h {q} e =
-        ap (λ (d : Bool). record { answer = 0; found = true; icb = f .icb; directory = d }) e
-        ∙ pick-yes (eqb (found .answer) 0) _ _ (eq-eqb (found .answer) 0 h)
-        ∙ pick-no (found .found) _ _ n
-
--- ---- whether a choice wants the only one
-
-module _ (m : Matching) where
-  pub wants-case : m ≡ CaseIgnored → false ≡ wantsOnly m
-  wants-case e = rw e refl
-
-  pub wants-written : m ≡ AsWritten → false ≡ wantsOnly m
-  wants-written e = rw e refl
-
-  pub wants-one : m ≡ Unambiguous → true ≡ wantsOnly m
-  wants-one e = rw e refl
+  pub joined-first : found .found ≡ false → {q : Bool} → q ≡ isDirectory f → record { answer = 0; found = true; icb = f .icb; directory = q } ≡ joinedOf found f
+  joined-first h e = rw (h, e)
 
 -- ---- the fold of a choice
 

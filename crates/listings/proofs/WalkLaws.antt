@@ -284,7 +284,7 @@ module _ {raw d₀ d : List ℕ} {n at : ℕ} (m : Filling raw d₀ d n at) wher
 -- one more entry, by a choice of matching: what is done with those that matched is what was found
 noted-chosen : (m : Matching) (component : List ℕ) (e : Entry) (xs : List Entry)
     → notedOf m (namedOf (chosen m xs)) component e ≡ namedOf (chosen m (xs ++ pick (answersTo (foldIn m) component e) (e ∷ []) []))
-unfolding notedOf joinedOf chosen
+unfolding notedOf chosen
 noted-chosen m component e xs = by m (answersTo (foldIn m) component e) xs
   where
     by : (m : Matching) (t : Bool) (xs : List Entry)
@@ -304,8 +304,7 @@ noted-chosen m component e xs = by m (answersTo (foldIn m) component e) xs
     by Unambiguous false [] = refl
     by Unambiguous true (x ∷ []) = refl
     by Unambiguous false (x ∷ []) = refl
-    by Unambiguous true (x ∷ y ∷ xs) = refl
-    by Unambiguous false (x ∷ y ∷ xs) = refl
+    by Unambiguous t (x ∷ y ∷ xs) = refl
 
 -- what is done with the entries that matched so far, and those of the rest
 abbrev chosenWith : Matching → List ℕ → List Entry → Outcome (List Entry) → Named

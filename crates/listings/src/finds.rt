@@ -10,7 +10,6 @@ use crate::directory_entries::answers_to;
 use crate::directory_entries::entry_at;
 use crate::matchings::Matching;
 use crate::matchings::fold_for;
-use crate::matchings::wants_only;
 use disc::answers::DONE;
 use disc::refusals::Refusal;
 use identifiers::FileIdentifierDescriptor;
@@ -37,25 +36,23 @@ pub fn no_entry(answer: u64) -> Named
     }
 }
 
-// Whether no further entry can change what was found. In most turns none was, and the choice isn't looked at.
+// Whether no further entry can change what was found.
 fn is_settled(matching: Matching, found: Named) -> bool
     ensures { λ r. ⌜ r ≡ settled matching found ⌝ }
 {
-    if !found.found {
-        return false;
+    match matching {
+        Matching::CaseIgnored => found.found,
+        Matching::AsWritten => found.found,
+        Matching::Unambiguous => found.answer != DONE,
     }
-    !wants_only(matching)
 }
 
-// What is found with one more entry that matches. What was ambiguous stays so.
+// What is found with one more entry that matches.
 fn joined(found: Named, f: FileIdentifierDescriptor) -> Named
     ensures { λ r. ⌜ r ≡ joinedOf found f ⌝ }
 {
     if found.found {
         return no_entry(Refusal::Ambiguous.number());
-    }
-    if found.answer != DONE {
-        return found;
     }
     let icb = f.icb;
     Named {

@@ -1,7 +1,6 @@
 // How a component of a path is matched with the names of a directory's entries.
 ghost use mathlib.Core.Path.{_≡_};
 ghost use Rattle.listings.specs.Listings.{foldFor, matchingOf};
-ghost use Rattle.listings.specs.inner.Passes.{wantsOnly};
 use names::matching::Fold;
 
 // ASCII case is ignored, and the first entry that matches is taken.
@@ -30,17 +29,6 @@ pub fn matching_of(number: u32) -> Matching
         return Matching::AsWritten;
     }
     Matching::Unambiguous
-}
-
-// Whether an entry is taken only where no other matches.
-pub(crate) fn wants_only(matching: Matching) -> bool
-    ensures { λ r. ⌜ r ≡ wantsOnly matching ⌝ }
-{
-    match matching {
-        Matching::CaseIgnored => false,
-        Matching::AsWritten => false,
-        Matching::Unambiguous => true,
-    }
 }
 
 // What is made of the bytes of a name and of a component before they are compared.

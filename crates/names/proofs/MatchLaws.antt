@@ -28,15 +28,15 @@ use Rattle.names.proofs.NameLaws.{found}
 
 -- ---- a byte
 
-module _ (f : Fold) (b : ℕ) where
-  pub folded-lower : f ≡ Lower → {r : ℕ} → r ≡ lower b → r ≡ foldOf f b
-  folded-lower e q = rw e q
-
-  pub folded-as-is : f ≡ AsIs → b ≡ foldOf f b
-  folded-as-is e = rw e refl
-
 pub same-alike : (f : Fold) (a b : ℕ) → a ≡ b → true ≡ eqb (foldOf f a) (foldOf f b)
 same-alike f a b e = sym (eq-eqb (foldOf f a) (foldOf f b) (ap (foldOf f) e))
+
+module _ (f : Fold) (a b : ℕ) where
+  pub same-lower : f ≡ Lower → {x y : ℕ} → x ≡ lower a → y ≡ lower b → eqb x y ≡ eqb (foldOf f a) (foldOf f b)
+  same-lower e p q = rw (e, p, q) refl
+
+  pub same-apart : f ≡ AsIs → (a ≡ b → ⊥) → false ≡ eqb (foldOf f a) (foldOf f b)
+  same-apart e n = rw e (sym (ne-eqb a b n))
 
 module _ (fold : ℕ → ℕ) (b : ℕ) {t : List ℕ} {at : ℕ} where
   pub byte-none : length t ≤ at → Matched fold (b ∷ []) t at (record { same = false; at = at })

@@ -40,15 +40,6 @@ fn lower(b: u8) -> u8
     b
 }
 
-fn folded(fold: Fold, b: u8) -> u8
-    ensures { λ r. ⌜ r ≡ foldOf fold b ⌝ }
-{
-    match fold {
-        Fold::Lower => lower(b),
-        Fold::AsIs => b,
-    }
-}
-
 // Most bytes that match are equal as they are, so that the fold is looked at where two differ.
 fn same_byte(fold: Fold, a: u8, b: u8) -> bool
     ensures { λ r. ⌜ r ≡ eqb (foldOf fold a) (foldOf fold b) ⌝ }
@@ -56,7 +47,10 @@ fn same_byte(fold: Fold, a: u8, b: u8) -> bool
     if a == b {
         return true;
     }
-    folded(fold, a) == folded(fold, b)
+    match fold {
+        Fold::Lower => lower(a) == lower(b),
+        Fold::AsIs => false,
+    }
 }
 
 // Compares a byte of a name with the component t at `at`.

@@ -82,21 +82,15 @@ abbrev pub sizeOfListing : Outcome (List Entry) → ListingSize
 sizeOfListing (answered es) = record { answer = 0; size = length (records es) }
 sizeOfListing (refused why) = record { answer = number why; size = 0 }
 
--- an entry is taken only where no other matches
-abbrev pub wantsOnly : Matching → Bool
-wantsOnly CaseIgnored = false
-wantsOnly AsWritten = false
-wantsOnly Unambiguous = true
-
--- no further entry can change what was found
+-- no further entry can change what was found: the first was, or a second one that matches
 abbrev pub settled : Matching → Named → Bool
-settled m found = pick (found .found) (not (wantsOnly m)) false
+settled CaseIgnored found = found .found
+settled AsWritten found = found .found
+settled Unambiguous found = not (eqb (found .answer) 0)
 
--- what is found with one more entry that matches: what was ambiguous stays so
-unfoldable pub joinedOf : Named → FileIdentifierDescriptor → Named
-joinedOf found f =
-    pick (found .found) (unnamed (number Ambiguous))
-    (pick (eqb (found .answer) 0) (record { answer = 0; found = true; icb = f .icb; directory = isDirectory f }) found)
+-- what is found with one more entry that matches
+abbrev pub joinedOf : Named → FileIdentifierDescriptor → Named
+joinedOf found f = pick (found .found) (unnamed (number Ambiguous)) (record { answer = 0; found = true; icb = f .icb; directory = isDirectory f })
 
 -- what is found with one more entry
 unfoldable pub notedOf : Matching → Named → List ℕ → Entry → Named
