@@ -49,7 +49,7 @@ enum {
     VAULT_AS_WRITTEN = 1, /* A name matches byte for byte, and the first entry that matches is taken. */
     /* ASCII case is ignored, and a component that two or more entries match is refused by VAULT_AMBIGUOUS. */
     VAULT_UNAMBIGUOUS = 2,
-    VAULT_VERSION = 2, /* Goes up whenever a struct or a call changes. */
+    VAULT_VERSION = 3, /* Goes up whenever a struct or a call changes. */
 };
 
 enum {

@@ -45,7 +45,7 @@ pub const AS_WRITTEN: u32 = 1;
 /// ASCII case is ignored, and a component that two or more entries match is refused by VAULT_AMBIGUOUS.
 pub const UNAMBIGUOUS: u32 = 2;
 /// Goes up whenever a struct or a call changes.
-pub const VERSION: u32 = 2;
+pub const VERSION: u32 = 3;
 
 /// A choice for `how`: of several primary volume, partition or logical volume descriptors the one with the highest
 /// volume descriptor sequence number counts, the later of equals. Without it the last one does.

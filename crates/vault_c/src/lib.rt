@@ -48,12 +48,12 @@ pub const VAULT_AS_WRITTEN: u32 = AS_WRITTEN;
 pub const VAULT_UNAMBIGUOUS: u32 = UNAMBIGUOUS;
 
 // Goes up whenever a struct or a call changes.
-pub const VAULT_VERSION: u32 = 2;
+pub const VAULT_VERSION: u32 = 3;
 
 // The VAULT_VERSION of the archive, which is to be that of the header.
 #[no_mangle]
 pub extern "C" fn vault_version() -> u32
-    ensures { λ r. ⌜ r ≡ 2 ⌝ }
+    ensures { λ r. ⌜ r ≡ 3 ⌝ }
 {
     VAULT_VERSION
 }
