@@ -13,7 +13,8 @@ use Rattle.volumes.specs.Openings.{usual, noVolume}
 use Rattle.volumes.specs.declared.openings.How.{How}
 use Rattle.volumes.specs.declared.openings.Opened.{Opened}
 use Rattle.vault.specs.Calls.{opens, Written, labels}
-use Rattle.vault.proofs.Soundness.{Sound, label-sound, open-sound}
+use Rattle.listings.specs.declared.matchings.Matching.the-variants.{CaseIgnored}
+use Rattle.vault.proofs.Soundness.{Listed, Sound, label-sound, open-sound}
 use Rattle.vault_c.specs.Choosing.{howOf, opensBy, opensAs, labelsBy, labelsAs, choiceOf}
 use Rattle.vault_c.specs.declared.choices.Choice.{Choice}
 use Rattle.vault_c.specs.declared.choices.Choice.the-variants.{Known, Unknown}
@@ -97,9 +98,9 @@ open-as-sound image n = by (howOf n)
     by (some how) = open-sound image how
     by none = (omega arith, λ h. refl)
 
-pub label-as-sound : (image : List ℕ) (n : ℕ) (out : List ℕ) → Sound (labelsAs image n out .reply .answer) (labelsAs image n out .reply .length) out (labelsAs image n out .out)
+pub label-as-sound : (image : List ℕ) (n : ℕ) (out : List ℕ) → Sound Listed (labelsAs image n out .reply .answer) (labelsAs image n out .reply .length) out (labelsAs image n out .out)
 label-as-sound image n out = by (howOf n)
   where
-    by : (o : Option How) → Sound (labelsBy image o out .reply .answer) (labelsBy image o out .reply .length) out (labelsBy image o out .out)
-    by (some how) = label-sound image noVolume noLong [] out [] how
-    by none = record { table = omega arith; zeros = λ h. refl; kept = λ h. refl }
+    by : (o : Option How) → Sound Listed (labelsBy image o out .reply .answer) (labelsBy image o out .reply .length) out (labelsBy image o out .out)
+    by (some how) = label-sound image noVolume noLong [] CaseIgnored out [] how
+    by none = record { listed = omega arith; zeros = λ h. refl; kept = λ h. refl }
