@@ -21,6 +21,7 @@ use records::bytes::le16;
 use records::bytes::le32;
 use sparse::expand;
 use vault::volume::Volume;
+use volumes::openings::How;
 
 fn say_lookup(v: Volume, image: &[u8], path: &[u8], number: u32, work: &mut [u8]) {
     fill(work);
@@ -118,7 +119,7 @@ fn queries(v: Volume, image: &[u8], all: &[u8], out: &mut [u8], work: &mut [u8])
 // ---- the file of images
 
 fn ask_all(image: &[u8], all: &[u8], out: &mut [u8], work: &mut [u8]) {
-    let opened = Volume::open(image);
+    let opened = Volume::open(image, How::usual());
     let v = opened.volume;
     say_answer(b"open ", opened.answer, opened.count);
     say(b"\n");
