@@ -27,9 +27,7 @@ vault: look into a UDF disc. An image is a file or a drive; it is only read.
   --help, --      print this; what follows is no option
 
 Names on a path stand between slashes; the first entry that matches is taken.
-Control characters in names are printed as \\u{..}. Nobody may write to an
-image while it is mapped: where one may, use --copy.
-
+Nobody may write to an image while it is mapped: where one may, use --copy.
 Status: 0 done, 1 to 7 and 9 refused by that number, 64 wrong usage, 65 not in
 place, 66 no image, 67 not all checked, 70 unknown answer, 74 no output.
 ";
