@@ -4,7 +4,7 @@
 mod common;
 
 use common::command::{Folder, Said};
-use common::{Disc, SECTOR, continuation, continued, named, short_ad, show};
+use common::{Disc, SECTOR, continuation, continued, named, reclosed, short_ad, show};
 
 /// The sample show's partition, and its root.
 const START: usize = 288;
@@ -365,4 +365,17 @@ fn sectors_are_added_up() {
     folder.write("show.img", &show());
     let said = folder.vault(&["check", "show.img", "--sectors"]);
     assert_eq!(said.error, "vault: sectors asked for: open 6, part 6, read_file 2, extents 2\n");
+}
+
+#[test]
+fn the_walk_goes_by_the_descriptors_that_prevail() {
+    let mut image = reclosed();
+    for moved in [35, 36] {
+        locate(&mut image, moved * SECTOR, moved as u32);
+    }
+    let folder = Folder::new();
+    folder.write("a.img", &image);
+    let said = folder.vault(&["check", "--highest", "a.img"]);
+    assert_eq!((said.status, said.out.as_str()), (0, "20 descriptors, each in place\n"));
+    assert_ne!(folder.vault(&["check", "a.img"]).status, 0);
 }
