@@ -7,33 +7,13 @@ directories.
     tools/matching_model.py --check     fails where that file isn't what the model says
 """
 
-import pathlib
 import struct
 import sys
 
-HERE = pathlib.Path(__file__).resolve().parents[1] / "crates" / "matching_cases"
-SIZE = 2048
-GONE, BAD, ABSENT, ROOM, WORK, SEVERAL = 1, 2, 3, 5, 6, 9
+sys.dont_write_bytecode = True
+from model import ABSENT, BAD, ROOM, SEVERAL, SIZE, WORK, Disc, Refused, front, stored, text
+
 CASE_IGNORED, AS_WRITTEN = 0, 1
-
-
-class Refused(Exception):
-    def __init__(self, number):
-        self.number = number
-
-
-class Disc:
-    """An image whose sectors are counted as they are asked for."""
-
-    def __init__(self, image):
-        self.image, self.count = image, 0
-
-    def sector(self, number):
-        self.count += 1
-        found = self.image[number * SIZE : (number + 1) * SIZE]
-        if len(found) < SIZE:
-            raise Refused(GONE)
-        return found
 
 
 def is_tagged(data, identifier):
@@ -75,21 +55,6 @@ def content(disc, start, icb):
         for n in range((length + SIZE - 1) // SIZE):
             found += disc.sector(start + block + n)[: length - n * SIZE]
     return found[:information]
-
-
-def text(recorded):
-    """A d-string as UTF-8."""
-    if not recorded or recorded[0] in (0, 254, 255):
-        return b""
-    body = recorded[1:]
-    if recorded[0] == 8:
-        points = list(body)
-    elif recorded[0] == 16 and len(body) % 2 == 0:
-        points = [body[i] * 256 + body[i + 1] for i in range(0, len(body), 2)]
-    else:
-        raise Refused(BAD)
-    points = points[: points.index(0)] if 0 in points else points
-    return "".join(chr(p) for p in points if not 0xD800 <= p < 0xE000).encode("utf-8")
 
 
 def listed(data):
@@ -179,23 +144,10 @@ def answers(image, start, root, query):
     yield f"read_path {number} count {disc.count} length {len(data)} sum {total(data + bytes([0xA5]) * (room - len(data)))} zero"
 
 
-def unpacked(packed):
-    length, runs = struct.unpack_from("<II", packed)
-    image, at = bytearray(length), 8
-    for _ in range(runs):
-        where, size = struct.unpack_from("<II", packed, at)
-        image[where : where + size] = packed[at + 8 : at + 8 + size]
-        at += 8 + size
-    return bytes(image)
-
-
 def lines(data):
     """What is printed of a file of images."""
     while data:
-        n, = struct.unpack_from("<H", data)
-        name, data = data[2 : 2 + n].decode("ascii"), data[2 + n :]
-        n, = struct.unpack_from("<I", data)
-        image, data = unpacked(data[4 : 4 + n]), data[4 + n :]
+        name, image, data = front(data)
         n, = struct.unpack_from("<I", data)
         queries, data = data[4 : 4 + n], data[4 + n :]
         yield "image " + name
@@ -208,16 +160,5 @@ def lines(data):
             queries = queries[n:]
 
 
-def main(words):
-    wanted = "".join(line + "\n" for line in lines((HERE / "data" / "images").read_bytes()))
-    if words == ["--check"]:
-        if (HERE / "stdout").read_text(encoding="ascii") != wanted:
-            print("matching_model: crates/matching_cases/stdout isn't what the model says", file=sys.stderr)
-            return 1
-        return 0
-    (HERE / "stdout").write_text(wanted, encoding="ascii")
-    return 0
-
-
 if __name__ == "__main__":
-    sys.exit(main(sys.argv[1:]))
+    sys.exit(stored("matching_cases", lines, sys.argv[1:]))

@@ -5,12 +5,11 @@ library and from the script that writes the images. It reads the images themselv
     tools/volume_model.py             writes crates/volume_cases/stdout
     tools/volume_model.py --check     fails where that file isn't what the model says
 """
-import pathlib
 import sys
 
-HERE = pathlib.Path(__file__).resolve().parents[1] / "crates" / "volume_cases"
-SIZE = 2048
-GONE, BAD, ABSENT, OTHER, ROOM = 1, 2, 3, 4, 5
+sys.dont_write_bytecode = True
+from model import ABSENT, BAD, OTHER, ROOM, SIZE, Disc, Refused, front, stored, text
+
 LENT = 64
 IDENTIFIERS = (b"BEA01", b"NSR02", b"NSR03", b"TEA01", b"CD001", b"CDW02")
 PRIMARY, PARTITION, LOGICAL, TERMINATING = 1, 5, 6, 8
@@ -20,24 +19,6 @@ NOTHING = {
     "root": {"length": 0, "type": 0, "block": 0, "partition": 0, "use": bytes(6)},
     "label": bytes(32),
 }
-
-
-class Refused(Exception):
-    def __init__(self, number):
-        self.number = number
-
-
-class Disc:
-    """An image whose sectors are counted as they are asked for."""
-
-    def __init__(self, image):
-        self.image, self.count = image, 0
-
-    def sector(self, number):
-        self.count += 1
-        if SIZE * number + SIZE > len(self.image):
-            raise Refused(GONE)
-        return self.image[SIZE * number : SIZE * number + SIZE]
 
 
 def number(bytes_, at, size):
@@ -52,26 +33,11 @@ def tagged(sector, wanted, least):
         raise Refused(BAD)
 
 
-def dstring(recorded):
-    """A d-string as UTF-8: 4.2 to 4.7."""
-    if not recorded or recorded[0] in (0, 254, 255):
-        return b""
-    body = recorded[1:]
-    if recorded[0] == 8:
-        points = list(body)
-    elif recorded[0] == 16 and len(body) % 2 == 0:
-        points = [body[i] << 8 | body[i + 1] for i in range(0, len(body), 2)]
-    else:
-        raise Refused(BAD)
-    name = points[: points.index(0)] if 0 in points else points
-    return "".join(chr(point) for point in name if not 0xD800 <= point <= 0xDFFF).encode()
-
-
 def field(recorded):
     """The name in a d-string field: 4.8."""
     if recorded[-1] > len(recorded) - 1:
         raise Refused(BAD)
-    return dstring(recorded[: recorded[-1]])
+    return text(recorded[: recorded[-1]])
 
 
 def long_ad(sector, at):
@@ -176,27 +142,9 @@ def is_recognised(image):
     return False
 
 
-def laid(packed):
-    """An image that is kept sparse (docs/COMPARING.md)."""
-    image, at = bytearray(number(packed, 0, 4)), 8
-    for _ in range(number(packed, 4, 4)):
-        to, size = number(packed, at, 4), number(packed, at + 4, 4)
-        image[to : to + size] = packed[at + 8 : at + 8 + size]
-        at += 8 + size
-    return bytes(image)
-
-
-def images(data):
-    at = 0
-    while at < len(data):
-        name_end = at + 2 + number(data, at, 2)
-        end = name_end + 4 + number(data, name_end, 4)
-        yield data[at + 2 : name_end].decode("ascii"), laid(data[name_end + 4 : end])
-        at = end
-
-
 def lines(data):
-    for name, image in images(data):
+    while data:
+        name, image, data = front(data)
         yield f"image {name}"
         yield from opening("opened", image, False)
         line, size = label("label", image, False, LENT)
@@ -207,16 +155,5 @@ def lines(data):
         yield f"probe {'yes' if is_recognised(image) else 'no'}"
 
 
-def main(words):
-    wanted = "".join(line + "\n" for line in lines((HERE / "data" / "images").read_bytes()))
-    if words == ["--check"]:
-        if (HERE / "stdout").read_text(encoding="ascii") != wanted:
-            print("volume_model: crates/volume_cases/stdout isn't what the model says", file=sys.stderr)
-            return 1
-        return 0
-    (HERE / "stdout").write_text(wanted, encoding="ascii")
-    return 0
-
-
 if __name__ == "__main__":
-    sys.exit(main(sys.argv[1:]))
+    sys.exit(stored("volume_cases", lines, sys.argv[1:]))
