@@ -61,6 +61,13 @@ fn see_version() {
     assert_eq!(version, VERSION, "the archive that was linked is of another version than this crate");
 }
 
+/// The bytes from `at` on, each looked at once, also where the image is a map that someone writes to; none where they aren't all there.
+pub fn peek<const N: usize>(image: &[u8], at: usize) -> Option<[u8; N]> {
+    let from = image.get(at..)?.get(..N)?.as_ptr();
+    // SAFETY: N bytes stand there.
+    Some(std::array::from_fn(|i| unsafe { from.add(i).read_volatile() }))
+}
+
 pub fn probe(image: &[u8]) -> bool {
     see_version();
     // SAFETY: the head of this module; nothing is lent for writing.

@@ -51,21 +51,23 @@ pub struct VolumeDescriptor {
 /// The descriptors of the main sequence of which one of each kind counts, in order, up to the first that opening refuses. The sectors are
 /// looked at again, and aren't counted.
 pub fn volume_descriptors(image: &[u8], how: How) -> Vec<VolumeDescriptor> {
-    let Some(anchor) = sector(image, ANCHOR) else {
+    if !holds(image, ANCHOR) {
         return Vec::new();
-    };
-    let (first, whole) = (number(anchor, 20) as usize, number(anchor, 16) as usize / SECTOR);
+    }
+    let (first, whole) = (number(image, ANCHOR, 20) as usize, number(image, ANCHOR, 16) as usize / SECTOR);
     let (accepted, mut found) = (accepted(image, how), Vec::new());
-    for at in 0..whole.min(accepted) {
-        let Some(bytes) = sector(image, first + at) else { break };
-        let kind = match id(bytes) {
+    for sector in first..first + whole.min(accepted) {
+        if !holds(image, sector) {
+            break;
+        }
+        let kind = match number(image, sector, 0) as u16 {
             1 => Kind::PrimaryVolume,
             5 => Kind::Partition,
             6 => Kind::LogicalVolume,
             TERMINATING => return marked(found, how),
             _ => continue,
         };
-        found.push(VolumeDescriptor { sector: (first + at) as u64, kind, number: number(bytes, 16), prevails: false });
+        found.push(VolumeDescriptor { sector: sector as u64, kind, number: number(image, sector, 16), prevails: false });
     }
     if accepted < whole { found } else { marked(found, how) }
 }
@@ -91,14 +93,11 @@ fn marked(mut found: Vec<VolumeDescriptor>, how: How) -> Vec<VolumeDescriptor> {
     found
 }
 
-fn sector(image: &[u8], at: usize) -> Option<&[u8; SECTOR]> {
-    image.get(at * SECTOR..)?.first_chunk()
+fn holds(image: &[u8], sector: usize) -> bool {
+    sector < image.len() / SECTOR
 }
 
-fn id(sector: &[u8; SECTOR]) -> u16 {
-    u16::from_le_bytes([sector[0], sector[1]])
-}
-
-fn number(sector: &[u8; SECTOR], at: usize) -> u32 {
-    u32::from_le_bytes([sector[at], sector[at + 1], sector[at + 2], sector[at + 3]])
+/// The number at a place of a sector, whose low half is an id.
+fn number(image: &[u8], sector: usize, at: usize) -> u32 {
+    calls::peek(image, sector * SECTOR + at).map_or(0, u32::from_le_bytes)
 }
