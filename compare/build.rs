@@ -1,11 +1,13 @@
 //! Finds the original, and the archives for port.c.
 //!
 //! The original stands in the folder `UDF_ORIGINAL`, by default ../shared/docs/src beside the repository, and is never copied into the
-//! tree. Its udf.rs is compiled word for word, but for the name of one function, with a module behind it: the entry of a file and the
+//! tree. Its udf.rs is compiled word for word, but for the names of two functions, with a module behind it: the entry of a file and the
 //! making of an opened disc are private there, and a module inside can reach them.
 //!
-//! The function is `decode_dstring`: one of that name behind the original's notes each d-string with compression id 254 or 255, which the
-//! rules give an empty name and the original refuses, and hands every other on to it.
+//! One function is `decode_dstring`: one of that name behind the original's notes each d-string with compression id 254 or 255, which the
+//! rules give an empty name and the original refuses, and hands every other on to it. The other is the parser of tags, through which the
+//! original reads every descriptor, with the bytes at hand from it on: one of that name behind it makes the body check, where it is switched
+//! on, on each tag that the original's own accepts.
 //!
 //! The archives are x86-64 code: `strandlodge-sys` links them where these programs are that too, and says in which folder they are. On every
 //! machine they are linked with port.c into a program that answers through a pipe.
@@ -17,8 +19,20 @@ use std::{env, fs};
 /// The crates whose archives are compared with the original.
 const CRATES: [&str; 2] = ["vault_c", "records_c"];
 
-/// The original's reading of a d-string, and the name that it has here.
-const DECODES: [&str; 2] = ["pub fn decode_dstring(payload", "fn decode_dstring_as_it_is(payload"];
+/// How the original's parser of a tag goes on behind its name, which parsers of other records have too.
+macro_rules! tag_parser {
+    () => {
+        "bytes: &[u8]) -> Result<Self> {
+        if bytes.len() < Self::SIZE {
+            return Err(BlurayError::malformed(\"descriptor tag truncated\"));"
+    };
+}
+
+/// The original's reading of a d-string and of a tag, and the name that each has here.
+const RENAMED: [[&str; 2]; 2] = [
+    ["pub fn decode_dstring(payload", "fn decode_dstring_as_it_is(payload"],
+    [concat!("pub fn parse(", tag_parser!()), concat!("fn parse_as_it_is(", tag_parser!())],
+];
 
 const INSIDE: &str = "
 /// In the place of the original's function of this name.
@@ -32,15 +46,57 @@ pub fn decode_dstring(payload: &[u8]) -> Result<String> {
     decode_dstring_as_it_is(payload)
 }
 
+impl DescriptorTag {
+    /// In the place of the original's function of this name.
+    pub fn parse(bytes: &[u8]) -> Result<Self> {
+        let tag = Self::parse_as_it_is(bytes)?;
+        if within::CHECKED.get() {
+            within::body(&tag, bytes)?;
+        }
+        Ok(tag)
+    }
+}
+
 pub mod within {
     use super::*;
+    use common::records::crc;
     use std::cell::Cell;
 
+    /// The id of a tag whose body is wrong, and whether that is since its CRC length passes the bytes at hand.
+    pub type Ruined = (u16, bool);
+
     thread_local! {
+        /// Bodies are checked.
+        pub static CHECKED: Cell<bool> = const { Cell::new(false) };
+        /// The last body that was wrong.
+        pub static RUINED: Cell<Option<Ruined>> = const { Cell::new(None) };
+        /// How many bodies of a byte or more were right.
+        pub static RIGHT: Cell<u64> = const { Cell::new(0) };
         /// A d-string with id 254 or 255 was reached.
         pub static REACHED: Cell<bool> = const { Cell::new(false) };
         /// Such a d-string has an empty name.
         pub static BY_THE_RULE: Cell<bool> = const { Cell::new(false) };
+    }
+
+    /// The body check, from the words of the rule. A wrong body is told by the one kind of error that nothing here gives: the original has no
+    /// kind for it.
+    pub fn body(tag: &DescriptorTag, bytes: &[u8]) -> Result<()> {
+        let body = bytes.get(16..16 + usize::from(tag.crc_length));
+        if body.is_some_and(|body| crc(body) == tag.crc) {
+            RIGHT.set(RIGHT.get() + u64::from(tag.crc_length > 0));
+            return Ok(());
+        }
+        RUINED.set(Some((tag.id as u16, body.is_none())));
+        Err(BlurayError::Decrypt(String::new()))
+    }
+
+    /// What is asked of the original, with bodies checked or not, and the last body that was wrong.
+    pub fn checked<T>(checked: bool, ask: impl FnOnce() -> T) -> (T, Option<Ruined>) {
+        CHECKED.set(checked);
+        RUINED.set(None);
+        let came = ask();
+        CHECKED.set(false);
+        (came, RUINED.get())
     }
 
     /// What is asked of the original, and whether it was held to the rule: asked again with an empty name for each d-string with id 254
@@ -136,8 +192,11 @@ fn original(folder: &Path, out: &Path) -> bool {
     let (Ok(udf), Ok(error)) = (fs::read_to_string(folder.join("udf.rs")), folder.join("error.rs").canonicalize()) else {
         return false;
     };
-    assert_eq!(udf.matches(DECODES[0]).count(), 1, "the original reads d-strings elsewhere");
-    fs::write(out.join("udf.rs"), udf.replace(DECODES[0], DECODES[1]) + INSIDE).unwrap();
+    let renamed = RENAMED.iter().fold(udf, |udf, [name, here]| {
+        assert_eq!(udf.matches(name).count(), 1, "the original has it elsewhere: {name}");
+        udf.replace(name, here)
+    });
+    fs::write(out.join("udf.rs"), renamed + INSIDE).unwrap();
     let text = format!(
         "#[allow(dead_code)]\n#[path = {:?}]\npub mod error;\n#[allow(dead_code)]\n#[path = {:?}]\npub mod udf;\n",
         error,

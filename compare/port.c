@@ -6,18 +6,18 @@
  *   'I' noise kind (1 byte), noise seed (4), packed length (4), packed image    the image that is asked about from now on, as
  *                                                                               docs/COMPARING.md packs it
  *   'Q' call (1), in noise (1), salt (1),                                       a query; with `in noise`, on an image that holds
- *       volume (55), ICB (17), room (4), work (4), how (4), matching (4),       the kept sectors alone, and noise in all others
+ *       volume (59), ICB (17), room (4), work (4), how (4), matching (4),       the kept sectors alone, and noise in all others
  *       path length (4), path, kept sectors (4), each sector's number (4)
  *   'T' times (4), and a query as behind 'Q'                                    the query so many times over: the answer is the
  *                                                                               nanoseconds (8); call 10 copies `room` bytes
  *   'R' call (1), salt (1), room (4), length (4), bytes                         a call on a raw record
  *   'F'                                                                         the answers to all queries so far are written
  *
- *   an answer: answer (8), count (8), length (8), place (8), volume (55), ICB (17), state (1), written length (4), written bytes
+ *   an answer: answer (8), count (8), length (8), place (8), volume (59), ICB (17), state (1), written length (4), written bytes
  *   an answer to 'R': state (1), length (4), bytes
  *
- * An ICB is length (4), type (1), block (4), partition (2), implementation use (6); a volume is start (4), partition (2), root (17),
- * label (32). Room counts bytes, and slots for the extent list. Answers are held back until 'F', so neither side waits for the other
+ * An ICB is length (4), type (1), block (4), partition (2), implementation use (6); a volume is start (4), partition (2), checked (4),
+ * root (17), label (32). Room counts bytes, and slots for the extent list. Answers are held back until 'F', so neither side waits for the other
  * while both write.
  *
  * A lent buffer comes full of a pattern that tells where each byte stands, with GUARD bytes of it in front and behind. The state has a
@@ -26,8 +26,8 @@
  *
  * A raw record is every field of it in order. What is parsed comes as bytes, and the answer is the number (8) and the record; what is
  * encoded comes as the record, and the answer is bytes; a name comes as bytes, and the answer is the number (8), the length (8) and the
- * written bytes; for the place check a tag comes with a sector (8) and a block (4) behind it, and the answer is 1 (8) for a yes. Of the state
- * the first two bits tell.
+ * written bytes; for the place check a tag comes with a sector (8) and a block (4) behind it, and for the body check with the bytes at hand, and
+ * the answer is 1 (8) for a yes; for a CRC come bytes, and the answer is 0 (8) and the CRC (2). Of the state the first two bits tell.
  */
 #include "records.h"
 #include "vault.h"
@@ -159,6 +159,7 @@ static vault_volume take_volume(void) {
     vault_volume v;
     v.mount.start = (uint32_t)take_number(4);
     v.mount.partition = (uint16_t)take_number(2);
+    v.mount.checked = (uint32_t)take_number(4);
     v.root = take_icb();
     if (!take(v.label, 32)) exit(5);
     return v;
@@ -167,6 +168,7 @@ static vault_volume take_volume(void) {
 static void give_volume(vault_volume v) {
     give_number(v.mount.start, 4);
     give_number(v.mount.partition, 2);
+    give_number(v.mount.checked, 4);
     give_icb(v.root);
     give(v.label, 32);
 }
@@ -407,7 +409,7 @@ FIELDS(file_identifier, TAG(records_file_identifier_answer, value.tag), V(file_i
 #define ENCODED(X) X(extent_ad) X(short_ad) X(lb_addr) X(long_ad) X(ext_ad) X(tag) X(aed)
 #define PARSE_NUMBER(name) PARSE_##name,
 #define ENCODE_NUMBER(name) ENCODE_##name,
-enum { PARSED(PARSE_NUMBER) DECODE_DSTRING, DECODE_FIELD, TAG_IN_PLACE, ENCODED(ENCODE_NUMBER) };
+enum { PARSED(PARSE_NUMBER) DECODE_DSTRING, DECODE_FIELD, TAG_IN_PLACE, TAG_BODY, CRC, ENCODED(ENCODE_NUMBER) };
 
 static buffer lent_in, said;
 
@@ -471,6 +473,25 @@ static size_t say_in_place(const uint8_t *in, size_t n) {
     return 0;
 }
 
+/* A tag, and behind it the bytes at hand from the descriptor on; a yes is 1. */
+static size_t say_body(const uint8_t *in, size_t n) {
+    enum { FLAT = 14 };
+    records_tag_answer tag;
+    if (n < FLAT) exit(5);
+    fill_fields(&tag, tag_fields, COUNT(tag), in, FLAT);
+    uint64_t said_so = records_tag_body(tag.value, in + FLAT, n - FLAT);
+    say(&said_so, sizeof said_so);
+    return 0;
+}
+
+static size_t say_crc(const uint8_t *in, size_t n) {
+    uint64_t done = 0;
+    uint16_t crc = records_crc(in, n);
+    say(&done, sizeof done);
+    say(&crc, sizeof crc);
+    return 0;
+}
+
 static size_t raw_call(uint8_t which, const uint8_t *in, size_t n, uint8_t *out, size_t room) {
     switch (which) {
         PARSED(PARSE)
@@ -478,6 +499,8 @@ static size_t raw_call(uint8_t which, const uint8_t *in, size_t n, uint8_t *out,
     case DECODE_DSTRING: return say_written(records_decode_dstring(in, n, out, room), out);
     case DECODE_FIELD: return say_written(records_decode_dstring_field(in, n, out, room), out);
     case TAG_IN_PLACE: return say_in_place(in, n);
+    case TAG_BODY: return say_body(in, n);
+    case CRC: return say_crc(in, n);
     default: exit(6);
     }
 }

@@ -145,10 +145,11 @@ records_written records_decode_dstring(const uint8_t *bytes, size_t bytes_length
 records_written records_decode_dstring_field(const uint8_t *bytes, size_t bytes_length, uint8_t *out,
                                              size_t out_length);
 
-/* ---- The descriptor tag, and the header of an allocation extent.
+/* ---- The descriptor tag, its CRC, and the header of an allocation extent.
  *
- * A tag is refused unless its id is 1 to 9 or 256 to 266, its reserved byte 0 and its checksum right; the CRC isn't
- * checked. Encoding takes any id, and makes the checksum. A header is a tag with id 258 and two numbers. */
+ * A tag is refused unless its id is 1 to 9 or 256 to 266, its reserved byte 0 and its checksum right; the CRC is
+ * checked by records_tag_body alone. Encoding takes any id, and makes the checksum. A header is a tag with id 258
+ * and two numbers. */
 
 /* The id is a number, which reading keeps within the listed ones. */
 typedef struct {
@@ -191,6 +192,14 @@ records_tag_bytes records_encode_tag(records_tag value);
  * hold the descriptor's first byte, counted from the disc's start and from its partition's. Ids 1 to 9 go by the
  * sector, 256 to 266 by the block, and a tag with any other id is in place nowhere. */
 bool records_tag_in_place(records_tag tag, uint64_t sector, uint32_t block);
+
+/* The CRC of `bytes`, which a tag has of its descriptor's body: x^16 + x^12 + x^5 + 1, starting at 0, the highest
+ * bit of a byte first. */
+uint16_t records_crc(const uint8_t *bytes, size_t bytes_length);
+
+/* The body check: `bytes` are those at hand from the descriptor on, with its tag in the first 16. Whether they hold
+ * as many behind these as the tag's CRC length says, and these have the tag's CRC. A CRC length of 0 has the CRC 0. */
+bool records_tag_body(records_tag tag, const uint8_t *bytes, size_t bytes_length);
 
 records_aed_answer records_parse_aed(const uint8_t *bytes, size_t bytes_length);
 records_aed_bytes records_encode_aed(records_aed value);

@@ -42,6 +42,8 @@ enum {
     /* A component of the path matches two or more entries of its directory, and the choice of matching wants the
      * only one. */
     VAULT_AMBIGUOUS = 9,
+    /* A descriptor that is checked has a wrong CRC, or a CRC length that passes the bytes at hand. */
+    VAULT_BAD_CRC = 10,
 };
 
 enum {
@@ -49,19 +51,25 @@ enum {
     VAULT_AS_WRITTEN = 1, /* A name matches byte for byte, and the first entry that matches is taken. */
     /* ASCII case is ignored, and a component that two or more entries match is refused by VAULT_AMBIGUOUS. */
     VAULT_UNAMBIGUOUS = 2,
-    VAULT_VERSION = 3, /* Goes up whenever a struct or a call changes. */
+    VAULT_VERSION = 4, /* Goes up whenever a struct or a call changes. */
 };
 
 enum {
+    /* A choice for `how`: the body of each descriptor that is parsed, on opening and in every call on the volume,
+     * must have the CRC that its tag says, or the call is refused by VAULT_BAD_CRC. */
+    VAULT_CHECKED = 1,
     /* A choice for `how`: of several primary volume, partition or logical volume descriptors the one with the
      * highest volume descriptor sequence number counts, the later of equals. Without it the last one does. */
     VAULT_HIGHEST = 4,
 };
 
-/* How a volume is read: where its partition starts, and the partition's number. */
+/* How a volume is read: where its partition starts, the partition's number, and whether the bodies of its
+ * descriptors are checked. */
 typedef struct {
     uint32_t start; /* The sector in which the partition starts. */
     uint16_t partition; /* The partition's number. */
+    /* Any number but 0: the body of each descriptor that is parsed must have the CRC that its tag says. */
+    uint32_t checked;
 } vault_mount;
 
 /* A block of a partition. */
@@ -122,7 +130,8 @@ uint32_t vault_version(void);
 bool vault_probe(const uint8_t *image, size_t image_length);
 
 /* Opens the volume of an image. `how` is the sum of the choices, 0 for none of them; any other bit is
- * VAULT_UNSUPPORTED with a count of 0. The volume holds no trace of them: it is what came out. */
+ * VAULT_UNSUPPORTED with a count of 0. A volume that is opened with VAULT_CHECKED says so in its mount, and every
+ * call on it checks; of the others it holds no trace. */
 vault_opened vault_open(const uint8_t *image, size_t image_length, uint32_t how);
 
 /* Opens an image, as vault_open does, and writes its label to `out`, as UTF-8 with no zero behind it; `length` is

@@ -42,7 +42,12 @@ FAULTS = (
     ("length before count", "disc/src/replies.rt", r"(pub struct Reply \{.*?)(pub count: u64,)(.*?)(pub length: u64,)", r"\1\4\3\2"),
     ("root before mount", "volumes/src/openings.rt", r"(pub mount: Mount,)(\s+// The root directory.\s+)(pub root: LongAd,)", r"\3\2\1"),
     ("partition before block", "records/src/allocations.rt", r"(pub block: u32,)(\s+// The partition.\s+)(pub partition_ref: u16,)", r"\3\2\1"),
+    ("checked before partition", "disc/src/places.rt", r"(pub partition: u16,)(.*?)(pub checked: u32,)", r"\3\2\1"),
     ("a number that is another", "disc/src/answers.rt", r"NO_ROOM: u64 = 5", "NO_ROOM: u64 = 15"),
+    ("a refusal by another number", "disc/src/answers.rt", r"BAD_CRC: u64 = 10", "BAD_CRC: u64 = 2"),
+    ("the bits of two choices the other way round", "vault_c/src/choices.rt", r"CHECKED: u32 = 1(.*)HIGHEST: u32 = 4", r"CHECKED: u32 = 4\1HIGHEST: u32 = 1"),
+    ("a bit of no choice that is taken", "vault_c/src/choices.rt", r"if how / 2 % 2 != 0", "if how / 2 % 2 > 1"),
+    ("checked by the lowest bit alone", "disc/src/places.rt", r"self\.checked != 0", "self.checked == 1"),
 )
 
 

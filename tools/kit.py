@@ -52,8 +52,17 @@ def ran(program, input=b""):
 
 
 def below(crate):
-    """The crates of the repository that a crate stands on, by crates.txt."""
-    return re.search(rf"^{crate}:(.*)$", (ROOT / "crates.txt").read_text(), re.M)[1].split()
+    """The crates of the repository that a crate stands on, itself or by way of another, lowest first, by crates.txt."""
+    lines, found = dict(re.findall(r"^(\w+):(.*)$", (ROOT / "crates.txt").read_text(), re.M)), []
+
+    def visit(name):
+        for one in lines[name].split():
+            if one not in found:
+                visit(one)
+                found.append(one)
+
+    visit(crate)
+    return found
 
 
 def unproved(crate, source, crates, archive):

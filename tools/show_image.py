@@ -1,7 +1,8 @@
 #!/usr/bin/env python3
 """Writes crates/first_cue/stdin: a small show as a packed image (tools/udf.py), with the directory SHOW and in it four cues.
 
-Every tag's location is right: the sector's number, or the block's inside the partition (ECMA-167 3/7.2.8, 4/7.2.8).
+Every tag's location is right: the sector's number, or the block's inside the partition (ECMA-167 3/7.2.8, 4/7.2.8). So is its CRC, which is that of
+the whole descriptor behind it (3/7.2.6).
 
 10.1A stands before 10.1a: matching ignores ASCII case, so a lookup of either name gives the first of the two.
 
@@ -15,7 +16,7 @@ import sys
 sys.dont_write_bytecode = True
 import udf
 from udf import BLOCK, EMBEDDED, FILE_IDENTIFIER, MAIN, PARTITION, SECTOR, SHORT, START
-from udf import entry, long_ad, short_ad, tag
+from udf import entry, long_ad, sealed, short_ad, tag
 
 DIRECTORY, PARENT = 2, 8  # File characteristics (ECMA-167 4/14.4.3).
 CUES = [
@@ -30,27 +31,32 @@ def identifier(location, name, block, marks=0):
     """A file identifier descriptor (ECMA-167 4/14.4), embedded in the entry of block `location`."""
     text = b"\x08" + name.encode("latin-1") if name else b""
     whole = tag(FILE_IDENTIFIER, location) + struct.pack("<HBB16sH", 1, marks, len(text), long_ad(SECTOR, block), 0) + text
-    return whole + bytes(-len(whole) % 4)
+    return sealed(whole + bytes(-len(whole) % 4))
+
+
+def volume(descriptor):
+    """A descriptor of the volume or of its file set: of the sector it has 512 bytes."""
+    return sealed(descriptor, 512 - 16)
 
 
 def show():
     image = udf.Image("show", START + 16)
     root, directory, first = BLOCK + 1, BLOCK + 2, BLOCK + 3
-    image.lay(udf.ANCHOR, udf.anchor())
-    image.lay(MAIN, udf.primary(MAIN, b"\x08SHOW 1"))
-    image.lay(MAIN + 1, udf.partition(MAIN + 1, PARTITION))
-    image.lay(MAIN + 2, udf.logical(MAIN + 2, PARTITION))
-    image.lay(MAIN + 3, udf.TERMINATOR(MAIN + 3))
-    image.lay(START + BLOCK, udf.file_set(BLOCK, root=long_ad(SECTOR, root)))
+    image.lay(udf.ANCHOR, volume(udf.anchor()))
+    image.lay(MAIN, volume(udf.primary(MAIN, b"\x08SHOW 1")))
+    image.lay(MAIN + 1, volume(udf.partition(MAIN + 1, PARTITION)))
+    image.lay(MAIN + 2, volume(udf.logical(MAIN + 2, PARTITION)))
+    image.lay(MAIN + 3, volume(udf.TERMINATOR(MAIN + 3)))
+    image.lay(START + BLOCK, volume(udf.file_set(BLOCK, root=long_ad(SECTOR, root))))
     entries = identifier(root, "", root, DIRECTORY | PARENT) + identifier(root, "SHOW", directory, DIRECTORY)
-    image.lay(START + root, entry(EMBEDDED, entries, len(entries), location=root))
+    image.lay(START + root, sealed(entry(EMBEDDED, entries, len(entries), location=root)))
     entries = identifier(directory, "", root, DIRECTORY | PARENT)
     for i, (name, look) in enumerate(CUES):
         block = first + 2 * i
         entries += identifier(directory, name, block)
-        image.lay(START + block, entry(SHORT, short_ad(len(look), block + 1), len(look), location=block))
+        image.lay(START + block, sealed(entry(SHORT, short_ad(len(look), block + 1), len(look), location=block)))
         image.lay(START + block + 1, look)
-    image.lay(START + directory, entry(EMBEDDED, entries, len(entries), location=directory))
+    image.lay(START + directory, sealed(entry(EMBEDDED, entries, len(entries), location=directory)))
     return image.bytes
 
 

@@ -36,6 +36,25 @@ def tag(identifier, location=0, reserved=0, wrong=0):
     return bytes(t)
 
 
+def crc(body):
+    """The CRC of a descriptor's body (ECMA-167 3/7.2.6), a bit at a time."""
+    register = 0
+    for byte in body:
+        register ^= byte << 8
+        for _ in range(8):
+            register = register << 1 ^ 0x11021 * (register >> 15)
+    return register
+
+
+def sealed(whole, length=None):
+    """A descriptor with the CRC and the CRC length of its body, which is all of it behind the tag unless a length is given; and the checksum."""
+    t, body = bytearray(whole[:16]), whole[16:][:length]
+    struct.pack_into("<HH", t, 8, crc(body), len(body))
+    t[4] = 0
+    t[4] = sum(t) % 256
+    return bytes(t) + whole[16:]
+
+
 def raw(length, kind):
     return length | kind << 30
 

@@ -1,6 +1,6 @@
 //! The calls of include/vault.h: what is asked, and what was answered.
 
-use strandlodge_sys::vault::{AS_WRITTEN, CASE_IGNORED};
+use strandlodge_sys::vault::{AS_WRITTEN, CASE_IGNORED, CHECKED};
 
 #[derive(Clone, Copy, PartialEq, Eq, Debug, PartialOrd, Ord)]
 #[repr(u8)]
@@ -85,6 +85,8 @@ impl Icb {
 pub struct Volume {
     pub start: u32,
     pub partition: u16,
+    /// Any number but 0: bodies are checked.
+    pub checked: u32,
     pub root: Icb,
     pub label: [u8; 32],
 }
@@ -145,6 +147,20 @@ impl Query {
 
     pub fn matched(self, matching: u32) -> Query {
         Query { matching, ..self }
+    }
+
+    /// The same with bodies checked.
+    pub fn checked(&self) -> Query {
+        Query { how: self.how | CHECKED, volume: Volume { checked: 1, ..self.volume }, ..self.clone() }
+    }
+
+    /// Whether bodies are checked: a call that opens is told so, and the volume tells any other.
+    pub fn is_checked(&self) -> bool {
+        match self.call {
+            Call::Probe => false,
+            Call::Open | Call::Label => self.how & CHECKED != 0,
+            _ => self.volume.checked != 0,
+        }
     }
 
     pub fn with(&self, room: usize, work: usize) -> Query {

@@ -1,20 +1,25 @@
-//! An image in the making: descriptors and files put onto a disc, with a note of where each tag stands, for those who damage it.
+//! An image in the making: descriptors and files put onto a disc, with a note of where each tag stands, for those who damage it, and of the
+//! bytes at hand behind it, for those who sum them.
 
 use crate::calls::{Icb, Volume};
 use crate::random::Random;
 use crate::records::*;
+use std::ops::Range;
+use std::rc::Rc;
 
 #[derive(Clone)]
 pub struct Disc {
     pub image: Vec<u8>,
     /// Where each tag stands in the image.
     pub tags: Vec<usize>,
+    /// Each descriptor with its bytes at hand, those that stand inside another behind it.
+    pub noted: Vec<Noted>,
     pub volume: Volume,
     /// What may be asked of it: paths, and ICBs.
     pub paths: Vec<Vec<u8>>,
     pub icbs: Vec<Icb>,
     next: u32,
-    taken: Vec<std::ops::Range<u64>>,
+    taken: Vec<Range<u64>>,
 }
 
 pub const ANCHOR: u64 = 256;
@@ -24,6 +29,25 @@ pub struct Piece {
     pub from: usize,
     pub length: usize,
     pub at: usize,
+}
+
+/// A descriptor that was put onto a disc: the bytes at hand are those of the pieces, from its own first one on, up to an end.
+#[derive(Clone)]
+pub struct Noted {
+    pieces: Rc<[Piece]>,
+    from: usize,
+    end: usize,
+}
+
+impl Noted {
+    /// Where in the image the first so many of them stand.
+    pub fn runs(&self, n: usize) -> impl Iterator<Item = Range<usize>> {
+        let (from, end) = (self.from, self.end.min(self.from + n));
+        self.pieces.iter().filter_map(move |piece| {
+            let (here, until) = (from.max(piece.from), end.min(piece.from + piece.length));
+            (here < until).then(|| piece.at + here - piece.from..piece.at + until - piece.from)
+        })
+    }
 }
 
 /// How a file is laid out.
@@ -67,6 +91,7 @@ impl Disc {
         Disc {
             image: vec![0; (ANCHOR as usize + 1) * 2048],
             tags: Vec::new(),
+            noted: Vec::new(),
             volume,
             paths: Vec::new(),
             icbs: Vec::new(),
@@ -104,8 +129,15 @@ impl Disc {
 
     /// A descriptor, whose tag is noted.
     pub fn put_descriptor(&mut self, sector: u64, bytes: &[u8]) {
+        self.put_noted(sector, bytes, bytes.len());
+    }
+
+    /// The same, where as many sectors are at hand as hold so many bytes.
+    fn put_noted(&mut self, sector: u64, bytes: &[u8], hand: usize) {
         self.put(sector, bytes);
-        self.tags.push(sector as usize * 2048);
+        let (at, end) = (sector as usize * 2048, hand.div_ceil(2048) * 2048);
+        self.tags.push(at);
+        self.noted.push(Noted { pieces: Rc::new([Piece { from: 0, length: end, at }]), from: 0, end });
     }
 
     pub fn put_block(&mut self, block: u32, bytes: &[u8]) {
@@ -148,9 +180,9 @@ impl Disc {
         let mut area = left.concat();
         for group in groups.into_iter().rev() {
             let bytes = allocation_extent(&area);
-            let block = self.take((bytes.len() + layout.slack as usize).div_ceil(2048) as u32);
-            self.put_block(block, &bytes);
             let length = bytes.len() as u32 + layout.slack;
+            let block = self.take(length.div_ceil(2048));
+            self.put_noted(self.sector_of(block), &bytes, length as usize);
             area = group.concat();
             area.extend(descriptor(layout.kind, length, 3, block, self.volume.partition));
         }
@@ -195,10 +227,13 @@ impl Disc {
         }
         bytes.extend(tail);
         let (icb, places) = self.store(&bytes, layout);
-        for p in places {
+        for p in &places {
             let here = starts.iter().filter(|s| **s >= p.from && **s + 38 <= p.from + p.length);
             self.tags.extend(here.map(|s| p.at + s - p.from));
         }
+        let end = layout.information.map_or(bytes.len(), |n| bytes.len().min(n as usize));
+        let pieces: Rc<[Piece]> = places.into();
+        self.noted.extend(starts.iter().filter(|s| **s < end).map(|s| Noted { pieces: pieces.clone(), from: *s, end }));
         icb
     }
 
@@ -233,9 +268,9 @@ impl Disc {
         let length = descriptors.len() as u32 * 2048 + more;
         self.put_descriptor(ANCHOR, &anchor((length, at as u32), (length, at as u32)));
         for (i, d) in descriptors.iter().enumerate() {
-            self.put(at + i as u64, d);
-            if d.len() >= 16 {
-                self.tags.push((at as usize + i) * 2048);
+            match d.len() {
+                0..16 => self.put(at + i as u64, d),
+                _ => self.put_descriptor(at + i as u64, d),
             }
         }
     }

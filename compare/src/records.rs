@@ -20,6 +20,20 @@ pub fn mend(b: &mut [u8]) {
     b[4] = b[..16].iter().fold(0, |sum, x| sum.wrapping_add(*x));
 }
 
+/// The CRC of a body (ECMA-167 3/7.2.6), a bit at a time.
+pub fn crc(body: &[u8]) -> u16 {
+    let bit = |register: u16, _| register << 1 ^ if register >> 15 == 1 { 0x1021 } else { 0 };
+    body.iter().fold(0, |register, byte| (0..8).fold(register ^ u16::from(*byte) << 8, bit))
+}
+
+/// Gives the tag at the front the CRC of so many bytes behind it, and its checksum.
+pub fn seal(whole: &mut [u8], length: usize) {
+    let crc = crc(&whole[16..16 + length]);
+    put16(whole, 8, crc);
+    put16(whole, 10, length as u16);
+    mend(whole);
+}
+
 /// A descriptor of so many bytes, zero behind its tag.
 pub fn tagged(id: u16, size: usize) -> Vec<u8> {
     let mut b = vec![0; size];

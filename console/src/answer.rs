@@ -79,12 +79,15 @@ pub enum Refusal {
     NoSlot,
     /// 9: two or more entries of a directory match a component of the path. Given under [`Matching::Unambiguous`](crate::Matching) alone.
     Ambiguous,
+    /// 10: a descriptor has a wrong CRC, or a CRC length that passes the bytes at hand. Given where [`How::checked`](crate::How) was chosen
+    /// alone.
+    BadCrc,
     /// A number that this crate's table doesn't have.
     Unknown(u64),
 }
 
 /// The refusals and their numbers.
-const TABLE: [(Refusal, u64); 8] = [
+const TABLE: [(Refusal, u64); 9] = [
     (Refusal::Io, vault::IO),
     (Refusal::Malformed, vault::MALFORMED),
     (Refusal::NotBluray, vault::NOT_BLURAY),
@@ -93,10 +96,11 @@ const TABLE: [(Refusal, u64); 8] = [
     (Refusal::NoWork, vault::NO_WORK),
     (Refusal::NoSlot, vault::NO_SLOT),
     (Refusal::Ambiguous, vault::AMBIGUOUS),
+    (Refusal::BadCrc, vault::BAD_CRC),
 ];
 
 impl Refusal {
-    /// The number that the call answered with: 1 to 7, or 9, in the answer table.
+    /// The number that the call answered with: 1 to 7, 9 or 10, in the answer table.
     pub fn number(self) -> u64 {
         match self {
             Refusal::Unknown(number) => number,
@@ -127,6 +131,7 @@ impl fmt::Display for Refusal {
             Refusal::NoWork => "a directory has more bytes than there is memory for",
             Refusal::NoSlot => "the file has more extents than there is memory for",
             Refusal::Ambiguous => "two or more entries of a directory match one name of the path",
+            Refusal::BadCrc => "a descriptor's body isn't the one that its tag has the CRC of: it is scratched, or was written so",
             Refusal::Unknown(number) => return write!(f, "the archive answered with {number}, a number that isn't known here"),
         })
     }
@@ -144,7 +149,7 @@ pub struct Refused {
 }
 
 impl Refused {
-    /// The number that the call answered with: 1 to 7, or 9, in the answer table.
+    /// The number that the call answered with: 1 to 7, 9 or 10, in the answer table.
     pub fn number(&self) -> u64 {
         self.why.number()
     }
@@ -178,12 +183,12 @@ mod tests {
         for (why, number) in TABLE {
             assert_eq!((Refusal::of(number), why.number()), (Some(why), number));
         }
-        assert_eq!(TABLE.map(|(_, number)| number), [1, 2, 3, 4, 5, 6, 7, 9]);
+        assert_eq!(TABLE.map(|(_, number)| number), [1, 2, 3, 4, 5, 6, 7, 9, 10]);
     }
 
     #[test]
     fn a_number_that_the_table_lacks_shows_itself() {
-        for number in [8, 10, 255, 256 + 7, u64::MAX] {
+        for number in [8, 11, 255, 256 + 7, u64::MAX] {
             let why = Refusal::of(number).unwrap();
             assert_eq!((why, why.number()), (Refusal::Unknown(number), number));
             assert!(why.to_string().contains(&number.to_string()), "{why}");

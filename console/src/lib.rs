@@ -18,6 +18,13 @@
 //! original does: it gives one of the two for either name. [`Vault::lookup_as`], [`Vault::read_path_as`] and [`Vault::failed_as`] take a
 //! choice, [`Matching`]: the name as it is written, or a refusal where more than one entry matches.
 //!
+//! # Scratched discs
+//!
+//! A scratch may leave a descriptor's tag good over a ruined body: another size, another place, another name. Each tag has a CRC of the body
+//! behind it, which the original doesn't look at, and nor does [`Vault::open`]. [`Vault::open_as`] with [`How::checked`](How) has it compared for
+//! each descriptor that is parsed, by this call and by every later one on the volume, and refuses by 10 where it is another. The bytes of a
+//! file have no CRC.
+//!
 //! # The image stands still
 //!
 //! A `&[u8]` says that nobody writes to its bytes while it is borrowed. Memory of one's own is such a slice by itself. A map of a file is one

@@ -18,7 +18,7 @@ impl Input<'_> {
     }
 
     fn mount(&mut self) -> Mount {
-        Mount { start: self.number(4) as u32, partition: self.number(2) as u16 }
+        Mount { start: self.number(4) as u32, partition: self.number(2) as u16, checked: 0 }
     }
 
     fn image(&mut self) -> Vec<u8> {

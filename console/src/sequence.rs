@@ -72,11 +72,11 @@ pub fn volume_descriptors(image: &[u8], how: How) -> Vec<VolumeDescriptor> {
     if accepted < whole { found } else { marked(found, how) }
 }
 
-/// How many sectors of the sequence opening has accepted, at most. A refusal by 1 or 2 is that of the last sector that was asked for: the
+/// How many sectors of the sequence opening has accepted, at most. A refusal by 1, 2 or 10 is that of the last sector that was asked for: the
 /// anchor, which is the first, a sector of the sequence, or the file set descriptor's, which is behind them all.
 fn accepted(image: &[u8], how: How) -> usize {
     match calls::open(image, how.number()) {
-        Err(Refused { why: Refusal::Io | Refusal::Malformed, sectors }) => (sectors as usize).saturating_sub(2),
+        Err(Refused { why: Refusal::Io | Refusal::Malformed | Refusal::BadCrc, sectors }) => (sectors as usize).saturating_sub(2),
         _ => usize::MAX,
     }
 }

@@ -70,9 +70,15 @@ impl<'a> Vault<'a> {
         Vault::open_as(image, How::default())
     }
 
-    /// The same, as it is chosen: which of several descriptors of one kind counts.
+    /// The same, as it is chosen: which of several descriptors of one kind counts, and whether the bodies of descriptors are checked, here and
+    /// in every call on what is opened.
     pub fn open_as(image: &'a [u8], how: How) -> Result<Vault<'a>> {
         Ok(calls::open(image, how.number())?.map(|volume| Vault { image, volume, how }))
+    }
+
+    /// What it was opened with.
+    pub fn how(&self) -> How {
+        self.how
     }
 
     /// The sector in which the partition starts.

@@ -1,10 +1,11 @@
-//! `vault check`: discs with every descriptor in place, with one location planted wrong for each kind of descriptor, with what can't be read,
-//! and with directories that hold each other.
+//! `vault check`: discs with every descriptor in place and with a right body, with one location or one body planted wrong for each kind of
+//! descriptor, with what can't be read, and with directories that hold each other.
 
 mod common;
 
 use common::command::{Folder, Said};
-use common::{Disc, SECTOR, continuation, continued, named, reclosed, short_ad, show};
+use common::{Disc, SECTOR, continuation, continued, crc, mend, named, reclosed, seal, sealed, short_ad, show};
+use std::ops::Range;
 
 /// The sample show's partition, and its root.
 const START: usize = 288;
@@ -18,23 +19,10 @@ fn check(image: &[u8]) -> Said {
     said
 }
 
-/// The places of a tag's bytes that stand together.
-fn together(at: usize) -> [usize; 16] {
-    std::array::from_fn(|i| at + i)
-}
-
-/// Writes a location into the tag whose bytes have these places, with its checksum.
-fn relocate(image: &mut [u8], places: [usize; 16], location: u32) {
-    let mut tag = places.map(|at| image[at]);
-    tag[12..].copy_from_slice(&location.to_le_bytes());
-    tag[4] = 0;
-    tag[4] = tag.iter().fold(0, |sum: u8, byte| sum.wrapping_add(*byte));
-    places.into_iter().zip(tag).for_each(|(at, byte)| image[at] = byte);
-}
-
-/// The same for a tag that stands at `at`.
+/// Writes a location into the tag that stands at `at`, with its checksum.
 fn locate(image: &mut [u8], at: usize, location: u32) {
-    relocate(image, together(at), location);
+    image[at + 12..at + 16].copy_from_slice(&location.to_le_bytes());
+    mend(&mut image[at..]);
 }
 
 /// Where the first byte of a block stands.
@@ -42,31 +30,85 @@ fn at(block: u32) -> usize {
     (START + block as usize) * SECTOR
 }
 
-/// A descriptor of a disc: where its tag stands in the image, its location, and what a line says of it before and behind its location.
+/// A sector's bytes.
+fn sector(number: usize) -> Range<usize> {
+    number * SECTOR..(number + 1) * SECTOR
+}
+
+/// A descriptor of a disc: where in the image the bytes stand that are at hand from its tag on, its location, and what a line says of it and
+/// of its place.
 struct Located {
-    places: [usize; 16],
+    hand: Vec<usize>,
     right: u32,
     of: String,
     stands: String,
 }
 
 impl Located {
-    fn in_block(at: usize, block: u32, of: &str) -> Located {
-        Located {
-            places: together(at),
-            right: block,
-            of: of.to_string(),
-            stands: format!("block {block} (sector {})", START + block as usize),
-        }
+    fn in_block(hand: impl IntoIterator<Item = usize>, of: &str) -> Located {
+        let hand: Vec<usize> = hand.into_iter().collect();
+        let sector = hand[0] / SECTOR;
+        Located { right: (sector - START) as u32, of: of.to_string(), stands: format!("block {} (sector {sector})", sector - START), hand }
     }
 
-    fn in_sector(sector: u32, of: &str) -> Located {
-        Located { places: together(sector as usize * SECTOR), right: sector, of: of.to_string(), stands: format!("sector {sector}") }
+    fn in_sector(number: usize, of: &str) -> Located {
+        Located { hand: sector(number).collect(), right: number as u32, of: of.to_string(), stands: format!("sector {number}") }
     }
 
-    fn line(&self, says: u32) -> String {
+    /// What can be looked at from the tag on.
+    fn whole(&self, image: &[u8]) -> Vec<u8> {
+        self.hand.iter().map(|at| image[*at]).collect()
+    }
+
+    /// The image with the tag changed, and its checksum mended.
+    fn tagged(&self, image: &[u8], change: impl FnOnce(&mut [u8])) -> Vec<u8> {
+        let (mut image, mut whole) = (image.to_vec(), self.whole(image));
+        change(&mut whole);
+        mend(&mut whole);
+        self.hand[..16].iter().zip(whole).for_each(|(at, byte)| image[*at] = byte);
+        image
+    }
+
+    /// The image with a location in the tag.
+    fn located(&self, image: &[u8], location: u32) -> Vec<u8> {
+        self.tagged(image, |tag| tag[12..16].copy_from_slice(&location.to_le_bytes()))
+    }
+
+    /// The image with a bit of the body flipped, where nothing stands that is read.
+    fn flipped(&self, image: &[u8]) -> Vec<u8> {
+        let within = if self.of.contains("(id 257)") || self.of.contains("(id 258)") { 16 } else { 40 };
+        let mut image = image.to_vec();
+        image[self.hand[within]] ^= 0x20;
+        image
+    }
+
+    fn misplaced(&self, says: u32) -> String {
         format!("{} says {says}, stands in {}\n", self.of, self.stands)
     }
+
+    fn ruined(&self, what: &str) -> String {
+        format!("{} in {} has a wrong body: {what}\n", self.of, self.stands)
+    }
+
+    /// The same of a body that is there.
+    fn ruined_in(&self, image: &[u8]) -> String {
+        let whole = self.whole(image);
+        let number = |at| u16::from_le_bytes([whole[at], whole[at + 1]]);
+        let (says, length) = (number(8), number(10));
+        let has = crc(&whole[16..16 + usize::from(length)]);
+        self.ruined(&format!("its tag has the CRC {says:04x}, and its {length} bytes have {has:04x}"))
+    }
+}
+
+/// The sentence that a check ends with.
+fn sentence(descriptors: usize, misplaced: usize, ruined: usize, unread: usize) -> String {
+    let wrong = format!("not in place: {misplaced}, with a wrong body: {ruined}; places that can't be read: {unread}");
+    format!("vault: a.img: descriptors: {descriptors}, {wrong}\n")
+}
+
+/// What is printed where all is well.
+fn all_right(descriptors: usize) -> String {
+    format!("{descriptors} descriptors, each in place and with a right body\n")
 }
 
 /// The blocks of a disc: an entry with a continuation, its header, an embedded directory, and the extents of the root.
@@ -106,86 +148,131 @@ fn laid() -> (Disc, Laid) {
     (disc, Laid { chained, header, folder, extents })
 }
 
-/// The identifiers of the root.
+/// The identifiers of the root: the bytes at hand are the directory's, from one extent to the next.
 fn identifiers(extents: &[u32]) -> Vec<Located> {
-    let [first, second, third] = extents.try_into().unwrap();
-    let mut split = Located::in_block(at(first) + 40, first, "/b: file identifier (id 257)");
-    split.places = std::array::from_fn(|i| if i < 4 { at(first) + 40 + i } else { at(second) + i - 4 });
-    let mut all = vec![Located::in_block(at(first), first, "/a: file identifier (id 257)"), split];
-    all.extend((0..=FILLERS).map(|i| {
-        let (inside, name) = (36 + i * 40, if i < FILLERS { "f" } else { "c" });
-        Located::in_block(at(second) + inside, second + (inside / SECTOR) as u32, &format!("/{name}: file identifier (id 257)"))
-    }));
-    all.push(Located::in_block(at(third), third, "/d: file identifier (id 257)"));
-    all
+    let data: Vec<usize> = extents.iter().zip(LENGTHS).flat_map(|(block, length)| at(*block)..at(*block) + length).collect();
+    let names = ["a", "b"].into_iter().chain(std::iter::repeat_n("f", FILLERS)).chain(["c", "d"]);
+    names.enumerate().map(|(i, name)| Located::in_block(data[i * 40..].to_vec(), &format!("/{name}: file identifier (id 257)"))).collect()
 }
 
 /// The disc with every location right, and its descriptors, those of the volume first.
 fn disc() -> (Vec<u8>, Vec<Located>) {
     let (disc, Laid { chained, header, folder, extents }) = laid();
+    let entry = |block: u32, of: &str| Located::in_block(sector(START + block as usize), of);
+    let embedded = at(folder) + 176..at(folder) + 176 + 88;
     let mut all = vec![
         Located::in_sector(256, "the volume: anchor (id 2)"),
         Located::in_sector(32, "the volume: primary volume descriptor (id 1)"),
         Located::in_sector(33, "the volume: partition descriptor (id 5)"),
         Located::in_sector(34, "the volume: logical volume descriptor (id 6)"),
         Located::in_sector(35, "the volume: terminating descriptor (id 8)"),
-        Located::in_block(at(2), 2, "the volume: file set descriptor (id 256)"),
-        Located::in_block(at(ROOT), ROOT, "/: file entry (id 261)"),
-        Located::in_block(at(chained), chained, "/a: file entry (id 261)"),
-        Located::in_block(at(header), header, "/a: allocation extent descriptor (id 258)"),
-        Located::in_block(at(folder), folder, "/b: file entry (id 261)"),
-        Located::in_block(at(folder) + 176, folder, "/b/in: file identifier (id 257)"),
-        Located::in_block(at(folder) + 176 + 44, folder, "/b/out: file identifier (id 257)"),
+        entry(2, "the volume: file set descriptor (id 256)"),
+        entry(ROOT, "/: file entry (id 261)"),
+        entry(chained, "/a: file entry (id 261)"),
+        entry(header, "/a: allocation extent descriptor (id 258)"),
+        entry(folder, "/b: file entry (id 261)"),
+        Located::in_block(embedded.clone(), "/b/in: file identifier (id 257)"),
+        Located::in_block(embedded.skip(44), "/b/out: file identifier (id 257)"),
     ];
     all.extend(identifiers(&extents));
-    let mut image = disc.0;
-    all.iter().for_each(|one| relocate(&mut image, one.places, one.right));
+    let image = all.iter().fold(disc.0, |image, one| one.located(&image, one.right));
     (image, all)
+}
+
+/// One of each kind: of the many that are alike the first.
+fn kinds(all: &[Located]) -> impl Iterator<Item = &Located> {
+    let alike = |one: &&Located| one.of.starts_with("/f:");
+    all.iter().filter(move |one| !alike(one)).chain(all.iter().filter(alike).take(1))
 }
 
 #[test]
 fn the_sample_show_is_in_place() {
     let said = check(&show());
-    assert_eq!((said.status, said.out.as_str(), said.error.as_str()), (0, "19 descriptors, each in place\n", ""));
+    assert_eq!((said.status, said.out, said.error.as_str()), (0, all_right(19), ""));
 }
 
 #[test]
 fn a_disc_of_all_kinds_is_in_place() {
     let (image, all) = disc();
     let said = check(&image);
-    assert_eq!((said.status, said.out, said.error.as_str()), (0, format!("{} descriptors, each in place\n", all.len()), ""));
+    assert_eq!((said.status, said.out, said.error.as_str()), (0, all_right(all.len()), ""));
 }
 
 /// One location at a time, of every kind: a number beside the right one, the sector in a block's stead, and the other way round.
 #[test]
 fn one_wrong_location_is_one_line() {
     let (image, all) = disc();
-    let kinds = all.iter().filter(|one| !one.of.starts_with("/f:")).chain(all.iter().filter(|one| one.of.starts_with("/f:")).take(1));
-    for one in kinds {
+    for one in kinds(&all) {
         for wrong in [one.right + 1, one.right + START as u32, one.right ^ 0x10000] {
-            let mut planted = image.clone();
-            relocate(&mut planted, one.places, wrong);
-            let said = check(&planted);
-            assert_eq!((said.status, said.out), (65, one.line(wrong)), "{}", one.of);
-            let count = all.len() - 1;
-            let sentence = format!("vault: a.img: descriptors in place: {count}, not in place: 1; places that can't be read: 0\n");
-            assert_eq!(said.error, sentence);
+            let said = check(&one.located(&image, wrong));
+            assert_eq!((said.status, said.out), (65, one.misplaced(wrong)), "{}", one.of);
+            assert_eq!(said.error, sentence(all.len(), 1, 0, 0));
         }
     }
 }
 
-/// All at once, in the order of the walk.
+/// One bit at a time, of the body of every kind; and a CRC that is another.
 #[test]
-fn every_wrong_location_is_a_line() {
-    let (mut image, all) = disc();
-    all.iter().for_each(|one| relocate(&mut image, one.places, 77_777));
+fn one_wrong_body_is_one_line() {
+    let (image, all) = disc();
+    for one in kinds(&all) {
+        for planted in [one.flipped(&image), one.tagged(&image, |tag| tag[9] ^= 1)] {
+            let said = check(&planted);
+            assert_eq!((said.status, said.out), (65, one.ruined_in(&planted)), "{}", one.of);
+            assert_eq!(said.error, sentence(all.len(), 0, 1, 0));
+        }
+    }
+}
+
+/// A CRC of every byte that is at hand, and one that is said to be of a byte more; a CRC of no byte, which is 0, and another.
+#[test]
+fn a_crc_is_of_the_bytes_at_hand() {
+    let (image, all) = disc();
+    for one in kinds(&all) {
+        let most = one.hand.len() - 16;
+        for length in [most, 0] {
+            let said = check(&one.tagged(&image, |whole| seal(whole, length)));
+            assert_eq!((said.status, said.out), (0, all_right(all.len())), "{} {length}", one.of);
+        }
+        let beyond = |tag: &mut [u8]| tag[10..12].copy_from_slice(&(most as u16 + 1).to_le_bytes());
+        let said = check(&one.tagged(&image, beyond));
+        let what = format!("its tag has the CRC of {} bytes, and {most} are there", most + 1);
+        assert_eq!((said.status, said.out), (65, one.ruined(&what)), "{}", one.of);
+        let said = check(&one.tagged(&image, |tag| tag[8..12].copy_from_slice(&[1, 0, 0, 0])));
+        assert_eq!((said.status, said.out), (65, one.ruined("its tag has the CRC 0001, and its 0 bytes have 0000")), "{}", one.of);
+    }
+}
+
+/// All at once, in the order of the walk: for each a line of its place, and behind it one of its body.
+#[test]
+fn every_wrong_descriptor_has_its_lines() {
+    let (image, all) = disc();
+    let image = all.iter().fold(image, |image, one| one.located(&one.flipped(&image), 77_777));
     let said = check(&image);
     let mut lines: Vec<&str> = said.out.split_inclusive('\n').collect();
-    let mut expected: Vec<String> = all.iter().map(|one| one.line(77_777)).collect();
-    assert_eq!(lines[..6], expected[..6]);
+    let mut expected: Vec<String> = all.iter().flat_map(|one| [one.misplaced(77_777), one.ruined_in(&image)]).collect();
+    assert_eq!(lines[..12], expected[..12]);
     lines.sort();
     expected.sort();
     assert_eq!((said.status, lines), (65, expected.iter().map(String::as_str).collect()));
+    assert_eq!(said.error, sentence(all.len(), all.len(), all.len(), 0));
+}
+
+/// With --checked what stands behind a wrong body isn't read either.
+#[test]
+fn a_check_may_stop_at_a_wrong_body() {
+    let (image, all) = disc();
+    let one = all.iter().find(|one| one.of.starts_with("/b: file entry")).unwrap();
+    let planted = one.flipped(&image);
+    let folder = Folder::new();
+    folder.write("a.img", &planted);
+    let said = folder.vault(&["check", "--checked", "a.img"]);
+    let unread = "/b: can't be read: a descriptor's body isn't the one that its tag has the CRC of: it is scratched, or was written so (refusal 10)\n";
+    assert_eq!((said.status, said.out), (65, one.ruined_in(&planted) + unread));
+    assert_eq!(said.error, sentence(all.len() - 2, 0, 1, 1));
+    folder.write("a.img", &all[0].flipped(&image));
+    let said = folder.vault(&["check", "--checked", "a.img"]);
+    assert_eq!((said.status, said.out), (10, all[0].ruined_in(&all[0].flipped(&image))));
 }
 
 /// A descriptor that goes by its block, and stands among those of the volume: in no partition, whatever its location is.
@@ -212,7 +299,7 @@ fn what_cannot_be_read_is_said() {
     image[at(5) + 4] ^= 1;
     let said = check(&image);
     assert_eq!((said.status, said.out), (67, format!("/SHOW/9: {malformed}\n")));
-    assert_eq!(said.error, "vault: a.img: descriptors in place: 18, not in place: 0; places that can't be read: 1\n");
+    assert_eq!(said.error, sentence(18, 0, 0, 1));
     // And beside it a wrong location, of cue 11's entry.
     locate(&mut image, at(11), 12);
     let said = check(&image);
@@ -222,13 +309,16 @@ fn what_cannot_be_read_is_said() {
     let mut image = show();
     let last = image[at(4)..at(5)].windows(2).rposition(|two| two == 257u16.to_le_bytes()).unwrap();
     image[at(4) + last + 4] ^= 1;
+    // The CRC of SHOW's entry is of what is embedded in it too.
+    let length = usize::from(u16::from_le_bytes([image[at(4) + 10], image[at(4) + 11]]));
+    seal(&mut image[at(4)..], length);
     let said = check(&image);
     assert_eq!((said.status, said.out), (67, format!("/SHOW, from byte {} on: {malformed}\n", last - 176)));
     // An ICB outside the image, and one of length 0.
     let mut disc = Disc::new();
     let mut none = named("not", 0, false);
     none[20..24].fill(0);
-    let folder = disc.entry(3, &[named("far", 99_999, false), none].concat(), 88);
+    let folder = disc.entry(3, &[named("far", 99_999, false), sealed(none)].concat(), 88);
     disc.root(folder);
     for (at, location) in [(at(ROOT), ROOT), (at(ROOT) + 176, ROOT), (at(ROOT) + 176 + 44, ROOT)] {
         locate(&mut disc.0, at, location);
@@ -282,6 +372,7 @@ fn a_chain_that_cannot_be_followed_is_said() {
     let own = continued(32, header);
     let from = at(header) + 24;
     disc.0[from..from + 8].copy_from_slice(&own);
+    seal(&mut disc.0[at(header)..], 16);
     let file = disc.entry(0, &own, 32);
     let folder = disc.entry(3, &named("round", file, false), 44);
     disc.root(folder);
@@ -320,7 +411,7 @@ fn directories_that_hold_each_other_end() {
         locate(&mut disc.0, *at, *location);
     }
     let said = check(&disc.0);
-    assert_eq!((said.status, said.out), (0, format!("{} descriptors, each in place\n", 6 + places.len())));
+    assert_eq!((said.status, said.out), (0, all_right(6 + places.len())));
     // The entry of `two` is one descriptor.
     locate(&mut disc.0, at(two), 5);
     let said = check(&disc.0);
@@ -376,6 +467,6 @@ fn the_walk_goes_by_the_descriptors_that_prevail() {
     let folder = Folder::new();
     folder.write("a.img", &image);
     let said = folder.vault(&["check", "--highest", "a.img"]);
-    assert_eq!((said.status, said.out.as_str()), (0, "20 descriptors, each in place\n"));
+    assert_eq!((said.status, said.out), (0, all_right(20)));
     assert_ne!(folder.vault(&["check", "a.img"]).status, 0);
 }

@@ -3,7 +3,7 @@
 mod common;
 
 use common::command::{Folder, Said, left_out, tool};
-use common::{Disc, identifier, named, noise, reclosed, show};
+use common::{Disc, SECTOR, identifier, named, noise, reclosed, show};
 use std::ffi::OsStr;
 use std::os::unix::ffi::OsStrExt;
 use std::process::{Command, Stdio};
@@ -62,7 +62,7 @@ fn every_command_answers() {
     answers(&folder.vault(&["ls", "show.img", "SHOW/9"]), "9\n");
     answers(&folder.vault(&["cat", "show.img", "SHOW/11"]), BLACKOUT);
     answers(&folder.vault(&["probe", "show.img"]), "no\n");
-    answers(&folder.vault(&["check", "show.img"]), "19 descriptors, each in place\n");
+    answers(&folder.vault(&["check", "show.img"]), "19 descriptors, each in place and with a right body\n");
     answers(&folder.vault(&["get", "show.img", "SHOW/11", "cue"]), "");
     assert_eq!(std::fs::read_to_string(folder.at("cue")).unwrap(), BLACKOUT);
     let stat = "path     SHOW/11\nentry    11\nkind     file\nicb      block 11, partition 5, 2048 bytes, type 0\n\
@@ -110,6 +110,85 @@ fn every_command_that_opens_can_go_by_the_highest_number() {
     assert_eq!(folder.vault(&["probe", "old.img", "--highest"]).out, folder.vault(&["probe", "show.img"]).out);
 }
 
+/// The sample show with one bit flipped in the body of a descriptor, where nothing stands that is read.
+fn scratched(sector: usize, at: usize) -> Vec<u8> {
+    let mut image = show();
+    image[sector * SECTOR + at] ^= 0x10;
+    image
+}
+
+/// The anchor, each descriptor of the sequence, the file set's, the entries of the root, of SHOW and of cue 9.
+const BODIES: [(usize, usize); 8] = [(256, 80), (32, 80), (33, 80), (34, 80), (290, 80), (291, 40), (292, 40), (293, 40)];
+
+/// Every command on the show, but those that open nothing.
+const OPENING: [&[&str]; 6] = [
+    &["label", "a.img"],
+    &["ls", "a.img"],
+    &["ls", "a.img", "SHOW"],
+    &["cat", "a.img", "SHOW/9"],
+    &["stat", "a.img", "SHOW/9"],
+    &["stat", "a.img"],
+];
+
+#[test]
+fn a_disc_with_right_bodies_is_read_checked_as_it_is_unchecked() {
+    let folder = Folder::new();
+    folder.write("a.img", &show());
+    for words in OPENING.into_iter().chain([&["check", "a.img"][..], &["probe", "a.img"]]) {
+        let (plain, checked) = (folder.vault(words), folder.vault(&[words, &["--checked"]].concat()));
+        assert_eq!((plain.status, plain.out, plain.error), (checked.status, checked.out, checked.error), "{words:?}");
+    }
+    answers(&folder.vault(&["--checked", "get", "a.img", "SHOW/11", "cue"]), "");
+    assert_eq!(std::fs::read_to_string(folder.at("cue")).unwrap(), BLACKOUT);
+}
+
+/// A wrong body on the way of a command refuses it where bodies are checked, with what to try; elsewhere, and unchecked, nothing is seen of it.
+#[test]
+fn every_command_that_opens_can_check_bodies() {
+    let (folder, sound) = (Folder::new(), Folder::new());
+    sound.write("a.img", &show());
+    for (i, (sector, at)) in BODIES.into_iter().enumerate() {
+        folder.write("a.img", &scratched(sector, at));
+        for words in OPENING {
+            let shown = sound.vault(words);
+            let (plain, checked) = (folder.vault(words), folder.vault(&[&["--checked"], words].concat()));
+            assert_eq!((plain.status, &plain.out, plain.error.as_str()), (0, &shown.out, ""), "{words:?} {sector}");
+            // Of the entries the root's is on the way of every path, and then SHOW's and the cue's.
+            let on_the_way = match words {
+                ["label", _] | ["stat", _] => i < 5,
+                ["ls", _] => i < 6,
+                ["ls", ..] => i < 7,
+                _ => true,
+            };
+            if !on_the_way {
+                assert_eq!((checked.status, checked.out, checked.error.as_str()), (0, shown.out, ""), "{words:?} {sector}");
+                continue;
+            }
+            let says = ["a descriptor's body isn't the one", "(refusal 10); `vault check` says which", "without --checked"];
+            assert_eq!((checked.status, checked.error.lines().count()), (10, 1), "{words:?} {checked:?}");
+            assert!(says.iter().all(|part| checked.error.contains(part)), "{words:?} {checked:?}");
+        }
+        refuses(&folder, &["get", "--checked", "a.img", "SHOW/9", "cue"], 10, "(refusal 10)");
+        answers(&folder.vault(&["get", "a.img", "SHOW/9", "cue"]), "");
+        std::fs::remove_file(folder.at("cue")).unwrap();
+        // The check finds it either way.
+        assert_eq!((folder.vault(&["check", "a.img"]).status, folder.vault(&["check", "a.img"]).out.lines().count()), (65, 1));
+    }
+}
+
+/// The descriptors up to the one that is refused for its body, and both choices at once.
+#[test]
+fn the_descriptors_of_a_checked_volume() {
+    let folder = Folder::new();
+    folder.write("a.img", &scratched(34, 80));
+    let said = folder.vault(&["stat", "--checked", "a.img"]);
+    let found = "found    sector 32, primary volume, number 1\nfound    sector 33, partition, number 2\n";
+    assert_eq!((said.status, said.out.as_str()), (10, found));
+    folder.write("a.img", &reclosed());
+    assert_eq!(folder.vault(&["label", "--checked", "a.img"]).status, 2);
+    answers(&folder.vault(&["label", "--checked", "--highest", "a.img"]), "SHOW 1\n");
+}
+
 /// A copy gives what a map gives, refusals and remarks too.
 #[test]
 fn a_copied_image_answers_the_same() {
@@ -127,6 +206,7 @@ fn a_copied_image_answers_the_same() {
         &["check", "show.img"],
         &["cat", "show.img", "no"],
         &["--sectors", "ls", "show.img", "SHOW/9"],
+        &["--checked", "cat", "show.img", "SHOW/9"],
     ] {
         let (mapped, copied) = (folder.vault(words), folder.vault(&[&["--copy"], words].concat()));
         assert_eq!((mapped.status, mapped.out, mapped.error), (copied.status, copied.out, copied.error), "{words:?}");

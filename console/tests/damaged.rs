@@ -4,7 +4,7 @@ mod common;
 
 use common::command::Folder;
 use common::{SECTOR, show};
-use strandlodge::{DirEntry, LongAd, Matching, Refused, Result, Vault};
+use strandlodge::{DirEntry, How, LongAd, Matching, Refused, Result, Vault};
 
 /// Numbers below a bound, the same in each run.
 struct Random(u64);
@@ -119,7 +119,56 @@ fn what_holds_on_any_disc() {
     assert!(opened > 1_000 && held > 5_000, "{opened} {held}");
 }
 
-/// A check of any disc ends, and by a status of the table: all in place, the refusals of opening, not in place, not all read.
+/// A checked call is answered as an unchecked one is, or refused by 10, after no more sectors.
+fn same_or_10<T: PartialEq + std::fmt::Debug>(checked: Result<T>, plain: Result<T>) -> bool {
+    let (checked, plain) = (parts(checked), parts(plain));
+    match checked.0 {
+        Err(10) => assert!(checked.1 <= plain.1, "{checked:?} {plain:?}"),
+        _ => assert_eq!(checked, plain),
+    }
+    checked.0 == Err(10)
+}
+
+/// The calls on two vaults of one image. Gives how many were refused by 10, and how many weren't.
+fn hold_checked(checked: &Vault, plain: &Vault) -> [u32; 2] {
+    let mut seen = [0; 2];
+    let mut note = |bad: bool| seen[usize::from(!bad)] += 1;
+    for path in ["", "SHOW", "SHOW/9", "show/10.1a", "SHOW/11", "none"] {
+        note(same_or_10(checked.lookup(path), plain.lookup(path)));
+        note(same_or_10(checked.failed(path), plain.failed(path)));
+        note(same_or_10(checked.read_path(path), plain.read_path(path)));
+        if let Ok(icb) = plain.lookup(path) {
+            note(same_or_10(checked.read_file(icb), plain.read_file(icb)));
+            note(same_or_10(checked.read_directory(icb), plain.read_directory(icb)));
+            note(same_or_10(checked.extents(icb), plain.extents(icb)));
+            note(same_or_10(checked.part(icb), plain.part(icb)));
+        }
+    }
+    seen
+}
+
+#[test]
+fn what_a_check_of_bodies_changes() {
+    let (show, mut random, how) = (show(), Random(3), How { checked: true, ..How::default() });
+    let (mut opened, mut seen) = ([0; 2], [0; 2]);
+    for _ in 0..2_000 {
+        let image = damaged(&show, &mut random);
+        let (checked, plain) = (Vault::open_as(&image, how), Vault::open(&image));
+        let both = (checked.as_ref().ok().copied(), plain.as_ref().ok().copied());
+        let bad = same_or_10(
+            checked.map(|answer| answer.map(|v| v.root_directory_icb())),
+            plain.map(|answer| answer.map(|v| v.root_directory_icb())),
+        );
+        opened[usize::from(!bad)] += 1;
+        if let (Some(checked), Some(plain)) = both {
+            let more = hold_checked(&checked, &plain);
+            (0..2).for_each(|i| seen[i] += more[i]);
+        }
+    }
+    assert!(opened.iter().all(|n| *n > 300) && seen.iter().all(|n| *n > 2_000), "{opened:?} {seen:?}");
+}
+
+/// A check of any disc ends, and by a status of the table: all right, the refusals of opening, one wrong, not all read.
 #[test]
 fn a_check_ends_on_any_disc() {
     let (show, mut random, folder) = (show(), Random(2), Folder::new());

@@ -39,7 +39,7 @@ fn volumes_open_and_have_their_labels() {
         opens(&name, "opened", &Vault::open(&image), &read_volume_label(&image), &mut expected);
         prevails(&image, How::default());
         expected.next();
-        let how = How { highest: true };
+        let how = How { highest: true, ..How::default() };
         opens(&name, "highest", &Vault::open_as(&image, how), &read_volume_label_as(&image, how), &mut expected);
         prevails(&image, how);
         assert_eq!(expected.next(), format!("probe {}", if probe_vrs(&image) { "yes" } else { "no" }), "{name}");

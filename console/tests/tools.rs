@@ -45,6 +45,7 @@ fn hold(folder: &Folder, image: &str, path: &str, original: &Path) -> usize {
     }
     let listed = folder.vault(&["ls", image, path]);
     assert_eq!((listed.status, listed.error.as_str()), (0, ""), "{path}");
+    assert_eq!(folder.vault(&["ls", "--checked", image, path]).out, listed.out, "{path}");
     let mut listed: Vec<&str> = listed.out.lines().collect();
     let mut names: Vec<String> = expected.iter().map(|(name, at)| name.clone() + if at.is_dir() { "/" } else { "" }).collect();
     listed.sort();
@@ -57,17 +58,22 @@ fn hold(folder: &Folder, image: &str, path: &str, original: &Path) -> usize {
             read += hold(folder, image, &path, &at);
             continue;
         }
-        let said = folder.vault(&["cat", image, &path]);
-        assert!(said.status == 0 && said.error.is_empty() && said.bytes == std::fs::read(&at).unwrap(), "{path} {}", said.error);
+        for how in [&[][..], &["--checked"]] {
+            let said = folder.vault(&[how, &["cat", image, &path]].concat());
+            assert!(said.status == 0 && said.error.is_empty() && said.bytes == std::fs::read(&at).unwrap(), "{path} {}", said.error);
+        }
         read += 1;
     }
     read
 }
 
-/// Every descriptor of the image is where its tag says.
+/// Every descriptor of the image is where its tag says, and has the body that its tag has the CRC of.
 fn in_place(folder: &Folder, image: &str) {
     let said = folder.vault(&["check", image]);
-    assert!(said.status == 0 && said.out.ends_with(" descriptors, each in place\n") && said.error.is_empty(), "{said:?}");
+    assert!(
+        said.status == 0 && said.out.ends_with(" descriptors, each in place and with a right body\n") && said.error.is_empty(),
+        "{said:?}"
+    );
 }
 
 #[test]
@@ -166,9 +172,9 @@ fn put() -> Vec<(String, Vec<u8>)> {
     sized.chain(names.iter().map(|name| (name.to_string(), name.as_bytes().to_vec()))).collect()
 }
 
-/// What udfclient is told: each folder when the first file of it comes.
-fn told(files: &[(String, Vec<u8>)]) -> String {
-    let (mut words, mut at) = ("cd 0123456789abcdefLinuxUDF:DISC:DISC:LinuxUDF\n".to_string(), "");
+/// What udfclient is told: the volume, and each folder when the first file of it comes.
+fn told(volume: &str, files: &[(String, Vec<u8>)]) -> String {
+    let (mut words, mut at) = (format!("cd {volume}\n"), "");
     for (i, (path, _)) in files.iter().enumerate() {
         let (folder, name) = path.rsplit_once('/').unwrap_or(("", path));
         if folder != at {
@@ -181,32 +187,52 @@ fn told(files: &[(String, Vec<u8>)]) -> String {
     words + "quit\n"
 }
 
+/// Has udfclient put files on a new disc, whose volume goes by this name with it, and reads them.
+fn fill_by(client: &Path, folder: &Folder, volume: &str) {
+    // Deepest last: the client is told to go into folders, and never back.
+    let mut files = put();
+    files.sort_by_key(|(path, _)| path.matches('/').count());
+    std::fs::create_dir(folder.at("from")).unwrap();
+    files.iter().enumerate().for_each(|(i, (_, bytes))| folder.write(&format!("from/{i}"), bytes));
+    folder.write("words", told(volume, &files).as_bytes());
+    let words = std::fs::File::open(folder.at("words")).unwrap();
+    let said = Command::new(client).args(["-b", "2048", "-W", "disc.img"]).stdin(words).current_dir(&folder.0).output().unwrap();
+    assert!(said.status.success(), "{}", String::from_utf8_lossy(&said.stdout));
+    assert_eq!(folder.vault(&["ls", "disc.img", "SHOW"]).out, "11\nDEEP/\n");
+    for (path, bytes) in &files {
+        for how in [&[][..], &["--checked"]] {
+            let said = folder.vault(&[how, &["cat", "disc.img", path]].concat());
+            assert!(said.status == 0 && said.error.is_empty() && said.bytes == *bytes, "{volume} {path} {}", said.error);
+        }
+    }
+    in_place(folder, "disc.img");
+}
+
 /// Files that udfclient put on volumes of mkudffs.
 #[test]
 fn mkudffs_with_files_of_udfclient() {
     let (Some(make), Some(client)) = (tool("mkudffs"), tool("udfclient")) else {
         return left_out("files on volumes of mkudffs", "mkudffs or udfclient");
     };
-    // Deepest last: the client is told to go into folders, and never back.
-    let mut files = put();
-    files.sort_by_key(|(path, _)| path.matches('/').count());
     for revision in ["1.02", "2.01"] {
         let folder = Folder::new();
-        std::fs::create_dir(folder.at("from")).unwrap();
-        files.iter().enumerate().for_each(|(i, (_, bytes))| folder.write(&format!("from/{i}"), bytes));
-        folder.write("words", told(&files).as_bytes());
         // 400 MB, of which 4 are written: on a smaller disc udfclient soon says that it is full.
         let words =
             ["--new-file", "-b", "2048", "-m", "hd", "-r", revision, "--uuid=0123456789abcdef", "--label=DISC", "disc.img", "200000"];
         assert!(Command::new(&make).args(words).current_dir(&folder.0).output().unwrap().status.success());
-        let told = std::fs::File::open(folder.at("words")).unwrap();
-        let said = Command::new(&client).args(["-b", "2048", "-W", "disc.img"]).stdin(told).current_dir(&folder.0).output().unwrap();
-        assert!(said.status.success(), "{}", String::from_utf8_lossy(&said.stdout));
-        assert_eq!(folder.vault(&["ls", "disc.img", "SHOW"]).out, "11\nDEEP/\n");
-        for (path, bytes) in &files {
-            let said = folder.vault(&["cat", "disc.img", path]);
-            assert!(said.status == 0 && said.error.is_empty() && said.bytes == *bytes, "{revision} {path} {}", said.error);
-        }
-        in_place(&folder, "disc.img");
+        fill_by(&client, &folder, "0123456789abcdefLinuxUDF:DISC:DISC:LinuxUDF");
     }
+}
+
+/// The same on a volume of udfclient's own newfs_udf.
+#[test]
+fn newfs_udf_with_files_of_udfclient() {
+    let (Some(make), Some(client)) = (tool("newfs_udf"), tool("udfclient")) else {
+        return left_out("files on a volume of newfs_udf", "newfs_udf or udfclient");
+    };
+    let folder = Folder::new();
+    let words = ["-S", "SET", "-P", "DISC", "-L", "DISC", "-b", "2048", "-s", "200000", "disc.img"];
+    assert!(Command::new(&make).args(words).current_dir(&folder.0).output().unwrap().status.success());
+    assert_eq!(folder.vault(&["label", "--checked", "disc.img"]).out, "DISC\n");
+    fill_by(&client, &folder, "SET:DISC:DISC:fileset");
 }

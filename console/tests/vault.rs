@@ -92,7 +92,7 @@ fn refusals_of_opening() {
 
 #[test]
 fn the_highest_number_prevails_where_it_is_chosen() {
-    let (image, how) = (reclosed(), How { highest: true });
+    let (image, how) = (reclosed(), How { highest: true, ..How::default() });
     assert_eq!(refused(Vault::open(&image)), (Refusal::Malformed, 7));
     assert_eq!(refused(read_volume_label(&image)), (Refusal::Malformed, 7));
     let vault = Vault::open_as(&image, how).unwrap();
@@ -107,10 +107,62 @@ fn the_highest_number_prevails_where_it_is_chosen() {
     assert_eq!(format!("{:?}", Vault::open_as(&show, how)), format!("{:?}", Vault::open(&show)));
 }
 
+const CHECKED: How = How { highest: false, checked: true };
+
+#[test]
+fn a_checked_vault_answers_as_an_unchecked_one() {
+    let image = show();
+    let (plain, checked) = (Vault::open(&image).unwrap(), Vault::open_as(&image, CHECKED).unwrap());
+    assert_eq!((plain.how(), checked.how(), checked.sectors), (How::default(), CHECKED, plain.sectors));
+    assert_eq!((checked.label(), read_volume_label_as(&image, CHECKED)), (plain.label(), plain.label()));
+    let icb = checked.lookup("SHOW/10.1A").unwrap();
+    assert_eq!((icb, checked.failed("SHOW/12").unwrap().value), (plain.lookup("SHOW/10.1A").unwrap(), Some(&b"12"[..])));
+    assert_eq!(checked.read_path("show/10.1a").unwrap().value, UPPER);
+    assert_eq!(checked.read_path_as("SHOW/10.1a", Matching::AsWritten).unwrap().value, LOWER);
+    assert_eq!(
+        (checked.read_file(icb), checked.extents(icb), checked.part(icb)),
+        (plain.read_file(icb), plain.extents(icb), plain.part(icb))
+    );
+    let show = checked.lookup("SHOW").unwrap();
+    assert_eq!(checked.read_directory(show), plain.read_directory(show));
+}
+
+/// A wrong body refuses each call that parses its descriptor, and no other; the vault keeps to what it was opened with.
+#[test]
+fn a_wrong_body_is_refusal_10() {
+    let flipped = |sector: usize| {
+        let mut image = show();
+        image[sector * SECTOR + 40] ^= 1;
+        image
+    };
+    for (sector, count) in [(256, 1), (32, 2), (33, 3), (34, 4), (290, 6)] {
+        let mut image = show();
+        image[sector * SECTOR + 80] ^= 1;
+        assert!(Vault::open(&image).is_ok());
+        assert_eq!(refused(Vault::open_as(&image, CHECKED)), (Refusal::BadCrc, count));
+        assert_eq!(refused(read_volume_label_as(&image, CHECKED)), (Refusal::BadCrc, count));
+    }
+    // SHOW's entry, and that of cue 10.1A.
+    let image = flipped(292);
+    let (plain, checked) = (Vault::open(&image).unwrap(), Vault::open_as(&image, CHECKED).unwrap());
+    let show = checked.lookup("SHOW").unwrap();
+    assert_eq!(refused(checked.read_directory(show)), (Refusal::BadCrc, 1));
+    assert_eq!(refused(checked.lookup("SHOW/9")), (Refusal::BadCrc, 2));
+    assert_eq!(refused(checked.failed("SHOW/12")), (Refusal::BadCrc, 2));
+    assert_eq!(plain.read_path("SHOW/10.1A").unwrap().value, UPPER);
+    let image = flipped(295);
+    let (plain, checked) = (Vault::open(&image).unwrap(), Vault::open_as(&image, CHECKED).unwrap());
+    let icb = checked.lookup("SHOW/10.1A").unwrap();
+    assert_eq!(refused(checked.read_file(icb)), (Refusal::BadCrc, 1));
+    assert_eq!(refused(checked.read_path("SHOW/10.1A")), (Refusal::BadCrc, 3));
+    assert_eq!((refused(checked.extents(icb)), refused(checked.part(icb))), ((Refusal::BadCrc, 1), (Refusal::BadCrc, 1)));
+    assert_eq!((plain.read_file(icb).unwrap().value, checked.read_path("SHOW/9").is_ok()), (UPPER.to_vec(), true));
+}
+
 #[test]
 fn descriptors_of_the_sequence() {
     let found = |image: &[u8], highest| {
-        let all = volume_descriptors(image, How { highest });
+        let all = volume_descriptors(image, How { highest, ..How::default() });
         all.into_iter().map(|one| (one.sector, one.kind, one.number, one.prevails)).collect::<Vec<_>>()
     };
     let all = |newer, older| {
@@ -268,8 +320,8 @@ fn an_absurd_disc_is_refused_by_its_number() {
 #[test]
 fn refusals_have_their_numbers_and_a_sentence_each() {
     use Refusal::*;
-    let all = [Io, Malformed, NotBluray, Unsupported, NoRoom, NoWork, NoSlot, Ambiguous];
-    assert_eq!(all.map(Refusal::number), [1, 2, 3, 4, 5, 6, 7, 9]);
+    let all = [Io, Malformed, NotBluray, Unsupported, NoRoom, NoWork, NoSlot, Ambiguous, BadCrc];
+    assert_eq!(all.map(Refusal::number), [1, 2, 3, 4, 5, 6, 7, 9, 10]);
     let sentences: std::collections::HashSet<String> = all.iter().map(|why| why.to_string()).collect();
     assert_eq!(sentences.len(), all.len());
     let refused = Refused { why: Io, sectors: 1 };

@@ -1,4 +1,4 @@
-/* calls.c: every call of vault.h once, on the small show of show.h.
+/* calls.c: every call of vault.h, on the small show of show.h, with and without the bodies of its descriptors checked.
  *
  * What is expected is read off the show's layout. No two pieces of memory that a call is lent have the same length, so that an argument in
  * another's place is seen. Ends with 0, or says what isn't so. */
@@ -41,30 +41,42 @@ static void probe(void) {
 }
 
 /* The anchor, four sectors of the sequence, and the file set. */
-static vault_volume opened(void) {
-    vault_opened r = vault_open(image, IMAGE, 0);
+static vault_volume opened(uint32_t how) {
+    vault_opened r = vault_open(image, IMAGE, how);
     EXPECT(r.answer == VAULT_DONE && r.count == 6);
-    EXPECT(r.volume.mount.start == START && r.volume.mount.partition == PARTITION && is_icb(r.volume.root, 3));
+    EXPECT(r.volume.mount.start == START && r.volume.mount.partition == PARTITION && r.volume.mount.checked == (how & VAULT_CHECKED));
+    EXPECT(is_icb(r.volume.root, 3));
     EXPECT(!memcmp(r.volume.label, "\x08SHOW 1", 7) && is_all(r.volume.label + 7, 24, 0) && r.volume.label[31] == 7);
-    r = vault_open(image, START * SECTOR, 0);
-    EXPECT(r.answer == VAULT_IO && r.count == 6 && r.volume.mount.start == 0 && is_all(r.volume.label, 32, 0));
+    return r.volume;
+}
+
+static void is_unopened(size_t length, uint32_t how, uint64_t answer, uint64_t count) {
+    vault_opened r = vault_open(image, length, how);
+    EXPECT(r.answer == answer && r.count == count);
+    EXPECT(r.volume.mount.start == 0 && r.volume.mount.partition == 0 && r.volume.mount.checked == 0 && is_all(r.volume.label, 32, 0));
+}
+
+/* An image that is cut, and every bit that is of no choice, alone and beside those that are. */
+static void unopened(void) {
+    is_unopened(START * SECTOR, 0, VAULT_IO, 6);
+    is_unopened(START * SECTOR, VAULT_CHECKED, VAULT_IO, 6);
     for (uint32_t bit = 1; bit; bit *= 2) {
-        r = vault_open(image, IMAGE, bit);
-        if (bit == VAULT_HIGHEST) EXPECT(r.answer == VAULT_DONE && r.count == 6 && r.volume.mount.start == START);
-        else EXPECT(r.answer == VAULT_UNSUPPORTED && r.count == 0 && r.volume.mount.start == 0 && is_all(r.volume.label, 32, 0));
+        if (bit == VAULT_CHECKED || bit == VAULT_HIGHEST) continue;
+        is_unopened(IMAGE, bit, VAULT_UNSUPPORTED, 0);
+        is_unopened(IMAGE, bit + VAULT_CHECKED, VAULT_UNSUPPORTED, 0);
+        is_unopened(IMAGE, bit + VAULT_HIGHEST + VAULT_CHECKED, VAULT_UNSUPPORTED, 0);
     }
-    return vault_open(image, IMAGE, 0).volume;
 }
 
 static void label(void) {
-    lend();
-    EXPECT(is_reply(vault_label(image, IMAGE, 0, out, OUT), VAULT_DONE, 6, 6) && holds("SHOW 1", 6));
+    for (uint32_t how = 0; how < 8; how++) {
+        bool is_choice = !(how & 2);
+        lend();
+        EXPECT(is_reply(vault_label(image, IMAGE, how, out, OUT), is_choice ? VAULT_DONE : VAULT_UNSUPPORTED, is_choice ? 6 : 0, is_choice ? 6 : 0));
+        EXPECT(holds("SHOW 1", is_choice ? 6 : 0));
+    }
     lend();
     EXPECT(is_reply(vault_label(image, IMAGE, 0, out, 5), VAULT_NO_ROOM, 6, 0) && holds("", 0));
-    lend();
-    EXPECT(is_reply(vault_label(image, IMAGE, VAULT_HIGHEST, out, OUT), VAULT_DONE, 6, 6) && holds("SHOW 1", 6));
-    lend();
-    EXPECT(is_reply(vault_label(image, IMAGE, VAULT_HIGHEST + 1, out, OUT), VAULT_UNSUPPORTED, 0, 0) && holds("", 0));
 }
 
 static vault_long_ad found(vault_volume v, const char *path, uint32_t matching, uint64_t count, uint32_t block) {
@@ -155,12 +167,8 @@ static void extents(vault_volume v, vault_long_ad icb) {
     EXPECT(is_reply(vault_extents(v, image, IMAGE, icb, row, 0), VAULT_NO_SLOT, 1, 0) && is_all(row, sizeof row, FREE));
 }
 
-int main(void) {
-    unpack();
-    EXPECT(vault_version() == VAULT_VERSION);
-    probe();
-    vault_volume v = opened();
-    label();
+/* Every call on a volume. */
+static void asked(vault_volume v) {
     vault_long_ad directory = found(v, "SHOW", VAULT_CASE_IGNORED, 1, 4), icb = found(v, "SHOW/10.1A", VAULT_CASE_IGNORED, 2, 7);
     matched(v);
     failed(v);
@@ -168,5 +176,72 @@ int main(void) {
     read_cue(v, icb);
     part(v, directory, icb);
     extents(v, icb);
+}
+
+/* One bit of a descriptor's body, where nothing stands that is read. */
+static void flip(uint32_t sector, size_t at) { image[sector * SECTOR + at] ^= 0x10; }
+
+/* A wrong body on the way refuses the opening at its sector, where bodies are checked; where they aren't nothing is seen of it. */
+static void ruined_volume(void) {
+    static const struct {
+        uint32_t sector, count;
+    } bodies[] = {{256, 1}, {32, 2}, {33, 3}, {34, 4}, {START + 2, 6}};
+    for (size_t i = 0; i < 5; i++) {
+        flip(bodies[i].sector, 80);
+        opened(0);
+        opened(VAULT_HIGHEST);
+        is_unopened(IMAGE, VAULT_CHECKED, VAULT_BAD_CRC, bodies[i].count);
+        is_unopened(IMAGE, VAULT_CHECKED + VAULT_HIGHEST, VAULT_BAD_CRC, bodies[i].count);
+        lend();
+        EXPECT(is_reply(vault_label(image, IMAGE, VAULT_CHECKED, out, OUT), VAULT_BAD_CRC, bodies[i].count, 0) && holds("", 0));
+        flip(bodies[i].sector, 80);
+    }
+}
+
+/* The same of the calls on a volume that is checked: SHOW's entry, and then the cue's, have a wrong body. */
+static void ruined_files(vault_volume checked, vault_long_ad directory, vault_long_ad icb) {
+    const uint8_t *path = (const uint8_t *)"SHOW/10.1A";
+    vault_volume unchecked = checked;
+    size_t at = 99;
+    unchecked.mount.checked = 0;
+    flip(START + 4, 40);
+    asked(unchecked);
+    refused(checked, "SHOW/11", VAULT_AS_WRITTEN, VAULT_BAD_CRC, 2);
+    EXPECT(is_reply(vault_failed(checked, image, IMAGE, path, 10, VAULT_UNAMBIGUOUS, work, WORK, &at), VAULT_BAD_CRC, 2, 0) && at == 0);
+    lend();
+    EXPECT(is_reply(vault_list(checked, image, IMAGE, directory, out, OUT, work, WORK), VAULT_BAD_CRC, 1, 0));
+    EXPECT(holds("", 0) && is_all(work, WORK, 0));
+    flip(START + 4, 40);
+    flip(START + 7, 40);
+    asked(unchecked);
+    found(checked, "SHOW/10.1A", VAULT_CASE_IGNORED, 2, 7);
+    lend();
+    EXPECT(is_reply(vault_read(checked, image, IMAGE, icb, out, OUT), VAULT_BAD_CRC, 1, 0) && holds("", 0));
+    EXPECT(is_reply(vault_read_path(checked, image, IMAGE, path, 10, VAULT_AS_WRITTEN, out, OUT, work, WORK), VAULT_BAD_CRC, 3, 0));
+    EXPECT(holds("", 0) && is_all(work, WORK, 0));
+    at = 99;
+    EXPECT(is_reply(vault_part(checked, image, IMAGE, icb, &at), VAULT_BAD_CRC, 1, 0) && at == 0);
+    EXPECT(is_reply(vault_extents(checked, image, IMAGE, icb, row, SLOTS), VAULT_BAD_CRC, 1, 0) && is_all(row, sizeof row, FREE));
+    flip(START + 7, 40);
+}
+
+int main(void) {
+    unpack();
+    EXPECT(vault_version() == VAULT_VERSION);
+    probe();
+    unopened();
+    label();
+    vault_volume v = opened(0), checked = opened(VAULT_CHECKED);
+    opened(VAULT_HIGHEST);
+    asked(v);
+    asked(checked);
+    asked(opened(VAULT_CHECKED + VAULT_HIGHEST));
+    ruined_volume();
+    vault_long_ad directory = found(v, "SHOW", VAULT_CASE_IGNORED, 1, 4), icb = found(v, "SHOW/10.1A", VAULT_CASE_IGNORED, 2, 7);
+    ruined_files(checked, directory, icb);
+    /* By hand, and by any number but 0. */
+    v.mount.checked = 1u << 31;
+    asked(v);
+    ruined_files(v, directory, icb);
     return 0;
 }

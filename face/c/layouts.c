@@ -27,15 +27,18 @@ HOLDS(VAULT_NO_ROOM == 5);
 HOLDS(VAULT_NO_WORK == 6);
 HOLDS(VAULT_NO_SLOT == 7);
 HOLDS(VAULT_AMBIGUOUS == 9);
+HOLDS(VAULT_BAD_CRC == 10);
 HOLDS(VAULT_CASE_IGNORED == 0);
 HOLDS(VAULT_AS_WRITTEN == 1);
 HOLDS(VAULT_UNAMBIGUOUS == 2);
-HOLDS(VAULT_VERSION == 3);
+HOLDS(VAULT_VERSION == 4);
+HOLDS(VAULT_CHECKED == 1);
 HOLDS(VAULT_HIGHEST == 4);
 
-HOLDS(sizeof(vault_mount) == 8 && ALIGN(vault_mount) == 4);
+HOLDS(sizeof(vault_mount) == 12 && ALIGN(vault_mount) == 4);
 FIELD(vault_mount, start, 0, 4, uint32_t *);
 FIELD(vault_mount, partition, 4, 2, uint16_t *);
+FIELD(vault_mount, checked, 8, 4, uint32_t *);
 
 HOLDS(sizeof(vault_lb_addr) == 8 && ALIGN(vault_lb_addr) == 4);
 FIELD(vault_lb_addr, block, 0, 4, uint32_t *);
@@ -47,15 +50,15 @@ FIELD(vault_long_ad, extent_type, 4, 1, uint8_t *);
 FIELD(vault_long_ad, location, 8, 8, vault_lb_addr *);
 FIELD(vault_long_ad, implementation_use, 16, 6, uint8_t (*)[6]);
 
-HOLDS(sizeof(vault_volume) == 64 && ALIGN(vault_volume) == 4);
-FIELD(vault_volume, mount, 0, 8, vault_mount *);
-FIELD(vault_volume, root, 8, 24, vault_long_ad *);
-FIELD(vault_volume, label, 32, 32, uint8_t (*)[32]);
+HOLDS(sizeof(vault_volume) == 68 && ALIGN(vault_volume) == 4);
+FIELD(vault_volume, mount, 0, 12, vault_mount *);
+FIELD(vault_volume, root, 12, 24, vault_long_ad *);
+FIELD(vault_volume, label, 36, 32, uint8_t (*)[32]);
 
-HOLDS(sizeof(vault_opened) == 80 && ALIGN(vault_opened) == 8);
+HOLDS(sizeof(vault_opened) == 88 && ALIGN(vault_opened) == 8);
 FIELD(vault_opened, answer, 0, 8, uint64_t *);
 FIELD(vault_opened, count, 8, 8, uint64_t *);
-FIELD(vault_opened, volume, 16, 64, vault_volume *);
+FIELD(vault_opened, volume, 16, 68, vault_volume *);
 
 HOLDS(sizeof(vault_reply) == 24 && ALIGN(vault_reply) == 8);
 FIELD(vault_reply, answer, 0, 8, uint64_t *);

@@ -252,6 +252,15 @@ unsafe extern "C" {
     /// sector, 256 to 266 by the block, and a tag with any other id is in place nowhere.
     pub fn records_tag_in_place(tag: Tag, sector: u64, block: u32) -> bool;
 
+    /// The CRC of `bytes`, which a tag has of its descriptor's body: x^16 + x^12 + x^5 + 1, starting at 0, the highest
+    /// bit of a byte first.
+    pub fn records_crc(bytes: *const u8, bytes_length: usize) -> u16;
+
+    /// The body check: `bytes` are those at hand from the descriptor on, with its tag in the first 16. Whether they
+    /// hold as many behind these as the tag's CRC length says, and these have the tag's CRC. A CRC length of 0 has the
+    /// CRC 0.
+    pub fn records_tag_body(tag: Tag, bytes: *const u8, bytes_length: usize) -> bool;
+
     pub fn records_parse_aed(bytes: *const u8, bytes_length: usize) -> Answer<Aed>;
     pub fn records_encode_aed(value: Aed) -> Encoded<24>;
     pub fn records_parse_icb_tag(bytes: *const u8, bytes_length: usize) -> Answer<IcbTag>;

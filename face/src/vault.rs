@@ -37,6 +37,8 @@ pub const NO_WORK: u64 = 6;
 pub const NO_SLOT: u64 = 7;
 /// A component of the path matches two or more entries of its directory, and the choice of matching wants the only one.
 pub const AMBIGUOUS: u64 = 9;
+/// A descriptor that is checked has a wrong CRC, or a CRC length that passes the bytes at hand.
+pub const BAD_CRC: u64 = 10;
 
 /// ASCII case is ignored, and the first entry that matches is taken.
 pub const CASE_IGNORED: u32 = 0;
@@ -45,19 +47,25 @@ pub const AS_WRITTEN: u32 = 1;
 /// ASCII case is ignored, and a component that two or more entries match is refused by VAULT_AMBIGUOUS.
 pub const UNAMBIGUOUS: u32 = 2;
 /// Goes up whenever a struct or a call changes.
-pub const VERSION: u32 = 3;
+pub const VERSION: u32 = 4;
 
+/// A choice for `how`: the body of each descriptor that is parsed, on opening and in every call on the volume, must
+/// have the CRC that its tag says, or the call is refused by VAULT_BAD_CRC.
+pub const CHECKED: u32 = 1;
 /// A choice for `how`: of several primary volume, partition or logical volume descriptors the one with the highest
 /// volume descriptor sequence number counts, the later of equals. Without it the last one does.
 pub const HIGHEST: u32 = 4;
 
 structs! {
-    /// How a volume is read: where its partition starts, and the partition's number.
-    vault_mount as Mount, 8 aligned to 4 {
+    /// How a volume is read: where its partition starts, the partition's number, and whether the bodies of its
+    /// descriptors are checked.
+    vault_mount as Mount, 12 aligned to 4 {
         /// The sector in which the partition starts.
         0 start: u32,
         /// The partition's number.
         4 partition: u16,
+        /// Any number but 0: the body of each descriptor that is parsed must have the CRC that its tag says.
+        8 checked: u32,
     }
 
     /// A block of a partition.
@@ -81,17 +89,17 @@ structs! {
     }
 
     /// An opened volume. It holds no pointer: copy it, keep it, or make one by hand.
-    vault_volume as Volume, 64 aligned to 4 {
+    vault_volume as Volume, 68 aligned to 4 {
         /// How it is read.
         0 mount: Mount,
         /// The root directory.
-        8 root: LongAd,
+        12 root: LongAd,
         /// The label's field as recorded.
-        32 label: [u8; 32],
+        36 label: [u8; 32],
     }
 
     /// The answer number, the count of sectors, and the volume.
-    vault_opened as Opened, 80 aligned to 8 {
+    vault_opened as Opened, 88 aligned to 8 {
         /// A number of the table.
         0 answer: u64,
         /// The sectors asked for.
@@ -141,7 +149,8 @@ unsafe extern "C" {
     pub fn vault_probe(image: *const u8, image_length: usize) -> bool;
 
     /// Opens the volume of an image. `how` is the sum of the choices, 0 for none of them; any other bit is
-    /// VAULT_UNSUPPORTED with a count of 0. The volume holds no trace of them: it is what came out.
+    /// VAULT_UNSUPPORTED with a count of 0. A volume that is opened with VAULT_CHECKED says so in its mount, and every
+    /// call on it checks; of the others it holds no trace.
     pub fn vault_open(image: *const u8, image_length: usize, how: u32) -> Opened;
 
     /// Opens an image, as vault_open does, and writes its label to `out`, as UTF-8 with no zero behind it; `length` is

@@ -8,8 +8,9 @@ import tempfile
 
 from .source import Unread
 
-VAULT, ANSWERS, OPENINGS, PLACES = (
+VAULT, CHOICES, ANSWERS, OPENINGS, PLACES = (
     "crates/vault_c/src/lib.rt",
+    "crates/vault_c/src/choices.rt",
     "crates/disc/src/answers.rt",
     "crates/volumes/src/openings.rt",
     "crates/disc/src/places.rt",
@@ -23,6 +24,8 @@ FAULTS = (
     ("two numbers the other way round", ANSWERS, r"NO_ROOM: u64 = 5(.*)NO_WORK: u64 = 6", r"NO_ROOM: u64 = 6\1NO_WORK: u64 = 5"),
     ("a number that is gone", ANSWERS, r"pub const NO_SLOT: u64 = 7;\n", ""),
     ("a wider field", PLACES, r"pub start: u32,\n    // The p", "pub start: u64,\n    // The p"),
+    ("two fields the other way round", PLACES, r"(pub partition: u16,)(.*?)(pub checked: u32,)", r"\3\2\1"),
+    ("a choice that is another", CHOICES, r"CHECKED: u32 = 1", "CHECKED: u32 = 2"),
     ("a field that is gone", OPENINGS, r"    pub label: \[u8; 32\],\n", ""),
     ("an array of another length", OPENINGS, r"pub label: \[u8; 32\]", "pub label: [u8; 33]"),
     ("a struct without C's layout", PLACES, r"#\[repr\(C\)\]\npub struct Mount", "pub struct Mount"),
@@ -34,6 +37,7 @@ FAULTS = (
     ("a type that can't cross", VAULT, r"part_at: &mut usize", "part_at: (usize, usize)"),
     ("a comment that says something else", VAULT, r"Opening doesn't depend on it", "Opening depends on it"),
     ("a slot of other fields", "crates/layouts/src/lists.rt", r"pub extent_type: u32", "pub extent_type: u16"),
+    ("a call on bytes that is gone", "crates/records_c/src/headers.rt", r"pub extern \"C\" fn records_tag_body", "pub fn records_tag_body"),
     ("a number of the header", "include/vault.h", r"VAULT_NO_ROOM = 5", "VAULT_NO_ROOM = 6"),
     ("two parameters of the header", "include/vault.h", r"(bool vault_probe\()(const uint8_t \*image), (size_t image_length)", r"\1\3, \2"),
     ("a field of the header", "include/records.h", r"uint16_t crc_length", "uint32_t crc_length"),
@@ -44,22 +48,11 @@ FAULTS = (
 )
 
 TO_COME = """
-// The version of structs and signatures.
-pub const VAULT_VERSION: u32 = 3;
-
-// Bodies are checked.
-pub const CHECKED: u32 = 1;
+// References go through the map.
+pub const MAPPED: u32 = 2;
 
 // A far bit.
-pub const FAR: u64 = CHECKED << 40;
-
-// The archive's own version.
-#[no_mangle]
-pub extern "C" fn vault_version() -> u32
-    ensures { λ r. ⌜ r ≡ 3 ⌝ }
-{
-    VAULT_VERSION
-}
+pub const FAR: u64 = MAPPED << 40;
 
 // Reads many.
 #[no_mangle]
@@ -72,22 +65,19 @@ pub extern "C" fn vault_read_all<'a>(
 }
 """
 
-IN_THE_MOUNT = """    pub partition: u16,
-    // Any number but 0: bodies are checked.
-    pub checked: u32,
+IN_THE_MOUNT = """    pub checked: u32,
+    // The maps.
     pub numbers: [u16; MOST],
     pub starts: [u32; 4],
 """
 
 EXPECTED = (
-    "VAULT_VERSION = 3, /* The version of structs and signatures. */",
-    "VAULT_CHECKED = 1, /* Bodies are checked. */",
-    "#define VAULT_FAR UINT64_C(1099511627776)",
-    "uint32_t vault_version(void);",
+    "VAULT_MAPPED = 2, /* References go through the map. */",
+    "#define VAULT_FAR UINT64_C(2199023255552)",
     "void vault_read_all(vault_volume volume, const uint8_t *paths, size_t paths_length, uint32_t matching, uint64_t wide, uint16_t narrow, "
     "uint64_t *lengths, size_t lengths_places, uint32_t *answers, size_t answers_places, uint32_t *at, const uint16_t *only, size_t only_places, "
     "uint64_t (*pairs)[2], size_t pairs_places);",
-    "uint32_t checked; /* Any number but 0: bodies are checked. */ uint16_t numbers[4]; uint32_t starts[4]; } vault_mount;",
+    "uint32_t checked; uint16_t numbers[4]; /* The maps. */ uint32_t starts[4]; } vault_mount;",
 )
 
 
@@ -130,7 +120,7 @@ def to_come(there, made):
     """What is to come and isn't taken as it should be."""
     path = there / VAULT
     path.write_text(path.read_text(encoding="utf-8") + TO_COME, encoding="utf-8")
-    planted(there / PLACES, r"    pub partition: u16,\n", IN_THE_MOUNT)
+    planted(there / PLACES, r"    pub checked: u32,\n", IN_THE_MOUNT)
     planted(there / PLACES, r"\npub struct Block", "\nconst MOST: usize = 2 * 2;\n\npub struct Block")
     files = made(there)
     header = re.sub(r"\s+", " ", files["include/vault.h"])

@@ -128,11 +128,17 @@ fn open_by_the_highest() -> Row {
     Row { name: "open, by the highest numbers".to_string(), query: Query { how: HIGHEST, ..r.query.clone() }, ..r }
 }
 
+/// A row with bodies checked, each of which has its CRC. The original's time is that of the same call without.
+fn checked(r: Row) -> Row {
+    Row { name: format!("{}, checked", r.name), query: r.query.checked(), ..r }
+}
+
 /// The rows, each made when its turn comes: some take much memory.
 fn rows() -> Vec<Box<dyn FnOnce() -> Row>> {
     let mut all: Vec<Box<dyn FnOnce() -> Row>> = vec![
         Box::new(open),
         Box::new(open_by_the_highest),
+        Box::new(|| checked(open())),
         Box::new(|| nested(1)),
         Box::new(|| nested(8)),
         Box::new(|| entries("lookup, last of 5,000", 5000, Call::Lookup, MIB)),
@@ -142,7 +148,9 @@ fn rows() -> Vec<Box<dyn FnOnce() -> Row>> {
         Box::new(none_of),
         Box::new(|| last_as("as written", AS_WRITTEN)),
         Box::new(|| last_as("unambiguous", UNAMBIGUOUS)),
+        Box::new(|| checked(entries("lookup, last of 5,000", 5000, Call::Lookup, MIB))),
         Box::new(|| entries("list, 5,000 entries", 5000, Call::List, MIB)),
+        Box::new(|| checked(entries("list, 5,000 entries", 5000, Call::List, MIB))),
         Box::new(|| extents("read, 4 KiB", 4096, 1)),
         Box::new(|| extents("read, 256 MiB in one extent", 256 * MIB, 1)),
         Box::new(|| extents("read, 256 MiB in 4,096 extents", 256 * MIB, 4096)),
@@ -218,6 +226,9 @@ fn beside(mine: &Spread, times: Vec<f64>) -> String {
 fn row(ours: &mut dyn Ours, mut r: Row) -> std::io::Result<String> {
     #[cfg(udfread)]
     udfread::dress(&mut r.disc, &r.directories);
+    if r.query.is_checked() {
+        r.disc.seal();
+    }
     let e = expected(&r.disc.image, &r.query);
     r.query.room = if r.query.call.has_room() { e.full } else { 0 };
     r.query.work = if r.query.call.has_work() { r.query.work } else { 0 };

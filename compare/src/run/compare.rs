@@ -6,16 +6,17 @@ use super::damage::damage;
 use super::disc::Disc;
 use super::expect::Expected;
 use super::ours::{Ask, Noise, Ours};
-use super::queries::{Case, Depth, cases, chosen, matched};
+use super::queries::{Case, Depth, cases, checked, chosen, matched};
 use super::random::Random;
 use super::raw::{RAW_HELD, RawAsk, RawCall, RawGiven, shown};
 use super::raw_cases::{RawCase, batch};
-use super::tally::Tally;
+use super::tally::{PARSED, Row, Tally};
 use super::volumes::Sort;
-use super::{shapes_deleted, shapes_directories, shapes_files, shapes_matching, shapes_opening, shapes_prevailing, sparse, volumes};
+use super::{shapes_bodies, shapes_deleted, shapes_directories, shapes_files, shapes_matching, shapes_opening, shapes_prevailing};
+use super::{sparse, volumes};
 use std::panic::{AssertUnwindSafe, catch_unwind};
 use std::path::{Path, PathBuf};
-use strandlodge_sys::vault::AMBIGUOUS;
+use strandlodge_sys::vault::{AMBIGUOUS, BAD_CRC};
 
 /// So many absurd information lengths are tried on the original: a process each.
 const CHILDREN: u64 = 60;
@@ -28,6 +29,15 @@ pub fn shapes() -> Vec<(String, Disc)> {
     all
 }
 
+/// What is asked of an image.
+#[derive(Clone, Copy, PartialEq)]
+enum Asked {
+    /// Every call, by each choice, without bodies checked.
+    Unchecked,
+    /// Every call with bodies checked, and some without.
+    Checked,
+}
+
 pub struct Comparison {
     pub ours: Box<dyn Ours>,
     pub seed: u64,
@@ -38,20 +48,23 @@ pub struct Comparison {
     random: Random,
     /// For the other choices of matching alone: what is asked under the original's is the same with them and without.
     matchings: Random,
+    /// The same for the images whose bodies are checked.
+    bodies: Random,
 }
 
 impl Comparison {
     pub fn new(ours: Box<dyn Ours>, seed: u64, enough: u64) -> Comparison {
         let random = Random::new(seed ^ 0x7261_7773);
         let matchings = Random::new(seed ^ 0x6d61_7463);
-        Comparison { ours, seed, enough, tally: Tally::new(), random, matchings }
+        let bodies = Random::new(seed ^ 0x626f_6469);
+        Comparison { ours, seed, enough, tally: Tally::new(), random, matchings, bodies }
     }
 
     /// Every shape first, and then volumes at random, whole and damaged, until the time is over.
     pub fn run(&mut self, seconds: u64) {
         // Those of the choice aren't in the list that is replayed, which is to stay as it is.
         for (i, (name, disc)) in shapes().iter().chain(&shapes_prevailing::shapes()).enumerate() {
-            self.image(name, disc, Depth::All, Random::new(self.seed ^ i as u64));
+            self.image(name, disc, Asked::Unchecked, Depth::All, Random::new(self.seed ^ i as u64));
             self.raws();
             if self.is_over() {
                 return;
@@ -59,11 +72,12 @@ impl Comparison {
         }
         for (name, disc) in shapes_matching::shapes() {
             let random = Random::new(self.matchings.next());
-            self.image(&name, &disc, Depth::All, random);
+            self.image(&name, &disc, Asked::Unchecked, Depth::All, random);
             if self.is_over() {
                 return;
             }
         }
+        self.sealed_shapes();
         let mut number = 0u64;
         while self.tally.seconds() < seconds && !self.is_over() {
             number += 1;
@@ -78,10 +92,11 @@ impl Comparison {
                     damage(&mut random, &mut disc);
                 }
                 let more = Random::new(random.next());
-                self.image(&format!("random {number}.{part}"), &disc, Depth::Some, more);
+                self.image(&format!("random {number}.{part}"), &disc, Asked::Unchecked, Depth::Some, more);
                 self.raws();
             }
             self.meeting(number);
+            self.sealed(number);
         }
     }
 
@@ -94,8 +109,51 @@ impl Comparison {
                 return;
             }
             let more = Random::new(random.next());
-            self.image(&format!("random {number}, {part}"), &disc, Depth::Some, more);
+            self.image(&format!("random {number}, {part}"), &disc, Asked::Unchecked, Depth::Some, more);
             damage(&mut random, &mut disc);
+        }
+    }
+
+    /// The shapes of wrong bodies; and every other shape with right CRCs, and with one of its descriptors ruined.
+    fn sealed_shapes(&mut self) {
+        for (name, disc) in shapes_bodies::shapes() {
+            self.checked(&name, &disc, Depth::All);
+        }
+        for (name, disc) in shapes().into_iter().chain(shapes_prevailing::shapes()).chain(shapes_matching::shapes()) {
+            let (mut disc, mut random) = (disc, Random::new(self.bodies.next()));
+            disc.seal_oddly(&mut random);
+            self.checked(&format!("{name}, sealed"), &disc, Depth::Some);
+            disc.ruin_any(&mut random);
+            self.checked(&format!("{name}, ruined"), &disc, Depth::Some);
+        }
+    }
+
+    /// A volume with right CRCs: whole, with some of its descriptors ruined, and damaged, with its CRCs made right again or not.
+    fn sealed(&mut self, number: u64) {
+        let mut random = Random::new(self.bodies.next());
+        let sort = *random.pick(&[Sort::Usual, Sort::Usual, Sort::Meeting]);
+        let mut whole = volumes::volume(&mut random, sort);
+        whole.seal_oddly(&mut random);
+        for part in ["sealed", "ruined", "ruined again", "damaged and sealed", "damaged, sealed and ruined", "sealed and damaged"] {
+            let mut disc = whole.clone();
+            if part.contains("damaged") {
+                damage(&mut random, &mut disc);
+            }
+            if part.ends_with("and sealed") || part.ends_with("and ruined") {
+                disc.seal_oddly(&mut random);
+            }
+            if part.contains("ruined") {
+                (0..random.between(1, 3)).for_each(|_| disc.ruin_any(&mut random));
+            }
+            self.checked(&format!("random {number}, {part}"), &disc, Depth::Some);
+        }
+    }
+
+    /// Asks an image with bodies checked.
+    fn checked(&mut self, name: &str, disc: &Disc, depth: Depth) {
+        if !self.is_over() {
+            let random = Random::new(self.bodies.next());
+            self.image(name, disc, Asked::Checked, depth, random);
         }
     }
 
@@ -103,12 +161,18 @@ impl Comparison {
         self.tally.stopped || self.tally.mismatches >= self.enough
     }
 
-    fn image(&mut self, name: &str, disc: &Disc, depth: Depth, mut random: Random) {
+    fn image(&mut self, name: &str, disc: &Disc, asked: Asked, depth: Depth, mut random: Random) {
         // A panic here is the original's, or a walk that isn't the original's own: either is worth a look.
         let matchings = &mut self.matchings;
         let made = catch_unwind(AssertUnwindSafe(|| {
-            let mut all = cases(&mut random, disc, depth);
-            all.extend(matched(matchings, disc, depth));
+            let mut all = match asked {
+                Asked::Unchecked => cases(&mut random, disc, depth),
+                Asked::Checked => checked(&mut random, disc, depth),
+            };
+            match asked {
+                Asked::Unchecked => all.extend(matched(matchings, disc, depth)),
+                Asked::Checked => all.extend(cases(&mut random, disc, Depth::Some)),
+            }
             all.extend(chosen(&mut random, disc));
             all
         }));
@@ -147,20 +211,21 @@ impl Comparison {
 
     fn case(&mut self, name: &str, disc: &Disc, case: &Case, given: &Given) {
         let e = &case.expected;
-        let choice = Choice::of(case.query.matching);
+        let row = Row::of(&case.query);
         if case.in_noise {
             self.tally.in_noise += 1;
         } else {
-            *self.tally.asked.entry((choice, case.query.call, e.values.answer)).or_insert(0) += 1;
+            *self.tally.asked.entry((row, case.query.call, e.values.answer)).or_insert(0) += 1;
         }
         self.tally.by_the_rule[0] += u64::from(e.by_the_rule);
+        e.ruined.iter().for_each(|ruined| *self.tally.ruined.entry(*ruined).or_insert(0) += 1);
         self.tally.chosen(&disc.image, case);
         if let Some(what) = difference(e, given) {
             let text = told(&case.query, case.in_noise, e, given);
             self.keep(name, Some(disc), &format!("{what}\n{text}"));
         }
         // The process of its own has the original as it is.
-        if e.absurd && !e.by_the_rule && choice == Choice::CaseIgnored {
+        if e.absurd && !e.by_the_rule && row == Row::Matched(Choice::CaseIgnored) {
             self.absurd(name, disc, case);
         }
     }
@@ -288,27 +353,36 @@ fn raw_told(case: &RawCase, given: &RawGiven) -> String {
     )
 }
 
+/// The numbers that a call can be answered with.
+fn numbers(row: Row, call: Call) -> Vec<u64> {
+    let mut all = match call {
+        Call::Probe => vec![0, 1],
+        Call::Open => vec![0, 1, 2, 3, 4],
+        Call::Label => vec![0, 1, 2, 3, 4, 5],
+        Call::Lookup | Call::Failed => vec![0, 1, 2, 3, 4, 6],
+        Call::List => vec![0, 1, 2, 4, 5, 6],
+        Call::Read => vec![0, 1, 2, 4, 5],
+        Call::Part => vec![0, 1, 2, 4],
+        Call::Extents => vec![0, 1, 2, 4, 7],
+        Call::ReadPath => vec![0, 1, 2, 3, 4, 5, 6],
+    };
+    let is_ambiguous = call.has_path() && matches!(row, Row::Matched(Choice::Unambiguous) | Row::Checked);
+    all.extend(is_ambiguous.then_some(AMBIGUOUS));
+    all.extend((row == Row::Checked).then_some(BAD_CRC));
+    all
+}
+
 /// Whether every call was answered with everything that it can be answered with.
 pub fn unreached(tally: &Tally) -> Vec<String> {
     let mut all = Vec::new();
-    for call in Call::ALL {
-        let numbers: &[u64] = match call {
-            Call::Probe => &[0, 1],
-            Call::Open => &[0, 1, 2, 3, 4],
-            Call::Label => &[0, 1, 2, 3, 4, 5],
-            Call::Lookup | Call::Failed => &[0, 1, 2, 3, 4, 6],
-            Call::List => &[0, 1, 2, 4, 5, 6],
-            Call::Read => &[0, 1, 2, 4, 5],
-            Call::Part => &[0, 1, 2, 4],
-            Call::Extents => &[0, 1, 2, 4, 7],
-            Call::ReadPath => &[0, 1, 2, 3, 4, 5, 6],
-        };
-        let never = numbers.iter().filter(|n| !tally.asked.contains_key(&(Choice::CaseIgnored, call, **n)));
-        all.extend(never.map(|n| format!("{} {n}", call.name())));
-        for choice in [Choice::AsWritten, Choice::Unambiguous].into_iter().filter(|_| call.has_path()) {
-            let ambiguous = (choice == Choice::Unambiguous).then_some(&AMBIGUOUS);
-            let never = numbers.iter().chain(ambiguous).filter(|n| !tally.asked.contains_key(&(choice, call, **n)));
-            all.extend(never.map(|n| format!("{}, {} {n}", call.name(), choice.name())));
+    for (row, call) in Row::all() {
+        let never = numbers(row, call).into_iter().filter(|n| !tally.asked.contains_key(&(row, call, *n)));
+        all.extend(never.map(|n| format!("{} {n}", row.name(call))));
+    }
+    for (id, past) in PARSED.into_iter().flat_map(|id| [(id, false), (id, true)]) {
+        if !tally.ruined.contains_key(&(id, past)) {
+            let what = if past { "CRC length beyond the bytes at hand" } else { "wrong CRC" };
+            all.push(format!("a {what} under id {id}"));
         }
     }
     for call in RawCall::ALL {

@@ -4,7 +4,7 @@ use super::calls::{Call, Choice, Icb, Query, Values, Volume, slot};
 use super::original::{self, Came, Original, icb};
 use super::prevailing;
 use crate::udf::{DirEntry, within};
-use strandlodge_sys::vault::{AMBIGUOUS, HIGHEST};
+use strandlodge_sys::vault::{AMBIGUOUS, BAD_CRC, CHECKED, HIGHEST};
 
 /// The answer, and what it took.
 pub struct Expected {
@@ -19,12 +19,14 @@ pub struct Expected {
     pub absurd: bool,
     /// A d-string with id 254 or 255 was reached: what is expected is the original's answer with an empty name for it, as the rules have it.
     pub by_the_rule: bool,
+    /// The body for which it is refused.
+    pub ruined: Option<within::Ruined>,
 }
 
 impl Expected {
     fn new(answer: u64, sectors: Vec<u64>) -> Expected {
         let values = Values { answer, count: sectors.len() as u64, ..Values::default() };
-        Expected { values, sectors, directories: Vec::new(), full: 0, absurd: false, by_the_rule: false }
+        Expected { values, sectors, directories: Vec::new(), full: 0, absurd: false, by_the_rule: false, ruined: None }
     }
 
     /// An answer of bytes, which are refused where they don't fit.
@@ -41,8 +43,8 @@ impl Expected {
 }
 
 pub fn expected(image: &[u8], q: &Query) -> Expected {
-    let (e, by_the_rule) = within::asked(|| answered(image, q));
-    Expected { by_the_rule, ..e }
+    let ((e, by_the_rule), ruined) = within::checked(q.is_checked(), || within::asked(|| answered(image, q)));
+    Expected { by_the_rule, ruined: ruined.filter(|_| e.values.answer == BAD_CRC), ..e }
 }
 
 fn answered(image: &[u8], q: &Query) -> Expected {
@@ -59,13 +61,16 @@ fn answered(image: &[u8], q: &Query) -> Expected {
     }
 }
 
-/// Opened as the query chooses: by the original, or by a model of the highest numbers. Other choices there are none of.
+/// Opened as the query chooses: by the original, or by a model of the highest numbers; with bodies checked the volume says so. Other choices
+/// there are none of.
 fn opened(image: &[u8], q: &Query) -> Came<(Volume, String)> {
-    match q.how {
+    let came = match q.how & !CHECKED {
         0 => original::open(image),
         HIGHEST => prevailing::open(image),
         _ => Came { value: Err(4), asked: Vec::new() },
-    }
+    };
+    let says = |(volume, name)| (Volume { checked: q.how & CHECKED, ..volume }, name);
+    Came { value: came.value.map(says), ..came }
 }
 
 fn opening(image: &[u8], q: &Query) -> Expected {

@@ -21,6 +21,7 @@ mod raw_cases;
 mod raw_direct;
 mod raw_expect;
 mod raw_records;
+mod shapes_bodies;
 mod shapes_deleted;
 mod shapes_directories;
 mod shapes_files;
@@ -37,7 +38,7 @@ mod wire;
 
 #[cfg(linked)]
 use common::linked;
-use common::{calls, disc, random, records};
+use common::{bodies, calls, disc, random, records};
 use std::path::Path;
 use std::process::exit;
 use strandlodge_sys::sparse;

@@ -1,9 +1,11 @@
 //! The original, on an image in memory, with a list of the sectors that it asks for.
 
 use super::calls::{Icb, Volume};
+use super::records::seal;
 use crate::error::BlurayError;
 use crate::udf::{AdType, AllocExtent, DirEntry, FileEntry, LbAddr, LongAd, UdfDisc, probe_vrs, within};
 use std::io::{Error, ErrorKind, Read, Result, Seek, SeekFrom};
+use strandlodge_sys::vault::BAD_CRC;
 
 /// An information length above this makes the original ask for as much memory before it reads a byte. No image here holds so much.
 pub const ABSURD: u64 = 1 << 30;
@@ -37,6 +39,9 @@ impl Read for Logged<'_> {
         self.at = end;
         if std::mem::take(&mut self.lowered) {
             to[56..64].copy_from_slice(&ABSURD.to_le_bytes());
+            // The body that was right is right again.
+            let length = usize::from(u16::from_le_bytes([to[10], to[11]])).min(to.len() - 16);
+            seal(to, length);
         }
         Ok(())
     }
@@ -58,7 +63,8 @@ pub fn number(e: &BlurayError) -> u64 {
         BlurayError::Malformed(_) => 2,
         BlurayError::NotBluray(_) => 3,
         BlurayError::Unsupported(_) => 4,
-        BlurayError::Decrypt(_) => unreachable!("nothing here is encrypted"),
+        // Nothing here is encrypted: it is how a wrong body is told.
+        BlurayError::Decrypt(_) => BAD_CRC,
     }
 }
 
@@ -103,7 +109,7 @@ pub fn open(image: &[u8]) -> Came<(Volume, String)> {
                 start: d.partition_start_sector as u32,
                 partition: d.partition_number,
                 root: icb(d.root_directory_icb),
-                label: [0; 32],
+                ..Volume::default()
             },
             d.volume_identifier.clone(),
         )),

@@ -59,5 +59,5 @@ fn opened(image: &[u8], asked: &mut Vec<u64>) -> Result<(Volume, String), u64> {
     }
     let (start, number) = (partition.partition_starting_location, partition.partition_number);
     let set = parsed(FileSetDescriptor::parse(sector(image, u64::from(start) + u64::from(place.block), asked)?))?;
-    Ok((Volume { start, partition: number, root: icb(set.root_directory_icb), label }, name))
+    Ok((Volume { start, partition: number, root: icb(set.root_directory_icb), label, ..Volume::default() }, name))
 }

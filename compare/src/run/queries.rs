@@ -6,7 +6,7 @@ use super::expect::{Expected, expected};
 use super::original;
 use super::random::Random;
 use crate::udf::within;
-use strandlodge_sys::vault::{AS_WRITTEN, HIGHEST, UNAMBIGUOUS};
+use strandlodge_sys::vault::{AS_WRITTEN, CASE_IGNORED, CHECKED, HIGHEST, UNAMBIGUOUS};
 
 pub struct Case {
     pub query: Query,
@@ -145,7 +145,7 @@ fn sizes(random: &mut Random, q: &Query, e: &Expected, depth: Depth) -> Vec<(usi
 /// Opening and the label by the highest numbers, and once in a while by a number with a bit that is of no choice.
 pub fn chosen(random: &mut Random, disc: &Disc) -> Vec<Case> {
     let mut all = Vec::new();
-    let odd = *random.pick(&[1, 2, 5, 8, HIGHEST | 1 << 31, u32::MAX]);
+    let odd = *random.pick(&[2, 3, 6, 8, HIGHEST | 1 << 31, u32::MAX]);
     let hows = [Some(HIGHEST), random.once_in(4).then_some(odd)];
     for (how, call) in hows.into_iter().flatten().flat_map(|how| [(how, Call::Open), (how, Call::Label)]) {
         let q = Query { how, ..Query::of(call, Volume::default()) };
@@ -178,6 +178,26 @@ fn sized(random: &mut Random, disc: &Disc, q: &Query, depth: Depth) -> Vec<Case>
         }
     }
     all
+}
+
+/// Numbers by which a volume says that bodies are checked.
+const SAYS: [u32; 6] = [1, 1, 2, 256, 1 << 31, u32::MAX];
+
+/// The cases with bodies checked: opening and the label by both choices, and every other call on a volume that says so.
+pub fn checked(random: &mut Random, disc: &Disc, depth: Depth) -> Vec<Case> {
+    let v = Volume { checked: *random.pick(&SAYS), ..volume(random, disc, depth) };
+    let mut queries = Vec::new();
+    for how in [CHECKED, CHECKED | HIGHEST] {
+        queries.extend([Call::Open, Call::Label].map(|call| Query { how, ..Query::of(call, Volume::default()) }));
+    }
+    for path in paths(random, disc, depth) {
+        let matching = *random.pick(&[CASE_IGNORED, CASE_IGNORED, AS_WRITTEN, UNAMBIGUOUS]);
+        queries.extend([Call::Lookup, Call::Failed, Call::ReadPath].map(|call| Query::along(call, v, &path).matched(matching)));
+    }
+    for icb in icbs(random, disc, v, depth) {
+        queries.extend([Call::List, Call::Read, Call::Part, Call::Extents].map(|call| Query::on(call, v, icb)));
+    }
+    queries.iter().flat_map(|q| sized(random, disc, q, depth)).collect()
 }
 
 /// A path with some of its letters in the other case.

@@ -42,6 +42,8 @@ calls! {
     DecodeDstring "decode_dstring"
     DecodeDstringField "decode_dstring_field"
     TagInPlace "tag_in_place"
+    TagBody "tag_body"
+    Crc "crc"
     EncodeExtentAd "encode_extent_ad"
     EncodeShortAd "encode_short_ad"
     EncodeLbAddr "encode_lb_addr"
@@ -68,18 +70,20 @@ impl RawCall {
         (self >= EncodeExtentAd).then(|| RawCall::ALL[self as usize - EncodeExtentAd as usize])
     }
 
-    /// The numbers that it can be answered with. Encoding has none, and counts as done; of the place check a yes is 1.
+    /// The numbers that it can be answered with. Encoding has none and a CRC has none, and they count as done; of the two checks a yes is 1.
     pub fn numbers(self) -> &'static [u64] {
         match self {
             DecodeDstring | DecodeDstringField => &[0, 2, 5],
-            TagInPlace => &[0, 1],
+            TagInPlace | TagBody => &[0, 1],
+            Crc => &[0],
             _ if self.parses().is_some() => &[0],
             _ => &[0, 2],
         }
     }
 }
 
-/// Bytes to be parsed or decoded, or a record to be encoded, flat; for the place check a tag, flat, with a sector and a block behind it.
+/// Bytes to be parsed, decoded or summed, or a record to be encoded, flat; for the place check a tag, flat, with a sector and a block behind it,
+/// and for the body check one with the bytes at hand.
 pub struct RawAsk {
     pub call: RawCall,
     pub input: Vec<u8>,
@@ -123,7 +127,7 @@ pub fn shown(call: RawCall, said: &[u8]) -> String {
         ParseFileEntry => told::<Answer<FileEntry>>(said),
         ParseFileIdentifier => told::<Answer<FileIdentifier>>(said),
         DecodeDstring | DecodeDstringField => told::<Written>(said),
-        TagInPlace => told::<u64>(said),
+        TagInPlace | TagBody | Crc => told::<u64>(said),
         _ => format!("{said:02x?}"),
     }
 }

@@ -3,7 +3,7 @@
 use super::random::Random;
 use super::raw::{RawAsk, RawCall};
 use super::raw_expect::expected;
-use super::records::{mend, put16, put32};
+use super::records::{crc, mend, put16, put32};
 use crate::udf::within;
 
 pub struct RawCase {
@@ -30,7 +30,12 @@ pub fn batch(random: &mut Random) -> Vec<RawCase> {
     let mut all = Vec::new();
     for call in RawCall::ALL.iter().flat_map(|c| [*c; EACH]) {
         let Some(parse) = call.parses() else {
-            let input = if call == RawCall::TagInPlace { placed(random) } else { bytes(random, call) };
+            let input = match call {
+                RawCall::TagInPlace => placed(random),
+                RawCall::TagBody => summed(random),
+                RawCall::Crc => row(random),
+                _ => bytes(random, call),
+            };
             all.push(case(random, call, input));
             continue;
         };
@@ -107,6 +112,41 @@ fn placed(random: &mut Random) -> Vec<u8> {
     b.extend(sector.to_le_bytes());
     b.extend(block.to_le_bytes());
     b
+}
+
+/// Bytes to be summed: none, few, and more than a sector, at random or nearly all the same.
+fn row(random: &mut Random) -> Vec<u8> {
+    let n = *random.pick(&[0, 1, 2, 255, 256, 257, 2031, 2032, 2033, 4080]);
+    let n = if random.once_in(3) { n } else { random.below(600) };
+    let mut b = if random.once_in(4) { vec![*random.pick(&[0, 0xff]); n] } else { random.bytes(n) };
+    if let Some(b) = b.first_mut().filter(|_| random.once_in(2)) {
+        *b = 1 << random.below(8);
+    }
+    b
+}
+
+/// A tag, flat, with the bytes at hand behind it: most have its CRC, some have a bit of it, of them or of the CRC length changed, and some end
+/// where it does, a byte before, or inside the tag.
+fn summed(random: &mut Random) -> Vec<u8> {
+    let body = row(random);
+    let length = if random.once_in(3) { random.below(body.len() + 1) } else { body.len() };
+    let mut tag = random.bytes(14);
+    put16(&mut tag, 6, crc(&body[..length]));
+    put16(&mut tag, 8, length as u16);
+    let mut hand = [random.bytes(16), body].concat();
+    match random.below(8) {
+        0 => put16(&mut tag, 8, (length as u16).wrapping_add(*random.pick(&[1, u16::MAX]))),
+        1 => tag[6 + random.below(2)] ^= 1 << random.below(8),
+        2 => hand.truncate((16 + length).saturating_sub(1)),
+        3 => hand.truncate(random.below(17)),
+        4 => {
+            let at = random.below(hand.len());
+            hand[at] ^= 1 << random.below(8);
+        }
+        _ => {}
+    }
+    tag.extend(hand);
+    tag
 }
 
 /// Bytes to be parsed or decoded: half of them at random, half good and then damaged.

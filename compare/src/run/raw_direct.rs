@@ -22,6 +22,18 @@ fn is_in_place(mut given: &[u8]) -> Vec<u8> {
     flat(&u64::from(unsafe { records_tag_in_place(tag, sector, block) }))
 }
 
+/// A tag, and the bytes at hand behind it.
+fn has_right_body(mut given: &[u8]) -> Vec<u8> {
+    let tag = Tag::take(&mut given);
+    // The piece is as long as said.
+    flat(&u64::from(unsafe { records_tag_body(tag, given.as_ptr(), given.len()) }))
+}
+
+fn crc(from: Bytes, n: usize) -> Vec<u8> {
+    // The header's word: the piece is as long as said.
+    [flat(&0u64), flat(&unsafe { records_crc(from, n) })].concat()
+}
+
 fn decode(
     call: unsafe extern "C" fn(Bytes, usize, *mut u8, usize) -> Written,
     from: Bytes,
@@ -59,6 +71,8 @@ fn make(ask: &RawAsk, from: Bytes, out: &mut Lending) -> (Vec<u8>, usize) {
         DecodeDstring => return decode(records_decode_dstring, from, n, out),
         DecodeDstringField => return decode(records_decode_dstring_field, from, n, out),
         TagInPlace => is_in_place(&ask.input),
+        TagBody => has_right_body(&ask.input),
+        Crc => crc(from, n),
         EncodeExtentAd => encode(records_encode_extent_ad, &ask.input),
         EncodeShortAd => encode(records_encode_short_ad, &ask.input),
         EncodeLbAddr => encode(records_encode_lb_addr, &ask.input),

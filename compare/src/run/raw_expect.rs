@@ -3,6 +3,7 @@
 use super::original::number;
 use super::raw::RawCall;
 use super::raw_records::*;
+use super::records::crc;
 use crate::error::BlurayError;
 use crate::udf;
 
@@ -259,6 +260,14 @@ fn in_place(mut given: &[u8]) -> Vec<u8> {
     flat(&u64::from(stands == Some(tag.location.into())))
 }
 
+/// The body check, which it doesn't have either, from the rule's words: as many bytes as the CRC length behind the 16 of the tag, and the
+/// tag's CRC for them.
+fn right_body(mut given: &[u8]) -> Vec<u8> {
+    let tag = Tag::take(&mut given);
+    let body = given.get(16..16 + usize::from(tag.crc_length));
+    flat(&u64::from(body.is_some_and(|body| crc(body) == tag.crc)))
+}
+
 /// What the original answers, flat as ours answers.
 pub fn expected(call: RawCall, input: &[u8], room: usize) -> Vec<u8> {
     use RawCall::*;
@@ -283,6 +292,8 @@ pub fn expected(call: RawCall, input: &[u8], room: usize) -> Vec<u8> {
         DecodeDstring => written(udf::decode_dstring(input), room),
         DecodeDstringField => written(udf::decode_dstring_field(input), room),
         TagInPlace => in_place(input),
+        TagBody => right_body(input),
+        Crc => [flat(&0u64), flat(&crc(input))].concat(),
         EncodeExtentAd => {
             let a: ExtentAd = given(input);
             udf::ExtentAd { length: a.length, location: a.location }.encode().to_vec()

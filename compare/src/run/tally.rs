@@ -4,13 +4,14 @@ use super::calls::{Call, Choice, Query};
 use super::expect::expected;
 use super::queries::Case;
 use super::raw::RawCall;
+use crate::udf::within::{RIGHT, Ruined};
 use std::collections::BTreeMap;
 use std::fmt;
 use std::time::Instant;
-use strandlodge_sys::vault::HIGHEST;
+use strandlodge_sys::vault::{CHECKED, HIGHEST};
 
 /// The answer numbers.
-const NUMBERS: [u64; 9] = [0, 1, 2, 3, 4, 5, 6, 7, 9];
+const NUMBERS: [u64; 10] = [0, 1, 2, 3, 4, 5, 6, 7, 9, 10];
 
 /// A row of a table: a name, and how many of each number.
 fn row(f: &mut fmt::Formatter, name: &str, of: impl Fn(u64) -> u64) -> fmt::Result {
@@ -18,11 +19,44 @@ fn row(f: &mut fmt::Formatter, name: &str, of: impl Fn(u64) -> u64) -> fmt::Resu
     writeln!(f, "{name:22}{numbers}")
 }
 
+/// Which row a query counts in: with bodies checked, or without by its choice of matching.
+#[derive(Clone, Copy, PartialEq, Eq, PartialOrd, Ord)]
+pub enum Row {
+    Matched(Choice),
+    Checked,
+}
+
+impl Row {
+    pub fn of(q: &Query) -> Row {
+        if q.is_checked() { Row::Checked } else { Row::Matched(Choice::of(q.matching)) }
+    }
+
+    pub fn name(self, call: Call) -> String {
+        match self {
+            Row::Matched(Choice::CaseIgnored) => call.name().to_string(),
+            Row::Matched(choice) => format!("{}, {}", call.name(), choice.name()),
+            Row::Checked => format!("{}, checked", call.name()),
+        }
+    }
+
+    /// The rows of the table, in its order.
+    pub fn all() -> Vec<(Row, Call)> {
+        use Choice::{AsWritten, CaseIgnored, Unambiguous};
+        let along = |choice| Call::ALL.into_iter().filter(|call| call.has_path()).map(move |call| (Row::Matched(choice), call));
+        let first = Call::ALL.into_iter().map(|call| (Row::Matched(CaseIgnored), call));
+        let checked = Call::ALL.into_iter().filter(|call| *call != Call::Probe).map(|call| (Row::Checked, call));
+        first.chain(along(AsWritten)).chain(along(Unambiguous)).chain(checked).collect()
+    }
+}
+
+/// The ids of the descriptors that are parsed.
+pub const PARSED: [u16; 9] = [1, 2, 5, 6, 256, 257, 258, 261, 266];
+
 pub struct Tally {
     began: Instant,
     said: u64,
     pub images: u64,
-    pub asked: BTreeMap<(Choice, Call, u64), u64>,
+    pub asked: BTreeMap<(Row, Call, u64), u64>,
     pub raw: BTreeMap<(RawCall, u64), u64>,
     pub in_noise: u64,
     pub mismatches: u64,
@@ -33,6 +67,8 @@ pub struct Tally {
     pub by_the_rule: [u64; 2],
     /// Queries by a choice on opening; and of those, on how many the volume or the refusal is another than without.
     pub chosen: [u64; 2],
+    /// Queries that were refused for a body, by what is wrong with it.
+    pub ruined: BTreeMap<Ruined, u64>,
     /// What became of the original where it was asked for absurd memory, in a process of its own.
     pub ends: BTreeMap<String, u64>,
 }
@@ -51,6 +87,7 @@ impl Tally {
             absurd: 0,
             by_the_rule: [0; 2],
             chosen: [0; 2],
+            ruined: BTreeMap::new(),
             ends: BTreeMap::new(),
         }
     }
@@ -69,8 +106,8 @@ impl Tally {
 
     /// Counts a query by a choice.
     pub fn chosen(&mut self, image: &[u8], case: &Case) {
-        if case.query.how == HIGHEST {
-            let plain = expected(image, &Query { how: 0, ..case.query.clone() });
+        if case.query.how & !CHECKED == HIGHEST {
+            let plain = expected(image, &Query { how: case.query.how & CHECKED, ..case.query.clone() });
             self.chosen[0] += 1;
             self.chosen[1] += u64::from(plain.values != case.expected.values);
         }
@@ -96,14 +133,8 @@ impl Tally {
 impl fmt::Display for Tally {
     fn fmt(&self, f: &mut fmt::Formatter) -> fmt::Result {
         row(f, "call", |n| n)?;
-        let asked = |choice, call, n| self.asked.get(&(choice, call, n)).copied().unwrap_or(0);
-        for call in Call::ALL {
-            row(f, call.name(), |n| asked(Choice::CaseIgnored, call, n))?;
-        }
-        for choice in [Choice::AsWritten, Choice::Unambiguous] {
-            for call in Call::ALL.into_iter().filter(|call| call.has_path()) {
-                row(f, &format!("{}, {}", call.name(), choice.name()), |n| asked(choice, call, n))?;
-            }
+        for (kind, call) in Row::all() {
+            row(f, &kind.name(call), |n| self.asked.get(&(kind, call, n)).copied().unwrap_or(0))?;
         }
         for call in RawCall::ALL {
             row(f, call.name(), |n| self.raw.get(&(*call, n)).copied().unwrap_or(0))?;
@@ -119,6 +150,16 @@ impl fmt::Display for Tally {
             f,
             "by the highest sequence numbers: {all} queries, with those in noise; on {others} of them the last ones give another answer"
         )?;
+        let ruined = |id: u16| [false, true].map(|past| self.ruined.get(&(id, past)).copied().unwrap_or(0));
+        let by_id: Vec<String> =
+            PARSED.iter().map(|id| (id, ruined(*id))).map(|(id, [wrong, past])| format!("{id}: {wrong} + {past}")).collect();
+        let others: u64 = self.ruined.iter().filter(|((id, _), _)| !PARSED.contains(id)).map(|(_, n)| n).sum();
+        writeln!(
+            f,
+            "refused by 10, by the tag's id, with those in noise, for the CRC + for its length: {}; other ids: {others}",
+            by_id.join(", ")
+        )?;
+        writeln!(f, "right bodies of a byte or more that the model summed: {}", RIGHT.get())?;
         write!(f, "mismatches {}", self.mismatches)
     }
 }

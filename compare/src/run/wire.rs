@@ -18,6 +18,7 @@ pub fn put_icb(to: &mut Vec<u8>, icb: &Icb) {
 pub fn put_volume(to: &mut Vec<u8>, v: &Volume) {
     put(to, v.start as u64, 4);
     put(to, v.partition as u64, 2);
+    put(to, v.checked as u64, 4);
     put_icb(to, &v.root);
     to.extend(v.label);
 }
@@ -60,6 +61,7 @@ pub fn volume(from: &mut impl Read) -> Result<Volume> {
     Ok(Volume {
         start: number(from, 4)? as u32,
         partition: number(from, 2)? as u16,
+        checked: number(from, 4)? as u32,
         root: icb(from)?,
         label: bytes(from, 32)?.try_into().unwrap(),
     })

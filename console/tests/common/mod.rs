@@ -20,7 +20,38 @@ pub fn reclosed() -> Vec<u8> {
     image.copy_within(33 * SECTOR..34 * SECTOR, 35 * SECTOR);
     image[35 * SECTOR + 16] = 1;
     image[35 * SECTOR + 188..][..4].copy_from_slice(&200u32.to_le_bytes());
+    seal(&mut image[35 * SECTOR..], VOLUME_BODY);
     image
+}
+
+/// How many bytes the CRCs of the sample show's volume descriptors are of.
+pub const VOLUME_BODY: usize = 512 - 16;
+
+/// The CRC of a body (ECMA-167 3/7.2.6), a bit at a time.
+pub fn crc(body: &[u8]) -> u16 {
+    let bit = |register: u16, _| register << 1 ^ if register >> 15 == 1 { 0x1021 } else { 0 };
+    body.iter().fold(0, |register, byte| (0..8).fold(register ^ u16::from(*byte) << 8, bit))
+}
+
+/// Makes the checksum of the tag at the front right.
+pub fn mend(whole: &mut [u8]) {
+    whole[4] = 0;
+    whole[4] = whole[..16].iter().fold(0, |sum: u8, byte| sum.wrapping_add(*byte));
+}
+
+/// Gives the tag at the front the CRC of so many bytes behind it.
+pub fn seal(whole: &mut [u8], length: usize) {
+    let crc = crc(&whole[16..16 + length]);
+    whole[8..10].copy_from_slice(&crc.to_le_bytes());
+    whole[10..12].copy_from_slice(&(length as u16).to_le_bytes());
+    mend(whole);
+}
+
+/// The same of a descriptor, with the CRC of all of it, or of as much as a CRC can be of.
+pub fn sealed(mut whole: Vec<u8>) -> Vec<u8> {
+    let length = (whole.len() - 16).min(u16::MAX.into());
+    seal(&mut whole, length);
+    whole
 }
 
 pub const SECTOR: usize = 2048;
@@ -76,7 +107,6 @@ impl Disc {
 fn tag(id: u16) -> [u8; 16] {
     let mut tag = [0; 16];
     tag[..2].copy_from_slice(&id.to_le_bytes());
-    tag[4] = tag.iter().fold(0, |sum: u8, byte| sum.wrapping_add(*byte));
     tag
 }
 
@@ -93,23 +123,24 @@ pub fn continued(length: usize, block: u32) -> [u8; 8] {
     short_ad(length | 3 << 30, block)
 }
 
-/// An allocation extent (4/14.5) with its descriptors.
+/// An allocation extent (4/14.5) with its descriptors, and with the CRC of all of it.
 pub fn continuation(area: &[u8]) -> Vec<u8> {
-    [&tag(258)[..], &[0; 4], &(area.len() as u32).to_le_bytes(), area].concat()
+    sealed([&tag(258)[..], &[0; 4], &(area.len() as u32).to_le_bytes(), area].concat())
 }
 
-/// A file entry (4/14.9).
+/// A file entry (4/14.9). Its CRC is of all in front of its area, so that the identifiers of an embedded directory have theirs alone.
 fn entry(kind: u8, area: &[u8], length: u64) -> Vec<u8> {
     let mut entry = vec![0; 176];
     entry[..16].copy_from_slice(&tag(261));
     entry[34] = kind;
     entry[56..64].copy_from_slice(&length.to_le_bytes());
     entry[172..].copy_from_slice(&(area.len() as u32).to_le_bytes());
+    entry = sealed(entry);
     entry.extend_from_slice(area);
     entry
 }
 
-/// A file identifier (4/14.4) of a recorded name.
+/// A file identifier (4/14.4) of a recorded name, with the CRC of all of it.
 pub fn identifier(recorded: &[u8], block: u32, is_directory: bool) -> Vec<u8> {
     let mut whole = tag(257).to_vec();
     whole.extend([1, 0, u8::from(is_directory) * 2, recorded.len() as u8]);
@@ -119,7 +150,7 @@ pub fn identifier(recorded: &[u8], block: u32, is_directory: bool) -> Vec<u8> {
     whole.extend([0; 8]);
     whole.extend(recorded);
     whole.resize(whole.len().next_multiple_of(4), 0);
-    whole
+    sealed(whole)
 }
 
 /// The same by a name of ASCII.
@@ -134,5 +165,5 @@ pub const PARENT: u8 = 8;
 /// An identifier with more characteristics.
 pub fn marked(mut identifier: Vec<u8>, characteristics: u8) -> Vec<u8> {
     identifier[18] |= characteristics;
-    identifier
+    sealed(identifier)
 }

@@ -14,7 +14,7 @@ use Rattle.disc.specs.Ask.Ask.{done, refuse, ask}
 use Rattle.disc.specs.Ask.Outcome.{answered, refused}
 use Rattle.disc.specs.Ran.{ran, onward}
 use Rattle.disc.specs.Images.{sectors, sectorsFor}
-use Rattle.disc.specs.Places.{placed, standing}
+use Rattle.disc.specs.Places.{placed, isChecked, standing}
 use Rattle.disc.specs.declared.places.Mount.{Mount}
 use Rattle.disc.specs.declared.refusals.Refusal.{Refusal}
 use Rattle.disc.specs.declared.refusals.Refusal.the-variants.{Malformed, Unsupported}
@@ -74,15 +74,15 @@ area-asks : (kind size : ℕ) (s : List ℕ) (r : AedRead) → AtMost 0 (areaIn 
 area-asks kind size s (NoHeader r) = refuse-asks r 0
 area-asks kind size s (Header h) = pick-asks (ltb size (24 + h .«length_of_allocation_descriptors»)) 0 (refuse-asks Malformed 0) (done-asks _ 0)
 
-from-asks : (kind length at : ℕ) → AtMost 512 (areaFrom kind length at)
+from-asks : (check : Bool) (kind length at : ℕ) → AtMost 512 (areaFrom check kind length at)
 unfolding areaFrom
-from-asks kind length at = pick-asks (ltb length 24) 512 (refuse-asks Malformed 512) (by (ltb 1048576 length) refl)
+from-asks check kind length at = pick-asks (ltb length 24) 512 (refuse-asks Malformed 512) (by (ltb 1048576 length) refl)
   where
-    by : (b : Bool) → ltb 1048576 length ≡ b → AtMost 512 (pick b (refuse Unsupported) (then (sectors (sectorsFor length) at) (λ s. areaIn kind length s (readAed s))))
+    by : (b : Bool) → ltb 1048576 length ≡ b → AtMost 512 (pick b (refuse Unsupported) (then (sectors (sectorsFor length) at) (λ s. areaIn kind length s (readAed check s))))
     by true t = refuse-asks Unsupported 512
     by false t =
         fewer-asks (sectorsFor length + 0) 512 (omega (arith, ltb-false 1048576 length t))
-        (then-asks _ _ (sectorsFor length) 0 (sectors-asks _ _) (λ s. area-asks kind length s (readAed s)))
+        (then-asks _ _ (sectorsFor length) 0 (sectors-asks _ _) (λ s. area-asks kind length s (readAed check s)))
 
 pub standing-asks : {A : Type 0} (o : Option ℕ) (f : ℕ → Ask A) (n : ℕ) → ((s : ℕ) → AtMost n (f s)) → AtMost n (standing o f)
 standing-asks none f n h = refuse-asks Unsupported n
@@ -90,7 +90,7 @@ standing-asks (some s) f n h = h s
 
 next-asks : (m : Mount) (kind : ℕ) (e : AdContinuation) → AtMost 512 (nextArea m kind e)
 unfolding nextArea
-next-asks m kind e = standing-asks (placed m (e .«partition_ref») (e .block .0)) _ 512 (from-asks kind (e .length))
+next-asks m kind e = standing-asks (placed m (e .«partition_ref») (e .block .0)) _ 512 (from-asks (isChecked m) kind (e .length))
 
 continued-asks : (m : Mount) (kind n : ℕ) (how : AdEnding) → AtMost (512 * n) (continued m kind n how)
 unfolding continued

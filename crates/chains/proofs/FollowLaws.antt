@@ -15,7 +15,7 @@ use Rattle.disc.specs.Ask.Ask.{done, refuse}
 use Rattle.disc.specs.Ask.Outcome.{answered, refused}
 use Rattle.disc.specs.Ran.{ran, after, followed}
 use Rattle.disc.specs.Images.{disc, sectors, heldFrom, bytesOf, sectorsFor}
-use Rattle.disc.specs.Places.{placed, Stands}
+use Rattle.disc.specs.Places.{placed, isChecked, Stands}
 use Rattle.disc.specs.declared.places.Mount.{Mount}
 use Rattle.disc.specs.declared.places.Sector.{Sector}
 use Rattle.disc.specs.declared.places.Placed.{Placed}
@@ -46,13 +46,13 @@ use Rattle.chains.proofs.WalkLaws.{beyond-end}
 
 -- ---- the area that continues another
 
-module _ (image : List ℕ) (length first : ℕ) where
-  pub next-short : length < 24 → ReachesFrom image length first (Refused Malformed 0)
+module _ (check : Bool) (image : List ℕ) (length first : ℕ) where
+  pub next-short : length < 24 → ReachesFrom check image length first (Refused Malformed 0)
   unfolding areaFrom
   next-short k = record { runs = λ kind. rw (lt-ltb length 24 k) (ran-refuse (disc image) Malformed); few = omega arith }
 
   module _ (h : 24 ≤ length) where
-    pub next-long : 1048576 < length → ReachesFrom image length first (Refused Unsupported 0)
+    pub next-long : 1048576 < length → ReachesFrom check image length first (Refused Unsupported 0)
     unfolding areaFrom
     next-long k = record { runs = λ kind. rw (le-ltb length 24 h, lt-ltb 1048576 length k) (ran-refuse (disc image) Unsupported); few = omega arith }
 
@@ -60,14 +60,14 @@ module _ (image : List ℕ) (length first : ℕ) where
       few-sectors : n ≤ 512
       few-sectors = omega arith
 
-      asks : (kind : ℕ) → ran (disc image) (areaFrom kind length first) ≡ followed (sectorsRun image n first) (λ s. ran (disc image) (areaIn kind length s (readAed s)))
+      asks : (kind : ℕ) → ran (disc image) (areaFrom check kind length first) ≡ followed (sectorsRun image n first) (λ s. ran (disc image) (areaIn kind length s (readAed check s)))
       unfolding areaFrom
       asks kind = rw (le-ltb length 24 h, le-ltb 1048576 length l, ran-then, sectors-run, ← u)
 
-      pub next-missing : held < n → ReachesFrom image length first (Refused Io (held + 1))
+      pub next-missing : held < n → ReachesFrom check image length first (Refused Io (held + 1))
       next-missing k = record { runs = λ kind. asks kind ∙ rw (← m, lt-leb n held k); few = omega (arith, few-sectors) }
 
-      module _ (k : n ≤ held) {b : List ℕ} (p : b ≡ bytesOf (outcome (disc image) (sectors n first))) {r : AedRead} (q : r ≡ readAed b) where
+      module _ (k : n ≤ held) {b : List ℕ} (p : b ≡ bytesOf (outcome (disc image) (sectors n first))) {r : AedRead} (q : r ≡ readAed check b) where
         abbrev buffer : List ℕ
         buffer = take (2048 * n) (drop (2048 * first) image)
 
@@ -77,25 +77,25 @@ module _ (image : List ℕ) (length first : ℕ) where
             let y : n * 2048 ≡ 2048 * n = omega arith in
             p ∙ sym (part-whole image n first held m k) ∙ rw (add-sub-cancel-left, x, y)
 
-        header : r ≡ readAed buffer
-        header = q ∙ ap readAed lies
+        header : r ≡ readAed check buffer
+        header = q ∙ ap (readAed check) lies
 
-        reads : (kind : ℕ) → ran (disc image) (areaFrom kind length first) ≡ after n (ran (disc image) (areaIn kind length buffer r))
+        reads : (kind : ℕ) → ran (disc image) (areaFrom check kind length first) ≡ after n (ran (disc image) (areaIn kind length buffer r))
         reads kind = asks kind ∙ rw (← m, le-leb n held k, header)
 
-        pub next-none : {why : Refusal} → r ≡ NoHeader why → ReachesFrom image length first (Refused why n)
+        pub next-none : {why : Refusal} → r ≡ NoHeader why → ReachesFrom check image length first (Refused why n)
         next-none z = record { runs = λ kind. reads kind ∙ rw (z, ran-refuse, add-zero); few = few-sectors }
 
         module _ {x : AllocationExtentDescriptor} (z : r ≡ Header x) where
-          pub next-over : length < 24 + x .«length_of_allocation_descriptors» → ReachesFrom image length first (Refused Malformed n)
+          pub next-over : length < 24 + x .«length_of_allocation_descriptors» → ReachesFrom check image length first (Refused Malformed n)
           next-over y = record { runs = λ kind. reads kind ∙ rw (z, lt-ltb length (24 + x .«length_of_allocation_descriptors») y, ran-refuse, add-zero); few = few-sectors }
 
           pub next-found : 24 + x .«length_of_allocation_descriptors» ≤ length
-              → ReachesFrom image length first (Found (2048 * first + 24) (x .«length_of_allocation_descriptors») n)
+              → ReachesFrom check image length first (Found (2048 * first + 24) (x .«length_of_allocation_descriptors») n)
           next-found y = record {
             runs = λ kind. reads kind ∙ rw (z, le-ltb length (24 + x .«length_of_allocation_descriptors») y, ran-done, add-zero, area-in-part image (2048 * first) (2048 * n) kind 24 (x .«length_of_allocation_descriptors») (omega arith));
             place = refl;
-            says = aed-read buffer header z .area ∙ same-u32 buffer image 20 (2048 * first + 20) 4 (omega arith) (same-part image (2048 * first) (2048 * n) 20 4 (omega arith));
+            says = aed-read check buffer header z .area ∙ same-u32 buffer image 20 (2048 * first + 20) 4 (omega arith) (same-part image (2048 * first) (2048 * n) 20 4 (omega arith));
             few = few-sectors;
           }
 
@@ -109,10 +109,10 @@ module _ (image : List ℕ) (m : Mount) (a : AdContinuation) {p : Placed} (q : S
     there : placed m (a .«partition_ref») (a .block .0) ≡ some (s .0)
     there = stands-at m (a .«partition_ref») (a .block .0) q e
 
-    pub next-there : (r : NextArea) → ReachesFrom image (a .length) (s .0) r → Reaches image m a r
+    pub next-there : {check : Bool} → check ≡ isChecked m → (r : NextArea) → ReachesFrom check image (a .length) (s .0) r → Reaches image m a r
     unfolding nextArea
-    next-there (Found at size n) y = record { runs = λ kind. rw there (y .runs kind); there = λ kind. rw (there, y .place, y .says); few = y .few }
-    next-there (Refused why n) y = record { runs = λ kind. rw there (y .runs kind); few = y .few }
+    next-there k (Found at size n) y = record { runs = λ kind. rw (there, ← k) (y .runs kind); there = λ kind. rw (there, y .place, y .says); few = y .few }
+    next-there k (Refused why n) y = record { runs = λ kind. rw (there, ← k) (y .runs kind); few = y .few }
 
 -- ---- the loop over areas: what the rest comes to says what the whole comes to
 

@@ -3,4 +3,5 @@ pub mod WalkLaws
 pub mod FollowLaws
 pub mod AskedLaws
 pub mod TotalLaws
+pub mod GuardLaws
 pub mod Promises

@@ -14,7 +14,7 @@ use Rattle.disc.specs.Ask.Ask.{done, refuse}
 use Rattle.disc.specs.Ask.Outcome.{answered, refused}
 use Rattle.disc.specs.Ran.{ran, onward}
 use Rattle.disc.specs.Images.{sectors, sectorsFor}
-use Rattle.disc.specs.Places.{placed, standing}
+use Rattle.disc.specs.Places.{placed, isChecked, standing}
 use Rattle.disc.specs.declared.places.Mount.{Mount}
 use Rattle.disc.specs.declared.refusals.Refusal.{Refusal}
 use Rattle.disc.specs.declared.refusals.Refusal.the-variants.{Malformed, Unsupported}
@@ -68,20 +68,20 @@ module _ (v : Mount) (kind : ℕ) where
   area-within size s (Header h) l = pick-within held (2 ^ 47) (ltb size (24 + h .«length_of_allocation_descriptors»)) (λ t. refuse-within held (2 ^ 47) Malformed)
       (λ t. done-within held (2 ^ 47) _ (omega (arith, ltb-false size (24 + h .«length_of_allocation_descriptors») t, area-total kind s 24 (h .«length_of_allocation_descriptors»))))
 
-  from-within : (length at : ℕ) → Within held (2 ^ 47) (areaFrom kind length at)
+  from-within : (check : Bool) (length at : ℕ) → Within held (2 ^ 47) (areaFrom check kind length at)
   unfolding areaFrom
-  from-within length at =
+  from-within check length at =
       pick-within held (2 ^ 47) (ltb length 24) (λ t. refuse-within held (2 ^ 47) Malformed) (λ t.
       pick-within held (2 ^ 47) (ltb 1048576 length) (λ t. refuse-within held (2 ^ 47) Unsupported) (λ t.
-      then-within held (2 ^ 47) (sectors (sectorsFor length) at) _ (λ d s e. area-within length s (readAed s) (ltb-false 1048576 length t))))
+      then-within held (2 ^ 47) (sectors (sectorsFor length) at) _ (λ d s e. area-within length s (readAed check s) (ltb-false 1048576 length t))))
 
   next-within : (a : AdContinuation) → Within held (2 ^ 47) (nextArea v kind a)
   unfolding nextArea
   next-within a = by (placed v (a .«partition_ref») (a .block .0))
     where
-      by : (o : Option ℕ) → Within held (2 ^ 47) (standing o (areaFrom kind (a .length)))
+      by : (o : Option ℕ) → Within held (2 ^ 47) (standing o (areaFrom (isChecked v) kind (a .length)))
       by none = refuse-within held (2 ^ 47) Unsupported
-      by (some at) = from-within (a .length) at
+      by (some at) = from-within (isChecked v) (a .length) at
 
   -- more extents behind some
   joined-within : (n k : ℕ) (es : List AllocExtent) (m : Ask (List AllocExtent)) → total es ≤ k → Within total n m → Within total (n + k) (then m (λ more. done (es ++ more)))

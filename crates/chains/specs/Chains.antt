@@ -1,12 +1,13 @@
 -- A chain of areas (ECMA-167 4/12, 4/14.5): RULES 6.15 to 6.18.
 use Prim.Native.Nat.{ℕ, zero, suc, _+_}
+use mathlib.Core.Bool.{Bool}
 use mathlib.Core.List.{List, [], _++_}
 use lib.Dec.{ltb}
 use Rattle.disc.specs.Choice.{pick}
 use Rattle.disc.specs.Ask.{Ask, then}
 use Rattle.disc.specs.Ask.Ask.{done, refuse}
 use Rattle.disc.specs.Images.{sectors, sectorsFor}
-use Rattle.disc.specs.Places.{placed, standing}
+use Rattle.disc.specs.Places.{placed, isChecked, standing}
 use Rattle.disc.specs.declared.places.Mount.{Mount}
 use Rattle.disc.specs.declared.refusals.Refusal.the-variants.{Malformed, Unsupported}
 use Rattle.tags.specs.Tags.{readAed}
@@ -33,15 +34,15 @@ areaIn kind size s (Header h) =
     (done (areaAt kind s 24 (h .«length_of_allocation_descriptors»)))
 
 -- the area in `length` bytes from a sector on, with the checks in order
-unfoldable pub areaFrom : ℕ → ℕ → ℕ → Ask Area
-areaFrom kind length at =
+unfoldable pub areaFrom : Bool → ℕ → ℕ → ℕ → Ask Area
+areaFrom check kind length at =
     pick (ltb length 24) (refuse Malformed)
     (pick (ltb longestContinuation length) (refuse Unsupported)
-    (then (sectors (sectorsFor length) at) (λ s. areaIn kind length s (readAed s))))
+    (then (sectors (sectorsFor length) at) (λ s. areaIn kind length s (readAed check s))))
 
 -- the area that continues another: before those checks, where it stands
 unfoldable pub nextArea : Mount → ℕ → AdContinuation → Ask Area
-nextArea m kind a = standing (placed m (a .«partition_ref») (a .block .0)) (areaFrom kind (a .length))
+nextArea m kind a = standing (placed m (a .«partition_ref») (a .block .0)) (areaFrom (isChecked m) kind (a .length))
 
 -- the extents behind an area, through n continuations at most: one more is refused before it is looked at
 unfoldable pub continued : Mount → ℕ → ℕ → AdEnding → Ask (List AllocExtent)

@@ -1,6 +1,7 @@
 -- What following a chain says: `Followed`, which is what the run of the chain's tree comes to, and what it is made of.
 use Prim.Native.Nat.{ℕ, _+_, _*_, _≤_}
 use mathlib.Core.Path.{_≡_}
+use mathlib.Core.Bool.{Bool}
 use mathlib.Core.List.{List}
 use Rattle.disc.specs.Ask.Outcome.{answered, refused}
 use Rattle.disc.specs.Ran.{Ran, ran}
@@ -35,19 +36,19 @@ Reaches image m a (Found at size n) = FoundArea image m a at size n
 Reaches image m a (Refused r n) = NoArea image m a r n
 
 -- the same of the bytes from a sector on
-pub record FoundFrom (image : List ℕ) (length first at size n : ℕ) : Type 0 where
-  pub runs : (kind : ℕ) → ran (disc image) (areaFrom kind length first) ≡ record { outcome = answered (areaAt kind image at size); count = n }
+pub record FoundFrom (check : Bool) (image : List ℕ) (length first at size n : ℕ) : Type 0 where
+  pub runs : (kind : ℕ) → ran (disc image) (areaFrom check kind length first) ≡ record { outcome = answered (areaAt kind image at size); count = n }
   pub place : at ≡ areaPlace first
   pub says : size ≡ areaSize image first
   pub few : n ≤ 512
 
-pub record NoneFrom (image : List ℕ) (length first : ℕ) (r : Refusal) (n : ℕ) : Type 0 where
-  pub runs : (kind : ℕ) → ran (disc image) (areaFrom kind length first) ≡ record { outcome = refused r; count = n }
+pub record NoneFrom (check : Bool) (image : List ℕ) (length first : ℕ) (r : Refusal) (n : ℕ) : Type 0 where
+  pub runs : (kind : ℕ) → ran (disc image) (areaFrom check kind length first) ≡ record { outcome = refused r; count = n }
   pub few : n ≤ 512
 
-abbrev pub ReachesFrom : List ℕ → ℕ → ℕ → NextArea → Type 0
-ReachesFrom image length first (Found at size n) = FoundFrom image length first at size n
-ReachesFrom image length first (Refused r n) = NoneFrom image length first r n
+abbrev pub ReachesFrom : Bool → List ℕ → ℕ → ℕ → NextArea → Type 0
+ReachesFrom check image length first (Found at size n) = FoundFrom check image length first at size n
+ReachesFrom check image length first (Refused r n) = NoneFrom check image length first r n
 
 -- what is left to run of a chain from a cursor on
 abbrev pub chainAt : List ℕ → Mount → ℕ → ChainCursor → Ran (List AllocExtent)

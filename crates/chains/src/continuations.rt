@@ -28,9 +28,9 @@ const HEADER: u32 = 24;
 const LONGEST: u32 = 1048576;
 
 // The area in `length` bytes from a sector on: the checks in order. Its sectors are one part of the image: nothing is copied.
-fn area_from(image: &[u8], length: u32, first: Sector) -> NextArea
+fn area_from(image: &[u8], check: bool, length: u32, first: Sector) -> NextArea
     requires { ⌜ first .0 < 2 ^ 33 ⌝ }
-    ensures { λ r. ⌜ ReachesFrom (now (image .entry)) length (first .0) r ⌝ }
+    ensures { λ r. ⌜ ReachesFrom check (now (image .entry)) length (first .0) r ⌝ }
 {
     if length < HEADER {
         return NextArea::Refused(Refusal::Malformed, 0);
@@ -43,7 +43,7 @@ fn area_from(image: &[u8], length: u32, first: Sector) -> NextArea
     if held < n {
         return NextArea::Refused(Refusal::Io, held + 1);
     }
-    match AllocationExtentDescriptor::parse(run_part(image, first, n)) {
+    match AllocationExtentDescriptor::parse(check, run_part(image, first, n)) {
         AedRead::NoHeader(why) => NextArea::Refused(why, n),
         AedRead::Header(h) => {
             let size = h.length_of_allocation_descriptors;
@@ -67,6 +67,6 @@ pub(crate) fn next_area(image: &[u8], mount: Mount, a: AdContinuation) -> NextAr
     let block = a.block;
     match mount.placed(reference, block) {
         Placed::Nowhere => NextArea::Refused(Refusal::Unsupported, 0),
-        Placed::At(first) => area_from(image, a.length, first),
+        Placed::At(first) => area_from(image, mount.is_checked(), a.length, first),
     }
 }

@@ -63,12 +63,12 @@ fn anchors() {
 }
 
 // Byte i is i + 1 + 59 (i div 256), modulo 256: each byte once, and then each again from another one on.
-fn pattern() -> [u8; 2032]
-    ensures { λ r. ⌜ 2032 ≡ length r ⌝ }
+fn pattern() -> [u8; 4100]
+    ensures { λ r. ⌜ 4100 ≡ length r ⌝ }
 {
-    let mut made = [0u8; 2032];
+    let mut made = [0u8; 4100];
     let mut i = 0;
-    while i < 2032 {
+    while i < 4100 {
         made[i] = ((i + 1 + i / 256 * 59) % 256) as u8;
         i += 1;
     }
@@ -82,7 +82,7 @@ fn first(n: usize) {
     say_crc(crc(front(&whole, n)));
 }
 
-// The most that stands behind a tag in its sector is 2,032 bytes.
+// The most that stands behind a tag in its sector is 2,032 bytes; bytes past 2,048 are taken by themselves.
 fn patterns() {
     first(0);
     first(1);
@@ -92,6 +92,9 @@ fn patterns() {
     first(257);
     first(2031);
     first(2032);
+    first(2048);
+    first(2049);
+    first(4100);
 }
 
 fn main() {

@@ -5,3 +5,4 @@ pub mod TableLaws
 pub mod LoopLaws
 pub mod ChangeLaws
 pub mod Promises
+pub mod RowLaws

@@ -134,13 +134,13 @@ fn say_anchor(r: AnchorRead) {
 
 fn anchor(s: &[u8], n: usize) {
     if n <= s.len() {
-        say_anchor(AnchorVolumeDescriptorPointer::parse(&s[0..n]));
+        say_anchor(AnchorVolumeDescriptorPointer::parse(false, &s[0..n]));
     }
 }
 
 fn primary(s: &[u8], n: usize) {
     if n <= s.len() {
-        let r = PrimaryVolumeDescriptor::parse(&s[0..n]);
+        let r = PrimaryVolumeDescriptor::parse(false, &s[0..n]);
         let d = r.descriptor;
         say_number(b"answer", r.answer);
         say_tag(d.tag);
@@ -169,13 +169,13 @@ fn say_partition(r: PartitionRead) {
 
 fn partition(s: &[u8], n: usize) {
     if n <= s.len() {
-        say_partition(PartitionDescriptor::parse(&s[0..n]));
+        say_partition(PartitionDescriptor::parse(false, &s[0..n]));
     }
 }
 
 fn logical(s: &[u8], n: usize) {
     if n <= s.len() {
-        let r = LogicalVolumeDescriptor::parse(&s[0..n]);
+        let r = LogicalVolumeDescriptor::parse(false, &s[0..n]);
         let d = r.descriptor;
         say_number(b"answer", r.answer);
         say_tag(d.tag);
@@ -190,7 +190,7 @@ fn logical(s: &[u8], n: usize) {
 
 fn file_set(s: &[u8], n: usize) {
     if n <= s.len() {
-        let r = FileSetDescriptor::parse(&s[0..n]);
+        let r = FileSetDescriptor::parse(false, &s[0..n]);
         let d = r.descriptor;
         say_number(b"answer", r.answer);
         say_tag(d.tag);

@@ -1,6 +1,7 @@
 -- The file set descriptor: which case of its definition the reader is in. Assumes nothing.
 use Prim.Native.Nat.{ℕ}
 use mathlib.Core.Path.{_≡_}
+use mathlib.Core.Bool.{Bool}
 use mathlib.Core.List.{List}
 use Rattle.disc.specs.Refusals.{number}
 use Rattle.disc.specs.Ask.Outcome.{refused}
@@ -22,15 +23,15 @@ file-set-none why p q r = rw (p, q, r)
 
 -- ---- what the reader's proof cites: `x` is what `read_head` gave
 
-module _ (s : List ℕ) {x : TagRead} where
-  pub file-set-no : {why : Refusal} {r : FileSetRead} → x ≡ readHead s 256 416 → x ≡ Refused why → r ≡ fileSetRead (refused why) → r ≡ fileSetRead (readFileSet s)
+module _ (check : Bool) (s : List ℕ) {x : TagRead} where
+  pub file-set-no : {why : Refusal} {r : FileSetRead} → x ≡ readHead check s 256 416 → x ≡ Refused why → r ≡ fileSetRead (refused why) → r ≡ fileSetRead (readFileSet check s)
   unfolding readFileSet
   file-set-no e h k = rw (← e, h) k
 
   pub file-set-yes : {t : DescriptorTag} {root : LongAd}
-      → x ≡ readHead s 256 416
+      → x ≡ readHead check s 256 416
       → x ≡ Read t
       → root ≡ longOf s 400
-      → record { answer = 0; descriptor = record { tag = t; «root_directory_icb» = root } } ≡ fileSetRead (readFileSet s)
+      → record { answer = 0; descriptor = record { tag = t; «root_directory_icb» = root } } ≡ fileSetRead (readFileSet check s)
   unfolding readFileSet
   file-set-yes e h k = rw (← e, h, k)

@@ -1,6 +1,7 @@
 -- The anchor and the descriptors of a volume descriptor sequence: which case of its definition each reader is in. Assumes nothing.
 use Prim.Native.Nat.{ℕ}
 use mathlib.Core.Path.{_≡_, refl, sym, ap, _∙_}
+use mathlib.Core.Bool.{Bool}
 use mathlib.Core.List.{List}
 use native.Mathlib.Omega.{arith}
 use lib.ListN.{take, drop, replicate}
@@ -48,34 +49,34 @@ module _ (why : Refusal) {n : ℕ} {t : DescriptorTag} (p : n ≡ number why) (q
 
 -- ---- what each reader's proof cites: `x` is what `read_head` gave
 
-module _ (s : List ℕ) {x : TagRead} where
-  pub anchor-no : {why : Refusal} → x ≡ readHead s 2 32 → x ≡ NoTag why → NoAnchor why ≡ readAnchor s
+module _ (check : Bool) (s : List ℕ) {x : TagRead} where
+  pub anchor-no : {why : Refusal} → x ≡ readHead check s 2 32 → x ≡ NoTag why → NoAnchor why ≡ readAnchor check s
   unfolding readAnchor
   anchor-no e h = rw (← e, h)
 
   pub anchor-yes : {t : DescriptorTag} {a b : ExtentAd}
-      → x ≡ readHead s 2 32
+      → x ≡ readHead check s 2 32
       → x ≡ ATag t
       → a ≡ extentOf s 16
       → b ≡ extentOf s 24
-      → AnAnchor (record { tag = t; «main_volume_descriptor_sequence» = a; «reserve_volume_descriptor_sequence» = b }) ≡ readAnchor s
+      → AnAnchor (record { tag = t; «main_volume_descriptor_sequence» = a; «reserve_volume_descriptor_sequence» = b }) ≡ readAnchor check s
   unfolding readAnchor
   anchor-yes e h p q = rw (← e, h, p, q)
 
-  pub primary-no : {why : Refusal} {r : PrimaryRead} → x ≡ readHead s 1 56 → x ≡ NoTag why → r ≡ primaryRead (refused why) → r ≡ primaryRead (readPrimary s)
+  pub primary-no : {why : Refusal} {r : PrimaryRead} → x ≡ readHead check s 1 56 → x ≡ NoTag why → r ≡ primaryRead (refused why) → r ≡ primaryRead (readPrimary check s)
   unfolding readPrimary
   primary-no e h k = rw (← e, h) k
 
-  pub primary-yes : {t : DescriptorTag} {r : PrimaryRead} → x ≡ readHead s 1 56 → x ≡ ATag t → r ≡ primaryRead (primaryBehind s t) → r ≡ primaryRead (readPrimary s)
+  pub primary-yes : {t : DescriptorTag} {r : PrimaryRead} → x ≡ readHead check s 1 56 → x ≡ ATag t → r ≡ primaryRead (primaryBehind s t) → r ≡ primaryRead (readPrimary check s)
   unfolding readPrimary
   primary-yes e h k = rw (← e, h) k
 
-  pub partition-no : {why : Refusal} → x ≡ readHead s 5 196 → x ≡ NoTag why → NoPartition why ≡ readPartition s
+  pub partition-no : {why : Refusal} → x ≡ readHead check s 5 196 → x ≡ NoTag why → NoPartition why ≡ readPartition check s
   unfolding readPartition
   partition-no e h = rw (← e, h)
 
   pub partition-yes : {t : DescriptorTag} {a b c d f : ℕ}
-      → x ≡ readHead s 5 196
+      → x ≡ readHead check s 5 196
       → x ≡ ATag t
       → a ≡ u32at s 16
       → b ≡ u16at s 20
@@ -89,15 +90,15 @@ module _ (s : List ℕ) {x : TagRead} where
         «partition_number» = c;
         «partition_starting_location» = d;
         «partition_length» = f;
-      }) ≡ readPartition s
+      }) ≡ readPartition check s
   unfolding readPartition
   partition-yes e h p q k l m = rw (← e, h, p, q, k, l, m)
 
-  pub logical-no : {why : Refusal} {r : LogicalRead} → x ≡ readHead s 6 440 → x ≡ NoTag why → r ≡ logicalRead (refused why) → r ≡ logicalRead (readLogical s)
+  pub logical-no : {why : Refusal} {r : LogicalRead} → x ≡ readHead check s 6 440 → x ≡ NoTag why → r ≡ logicalRead (refused why) → r ≡ logicalRead (readLogical check s)
   unfolding readLogical
   logical-no e h k = rw (← e, h) k
 
-  pub logical-yes : {t : DescriptorTag} {r : LogicalRead} → x ≡ readHead s 6 440 → x ≡ ATag t → r ≡ logicalRead (logicalBehind s t) → r ≡ logicalRead (readLogical s)
+  pub logical-yes : {t : DescriptorTag} {r : LogicalRead} → x ≡ readHead check s 6 440 → x ≡ ATag t → r ≡ logicalRead (logicalBehind s t) → r ≡ logicalRead (readLogical check s)
   unfolding readLogical
   logical-yes e h k = rw (← e, h) k
 

@@ -1,5 +1,6 @@
 -- The file set descriptor (ECMA-167 4/14.1): RULES 5.12.
 use Prim.Native.Nat.{ℕ}
+use mathlib.Core.Bool.{Bool}
 use mathlib.Core.List.{List}
 use Rattle.disc.specs.Refusals.{number}
 use Rattle.disc.specs.Ask.{Outcome}
@@ -15,9 +16,9 @@ use Rattle.descriptors.specs.declared.file_sets.FileSetRead.{FileSetRead
 abbrev pub fileSetOf : List ℕ → DescriptorTag → FileSetDescriptor
 fileSetOf s t = record { tag = t; «root_directory_icb» = longOf s 400 }
 
--- Reading a file set descriptor at the front of s: id 256, 416 bytes.
-unfoldable pub readFileSet : List ℕ → Outcome FileSetDescriptor
-readFileSet s = gated (readHead s 256 416) (λ t. answered (fileSetOf s t))
+-- Reading a file set descriptor at the front of s, with bodies checked or not: id 256, 416 bytes.
+unfoldable pub readFileSet : Bool → List ℕ → Outcome FileSetDescriptor
+readFileSet check s = gated (readHead check s 256 416) (λ t. answered (fileSetOf s t))
 
 -- As the code reports it: the answer number, and zeros where it is a refusal.
 abbrev pub noFileSet : FileSetDescriptor

@@ -1,5 +1,7 @@
--- The descriptors of a volume descriptor sequence, and the anchor that leads to it (ECMA-167 3/10): RULES 5.2 and 5.7 to 5.10.
+-- The descriptors of a volume descriptor sequence, and the anchor that leads to it (ECMA-167 3/10): RULES 5.2 and 5.7 to 5.10. Whether bodies are
+-- checked comes first.
 use Prim.Native.Nat.{ℕ}
+use mathlib.Core.Bool.{Bool}
 use mathlib.Core.List.{List}
 use lib.ListN.{take, drop, replicate}
 use Rattle.disc.specs.Refusals.{number}
@@ -40,8 +42,8 @@ anchorAfter s (NoTag r) = NoAnchor r
 anchorAfter s (ATag t) = AnAnchor (anchorOf s t)
 
 -- Reading an anchor at the front of s.
-unfoldable pub readAnchor : List ℕ → AnchorRead
-readAnchor s = anchorAfter s (readHead s 2 32)
+unfoldable pub readAnchor : Bool → List ℕ → AnchorRead
+readAnchor check s = anchorAfter s (readHead check s 2 32)
 
 -- ---- primary volume descriptor: id 1, 56 bytes (3/10.1)
 
@@ -63,8 +65,8 @@ unfoldable pub primaryBehind : List ℕ → DescriptorTag → Outcome PrimaryVol
 primaryBehind s t = labelled (nameOfField (take 32 (drop 24 s))) (primaryOf s t)
 
 -- Reading a primary volume descriptor at the front of s.
-unfoldable pub readPrimary : List ℕ → Outcome PrimaryVolumeDescriptor
-readPrimary s = gated (readHead s 1 56) (primaryBehind s)
+unfoldable pub readPrimary : Bool → List ℕ → Outcome PrimaryVolumeDescriptor
+readPrimary check s = gated (readHead check s 1 56) (primaryBehind s)
 
 -- As the code reports it: the answer number, and zeros where it is a refusal.
 abbrev pub noPrimary : PrimaryVolumeDescriptor
@@ -98,8 +100,8 @@ partitionAfter s (NoTag r) = NoPartition r
 partitionAfter s (ATag t) = APartition (partitionOf s t)
 
 -- Reading a partition descriptor at the front of s.
-unfoldable pub readPartition : List ℕ → PartitionRead
-readPartition s = partitionAfter s (readHead s 5 196)
+unfoldable pub readPartition : Bool → List ℕ → PartitionRead
+readPartition check s = partitionAfter s (readHead check s 5 196)
 
 -- ---- logical volume descriptor: id 6, 440 bytes (3/10.6)
 
@@ -118,8 +120,8 @@ unfoldable pub logicalBehind : List ℕ → DescriptorTag → Outcome LogicalVol
 logicalBehind s t = labelled (nameOfField (take 128 (drop 84 s))) (logicalOf s t)
 
 -- Reading a logical volume descriptor at the front of s.
-unfoldable pub readLogical : List ℕ → Outcome LogicalVolumeDescriptor
-readLogical s = gated (readHead s 6 440) (logicalBehind s)
+unfoldable pub readLogical : Bool → List ℕ → Outcome LogicalVolumeDescriptor
+readLogical check s = gated (readHead check s 6 440) (logicalBehind s)
 
 -- As the code reports it.
 abbrev pub noLogical : LogicalVolumeDescriptor

@@ -26,10 +26,10 @@ pub enum AnchorRead {
 }
 
 impl AnchorVolumeDescriptorPointer {
-    pub fn parse(s: &[u8]) -> AnchorRead
-        ensures { λ r. ⌜ r ≡ readAnchor (now (s .entry)) ⌝ }
+    pub fn parse(check: bool, s: &[u8]) -> AnchorRead
+        ensures { λ r. ⌜ r ≡ readAnchor check (now (s .entry)) ⌝ }
     {
-        match read_head(s, ID, SIZE) {
+        match read_head(check, s, ID, SIZE) {
             TagRead::Refused(why) => AnchorRead::Refused(why),
             TagRead::Read(t) => AnchorRead::Read(AnchorVolumeDescriptorPointer {
                 tag: t,

@@ -43,10 +43,10 @@ fn no_file_set(why: Refusal) -> FileSetRead
 }
 
 impl FileSetDescriptor {
-    pub fn parse(s: &[u8]) -> FileSetRead
-        ensures { λ r. ⌜ r ≡ fileSetRead (readFileSet (now (s .entry))) ⌝ }
+    pub fn parse(check: bool, s: &[u8]) -> FileSetRead
+        ensures { λ r. ⌜ r ≡ fileSetRead (readFileSet check (now (s .entry))) ⌝ }
     {
-        match read_head(s, ID, SIZE) {
+        match read_head(check, s, ID, SIZE) {
             TagRead::Refused(why) => no_file_set(why),
             TagRead::Read(t) => FileSetRead {
                 answer: DONE,

@@ -78,10 +78,10 @@ fn logical_behind(s: &[u8], t: DescriptorTag) -> LogicalRead
 }
 
 impl LogicalVolumeDescriptor {
-    pub fn parse(s: &[u8]) -> LogicalRead
-        ensures { λ r. ⌜ r ≡ logicalRead (readLogical (now (s .entry))) ⌝ }
+    pub fn parse(check: bool, s: &[u8]) -> LogicalRead
+        ensures { λ r. ⌜ r ≡ logicalRead (readLogical check (now (s .entry))) ⌝ }
     {
-        match read_head(s, ID, SIZE) {
+        match read_head(check, s, ID, SIZE) {
             TagRead::Refused(why) => no_logical(why),
             TagRead::Read(t) => logical_behind(s, t),
         }

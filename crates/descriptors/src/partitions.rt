@@ -30,10 +30,10 @@ pub enum PartitionRead {
 }
 
 impl PartitionDescriptor {
-    pub fn parse(s: &[u8]) -> PartitionRead
-        ensures { λ r. ⌜ r ≡ readPartition (now (s .entry)) ⌝ }
+    pub fn parse(check: bool, s: &[u8]) -> PartitionRead
+        ensures { λ r. ⌜ r ≡ readPartition check (now (s .entry)) ⌝ }
     {
-        match read_head(s, ID, SIZE) {
+        match read_head(check, s, ID, SIZE) {
             TagRead::Refused(why) => PartitionRead::Refused(why),
             TagRead::Read(t) => PartitionRead::Read(PartitionDescriptor {
                 tag: t,

@@ -71,10 +71,10 @@ fn primary_behind(s: &[u8], t: DescriptorTag) -> PrimaryRead
 }
 
 impl PrimaryVolumeDescriptor {
-    pub fn parse(s: &[u8]) -> PrimaryRead
-        ensures { λ r. ⌜ r ≡ primaryRead (readPrimary (now (s .entry))) ⌝ }
+    pub fn parse(check: bool, s: &[u8]) -> PrimaryRead
+        ensures { λ r. ⌜ r ≡ primaryRead (readPrimary check (now (s .entry))) ⌝ }
     {
-        match read_head(s, ID, SIZE) {
+        match read_head(check, s, ID, SIZE) {
             TagRead::Refused(why) => no_primary(why),
             TagRead::Read(t) => primary_behind(s, t),
         }

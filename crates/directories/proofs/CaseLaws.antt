@@ -7,6 +7,7 @@ use mathlib.Core.Option.{Option, none, some}
 use Prim.Native.Nat.{ℕ, _+_}
 use native.Mathlib.Omega.{arith}
 use Rattle.disc.specs.declared.places.Mount.{Mount}
+use Rattle.disc.specs.Places.{isChecked}
 use Rattle.listings.specs.declared.matchings.Matching.{Matching}
 use Rattle.disc.specs.Ask.{Disc, Outcome, andThen}
 use Rattle.disc.specs.Ask.Outcome.{answered, refused}
@@ -27,12 +28,12 @@ use Rattle.directories.proofs.PathLaws.{walk, on, walk-is}
 same-entering : (d : Disc) (matching : Matching) (v : Mount) (work : ℕ) (icb : LongAd) (c c′ : Component) → folded (foldIn matching) c ≡ folded (foldIn matching) c′ → ran d (entering matching v work icb (c .bytes)) ≡ ran d (entering matching v work icb (c′ .bytes))
 unfolding entering findIn
 same-entering d matching v work icb c c′ h =
-    ran-known d (directoryBytes v work icb) (findIn matching (c .bytes))
+    ran-known d (directoryBytes v work icb) (findIn (isChecked v) matching (c .bytes))
     ∙ ap (λ o. record { outcome = o; count = ran d (directoryBytes v work icb) .count }) (by (ran d (directoryBytes v work icb) .outcome))
-    ∙ sym (ran-known d (directoryBytes v work icb) (findIn matching (c′ .bytes)))
+    ∙ sym (ran-known d (directoryBytes v work icb) (findIn (isChecked v) matching (c′ .bytes)))
   where
-    by : (o : Outcome (List ℕ)) → andThen o (findIn matching (c .bytes)) ≡ andThen o (findIn matching (c′ .bytes))
-    by (answered b) = in-all (entries b)
+    by : (o : Outcome (List ℕ)) → andThen o (findIn (isChecked v) matching (c .bytes)) ≡ andThen o (findIn (isChecked v) matching (c′ .bytes))
+    by (answered b) = in-all (entries (isChecked v) b)
       where
         in-all : (o : Outcome (List Entry)) → andThen o (λ es. chosen matching (allNamed (foldIn matching) (c .bytes) es)) ≡ andThen o (λ es. chosen matching (allNamed (foldIn matching) (c′ .bytes) es))
         in-all (answered es) = ap (chosen matching) (same-all (foldIn matching) c c′ h es)

@@ -9,3 +9,4 @@ pub mod PathLaws
 pub mod OverflowLaws
 pub mod CaseLaws
 pub mod MatchingLaws
+pub mod GuardLaws

@@ -1,9 +1,11 @@
 -- A directory listed, against its tree. Assumes nothing.
 use mathlib.Core.Path.{_≡_, refl}
+use mathlib.Core.Bool.{Bool}
 use mathlib.Core.List.{List}
 use Prim.Native.Nat.{ℕ, _-_}
 use lib.ListN.{length, take, drop}
 use Rattle.disc.specs.declared.places.Mount.{Mount}
+use Rattle.disc.specs.Places.{isChecked}
 use Rattle.disc.specs.Counts.{reported}
 use Rattle.disc.specs.Ask.{Disc, Outcome, andThen}
 use Rattle.disc.specs.Ask.Outcome.{answered, refused}
@@ -28,16 +30,16 @@ module _ (d : Disc) (v : Mount) (icb : LongAd) (w w′ : List ℕ) {read : Reply
   abbrev R : Ran (List ℕ)
   R = ran d (directoryBytes v (length w) icb)
 
-  listing-is : ran d (listingAt v (length w) icb) ≡ record { outcome = andThen (R .outcome) listing; count = R .count }
+  listing-is : ran d (listingAt v (length w) icb) ≡ record { outcome = andThen (R .outcome) (listing (isChecked v)); count = R .count }
   unfolding listingAt
-  listing-is = ran-known d (directoryBytes v (length w) icb) listing
+  listing-is = ran-known d (directoryBytes v (length w) icb) (listing (isChecked v))
 
   pub list-refused : (read .answer ≡ 0 → ⊥) → (o : List ℕ) → Replied NoRoom (ran d (listingAt v (length w) icb)) o o read
-  list-refused h o = rw listing-is (refused-replied (R .outcome) (R .count) (p .says) h listing o)
+  list-refused h o = rw listing-is (refused-replied (R .outcome) (R .count) (p .says) h (listing (isChecked v)) o)
 
-  pub list-listed : read .answer ≡ 0 → {o o′ : List ℕ} (l : Reply) → Replied NoRoom (told (listing (take (read .length - 0) (drop 0 w′)))) o o′ l
+  pub list-listed : read .answer ≡ 0 → {check : Bool} → check ≡ isChecked v → {o o′ : List ℕ} (l : Reply) → Replied NoRoom (told (listing check (take (read .length - 0) (drop 0 w′)))) o o′ l
       → Replied NoRoom (ran d (listingAt v (length w) icb)) o o′ (record { answer = l .answer; count = read .count; length = l .length })
-  list-listed h {o} l e =
+  list-listed h {check} k {o} l e =
       let b : List ℕ = take (read .length - 0) (drop 0 w′) in
-      rw (listing-is, reads-bytes p h, reads-count p)
-      (record { says = recount NoRoom (length o) 0 (reported (R .count)) (listing b) (e .says); leaves = e .leaves })
+      rw (listing-is, reads-bytes p h, reads-count p, ← k)
+      (record { says = recount NoRoom (length o) 0 (reported (R .count)) (listing check b) (e .says); leaves = e .leaves })

@@ -7,6 +7,8 @@ use mathlib.Core.Option.{Option, none, some}
 use Prim.Native.Nat.{ℕ, _+_}
 use native.Mathlib.Omega.{arith}
 use Rattle.disc.specs.declared.places.Mount.{Mount}
+use Rattle.disc.specs.Places.{isChecked}
+use Rattle.disc.specs.Refusals.{number}
 use Rattle.disc.specs.Ask.{Disc, Outcome, andThen}
 use Rattle.disc.specs.Ask.Outcome.{answered, refused}
 use Rattle.disc.specs.Ran.{Ran, ran, after, onward}
@@ -40,14 +42,14 @@ module _ (d : Disc) (v : Mount) (work : ℕ) (icb : LongAd) (name : List ℕ) (m
   abbrev R : Ran (List ℕ)
   R = ran d (directoryBytes v work icb)
 
-  alike : ((b : List ℕ) → R .outcome ≡ answered b → findIn matching name b ≡ findIn matching′ name b) → ran d (entering matching v work icb name) ≡ ran d (entering matching′ v work icb name)
+  alike : ((b : List ℕ) → R .outcome ≡ answered b → findIn (isChecked v) matching name b ≡ findIn (isChecked v) matching′ name b) → ran d (entering matching v work icb name) ≡ ran d (entering matching′ v work icb name)
   unfolding entering
   alike h =
-      ran-known d (directoryBytes v work icb) (findIn matching name)
+      ran-known d (directoryBytes v work icb) (findIn (isChecked v) matching name)
       ∙ ap (λ o. record { outcome = o; count = R .count }) (by (R .outcome) refl)
-      ∙ sym (ran-known d (directoryBytes v work icb) (findIn matching′ name))
+      ∙ sym (ran-known d (directoryBytes v work icb) (findIn (isChecked v) matching′ name))
     where
-      by : (o : Outcome (List ℕ)) → R .outcome ≡ o → andThen o (findIn matching name) ≡ andThen o (findIn matching′ name)
+      by : (o : Outcome (List ℕ)) → R .outcome ≡ o → andThen o (findIn (isChecked v) matching name) ≡ andThen o (findIn (isChecked v) matching′ name)
       by (answered b) r = h b r
       by (refused why) r = refl
 
@@ -58,13 +60,13 @@ module _ (d : Disc) (v : Mount) (work : ℕ) (icb : LongAd) (name : List ℕ) (m
 -- two ways to take something in one directory have its bytes and its entries in common
 record Common (d : Disc) (v : Mount) (work : ℕ) (icb : LongAd) (bytes : List ℕ) (all : List Entry) : Type 0 where
   read : ran d (directoryBytes v work icb) .outcome ≡ answered bytes
-  parsed : entries bytes ≡ answered all
+  parsed : entries (isChecked v) bytes ≡ answered all
 
 common : (d : Disc) (v : Mount) (work : ℕ) (icb : LongAd) (b b′ : List ℕ) (es es′ : List Entry) → Common d v work icb b es → Common d v work icb b′ es′ → es ≡ es′
 common d v work icb b b′ es es′ p q =
     let r : answered b ≡ answered b′ = sym (p .read) ∙ q .read in
     let z : b ≡ b′ = cc in
-    let s : answered es ≡ answered es′ = sym (p .parsed) ∙ ap entries z ∙ q .parsed in
+    let s : answered es ≡ answered es′ = sym (p .parsed) ∙ ap (entries (isChecked v)) z ∙ q .parsed in
     cc
 
 module _ (d : Disc) (v : Mount) (work : ℕ) where
@@ -74,13 +76,13 @@ module _ (d : Disc) (v : Mount) (work : ℕ) where
       → ran d (entering CaseIgnored v work icb name) ≡ ran d (entering Unambiguous v work icb name)
   unfolding findIn
   only-one icb name n =
-      alike d v work icb name CaseIgnored Unambiguous (λ b r. by b (entries b) refl (λ k. n (entering-is d Unambiguous v work icb name ∙ ap (λ o. andThen o (findIn Unambiguous name)) r ∙ k)))
+      alike d v work icb name CaseIgnored Unambiguous (λ b r. by b (entries (isChecked v) b) refl (λ k. n (entering-is d Unambiguous v work icb name ∙ ap (λ o. andThen o (findIn (isChecked v) Unambiguous name)) r ∙ k)))
     where
       taken : (xs : List Entry) (o : Outcome (Option Entry)) → chosen Unambiguous xs ≡ o → (o ≡ refused Ambiguous → ⊥) → chosen CaseIgnored xs ≡ chosen Unambiguous xs
       taken xs (answered o) e m = only-first xs e ∙ sym e
       taken xs (refused why) e m = absurd (m (ap refused (chosen-refused Unambiguous xs e .1)))
 
-      by : (b : List ℕ) (o : Outcome (List Entry)) → entries b ≡ o → (andThen o (λ es. chosen Unambiguous (allNamed lower name es)) ≡ refused Ambiguous → ⊥)
+      by : (b : List ℕ) (o : Outcome (List Entry)) → entries (isChecked v) b ≡ o → (andThen o (λ es. chosen Unambiguous (allNamed lower name es)) ≡ refused Ambiguous → ⊥)
           → andThen o (λ es. chosen CaseIgnored (allNamed lower name es)) ≡ andThen o (λ es. chosen Unambiguous (allNamed lower name es))
       by b (answered es) e m = taken (allNamed lower name es) (chosen Unambiguous (allNamed lower name es)) refl m
       by b (refused why) e m = refl
@@ -166,7 +168,7 @@ unfoldable pub ApartOn : Disc → Mount → ℕ → List Component → LongAd �
 ApartOn d v work [] icb directory = Unit {0}
 ApartOn d v work (c ∷ cs) icb false = Unit {0}
 ApartOn d v work (c ∷ cs) icb true =
-    (b : List ℕ) (es : List Entry) → ran d (directoryBytes v work icb) .outcome ≡ answered b → entries b ≡ answered es
+    (b : List ℕ) (es : List Entry) → ran d (directoryBytes v work icb) .outcome ≡ answered b → entries (isChecked v) b ≡ answered es
     → Apart es × ((e : Entry) → firstNamed lower (c .bytes) es ≡ some e → ApartOn d v work cs (e .identifier .icb) (isDirectory (e .identifier)))
 
 -- a walk that was lost at a component, which is refused by 3
@@ -178,9 +180,9 @@ module _ (d : Disc) (v : Mount) (work : ℕ) where
   apart-one : (c : Component) (cs : List Component) (icb : LongAd) → ApartOn d v work (c ∷ cs) icb true
       → ran d (entering Unambiguous v work icb (c .bytes)) ≡ ran d (entering CaseIgnored v work icb (c .bytes))
   unfolding ApartOn findIn
-  apart-one c cs icb a = alike d v work icb (c .bytes) Unambiguous CaseIgnored (λ b r. by b r (entries b) refl)
+  apart-one c cs icb a = alike d v work icb (c .bytes) Unambiguous CaseIgnored (λ b r. by b r (entries (isChecked v) b) refl)
     where
-      by : (b : List ℕ) → ran d (directoryBytes v work icb) .outcome ≡ answered b → (o : Outcome (List Entry)) → entries b ≡ o
+      by : (b : List ℕ) → ran d (directoryBytes v work icb) .outcome ≡ answered b → (o : Outcome (List Entry)) → entries (isChecked v) b ≡ o
           → andThen o (λ es. chosen Unambiguous (allNamed lower (c .bytes) es)) ≡ andThen o (λ es. chosen CaseIgnored (allNamed lower (c .bytes) es))
       by b r (answered es) p = apart-agree (c .bytes) es (a b es r p .0)
       by b r (refused why) p = refl
@@ -222,9 +224,9 @@ module _ (d : Disc) (v : Mount) (work : ℕ) where
       → ran d (entering AsWritten v work icb name) ≡ ran d (entering CaseIgnored v work icb name)
   unfolding findIn
   written-refused icb name {why} h =
-      alike d v work icb name AsWritten CaseIgnored (λ b r. by b (entries b) refl (sym (ap (λ o. andThen o (findIn AsWritten name)) r) ∙ sym (entering-is d AsWritten v work icb name) ∙ h))
+      alike d v work icb name AsWritten CaseIgnored (λ b r. by b (entries (isChecked v) b) refl (sym (ap (λ o. andThen o (findIn (isChecked v) AsWritten name)) r) ∙ sym (entering-is d AsWritten v work icb name) ∙ h))
     where
-      by : (b : List ℕ) (o : Outcome (List Entry)) → entries b ≡ o → andThen o (λ es. chosen AsWritten (allNamed asIs name es)) ≡ refused why
+      by : (b : List ℕ) (o : Outcome (List Entry)) → entries (isChecked v) b ≡ o → andThen o (λ es. chosen AsWritten (allNamed asIs name es)) ≡ refused why
           → andThen o (λ es. chosen AsWritten (allNamed asIs name es)) ≡ andThen o (λ es. chosen CaseIgnored (allNamed lower name es))
       by b (answered es) p k = absurd (let z = chosen-refused AsWritten (allNamed asIs name es) k in let y = z .0 in let w : _≡_ {A = ℕ} 0 1 = cc in omega arith)
       by b (refused w) p k = refl
@@ -281,7 +283,7 @@ pub record Doubles (d : Disc) (v : Mount) (work : ℕ) (cs : List Component) (fr
   pub bytes : List ℕ
   pub read : ran d (directoryBytes v work directory) .outcome ≡ answered bytes
   pub all : List Entry
-  pub parsed : entries bytes ≡ answered all
+  pub parsed : entries (isChecked v) bytes ≡ answered all
   pub several : Several (allNamed lower (next .bytes) all)
 
 module _ (d : Disc) (v : Mount) (work : ℕ) where
@@ -294,7 +296,7 @@ module _ (d : Disc) (v : Mount) (work : ℕ) where
       rw (o .parts) (leads-on d Unambiguous v work (o .before) (o .next ∷ o .others) from (o .directory) (o .led))
       ∙ ap (after (walk d Unambiguous v work (o .before) from true .count))
       (walk-is d Unambiguous v work (o .next) (o .others) (o .directory)
-      ∙ rw (ran-known d (directoryBytes v work (o .directory)) (findIn Unambiguous (o .next .bytes)), o .read, o .parsed, several-refused (allNamed lower (o .next .bytes) (o .all)) (o .several)))
+      ∙ rw (ran-known d (directoryBytes v work (o .directory)) (findIn (isChecked v) Unambiguous (o .next .bytes)), o .read, o .parsed, several-refused (allNamed lower (o .next .bytes) (o .all)) (o .several)))
 
   -- and nothing else does, where no read is refused so by itself
   module _ (never-so : (icb : LongAd) → ran d (directoryBytes v work icb) .outcome ≡ refused Ambiguous → ⊥) where
@@ -302,7 +304,7 @@ module _ (d : Disc) (v : Mount) (work : ℕ) where
     unfolding findIn Leads
     several-here c others icb h = by (ran d (directoryBytes v work icb) .outcome) refl (sym (entering-is d Unambiguous v work icb (c .bytes)) ∙ h)
       where
-        listed : (b : List ℕ) → ran d (directoryBytes v work icb) .outcome ≡ answered b → (p : Outcome (List Entry)) → entries b ≡ p
+        listed : (b : List ℕ) → ran d (directoryBytes v work icb) .outcome ≡ answered b → (p : Outcome (List Entry)) → entries (isChecked v) b ≡ p
             → andThen p (λ es. chosen Unambiguous (allNamed lower (c .bytes) es)) ≡ refused Ambiguous → Doubles d v work (c ∷ others) icb
         listed b r (answered es) e k =
             record {
@@ -318,10 +320,10 @@ module _ (d : Disc) (v : Mount) (work : ℕ) where
               parsed = e;
               several = refused-several Unambiguous (allNamed lower (c .bytes) es) k;
             }
-        listed b r (refused why) e k = absurd (let m = entries-refused b e in let z : _≡_ {A = ℕ} 0 1 = cc in omega arith)
+        listed b r (refused why) e k = absurd (let z : why ≡ Ambiguous = cc in entries-refused (isChecked v) b (λ w. number w ≡ 9 → ⊥) (λ n. omega arith) (λ c n. omega arith) e (ap number z))
 
-        by : (o : Outcome (List ℕ)) → ran d (directoryBytes v work icb) .outcome ≡ o → andThen o (findIn Unambiguous (c .bytes)) ≡ refused Ambiguous → Doubles d v work (c ∷ others) icb
-        by (answered b) r k = listed b r (entries b) refl k
+        by : (o : Outcome (List ℕ)) → ran d (directoryBytes v work icb) .outcome ≡ o → andThen o (findIn (isChecked v) Unambiguous (c .bytes)) ≡ refused Ambiguous → Doubles d v work (c ∷ others) icb
+        by (answered b) r k = listed b r (entries (isChecked v) b) refl k
         by (refused why) r k = absurd (never-so icb (let z : why ≡ Ambiguous = cc in rw z at r))
 
     pub refused-doubles : (cs : List Component) (from : LongAd) → walk d Unambiguous v work cs from true .outcome ≡ refused Ambiguous → Doubles d v work cs from

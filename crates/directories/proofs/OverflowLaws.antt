@@ -9,6 +9,8 @@ use lib.ListN.{length}
 use lib.Dec.{leb}
 use borrow.Author.Tests.{leb-false}
 use Rattle.disc.specs.declared.places.Mount.{Mount}
+use Rattle.disc.specs.Places.{isChecked}
+use Rattle.disc.specs.Refusals.{number}
 use Rattle.listings.specs.declared.matchings.Matching.{Matching}
 use Rattle.disc.specs.Choice.{pick}
 use Rattle.disc.specs.Ask.{Disc, Outcome, andThen}
@@ -51,7 +53,7 @@ module _ (d : Disc) (matching : Matching) (v : Mount) (work : ℕ) where
       rw (o .parts) (leads-on d matching v work (o .before) (o .next ∷ o .others) from (o .directory) (o .led))
       ∙ ap (after (walk d matching v work (o .before) from true .count))
       (walk-is d matching v work (o .next) (o .others) (o .directory)
-      ∙ rw (ran-known d (directoryBytes v work (o .directory)) (findIn matching (o .next .bytes)), no-work d v work (o .directory) (o .read) (o .exceeds)))
+      ∙ rw (ran-known d (directoryBytes v work (o .directory)) (findIn (isChecked v) matching (o .next .bytes)), no-work d v work (o .directory) (o .read) (o .exceeds)))
 
   -- and nothing else does, where no read is refused so by itself
   module _ (other : (icb : LongAd) → ran d (fileBytes v icb) .outcome ≡ refused NoWork → ⊥) where
@@ -59,18 +61,18 @@ module _ (d : Disc) (matching : Matching) (v : Mount) (work : ℕ) where
     unfolding directoryBytes within findIn Leads
     full-here c others icb h =
         by (ran d (fileBytes v icb) .outcome) refl
-        (sym (ap (λ (r : Ran (List ℕ)). andThen (r .outcome) (findIn matching (c .bytes))) (ran-known d (fileBytes v icb) (within work))) ∙ sym (entering-is d matching v work icb (c .bytes)) ∙ h)
+        (sym (ap (λ (r : Ran (List ℕ)). andThen (r .outcome) (findIn (isChecked v) matching (c .bytes))) (ran-known d (fileBytes v icb) (within work))) ∙ sym (entering-is d matching v work icb (c .bytes)) ∙ h)
       where
-        listed : {A : Type 0} (b : List ℕ) (p : Outcome (List Entry)) → entries b ≡ p → andThen p (λ es. chosen matching (allNamed (foldIn matching) (c .bytes) es)) ≡ refused NoWork → A
+        listed : {A : Type 0} (b : List ℕ) (p : Outcome (List Entry)) → entries (isChecked v) b ≡ p → andThen p (λ es. chosen matching (allNamed (foldIn matching) (c .bytes) es)) ≡ refused NoWork → A
         listed b (answered es) e k = absurd (let m = chosen-refused matching (allNamed (foldIn matching) (c .bytes) es) k .1 in let z : _≡_ {A = ℕ} 0 1 = cc in omega arith)
-        listed b (refused why) e k = absurd (let m = entries-refused b e in let z : _≡_ {A = ℕ} 0 1 = cc in omega arith)
+        listed b (refused why) e k = absurd (let z : why ≡ NoWork = cc in entries-refused (isChecked v) b (λ w. number w ≡ 6 → ⊥) (λ n. omega arith) (λ c n. omega arith) e (ap number z))
 
         fits : (b : List ℕ) (t : Bool) → leb (length b) work ≡ t → ran d (fileBytes v icb) .outcome ≡ answered b
-            → andThen (pick t (answered b) (refused NoWork)) (findIn matching (c .bytes)) ≡ refused NoWork → Overflows d matching v work (c ∷ others) icb
-        fits b true t r k = listed b (entries b) refl k
+            → andThen (pick t (answered b) (refused NoWork)) (findIn (isChecked v) matching (c .bytes)) ≡ refused NoWork → Overflows d matching v work (c ∷ others) icb
+        fits b true t r k = listed b (entries (isChecked v) b) refl k
         fits b false t r k = record { before = []; next = c; others = others; parts = refl; directory = icb; led = refl; bytes = b; read = r; exceeds = leb-false (length b) work t }
 
-        by : (o : Outcome (List ℕ)) → ran d (fileBytes v icb) .outcome ≡ o → andThen (andThen o (within work)) (findIn matching (c .bytes)) ≡ refused NoWork → Overflows d matching v work (c ∷ others) icb
+        by : (o : Outcome (List ℕ)) → ran d (fileBytes v icb) .outcome ≡ o → andThen (andThen o (within work)) (findIn (isChecked v) matching (c .bytes)) ≡ refused NoWork → Overflows d matching v work (c ∷ others) icb
         by (answered b) r k = fits b (leb (length b) work) refl r k
         by (refused why) r k = absurd (other icb (let z : why ≡ NoWork = cc in rw z at r))
 

@@ -7,6 +7,7 @@ use Prim.Native.Nat.{ℕ, _+_}
 use native.Mathlib.Nat.{zero-add, add-assoc, add-zero}
 use native.Mathlib.Omega.{arith}
 use Rattle.disc.specs.declared.places.Mount.{Mount}
+use Rattle.disc.specs.Places.{isChecked}
 use Rattle.listings.specs.declared.matchings.Matching.{Matching}
 use Rattle.disc.specs.Ask.{Disc, Outcome, andThen}
 use Rattle.disc.specs.Ask.Outcome.{answered, refused}
@@ -32,7 +33,7 @@ pub record Takes (d : Disc) (matching : Matching) (v : Mount) (work : ℕ) (icb 
   pub bytes : List ℕ
   pub read : ran d (directoryBytes v work icb) .outcome ≡ answered bytes
   pub all : List Entry
-  pub parsed : entries bytes ≡ answered all
+  pub parsed : entries (isChecked v) bytes ≡ answered all
   pub takes : chosen matching (allNamed (foldIn matching) name all) ≡ answered (some e)
 
 -- what it takes is a directory, with whose ICB the next goes on
@@ -72,7 +73,7 @@ lastIn c (refused why) = refused why
 module _ (d : Disc) (matching : Matching) (v : Mount) (work : ℕ) (icb : LongAd) (name : List ℕ) where
   -- the first entry of a name wins under the choices that take it
   pub first-takes : takesFirst matching ≡ true → {b : List ℕ} → ran d (directoryBytes v work icb) .outcome ≡ answered b
-      → (before : List Entry) (e : Entry) (rest : List Entry) → entries b ≡ answered (before ++ e ∷ rest) → NoneAnswers (foldIn matching) name before → answersTo (foldIn matching) name e ≡ true
+      → (before : List Entry) (e : Entry) (rest : List Entry) → entries (isChecked v) b ≡ answered (before ++ e ∷ rest) → NoneAnswers (foldIn matching) name before → answersTo (foldIn matching) name e ≡ true
       → Takes d matching v work icb name e
   first-takes f {b} r before e rest k n h =
       record {
@@ -85,7 +86,7 @@ module _ (d : Disc) (matching : Matching) (v : Mount) (work : ℕ) (icb : LongAd
 
   -- and the only one under each
   pub only-takes : {b : List ℕ} → ran d (directoryBytes v work icb) .outcome ≡ answered b
-      → (before : List Entry) (e : Entry) (rest : List Entry) → entries b ≡ answered (before ++ e ∷ rest)
+      → (before : List Entry) (e : Entry) (rest : List Entry) → entries (isChecked v) b ≡ answered (before ++ e ∷ rest)
       → NoneAnswers (foldIn matching) name before → answersTo (foldIn matching) name e ≡ true → NoneAnswers (foldIn matching) name rest
       → Takes d matching v work icb name e
   only-takes {b} r before e rest k n h m =
@@ -95,25 +96,25 @@ module _ (d : Disc) (matching : Matching) (v : Mount) (work : ℕ) (icb : LongAd
   pub takes-first : {e : Entry} (t : Takes d matching v work icb name e) → firstNamed (foldIn matching) name (t .all) ≡ some e
   takes-first t = chosen-is-first matching (foldIn matching) name (t .all) (t .takes)
 
-  pub entering-is : ran d (entering matching v work icb name) .outcome ≡ andThen (ran d (directoryBytes v work icb) .outcome) (findIn matching name)
+  pub entering-is : ran d (entering matching v work icb name) .outcome ≡ andThen (ran d (directoryBytes v work icb) .outcome) (findIn (isChecked v) matching name)
   unfolding entering
-  entering-is = ap (λ (r : Ran (Option Entry)). r .outcome) (ran-known d (directoryBytes v work icb) (findIn matching name))
+  entering-is = ap (λ (r : Ran (Option Entry)). r .outcome) (ran-known d (directoryBytes v work icb) (findIn (isChecked v) matching name))
 
   pub takes-enters : {e : Entry} → Takes d matching v work icb name e → ran d (entering matching v work icb name) ≡ record { outcome = answered (some e); count = ran d (directoryBytes v work icb) .count }
   unfolding entering findIn
-  takes-enters t = ran-known d (directoryBytes v work icb) (findIn matching name) ∙ rw (t .read, t .parsed, t .takes)
+  takes-enters t = ran-known d (directoryBytes v work icb) (findIn (isChecked v) matching name) ∙ rw (t .read, t .parsed, t .takes)
 
   pub enters-takes : {e : Entry} → ran d (entering matching v work icb name) .outcome ≡ answered (some e) → Takes d matching v work icb name e
   unfolding findIn
   enters-takes {e} h = by-bytes (ran d (directoryBytes v work icb) .outcome) refl (sym entering-is ∙ h)
     where
-      by-entries : (b : List ℕ) → ran d (directoryBytes v work icb) .outcome ≡ answered b → (o : Outcome (List Entry)) → entries b ≡ o
+      by-entries : (b : List ℕ) → ran d (directoryBytes v work icb) .outcome ≡ answered b → (o : Outcome (List Entry)) → entries (isChecked v) b ≡ o
           → andThen o (λ es. chosen matching (allNamed (foldIn matching) name es)) ≡ answered (some e) → Takes d matching v work icb name e
       by-entries b r (answered es) p k = record { bytes = b; read = r; all = es; parsed = p; takes = k }
       by-entries b r (refused why) p k = never k
 
-      by-bytes : (o : Outcome (List ℕ)) → ran d (directoryBytes v work icb) .outcome ≡ o → andThen o (findIn matching name) ≡ answered (some e) → Takes d matching v work icb name e
-      by-bytes (answered b) r k = by-entries b r (entries b) refl k
+      by-bytes : (o : Outcome (List ℕ)) → ran d (directoryBytes v work icb) .outcome ≡ o → andThen o (findIn (isChecked v) matching name) ≡ answered (some e) → Takes d matching v work icb name e
+      by-bytes (answered b) r k = by-entries b r (entries (isChecked v) b) refl k
       by-bytes (refused why) r k = never k
 
 -- ---- one component and those behind it
@@ -138,7 +139,7 @@ module _ (d : Disc) (matching : Matching) (v : Mount) (work : ℕ) where
 
   -- the first entry of its name wins, whatever stands behind it, under the choices that take it
   pub seek-first : takesFirst matching ≡ true → (icb : LongAd) (c : Component) {b : List ℕ} → ran d (directoryBytes v work icb) .outcome ≡ answered b
-      → (before : List Entry) (e : Entry) (rest : List Entry) → entries b ≡ answered (before ++ e ∷ rest) → NoneAnswers (foldIn matching) (c .bytes) before → answersTo (foldIn matching) (c .bytes) e ≡ true
+      → (before : List Entry) (e : Entry) (rest : List Entry) → entries (isChecked v) b ≡ answered (before ++ e ∷ rest) → NoneAnswers (foldIn matching) (c .bytes) before → answersTo (foldIn matching) (c .bytes) e ≡ true
       → (cs : List Component) → walk (c ∷ cs) icb true ≡ after (ran d (directoryBytes v work icb) .count) (walk cs (e .identifier .icb) (isDirectory (e .identifier)))
   seek-first f icb c r before e rest k n h cs = seek-takes c cs icb (first-takes d matching v work icb (c .bytes) f r before e rest k n h)
 
@@ -192,13 +193,13 @@ module _ (d : Disc) (matching : Matching) (v : Mount) (work : ℕ) where
 
   -- the walk comes to what the choice takes of the entries of its name in the directory that the others lead to, or it is lost there, or refused
   pub last-sought : (cs : List Component) (c : Component) (from to : LongAd) → Leads d matching v work cs from to
-      → {b : List ℕ} → ran d (directoryBytes v work to) .outcome ≡ answered b → {es : List Entry} → entries b ≡ answered es
+      → {b : List ℕ} → ran d (directoryBytes v work to) .outcome ≡ answered b → {es : List Entry} → entries (isChecked v) b ≡ answered es
       → walk (cs ++ c ∷ []) from true ≡ record { outcome = lastIn c (chosen matching (allNamed (foldIn matching) (c .bytes) es)); count = walk cs from true .count + ran d (directoryBytes v work to) .count }
   unfolding entering findIn seeking
   last-sought cs c from to l {b} r {es} p =
       leads-on cs (c ∷ []) from to l
       ∙ ap (after (walk cs from true .count))
-      (walk-is c [] to ∙ rw (ran-known d (directoryBytes v work to) (findIn matching (c .bytes)), r, p) (by (chosen matching (allNamed (foldIn matching) (c .bytes) es)) (ran d (directoryBytes v work to) .count)))
+      (walk-is c [] to ∙ rw (ran-known d (directoryBytes v work to) (findIn (isChecked v) matching (c .bytes)), r, p) (by (chosen matching (allNamed (foldIn matching) (c .bytes) es)) (ran d (directoryBytes v work to) .count)))
     where
       by : (o : Outcome (Option Entry)) (n : ℕ) → onward o n (on c []) ≡ record { outcome = lastIn c o; count = n }
       by (answered none) n = rw (ran-done, add-zero)

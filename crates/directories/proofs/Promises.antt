@@ -9,6 +9,7 @@ use lib.ListN.{length}
 use lib.Dec.{leb}
 use borrow.Author.Tests.{lt-leb}
 use Rattle.disc.specs.declared.places.Mount.{Mount}
+use Rattle.disc.specs.Places.{isChecked}
 use Rattle.listings.specs.declared.matchings.Matching.{Matching}
 use Rattle.disc.specs.Choice.{pick}
 use Rattle.disc.specs.Ask.{Disc, Ask, Outcome, outcome, asked, then, ended, andThen}
@@ -64,12 +65,12 @@ module _ (d : Disc) (v : Mount) (work : ℕ) where
 module _ (d : Disc) (matching : Matching) (v : Mount) (work : ℕ) where
   -- the first entry of a name wins, whatever stands behind it, under the choices that take it
   pub enters-first : takesFirst matching ≡ true → (icb : LongAd) (component : List ℕ) {b : List ℕ} → ran d (directoryBytes v work icb) .outcome ≡ answered b
-      → (before : List Entry) (e : Entry) (rest : List Entry) → entries b ≡ answered (before ++ e ∷ rest)
+      → (before : List Entry) (e : Entry) (rest : List Entry) → entries (isChecked v) b ≡ answered (before ++ e ∷ rest)
       → NoneAnswers (foldIn matching) component before → answersTo (foldIn matching) component e ≡ true
       → ran d (entering matching v work icb component) ≡ record { outcome = answered (some e); count = ran d (directoryBytes v work icb) .count }
   unfolding entering findIn
   enters-first f icb component {b} r before e rest k n h =
-      ran-known d (directoryBytes v work icb) (findIn matching component)
+      ran-known d (directoryBytes v work icb) (findIn (isChecked v) matching component)
       ∙ rw (r, k, chosen-first matching f (foldIn matching) component (before ++ e ∷ rest), first-wins (foldIn matching) component before e rest n h)
 
   -- a component under what is no directory is lost before any further sector

@@ -10,6 +10,7 @@ use lib.ListN.{length, take, drop, length-drop, drop-of-length-le}
 use lib.Seq.{drop-drop}
 use borrow.Author.Tests.{ne-eqb, eq-eqb}
 use Rattle.disc.specs.declared.places.Mount.{Mount}
+use Rattle.disc.specs.Places.{isChecked}
 use Rattle.listings.specs.declared.matchings.Matching.{Matching}
 use Rattle.disc.specs.Refusals.{number}
 use Rattle.disc.specs.Counts.{reported}
@@ -50,17 +51,17 @@ module _ (d : Disc) (matching : Matching) (v : Mount) (icb : LongAd) (component 
   abbrev R : Ran (List ℕ)
   R = ran d (directoryBytes v (length w) icb)
 
-  entering-is : ran d (entering matching v (length w) icb component) ≡ record { outcome = andThen (R .outcome) (findIn matching component); count = R .count }
+  entering-is : ran d (entering matching v (length w) icb component) ≡ record { outcome = andThen (R .outcome) (findIn (isChecked v) matching component); count = R .count }
   unfolding entering
-  entering-is = ran-known d (directoryBytes v (length w) icb) (findIn matching component)
+  entering-is = ran-known d (directoryBytes v (length w) icb) (findIn (isChecked v) matching component)
 
   pub enter-refused : (read .answer ≡ 0 → ⊥) → (e : Named) → e ≡ unnamed (read .answer)
       → record { entry = e; count = read .count } ≡ enteredOf (ran d (entering matching v (length w) icb component))
-  enter-refused h e q = rw (q, entering-is, reads-count p, refused-entered (R .outcome) (reported (R .count)) (p .says) h (findIn matching component))
+  enter-refused h e q = rw (q, entering-is, reads-count p, refused-entered (R .outcome) (reported (R .count)) (p .says) h (findIn (isChecked v) matching component))
 
-  pub enter-found : read .answer ≡ 0 → (e : Named) → e ≡ namedOf (findIn matching component (take (read .length - 0) (drop 0 w′)))
+  pub enter-found : read .answer ≡ 0 → {check : Bool} → check ≡ isChecked v → (e : Named) → e ≡ namedOf (findIn check matching component (take (read .length - 0) (drop 0 w′)))
       → record { entry = e; count = read .count } ≡ enteredOf (ran d (entering matching v (length w) icb component))
-  enter-found h e q = rw (q, entering-is, reads-bytes p h, reads-count p)
+  enter-found h k e q = rw (q, k, entering-is, reads-bytes p h, reads-count p)
 
 -- ---- the walk
 

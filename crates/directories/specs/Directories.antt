@@ -5,6 +5,7 @@ use lib.ListN.{length}
 use lib.Dec.{leb}
 use Rattle.disc.specs.declared.places.Mount.{Mount}
 use Rattle.disc.specs.Choice.{pick}
+use Rattle.disc.specs.Places.{isChecked}
 use Rattle.disc.specs.Ask.{Ask, Outcome, then, ended}
 use Rattle.disc.specs.Ask.Outcome.{answered, refused}
 use Rattle.disc.specs.declared.refusals.Refusal.the-variants.{NoWork}
@@ -20,6 +21,6 @@ within work b = pick (leb (length b) work) (answered b) (refused NoWork)
 unfoldable pub directoryBytes : Mount → ℕ → LongAd → Ask (List ℕ)
 directoryBytes v work icb = then (fileBytes v icb) (λ b. ended (within work b))
 
--- its listing
+-- its listing; where bodies are checked, those of all its entries are
 unfoldable pub listingAt : Mount → ℕ → LongAd → Ask (List ℕ)
-listingAt v work icb = then (directoryBytes v work icb) (λ b. ended (listing b))
+listingAt v work icb = then (directoryBytes v work icb) (λ b. ended (listing (isChecked v) b))

@@ -6,6 +6,7 @@ use mathlib.Core.Option.{Option, none, some}
 use lib.ListN.{length}
 use Rattle.disc.specs.Replies.{answerOf}
 use Rattle.disc.specs.declared.places.Mount.{Mount}
+use Rattle.disc.specs.Places.{isChecked}
 use Rattle.disc.specs.Refusals.{number}
 use Rattle.disc.specs.Counts.{reported}
 use Rattle.disc.specs.Ask.{Ask, Outcome, then, ended, andThen}
@@ -30,7 +31,7 @@ use Rattle.directories.specs.declared.lookups.Found.{Found}
 -- the entry of a name in the directory at icb, if it has one, by a choice of matching: a component that is ambiguous under it is refused once the
 -- directory has been read
 unfoldable pub entering : Matching → Mount → ℕ → LongAd → List ℕ → Ask (Option Entry)
-entering matching v work icb component = then (directoryBytes v work icb) (λ b. ended (findIn matching component b))
+entering matching v work icb component = then (directoryBytes v work icb) (λ b. ended (findIn (isChecked v) matching component b))
 
 -- where a path leads: to an ICB, or to a component that isn't there
 pub data Sought : Type 0 where

@@ -23,7 +23,8 @@ fn list_read(image: &[u8], mount: Mount, icb: LongAd, out: &mut [u8], work: &mut
         return read;
     }
     let n = read.length as usize;
-    let listed = list(&work[0..n], out);
+    let check = mount.is_checked();
+    let listed = list(check, &work[0..n], out);
     Reply {
         answer: listed.answer,
         count: read.count,

@@ -57,7 +57,8 @@ fn enter(
         };
     }
     let n = read.length as usize;
-    let entry = find(matching, &work[0..n], component);
+    let check = mount.is_checked();
+    let entry = find(check, matching, &work[0..n], component);
     Entered {
         entry,
         count: read.count,

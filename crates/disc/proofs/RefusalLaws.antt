@@ -3,7 +3,7 @@ use mathlib.Core.Path.{_≡_}
 use native.Mathlib.Omega.{arith}
 use Rattle.disc.specs.Refusals.{number}
 use Rattle.disc.specs.declared.refusals.Refusal.{Refusal}
-use Rattle.disc.specs.declared.refusals.Refusal.the-variants.{Io, Malformed, NotBluray, Unsupported, NoRoom, NoWork, NoSlot, Ambiguous}
+use Rattle.disc.specs.declared.refusals.Refusal.the-variants.{Io, Malformed, NotBluray, Unsupported, NoRoom, NoWork, NoSlot, Ambiguous, BadCrc}
 
 -- no refusal has number 0, which is "done"
 pub refusal-numbered : (why : Refusal) → number why ≡ 0 → ⊥
@@ -15,3 +15,4 @@ refusal-numbered NoRoom e = omega arith
 refusal-numbered NoWork e = omega arith
 refusal-numbered NoSlot e = omega arith
 refusal-numbered Ambiguous e = omega arith
+refusal-numbered BadCrc e = omega arith

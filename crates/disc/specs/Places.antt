@@ -1,6 +1,7 @@
 -- Two counters, and the sole crossing between them: a block is counted from the partition's start, a sector from the disc's. RULES 9.1 to 9.6.
 use Prim.Native.Nat.{ℕ, _+_, _<_, _^_}
 use mathlib.Core.Path.{_≡_}
+use mathlib.Core.Bool.{Bool, not}
 use mathlib.Core.Option.{Option, none, some}
 use lib.Dec.{eqb}
 use Rattle.disc.specs.Choice.{pick}
@@ -27,6 +28,14 @@ placed m (Named p) block = pick (eqb p (m .partition)) (some (sectorOf m block))
 -- the sector of the block that an ICB names: its reference isn't looked at
 unfoldable pub icbPlaced : Mount → ℕ → ℕ
 icbPlaced m block = sectorOf m block
+
+-- whether the bodies of descriptors are checked
+abbrev pub isChecked : Mount → Bool
+isChecked m = not (eqb (m .checked) 0)
+
+-- the same volume, read without that check
+abbrev pub unchecked : Mount → Mount
+unchecked m = record { start = m .start; partition = m .partition; checked = 0 }
 
 -- go on in a sector; what stands nowhere on this volume is refused by 4
 abbrev pub standing : {A : Type 0} → Option ℕ → (ℕ → Ask A) → Ask A

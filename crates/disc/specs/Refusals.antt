@@ -1,7 +1,7 @@
 -- The answer number of each refusal: the table of RULES 1.1.
 use Prim.Native.Nat.{ℕ}
 use Rattle.disc.specs.declared.refusals.Refusal.{Refusal}
-use Rattle.disc.specs.declared.refusals.Refusal.the-variants.{Io, Malformed, NotBluray, Unsupported, NoRoom, NoWork, NoSlot, Ambiguous}
+use Rattle.disc.specs.declared.refusals.Refusal.the-variants.{Io, Malformed, NotBluray, Unsupported, NoRoom, NoWork, NoSlot, Ambiguous, BadCrc}
 
 -- 0 is kept for "done", and 8 is struck
 abbrev pub number : Refusal → ℕ
@@ -13,3 +13,4 @@ number NoRoom = 5
 number NoWork = 6
 number NoSlot = 7
 number Ambiguous = 9
+number BadCrc = 10

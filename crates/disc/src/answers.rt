@@ -26,3 +26,6 @@ pub const NO_SLOT: u64 = 7;
 
 // A component of the path matches two or more entries of its directory, and the choice of matching wants the only one.
 pub const AMBIGUOUS: u64 = 9;
+
+// A descriptor that is checked has a wrong CRC, or a CRC length that passes the bytes at hand.
+pub const BAD_CRC: u64 = 10;

@@ -1,7 +1,7 @@
 // Two counters that stay apart: a block is counted from the partition's start, a sector from the disc's. One value says how a volume is read,
 // and it alone turns the one into the other.
 ghost use mathlib.Core.Path.{_≡_};
-ghost use Rattle.disc.specs.Places.{sectorOf, placed, placedBy, icbPlaced, Stands};
+ghost use Rattle.disc.specs.Places.{sectorOf, placed, placedBy, icbPlaced, isChecked, Stands};
 
 pub struct Block(pub u32);
 
@@ -14,13 +14,15 @@ pub enum PartitionRef {
     Named(u16),
 }
 
-// How a volume is read: where its partition starts, and the partition's number.
+// How a volume is read: where its partition starts, the partition's number, and whether the bodies of its descriptors are checked.
 #[repr(C)]
 pub struct Mount {
     // The sector in which the partition starts.
     pub start: u32,
     // The partition's number.
     pub partition: u16,
+    // Any number but 0: the body of each descriptor that is parsed must have the CRC that its tag says.
+    pub checked: u32,
 }
 
 // Where a block stands: in a sector, or nowhere on this volume.
@@ -57,5 +59,12 @@ impl Mount {
         ensures { λ r. ⌜ r .0 ≡ icbPlaced self (block .0) ⌝ }
     {
         self.sector_of(block)
+    }
+
+    // Whether the bodies of descriptors are checked.
+    pub fn is_checked(self) -> bool
+        ensures { λ r. ⌜ r ≡ isChecked self ⌝ }
+    {
+        self.checked != 0
     }
 }

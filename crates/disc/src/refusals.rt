@@ -2,6 +2,7 @@
 ghost use mathlib.Core.Path.{_≡_};
 ghost use Rattle.disc.specs.Refusals.{number};
 use crate::answers::AMBIGUOUS;
+use crate::answers::BAD_CRC;
 use crate::answers::IO;
 use crate::answers::MALFORMED;
 use crate::answers::NO_ROOM;
@@ -24,6 +25,8 @@ pub enum Refusal {
     NoSlot,
     // A component of the path matches two or more entries of its directory.
     Ambiguous,
+    // A descriptor that is checked has a wrong body.
+    BadCrc,
 }
 
 impl Refusal {
@@ -40,6 +43,7 @@ impl Refusal {
             Refusal::NoWork => NO_WORK,
             Refusal::NoSlot => NO_SLOT,
             Refusal::Ambiguous => AMBIGUOUS,
+            Refusal::BadCrc => BAD_CRC,
         }
     }
 }

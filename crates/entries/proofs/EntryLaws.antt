@@ -9,7 +9,7 @@ use lib.Dec.{eqb, ltb}
 use borrow.Author.Tests.{eq-eqb, ne-eqb, lt-ltb, le-ltb, ltb-false}
 use Rattle.disc.specs.Choice.{pick}
 use Rattle.disc.specs.declared.refusals.Refusal.{Refusal}
-use Rattle.disc.specs.declared.refusals.Refusal.the-variants.{Malformed}
+use Rattle.disc.specs.declared.refusals.Refusal.the-variants.{Malformed, BadCrc}
 use Rattle.records.specs.Bytes.{u16at, u32at, u64at}
 use Rattle.tags.specs.Tags.{readHead}
 use Rattle.tags.specs.declared.DescriptorTag.{DescriptorTag}
@@ -88,12 +88,12 @@ module _ (s : List ℕ) (t : DescriptorTag) where
 
 -- ---- the returns of `parse`: `x` is what the gate gave
 
-module _ (s : List ℕ) {id : ℕ} (i : id ≡ entryId s) {x : TagRead} (e : x ≡ readHead s id 176) where
-  pub entry-no : {why : Refusal} → x ≡ NoTag why → Refused why ≡ readEntry s
+module _ (check : Bool) (s : List ℕ) {id : ℕ} (i : id ≡ entryId s) {x : TagRead} (e : x ≡ readHead check s id 176) where
+  pub entry-no : {why : Refusal} → x ≡ NoTag why → Refused why ≡ readEntry check s
   unfolding readEntry
   entry-no h = rw (← i, ← e, h)
 
-  pub entry-yes : {t : DescriptorTag} → x ≡ ATag t → {r : EntryRead} → r ≡ entryBehind s t → r ≡ readEntry s
+  pub entry-yes : {t : DescriptorTag} → x ≡ ATag t → {r : EntryRead} → r ≡ entryBehind s t → r ≡ readEntry check s
   unfolding readEntry
   entry-yes h k = rw (← i, ← e, h) k
 
@@ -104,46 +104,46 @@ abbrev pub tailOf : List ℕ → DescriptorTag → EntryTail
 tailOf s t = pick (eqb (t .id) 266) (extendedTail s) (plainTail s)
 
 -- e is the entry at the front of s: it passed the gate, its fields are those of the bytes, its kind is known, and its area lies within s
-pub record WholeEntry (s : List ℕ) (e : FileEntry) : Type 0 where
-  pub head : Passed s (entryId s) 176 (e .tag)
+pub record WholeEntry (check : Bool) (s : List ℕ) (e : FileEntry) : Type 0 where
+  pub head : Passed check s (entryId s) 176 (e .tag)
   pub fields : e ≡ entryOf s (e .tag) (icbTagOf s 16) (tailOf s (e .tag))
   pub known : e .kind ≤ 3
   pub inside : e .«area_at» + e .«area_length» ≤ length s
 
-module _ (s : List ℕ) {e : FileEntry} (t : DescriptorTag) (p : Passed s (entryId s) 176 t) where
-  with-says : (d : EntryTail) → d ≡ tailOf s t → entryWith s t (icbTagOf s 16) d ≡ Read e → WholeEntry s e
+module _ (check : Bool) (s : List ℕ) {e : FileEntry} (t : DescriptorTag) (p : Passed check s (entryId s) 176 t) where
+  with-says : (d : EntryTail) → d ≡ tailOf s t → entryWith s t (icbTagOf s 16) d ≡ Read e → WholeEntry check s e
   unfolding entryWith entryOf
   with-says d f q = told (ltb 3 (kindOf (icbTagOf s 16))) (ltb (length s) (d .prefix + d .attributes + d .descriptors)) refl refl q
     where
       told : (a b : Bool) → ltb 3 (kindOf (icbTagOf s 16)) ≡ a → ltb (length s) (d .prefix + d .attributes + d .descriptors) ≡ b
-          → pick a (Refused Malformed) (pick b (Refused Malformed) (Read (entryOf s t (icbTagOf s 16) d))) ≡ Read e → WholeEntry s e
+          → pick a (Refused Malformed) (pick b (Refused Malformed) (Read (entryOf s t (icbTagOf s 16) d))) ≡ Read e → WholeEntry check s e
       told true b x y q = absurd (let z : _≡_ {A = ℕ} 0 1 = cc in omega arith)
       told false true x y q = absurd (let z : _≡_ {A = ℕ} 0 1 = cc in omega arith)
       told false false x y q =
           let i : e ≡ entryOf s t (icbTagOf s 16) d = cc in
           record { head = rw i p; fields = rw i (ap (entryOf s t (icbTagOf s 16)) f); known = rw i (ltb-false _ _ x); inside = rw i (ltb-false _ _ y) }
 
-  behind-says : entryBehind s t ≡ Read e → WholeEntry s e
+  behind-says : entryBehind s t ≡ Read e → WholeEntry check s e
   unfolding entryBehind
   behind-says q = told (eqb (t .id) 266) (ltb (length s) 216) refl q
     where
       told : (a b : Bool) → eqb (t .id) 266 ≡ a
           → pick a (pick b (Refused Malformed) (entryWith s t (icbTagOf s 16) (extendedTail s))) (entryWith s t (icbTagOf s 16) (plainTail s)) ≡ Read e
-          → WholeEntry s e
+          → WholeEntry check s e
       told true true x q = absurd (let z : _≡_ {A = ℕ} 0 1 = cc in omega arith)
       told true false x q = with-says (extendedTail s) (rw x) q
       told false b x q = with-says (plainTail s) (rw x) q
 
 -- an entry that was read
-pub read-entry : (s : List ℕ) {e : FileEntry} {r : EntryRead} → r ≡ readEntry s → r ≡ Read e → WholeEntry s e
+pub read-entry : (check : Bool) (s : List ℕ) {e : FileEntry} {r : EntryRead} → r ≡ readEntry check s → r ≡ Read e → WholeEntry check s e
 unfolding readEntry
-read-entry s {e} p q = told (readHead s (entryId s) 176) refl (sym p ∙ q)
+read-entry check s {e} p q = told (readHead check s (entryId s) 176) refl (sym p ∙ q)
   where
-    told : (h : TagRead) → readHead s (entryId s) 176 ≡ h → entryAfter s h ≡ Read e → WholeEntry s e
+    told : (h : TagRead) → readHead check s (entryId s) 176 ≡ h → entryAfter s h ≡ Read e → WholeEntry check s e
     told (NoTag why) g q = absurd (let z : _≡_ {A = ℕ} 0 1 = cc in omega arith)
-    told (ATag t) g q = behind-says s t (head-read s (entryId s) 176 g) q
+    told (ATag t) g q = behind-says check s t (head-read check s (entryId s) 176 g) q
 
--- and an entry that was refused is malformed
+-- an entry that is refused behind the gate is malformed
 module _ (s : List ℕ) {why : Refusal} where
   with-refused : (t : DescriptorTag) (d : EntryTail) → entryWith s t (icbTagOf s 16) d ≡ Refused why → why ≡ Malformed
   unfolding entryWith
@@ -154,10 +154,9 @@ module _ (s : List ℕ) {why : Refusal} where
       told false true q = cc
       told false false q = absurd (let z : _≡_ {A = ℕ} 0 1 = cc in omega arith)
 
-  after-refused : (q : TagRead) → readHead s (entryId s) 176 ≡ q → entryAfter s q ≡ Refused why → why ≡ Malformed
+  pub behind-refused : (t : DescriptorTag) → entryBehind s t ≡ Refused why → why ≡ Malformed
   unfolding entryBehind
-  after-refused (NoTag w) g q = let p : w ≡ why = cc in head-refused s (entryId s) 176 (rw p at g)
-  after-refused (ATag t) g q = told (eqb (t .id) 266) (ltb (length s) 216) q
+  behind-refused t q = told (eqb (t .id) 266) (ltb (length s) 216) q
     where
       told : (a b : Bool)
           → pick a (pick b (Refused Malformed) (entryWith s t (icbTagOf s 16) (extendedTail s))) (entryWith s t (icbTagOf s 16) (plainTail s)) ≡ Refused why
@@ -166,6 +165,12 @@ module _ (s : List ℕ) {why : Refusal} where
       told true false q = with-refused t (extendedTail s) q
       told false b q = with-refused t (plainTail s) q
 
-  pub read-entry-refused : {r : EntryRead} → r ≡ readEntry s → r ≡ Refused why → why ≡ Malformed
-  unfolding readEntry
-  read-entry-refused p q = after-refused (readHead s (entryId s) 176) refl (sym p ∙ q)
+-- so every refusal is `Malformed`, or where bodies are checked `BadCrc`
+pub read-entry-refused : (check : Bool) (s : List ℕ) (P : Refusal → Type 0) → P Malformed → (check ≡ true → P BadCrc) → {r : EntryRead} {why : Refusal}
+    → r ≡ readEntry check s → r ≡ Refused why → P why
+unfolding readEntry
+read-entry-refused check s P bad crc {r} {why} p q = told (readHead check s (entryId s) 176) refl (sym p ∙ q)
+  where
+    told : (h : TagRead) → readHead check s (entryId s) 176 ≡ h → entryAfter s h ≡ Refused why → P why
+    told (NoTag w) g q = let p : w ≡ why = cc in head-refused check s (entryId s) 176 P bad crc (rw p at g)
+    told (ATag t) g q = rw (behind-refused s t q) bad

@@ -88,8 +88,8 @@ entryAfter s (NoTag r) = Refused r
 entryAfter s (ATag t) = entryBehind s t
 
 -- reading an entry at the front of s: 176 bytes at least
-unfoldable pub readEntry : List ℕ → EntryRead
-readEntry s = entryAfter s (readHead s (entryId s) 176)
+unfoldable pub readEntry : Bool → List ℕ → EntryRead
+readEntry check s = entryAfter s (readHead check s (entryId s) 176)
 
 -- file type 4 is a directory (4/14.6.6)
 abbrev pub isDirectory : FileEntry → Bool

@@ -163,10 +163,10 @@ fn entry_behind(s: &[u8], t: DescriptorTag) -> EntryRead
 }
 
 impl FileEntry {
-    pub fn parse(s: &[u8]) -> EntryRead
-        ensures { λ r. ⌜ r ≡ readEntry (now (s .entry)) ⌝ }
+    pub fn parse(check: bool, s: &[u8]) -> EntryRead
+        ensures { λ r. ⌜ r ≡ readEntry check (now (s .entry)) ⌝ }
     {
-        match read_head(s, entry_id(s), PLAIN_SIZE) {
+        match read_head(check, s, entry_id(s), PLAIN_SIZE) {
             TagRead::Refused(why) => EntryRead::Refused(why),
             TagRead::Read(t) => entry_behind(s, t),
         }

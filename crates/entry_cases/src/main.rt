@@ -218,7 +218,7 @@ fn entry(id: u16, file_type: u8, flags: u8, attributes: u8, descriptors: u8, n: 
     put(&lengths, &mut b, 168);
     put(&lengths, &mut b, 208);
     ask_entry(id, file_type, flags, attributes, descriptors, n);
-    answer_entry(FileEntry::parse(front(&b, n)));
+    answer_entry(FileEntry::parse(false, front(&b, n)));
 }
 
 // An entry whose tag has another checksum.
@@ -227,7 +227,7 @@ fn bad_checksum() {
     put_tag(261, &mut b);
     b[4] = 0;
     say(b"entry with another checksum:");
-    answer_entry(FileEntry::parse(&b));
+    answer_entry(FileEntry::parse(false, &b));
 }
 
 // An entry whose area length has its highest byte set.
@@ -236,7 +236,7 @@ fn huge_area() {
     put_tag(261, &mut b);
     b[175] = 0x80;
     say(b"entry with an area of 2 GiB:");
-    answer_entry(FileEntry::parse(&b));
+    answer_entry(FileEntry::parse(false, &b));
 }
 
 fn answer_identifier(r: IdentifierRead) {
@@ -270,7 +270,7 @@ fn identifier(id: u16, characteristics: u8, uses: u8, name: &[u8], name_length: 
     put(name, &mut b, 38 + uses as usize);
     ask_identifier(id, characteristics, uses, name_length, n);
     say_bytes(name);
-    answer_identifier(FileIdentifierDescriptor::parse(front(&b, n)));
+    answer_identifier(FileIdentifierDescriptor::parse(false, front(&b, n)));
 }
 
 // One with characteristics and no name.

@@ -136,6 +136,7 @@ fn query(image: &[u8], q: &[u8], out: &mut [u8]) {
     let mount = Mount {
         start: le32(q, 0),
         partition: le16(q, 4),
+        checked: 0,
     };
     say_read(image, mount, icb, &mut out[..room]);
     say_part(image, mount, icb);

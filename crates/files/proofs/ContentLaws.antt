@@ -7,7 +7,7 @@ use lib.ListN.{length, take, drop}
 use lib.Dec.{eqb, leb}
 use mir.Facts.{fits-lit}
 use Rattle.disc.specs.declared.places.Mount.{Mount}
-use Rattle.disc.specs.Places.{placed, icbPlaced, standing}
+use Rattle.disc.specs.Places.{placed, icbPlaced, isChecked, standing}
 use Rattle.disc.specs.Ask.{Ask, then}
 use Rattle.disc.specs.Ask.Outcome.{answered}
 use Rattle.disc.specs.Images.{disc, sectorsFor}
@@ -49,7 +49,7 @@ Embedded (chained x es) = Unit {0}
 
 entry-bytes : (m : Mount) (icb : LongAd) → Gives (λ (x : Located). Bytes (x .sector)) (entryAt m icb)
 unfolding Gives entryAt
-entry-bytes m icb = gives-pick _ (eqb (icb .length) 0) _ _ tt (λ s h. by s h (readEntry s))
+entry-bytes m icb = gives-pick _ (eqb (icb .length) 0) _ _ tt (λ s h. by s h (readEntry (isChecked m) s))
   where
     by : (s : List ℕ) → Bytes s → (x : EntryRead) → Gives (λ (x : Located). Bytes (x .sector)) (located (icbPlaced m (icb .location .block)) s x)
     by s h (Read e) = h

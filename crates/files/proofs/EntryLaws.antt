@@ -17,7 +17,7 @@ use Rattle.disc.specs.Ask.Ask.{done}
 use Rattle.disc.specs.Ask.Outcome.{answered, refused}
 use Rattle.disc.specs.Ran.{ran, after, followed}
 use Rattle.disc.specs.Images.{there, disc, heldFrom}
-use Rattle.disc.specs.Places.{icbPlaced}
+use Rattle.disc.specs.Places.{icbPlaced, isChecked}
 use Rattle.disc.specs.declared.places.Mount.{Mount}
 use Rattle.disc.specs.declared.refusals.Refusal.{Refusal}
 use Rattle.disc.specs.declared.refusals.Refusal.the-variants.{Io, Malformed}
@@ -55,7 +55,7 @@ part-of n (suc i) (suc m) (x ∷ s) h = part-of n i m s (omega arith)
 -- the entry is read from one sector
 pub entry-asks : (m : Mount) (icb : LongAd) → AtMost 1 (entryAt m icb)
 unfolding entryAt
-entry-asks m icb = pick-asks (eqb (icb .length) 0) 1 (refuse-asks Malformed 1) (ask-asks _ _ 0 (λ s. by s (readEntry s)))
+entry-asks m icb = pick-asks (eqb (icb .length) 0) 1 (refuse-asks Malformed 1) (ask-asks _ _ 0 (λ s. by s (readEntry (isChecked m) s)))
   where
     by : (s : List ℕ) (r : EntryRead) → AtMost 0 (located (icbPlaced m (icb .location .block)) s r)
     by s (NoEntry r) = refuse-asks r 0
@@ -63,18 +63,18 @@ entry-asks m icb = pick-asks (eqb (icb .length) 0) 1 (refuse-asks Malformed 1) (
 
 -- ---- the returns of `place_in`
 
-module _ (s : List ℕ) (from : ℕ) {r : EntryRead} (q : r ≡ readEntry s) where
-  pub place-none : {why : Refusal} → r ≡ NoEntry why → Refused why 1 ≡ placeIn s from
+module _ (check : Bool) (s : List ℕ) (from : ℕ) {r : EntryRead} (q : r ≡ readEntry check s) where
+  pub place-none : {why : Refusal} → r ≡ NoEntry why → Refused why 1 ≡ placeIn check s from
   unfolding placeIn
   place-none f = rw (← q, f)
 
   module _ {x : FileEntry} (f : r ≡ Read x) where
-    pub place-found : Found (record { kind = x .kind; information = x .«information_length»; at = from + x .«area_at»; size = x .«area_length» }) ≡ placeIn s from
+    pub place-found : Found (record { kind = x .kind; information = x .«information_length»; at = from + x .«area_at»; size = x .«area_length» }) ≡ placeIn check s from
     unfolding placeIn
     place-found = rw (← q, f)
 
     pub place-adds : (length s ≤ 2048) × (from + 2048 < 2 ^ 64) → Fits w64 (from + x .«area_at»)
-    place-adds h = omega (arith, read-entry s q f .inside, h .0, h .1)
+    place-adds h = omega (arith, read-entry check s q f .inside, h .0, h .1)
 
 -- ---- the returns of `locate`
 
@@ -110,18 +110,18 @@ module _ (image : List ℕ) (m : Mount) (icb : LongAd) where
       bytes : b ≡ take 2048 (drop from image)
       bytes = p ∙ ap bytesIn (held image sector inside)
 
-      goes-on : ran (disc image) (entryAt m icb) ≡ after 1 (ran (disc image) (located sector b (readEntry b)))
+      goes-on : ran (disc image) (entryAt m icb) ≡ after 1 (ran (disc image) (located sector b (readEntry (isChecked m) b)))
       unfolding entryAt
       goes-on = rw (ne-eqb (icb .length) 0 z, ← w) (ran-there (disc image) sector _ _ (held image sector inside) ∙ rw (← bytes))
 
-      none-read : {why : Refusal} → readEntry b ≡ NoEntry why → Locates image m icb (Refused why 1)
+      none-read : {why : Refusal} → readEntry (isChecked m) b ≡ NoEntry why → Locates image m icb (Refused why 1)
       none-read f = goes-on ∙ rw (f, ran-refuse)
 
-      module _ {x : FileEntry} (f : readEntry b ≡ Read x) where
+      module _ {x : FileEntry} (f : readEntry (isChecked m) b ≡ Read x) where
         in-sector : x .«area_at» + x .«area_length» ≤ 2048
         in-sector =
             let l : length (take 2048 (drop from image)) ≡ 2048 = length-take-le 2048 (drop from image) (rw length-drop (omega (arith, inside))) in
-            omega (arith, (rw (bytes, l) at (read-entry b refl f .inside)))
+            omega (arith, (rw (bytes, l) at (read-entry (isChecked m) b refl f .inside)))
 
         abbrev it : Located
         it = record { at = sector; sector = b; entry = x }
@@ -140,19 +140,19 @@ module _ (image : List ℕ) (m : Mount) (icb : LongAd) where
           small = omega (arith, in-sector);
         }
 
-      entry-runs : Locates image m icb (placeIn b from)
+      entry-runs : Locates image m icb (placeIn (isChecked m) b from)
       unfolding placeIn
-      entry-runs = by (readEntry b) refl
+      entry-runs = by (readEntry (isChecked m) b) refl
         where
-          by : (y : EntryRead) → readEntry b ≡ y → Locates image m icb (readBy from y)
+          by : (y : EntryRead) → readEntry (isChecked m) b ≡ y → Locates image m icb (readBy from y)
           by (NoEntry why) f = none-read f
           by (Read x) f = entry-read f
 
-      same-place : placeIn b from ≡ placeOf image m icb
+      same-place : placeIn (isChecked m) b from ≡ placeOf image m icb
       unfolding placeIn placeOf
-      same-place = by (readEntry b) refl
+      same-place = by (readEntry (isChecked m) b) refl
         where
-          by : (y : EntryRead) → readEntry b ≡ y → readBy from y ≡ placeBy (ran (disc image) (entryAt m icb) .outcome) (ran (disc image) (entryAt m icb) .count)
+          by : (y : EntryRead) → readEntry (isChecked m) b ≡ y → readBy from y ≡ placeBy (ran (disc image) (entryAt m icb) .outcome) (ran (disc image) (entryAt m icb) .count)
           by (NoEntry why) f = rw (none-read f)
           by (Read x) f = rw (found-entry f)
 
@@ -166,8 +166,9 @@ module _ (image : List ℕ) (m : Mount) (icb : LongAd) where
     unfolding placeOf
     locate-missing k = rw (missing-runs z w e k)
 
-    pub locate-entry : (h ≡ 0 → ⊥) → {b : List ℕ} → b ≡ bytesIn (disc image sector) → {r : PlaceRead} → r ≡ placeIn b (2048 * sector) → r ≡ placeOf image m icb
-    locate-entry k p q = q ∙ same-place z w e k p
+    pub locate-entry : (h ≡ 0 → ⊥) → {check : Bool} → check ≡ isChecked m → {b : List ℕ} → b ≡ bytesIn (disc image sector) → {r : PlaceRead} → r ≡ placeIn check b (2048 * sector)
+        → r ≡ placeOf image m icb
+    locate-entry k {check} c {b} p q = q ∙ ap (λ x. placeIn x b (2048 * sector)) c ∙ same-place z w e k p
 
   -- what every call comes to, from what `locate` says
   pub locates : {r : PlaceRead} → r ≡ placeOf image m icb → Locates image m icb r

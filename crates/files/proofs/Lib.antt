@@ -9,3 +9,4 @@ pub mod ReadLaws
 pub mod ResolveLaws
 pub mod Promises
 pub mod ContentLaws
+pub mod GuardLaws

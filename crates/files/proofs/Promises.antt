@@ -18,7 +18,7 @@ use Rattle.disc.specs.Ask.Outcome.{answered, refused}
 use Rattle.disc.specs.Ran.{Ran, ran, after, onward}
 use Rattle.disc.specs.Images.{disc, heldFrom}
 use Rattle.disc.specs.Replies.{Replied}
-use Rattle.disc.specs.Places.{sectorOf, placed, icbPlaced}
+use Rattle.disc.specs.Places.{sectorOf, placed, icbPlaced, isChecked}
 use Rattle.disc.specs.declared.places.Mount.{Mount}
 use Rattle.disc.specs.declared.refusals.Refusal.{Refusal}
 use Rattle.disc.specs.declared.refusals.Refusal.the-variants.{Malformed, Unsupported}
@@ -98,13 +98,13 @@ module _ (d : Disc) (m : Mount) (icb : LongAd) {x : Located} (h : ran d (entryAt
       parsed s (Read e) q = rw ran-done (ap (λ o. record { outcome = o; count = 1 }) (sym (ap (λ (y : Ran Located). y .outcome) (ran-done d (record { at = at; sector = s; entry = e }))) ∙ q))
 
       by : (t : Bool) (y : Held) → d at ≡ y
-          → ran d (pick t (refuse Malformed) (entryIn at)) .outcome ≡ answered x
-          → ran d (pick t (refuse Malformed) (entryIn at)) ≡ record { outcome = answered x; count = 1 }
+          → ran d (pick t (refuse Malformed) (entryIn (isChecked m) at)) .outcome ≡ answered x
+          → ran d (pick t (refuse Malformed) (entryIn (isChecked m) at)) ≡ record { outcome = answered x; count = 1 }
       by true y e q = never (sym (ap (λ (y : Ran Located). y .outcome) (ran-refuse d Malformed)) ∙ q)
       by false (holds b) e q =
-          let w = ran-there d at (λ s. located at s (readEntry s)) b e in
-          w ∙ parsed b (readEntry b) (sym (ap (λ (y : Ran Located). y .outcome) w) ∙ q)
-      by false lacks e q = never (sym (ap (λ (y : Ran Located). y .outcome) (ran-missing d at (λ s. located at s (readEntry s)) e)) ∙ q)
+          let w = ran-there d at (λ s. located at s (readEntry (isChecked m) s)) b e in
+          w ∙ parsed b (readEntry (isChecked m) b) (sym (ap (λ (y : Ran Located). y .outcome) w) ∙ q)
+      by false lacks e q = never (sym (ap (λ (y : Ran Located). y .outcome) (ran-missing d at (λ s. located at s (readEntry (isChecked m) s)) e)) ∙ q)
 
   file-runs : ran d (fileAt m icb) ≡ after 1 (ran d (resolved m x))
   unfolding fileAt

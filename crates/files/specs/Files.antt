@@ -8,7 +8,7 @@ use Rattle.disc.specs.Choice.{pick}
 use Rattle.disc.specs.Ask.{Ask, Outcome, then}
 use Rattle.disc.specs.Ask.Ask.{done, refuse, ask}
 use Rattle.disc.specs.Ask.Outcome.{answered, refused}
-use Rattle.disc.specs.Places.{icbPlaced}
+use Rattle.disc.specs.Places.{icbPlaced, isChecked}
 use Rattle.disc.specs.declared.places.Mount.{Mount}
 use Rattle.disc.specs.declared.refusals.Refusal.the-variants.{Malformed}
 use Rattle.records.specs.declared.allocations.LongAd.{LongAd}
@@ -33,12 +33,12 @@ abbrev pub located : ℕ → List ℕ → EntryRead → Ask Located
 located at s (Refused r) = refuse r
 located at s (Read e) = done (record { at = at; sector = s; entry = e })
 
-abbrev pub entryIn : ℕ → Ask Located
-entryIn at = ask at (λ s. located at s (readEntry s))
+abbrev pub entryIn : Bool → ℕ → Ask Located
+entryIn check at = ask at (λ s. located at s (readEntry check s))
 
 -- an ICB's length 0 is refused before any sector; its type and partition aren't looked at
 unfoldable pub entryAt : Mount → LongAd → Ask Located
-entryAt m icb = pick (eqb (icb .length) 0) (refuse Malformed) (entryIn (icbPlaced m (icb .location .block)))
+entryAt m icb = pick (eqb (icb .length) 0) (refuse Malformed) (entryIn (isChecked m) (icbPlaced m (icb .location .block)))
 
 -- kind 3: the file stands in the entry itself (ECMA-167 4/14.6.8)
 abbrev pub embeddedKind : ℕ

@@ -28,11 +28,11 @@ pub enum PlaceRead {
 }
 
 // The entry at the front of the sector `s`, which stands at `from` in the image.
-fn place_in(s: &[u8], from: usize) -> PlaceRead
+fn place_in(check: bool, s: &[u8], from: usize) -> PlaceRead
     requires { ⌜ (length (now s) ≤ 2048) × (from + 2048 < 2 ^ 64) ⌝ }
-    ensures { λ r. ⌜ r ≡ placeIn (now (s .entry)) from ⌝ }
+    ensures { λ r. ⌜ r ≡ placeIn check (now (s .entry)) from ⌝ }
 {
-    match FileEntry::parse(s) {
+    match FileEntry::parse(check, s) {
         EntryRead::Refused(why) => PlaceRead::Refused(why, 1),
         EntryRead::Read(e) => PlaceRead::Found(Place {
             kind: e.kind,
@@ -54,5 +54,9 @@ pub(crate) fn locate(image: &[u8], mount: Mount, icb: LongAd) -> PlaceRead
     if held_from(image, sector) == 0 {
         return PlaceRead::Refused(Refusal::Io, 1);
     }
-    place_in(sector_at(image, sector), (2048 * sector.0) as usize)
+    place_in(
+        mount.is_checked(),
+        sector_at(image, sector),
+        (2048 * sector.0) as usize,
+    )
 }

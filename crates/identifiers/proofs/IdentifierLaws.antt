@@ -11,7 +11,7 @@ use Rattle.disc.specs.Choice.{pick}
 use Rattle.disc.specs.Ask.{Outcome}
 use Rattle.disc.specs.Ask.Outcome.{answered, refused}
 use Rattle.disc.specs.declared.refusals.Refusal.{Refusal}
-use Rattle.disc.specs.declared.refusals.Refusal.the-variants.{Malformed}
+use Rattle.disc.specs.declared.refusals.Refusal.the-variants.{Malformed, BadCrc}
 use Rattle.records.specs.Bytes.{byte, u16at}
 use Rattle.tags.specs.Tags.{readHead}
 use Rattle.records.specs.Allocations.{longOf}
@@ -72,12 +72,12 @@ module _ (s : List ℕ) where
           k ∙ ap identifierRead i
 
   -- `x` is what the gate gave
-  module _ {x : TagRead} (e : x ≡ readHead s 257 38) {r : IdentifierRead} where
-    pub identifier-no : {why : Refusal} → x ≡ NoTag why → r ≡ identifierRead (refused why) → r ≡ identifierRead (readIdentifier s)
+  module _ (check : Bool) {x : TagRead} (e : x ≡ readHead check s 257 38) {r : IdentifierRead} where
+    pub identifier-no : {why : Refusal} → x ≡ NoTag why → r ≡ identifierRead (refused why) → r ≡ identifierRead (readIdentifier check s)
     unfolding readIdentifier
     identifier-no h k = rw (← e, h) k
 
-    pub identifier-yes : {t : DescriptorTag} → x ≡ ATag t → r ≡ identifierRead (identifierNamed s t) → r ≡ identifierRead (readIdentifier s)
+    pub identifier-yes : {t : DescriptorTag} → x ≡ ATag t → r ≡ identifierRead (identifierNamed s t) → r ≡ identifierRead (readIdentifier check s)
     unfolding readIdentifier
     identifier-yes h k = rw (← e, h) k
 
@@ -87,8 +87,8 @@ sized-is : (o : Outcome (List ℕ)) {n : ℕ} → sizeOf o ≡ Size n → n ≡ 
 sized-is (refused why) e = absurd (let z : _≡_ {A = ℕ} 0 1 = cc in omega arith)
 sized-is (answered name) e = cc
 
-module _ (s : List ℕ) (b : Bytes s) {f : FileIdentifierDescriptor} where
-  sized-says : (t : DescriptorTag) → Passed s 257 38 t → nameEnd s ≤ length s → (z : NameSize) → sizeOf (nameOf (recordedName s)) ≡ z
+module _ (check : Bool) (s : List ℕ) (b : Bytes s) {f : FileIdentifierDescriptor} where
+  sized-says : (t : DescriptorTag) → Passed check s 257 38 t → nameEnd s ≤ length s → (z : NameSize) → sizeOf (nameOf (recordedName s)) ≡ z
       → identifierSized s t (nameAt s) (byte s 19) z ≡ answered f → Whole s f
   unfolding identifierSized identifierOf nameEnd nameAt recordedName nextAt
   sized-says t p w (NoName why) z q = absurd (let z : _≡_ {A = ℕ} 0 1 = cc in omega arith)
@@ -120,7 +120,7 @@ module _ (s : List ℕ) (b : Bytes s) {f : FileIdentifierDescriptor} where
         near = omega arith;
       })
 
-  named-says : (t : DescriptorTag) → Passed s 257 38 t → identifierNamed s t ≡ answered f → Whole s f
+  named-says : (t : DescriptorTag) → Passed check s 257 38 t → identifierNamed s t ≡ answered f → Whole s f
   unfolding identifierNamed
   named-says t p q = told (ltb (length s) (nameEnd s)) refl q
     where
@@ -130,21 +130,21 @@ module _ (s : List ℕ) (b : Bytes s) {f : FileIdentifierDescriptor} where
       told false y q = sized-says t p (ltb-false _ _ y) (sizeOf (nameOf (recordedName s))) refl q
 
   -- an identifier that was read
-  pub identifier-read : readIdentifier s ≡ answered f → Whole s f
+  pub identifier-read : readIdentifier check s ≡ answered f → Whole s f
   unfolding readIdentifier
-  identifier-read e = let g = gated-answered s 257 38 (identifierNamed s) e in named-says (g .tag) (g .head) (g .is)
+  identifier-read e = let g = gated-answered check s 257 38 (identifierNamed s) e in named-says (g .tag) (g .head) (g .is)
 
 -- the same as the code reports it: an answer of 0 says it all
-pub read-identifier : (s : List ℕ) → Bytes s → {r : IdentifierRead} → r ≡ identifierRead (readIdentifier s) → r .answer ≡ 0 → Whole s (r .descriptor)
-read-identifier s b {r} e z = told (readIdentifier s) refl e
+pub read-identifier : (check : Bool) (s : List ℕ) → Bytes s → {r : IdentifierRead} → r ≡ identifierRead (readIdentifier check s) → r .answer ≡ 0 → Whole s (r .descriptor)
+read-identifier check s b {r} e z = told (readIdentifier check s) refl e
   where
-    told : (o : Outcome FileIdentifierDescriptor) → readIdentifier s ≡ o → r ≡ identifierRead o → Whole s (r .descriptor)
-    told (answered f) g e = rw e (identifier-read s b g)
+    told : (o : Outcome FileIdentifierDescriptor) → readIdentifier check s ≡ o → r ≡ identifierRead o → Whole s (r .descriptor)
+    told (answered f) g e = rw e (identifier-read check s b g)
     told (refused why) g e = absurd (refusal-numbered why (rw e at z))
 
--- and an identifier that was refused is malformed
+-- behind the gate every refusal is `Malformed`
 module _ (s : List ℕ) {why : Refusal} where
-  named-refused : (t : DescriptorTag) → identifierNamed s t ≡ refused why → why ≡ Malformed
+  pub named-refused : (t : DescriptorTag) → identifierNamed s t ≡ refused why → why ≡ Malformed
   unfolding identifierNamed identifierSized
   named-refused t q = told (ltb (length s) (nameEnd s)) (nameOf (recordedName s)) refl q
     where
@@ -154,6 +154,7 @@ module _ (s : List ℕ) {why : Refusal} where
       told false (answered name) g q = absurd (let z : _≡_ {A = ℕ} 0 1 = cc in omega arith)
       told false (refused w) g q = let p : w ≡ why = cc in name-refused (recordedName s) (rw p at g)
 
-  pub identifier-refused : readIdentifier s ≡ refused why → why ≡ Malformed
-  unfolding readIdentifier
-  identifier-refused e = gated-refused s 257 38 (identifierNamed s) named-refused e
+-- and so is every one of an identifier, or where bodies are checked `BadCrc`
+pub identifier-refused : (check : Bool) (s : List ℕ) (P : Refusal → Type 0) → P Malformed → (check ≡ true → P BadCrc) → {why : Refusal} → readIdentifier check s ≡ refused why → P why
+unfolding readIdentifier
+identifier-refused check s P bad crc e = gated-refused check s 257 38 (identifierNamed s) P bad crc (λ t q. rw (named-refused s t q) bad) e

@@ -1,2 +1,3 @@
 -- Laws of file identifiers.
 pub mod IdentifierLaws
+pub mod GuardLaws

@@ -66,9 +66,9 @@ identifierNamed s t =
     pick (ltb (length s) (nameEnd s)) (refused Malformed)
     (identifierSized s t (nameAt s) (byte s 19) (sizeOf (nameOf (recordedName s))))
 
--- reading an identifier at the front of s: id 257, 38 bytes at least
-unfoldable pub readIdentifier : List ℕ → Outcome FileIdentifierDescriptor
-readIdentifier s = gated (readHead s 257 38) (identifierNamed s)
+-- reading an identifier at the front of s: id 257, 38 bytes at least; the bytes at hand for its body are all of s, the directory's from the entry on
+unfoldable pub readIdentifier : Bool → List ℕ → Outcome FileIdentifierDescriptor
+readIdentifier check s = gated (readHead check s 257 38) (identifierNamed s)
 
 -- as the code reports it: the answer number, and zeros where it is a refusal
 abbrev pub noIdentifier : FileIdentifierDescriptor

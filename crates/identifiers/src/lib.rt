@@ -153,10 +153,11 @@ pub fn directory_bit(characteristics: u8) -> u8
 }
 
 impl FileIdentifierDescriptor {
-    pub fn parse(s: &[u8]) -> IdentifierRead
-        ensures { λ r. ⌜ r ≡ identifierRead (readIdentifier (now (s .entry))) ⌝ }
+    // Where bodies are checked, the bytes at hand are those of `s`: the directory's from the entry on.
+    pub fn parse(check: bool, s: &[u8]) -> IdentifierRead
+        ensures { λ r. ⌜ r ≡ identifierRead (readIdentifier check (now (s .entry))) ⌝ }
     {
-        match read_head(s, ID, LEAST_SIZE) {
+        match read_head(check, s, ID, LEAST_SIZE) {
             TagRead::Refused(why) => refused_by(why),
             TagRead::Read(t) => identifier_named(s, t),
         }

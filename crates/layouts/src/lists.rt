@@ -87,6 +87,7 @@ fn empty(reply: Reply) -> Listing
         mount: Mount {
             start: 0,
             partition: 0,
+            checked: 0,
         },
         kind: 0,
         front: Extent {

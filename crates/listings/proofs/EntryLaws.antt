@@ -67,39 +67,39 @@ pub record Known (s : List ℕ) (e : Entry) : Type 0 where
   pub whole : Whole s (e .identifier)
 
 -- it is refused, and n is the refusal's number
-pub record Badly (s : List ℕ) (n : ℕ) : Type 0 where
+pub record Badly (check : Bool) (s : List ℕ) (n : ℕ) : Type 0 where
   pub why : Refusal
-  pub is : entryRead s ≡ refused why
+  pub is : entryRead check s ≡ refused why
   pub numbered : n ≡ number why
 
-module _ (s : List ℕ) (b : Bytes s) {r : IdentifierRead} (p : r ≡ identifierRead (readIdentifier s)) where
-  pub read-good : r .answer ≡ 0 → entryRead s ≡ answered (entryOf s (r .descriptor))
+module _ (check : Bool) (s : List ℕ) (b : Bytes s) {r : IdentifierRead} (p : r ≡ identifierRead (readIdentifier check s)) where
+  pub read-good : r .answer ≡ 0 → entryRead check s ≡ answered (entryOf s (r .descriptor))
   unfolding entryRead
-  read-good z = told (readIdentifier s) p
+  read-good z = told (readIdentifier check s) p
     where
       told : (o : Outcome FileIdentifierDescriptor) → r ≡ identifierRead o → entryIn s o ≡ answered (entryOf s (r .descriptor))
       told (answered f) e = rw e
       told (refused why) e = absurd (refusal-numbered why (rw e at z))
 
   pub read-whole : r .answer ≡ 0 → Whole s (r .descriptor)
-  read-whole z = read-identifier s b p z
+  read-whole z = read-identifier check s b p z
 
-  pub read-bad : (r .answer ≡ 0 → ⊥) → Badly s (r .answer)
+  pub read-bad : (r .answer ≡ 0 → ⊥) → Badly check s (r .answer)
   unfolding entryRead
-  read-bad n = told (readIdentifier s) refl p
+  read-bad n = told (readIdentifier check s) refl p
     where
-      told : (o : Outcome FileIdentifierDescriptor) → readIdentifier s ≡ o → r ≡ identifierRead o → Badly s (r .answer)
+      told : (o : Outcome FileIdentifierDescriptor) → readIdentifier check s ≡ o → r ≡ identifierRead o → Badly check s (r .answer)
       told (answered f) g e = absurd (n (ap (λ (x : IdentifierRead). x .answer) e))
       told (refused why) g e = record { why = why; is = ap (entryIn s) g; numbered = ap (λ (x : IdentifierRead). x .answer) e }
 
-pub known : (s : List ℕ) → Bytes s → {e : Entry} → entryRead s ≡ answered e → Known s e
+pub known : (check : Bool) (s : List ℕ) → Bytes s → {e : Entry} → entryRead check s ≡ answered e → Known s e
 unfolding entryRead
-known s b {e} h = told (readIdentifier s) refl h
+known check s b {e} h = told (readIdentifier check s) refl h
   where
-    told : (o : Outcome FileIdentifierDescriptor) → readIdentifier s ≡ o → entryIn s o ≡ answered e → Known s e
+    told : (o : Outcome FileIdentifierDescriptor) → readIdentifier check s ≡ o → entryIn s o ≡ answered e → Known s e
     told (answered f) g k =
         let x : e ≡ entryOf s f = cc in
-        rw x (record { is = refl; whole = identifier-read s b g })
+        rw x (record { is = refl; whole = identifier-read check s b g })
     told (refused why) g k = absurd (let y : _≡_ {A = ℕ} 0 1 = cc in omega arith)
 
 pub left-out-is : (m : ℕ) {a b r : Bool} → a ≡ bit 4 m → b ≡ bit 8 m → r ≡ (a || b) → r ≡ (bit 4 m || bit 8 m)
@@ -251,26 +251,26 @@ module _ (s : List ℕ) (b : Bytes s) {from n : ℕ} (a : from ≡ nameAt s) (l 
         inside = zero-le;
         further = omega arith;
         near = omega arith;
-        next = λ e g. absurd (omega (arith, name-within s b (known s b g)));
-        wrote = λ e g. absurd (omega (arith, name-within s b (known s b g)));
+        next = λ e g. absurd (omega (arith, name-within s b (known false s b g)));
+        wrote = λ e g. absurd (omega (arith, name-within s b (known false s b g)));
       }
 
   next-is : (from + n + 3) / 4 * 4 ≡ nextAt s
   unfolding nextAt nameEnd
   next-is = rw (a, l)
 
-  put-puts : from + n ≤ length s → {d d′ : List ℕ} {w : ℕ} → w ≤ length d → ((e : Entry) → entryRead s ≡ answered e → length (shown e) ≤ length d → Wrote (shown e) d d′ w)
+  put-puts : from + n ≤ length s → {d d′ : List ℕ} {w : ℕ} → w ≤ length d → ((e : Entry) → entryRead false s ≡ answered e → length (shown e) ≤ length d → Wrote (shown e) d d′ w)
       → Puts s d d′ (record { wrote = w; next = (from + n + 3) / 4 * 4 })
   unfolding nameAt
   put-puts h i k = record { inside = i; further = omega (arith, a); near = omega arith; next = λ e g. next-is; wrote = k }
 
   module _ (h : from + n ≤ length s) {m : ℕ} (i : m ≡ byte s 18) {t : Bool} (u : t ≡ (bit 4 m || bit 8 m)) where
     pub put-left-out : t ≡ true → (d : List ℕ) → Puts s d d (record { wrote = 0; next = (from + n + 3) / 4 * 4 })
-    put-left-out v d = put-puts h zero-le (λ e g room. left-out s b (known s b g) i u v d)
+    put-left-out v d = put-puts h zero-le (λ e g room. left-out s b (known false s b g) i u v d)
 
     pub put-recorded : t ≡ false → {d d′ : List ℕ} {w : ℕ} → Recorded m s (written (nameOf (take (from + n - from) (drop from s)))) d d′ w
         → Puts s d d′ (record { wrote = w; next = (from + n + 3) / 4 * 4 })
-    put-recorded v {d} w = put-puts h (w .inside) (λ e g room. rw (shown-record s b (known s b g) i u v a l) (w .wrote (name-room s b (known s b g) i u v a l d room)))
+    put-recorded v {d} w = put-puts h (w .inside) (λ e g room. rw (shown-record s b (known false s b g) i u v a l) (w .wrote (name-room s b (known false s b g) i u v a l d room)))
 
 -- ---- what is found with one more entry
 

@@ -6,3 +6,4 @@ pub mod Promises
 pub mod RecordLaws
 pub mod NamelessLaws
 pub mod MatchingLaws
+pub mod GuardLaws

@@ -96,12 +96,12 @@ alike-first fold component (e ∷ es) (f ∷ fs) p =
     [ true ↦ rw (p .0 .identified) | false ↦ alike-first fold component es fs (p .1) ])
 
 -- of a directory's bytes: the listing, and what is found by a component under each choice
-module _ (raw other : List ℕ) {es fs : List Entry} (h : entries raw ≡ answered es) (k : entries other ≡ answered fs) (p : AllAlike es fs) where
-  pub alike-listing : listing raw ≡ listing other
+module _ (check : Bool) (raw other : List ℕ) {es fs : List Entry} (h : entries check raw ≡ answered es) (k : entries check other ≡ answered fs) (p : AllAlike es fs) where
+  pub alike-listing : listing check raw ≡ listing check other
   unfolding listing
   alike-listing = rw (h, k, alike-records es fs p)
 
-  pub alike-found : (m : Matching) (component : List ℕ) → namedOf (findIn m component raw) ≡ namedOf (findIn m component other)
+  pub alike-found : (m : Matching) (component : List ℕ) → namedOf (findIn check m component raw) ≡ namedOf (findIn check m component other)
   unfolding findIn
   alike-found m component =
       rw (h, k) (alike-chosen m (allNamed (foldIn m) component es) (allNamed (foldIn m) component fs) (alike-all (foldIn m) component es fs p))

@@ -14,14 +14,15 @@ use Rattle.disc.specs.Ask.{Outcome, andThen}
 use Rattle.disc.specs.Ask.Outcome.{answered, refused}
 use Rattle.disc.specs.Replies.{Replied}
 use Rattle.disc.specs.declared.refusals.Refusal.{Refusal}
-use Rattle.disc.specs.declared.refusals.Refusal.the-variants.{Malformed, NoRoom}
+use Rattle.disc.specs.declared.refusals.Refusal.the-variants.{Malformed, NoRoom, BadCrc}
 use Rattle.disc.specs.declared.replies.Reply.{Reply}
 use Rattle.disc.proofs.ByteLaws.{Bytes}
 use Rattle.disc.proofs.PickLaws.{not-both}
 use Rattle.disc.proofs.ReplyLaws.{replied-one}
 use Rattle.names.specs.Names.{pairs, untilZero, surrogate, dropSurrogates, encode, utf8, nameOf, written, matched, isNamed}
 use Rattle.names.proofs.Promises.{same-folded}
-use Rattle.tags.specs.Tags.{withId, readHead}
+use Rattle.crcs.specs.Crcs.{crcFrom, crcOf}
+use Rattle.tags.specs.Tags.{bodyRight, withBody, withId, readHead}
 use Rattle.identifiers.specs.declared.FileIdentifierDescriptor.{FileIdentifierDescriptor}
 use Rattle.identifiers.proofs.IdentifierLaws.{identifier-refused}
 use Rattle.identifiers.specs.Identifiers.{nameAt, nameEnd, recordedName, nextAt, identifierOf, identifierSized, identifierNamed, readIdentifier}
@@ -65,67 +66,78 @@ module _ (fold : ℕ → ℕ) where
       by false false (refused why) k h = not-both h
       by false false (answered name) k h = (k, same-folded fold name component .0 h)
 
--- ---- a directory is refused by what refuses an entry
+-- ---- a directory is refused by what refuses an entry: every refusal is `Malformed`, or where bodies are checked `BadCrc`
 
-read-refused : (s : List ℕ) {why : Refusal} → entryRead s ≡ refused why → why ≡ Malformed
-unfolding entryRead
-read-refused s {why} e = by (readIdentifier s) refl e
-  where
-    by : (o : Outcome FileIdentifierDescriptor) → readIdentifier s ≡ o → entryIn s o ≡ refused why → why ≡ Malformed
-    by (answered f) g k = absurd (let y : _≡_ {A = ℕ} 0 1 = cc in omega arith)
-    by (refused w) g k = let z : w ≡ why = cc in sym z ∙ identifier-refused s g
+module _ (check : Bool) (P : Refusal → Type 0) (bad : P Malformed) (crc : check ≡ true → P BadCrc) where
+  read-refused : (s : List ℕ) {why : Refusal} → entryRead check s ≡ refused why → P why
+  unfolding entryRead
+  read-refused s {why} e = by (readIdentifier check s) refl e
+    where
+      by : (o : Outcome FileIdentifierDescriptor) → readIdentifier check s ≡ o → entryIn s o ≡ refused why → P why
+      by (answered f) g k = absurd (let y : _≡_ {A = ℕ} 0 1 = cc in omega arith)
+      by (refused w) g k = let z : w ≡ why = cc in identifier-refused check s P bad crc (rw z at g)
 
-from-refused : (k : ℕ) (s : List ℕ) {why : Refusal} → entriesFrom k s ≡ refused why → why ≡ Malformed
-unfolding entriesFrom
-from-refused k [] e = absurd (let z : _≡_ {A = ℕ} 0 1 = cc in omega arith)
-from-refused (suc k) (b ∷ s) e = from-refused k s e
-from-refused zero (b ∷ s) {why} e = by (λ w q. from-refused (nextAt (b ∷ s) - 1) s q) (ltb (length (b ∷ s)) 38) (entryRead (b ∷ s)) refl e
-  where
-    others : (e : Entry) (o : Outcome (List Entry)) → ((w : Refusal) → o ≡ refused w → w ≡ Malformed) → inFront e o ≡ refused why → why ≡ Malformed
-    others e (answered es) ih q = absurd (let z : _≡_ {A = ℕ} 0 1 = cc in omega arith)
-    others e (refused w) ih q = ih why q
+  from-refused : (k : ℕ) (s : List ℕ) {why : Refusal} → entriesFrom check k s ≡ refused why → P why
+  unfolding entriesFrom
+  from-refused k [] e = absurd (let z : _≡_ {A = ℕ} 0 1 = cc in omega arith)
+  from-refused (suc k) (b ∷ s) e = from-refused k s e
+  from-refused zero (b ∷ s) {why} e = by (λ w q. from-refused (nextAt (b ∷ s) - 1) s q) (ltb (length (b ∷ s)) 38) (entryRead check (b ∷ s)) refl e
+    where
+      others : (e : Entry) (o : Outcome (List Entry)) → ((w : Refusal) → o ≡ refused w → P w) → inFront e o ≡ refused why → P why
+      others e (answered es) ih q = absurd (let z : _≡_ {A = ℕ} 0 1 = cc in omega arith)
+      others e (refused w) ih q = ih why q
 
-    by : ((w : Refusal) → entriesFrom (nextAt (b ∷ s) - 1) s ≡ refused w → w ≡ Malformed) → (t : Bool) (o : Outcome Entry) → entryRead (b ∷ s) ≡ o
-        → pick t (answered []) (andThen o (λ x. inFront x (entriesFrom (nextAt (b ∷ s) - 1) s))) ≡ refused why → why ≡ Malformed
-    by ih true o k e = absurd (let z : _≡_ {A = ℕ} 0 1 = cc in omega arith)
-    by ih false (answered x) k e = others x (entriesFrom (nextAt (b ∷ s) - 1) s) ih e
-    by ih false (refused w) k e = let z : w ≡ why = cc in sym z ∙ read-refused (b ∷ s) k
+      by : ((w : Refusal) → entriesFrom check (nextAt (b ∷ s) - 1) s ≡ refused w → P w) → (t : Bool) (o : Outcome Entry) → entryRead check (b ∷ s) ≡ o
+          → pick t (answered []) (andThen o (λ x. inFront x (entriesFrom check (nextAt (b ∷ s) - 1) s))) ≡ refused why → P why
+      by ih true o k e = absurd (let z : _≡_ {A = ℕ} 0 1 = cc in omega arith)
+      by ih false (answered x) k e = others x (entriesFrom check (nextAt (b ∷ s) - 1) s) ih e
+      by ih false (refused w) k e = let z : w ≡ why = cc in read-refused (b ∷ s) (rw z at k)
 
-pub entries-refused : (s : List ℕ) {why : Refusal} → entries s ≡ refused why → why ≡ Malformed
+pub entries-refused : (check : Bool) (s : List ℕ) (P : Refusal → Type 0) → P Malformed → (check ≡ true → P BadCrc) → {why : Refusal} → entries check s ≡ refused why → P why
 unfolding entries
-entries-refused s e = from-refused 0 s e
+entries-refused check s P bad crc e = from-refused check P bad crc 0 s e
 
 -- ---- no name is too long
 
 -- no directory's bytes have an entry whose name exceeds 508 bytes, so its length fits the two bytes of its record (RecordLaws `shown-size`)
-pub entry-brief : (s : List ℕ) → Bytes s → (before : List Entry) (e : Entry) (rest : List Entry) → entries s ≡ answered (before ++ e ∷ rest) → length (nameIn e) ≤ 508
-entry-brief s b before e rest h = name-brief (each-at before e rest (each-read s b h))
+pub entry-brief : (check : Bool) (s : List ℕ) → Bytes s → (before : List Entry) (e : Entry) (rest : List Entry) → entries check s ≡ answered (before ++ e ∷ rest) → length (nameIn e) ≤ 508
+entry-brief check s b before e rest h = name-brief (each-at before e rest (each-read check s b h))
 
 -- ---- each contract leaves one result
 
-pub list-one : (raw : List ℕ) {out a a′ : List ℕ} {r r′ : Reply} → Replied NoRoom (told (listing raw)) out a r → Replied NoRoom (told (listing raw)) out a′ r′ → (r ≡ r′) × (a ≡ a′)
-list-one raw p q = replied-one p q
+pub list-one : (check : Bool) (raw : List ℕ) {out a a′ : List ℕ} {r r′ : Reply} → Replied NoRoom (told (listing check raw)) out a r → Replied NoRoom (told (listing check raw)) out a′ r′ → (r ≡ r′) × (a ≡ a′)
+list-one check raw p q = replied-one p q
 
-pub find-one : (m : Matching) (component raw : List ℕ) {r r′ : Named} → r ≡ namedOf (findIn m component raw) → r′ ≡ namedOf (findIn m component raw) → r ≡ r′
-find-one m component raw p q = p ∙ sym q
+pub find-one : (check : Bool) (m : Matching) (component raw : List ℕ) {r r′ : Named} → r ≡ namedOf (findIn check m component raw) → r′ ≡ namedOf (findIn check m component raw) → r ≡ r′
+find-one check m component raw p q = p ∙ sym q
 
 -- ---- worked cases
 
--- an entry "A", a directory at block 5
-abbrev pub entryA : List ℕ
-entryA =
-    0x01 ∷ 0x01 ∷ 0x02 ∷ 0x00 ∷ 0x04 ∷ 0x00 ∷ 0x00 ∷ 0x00 ∷ 0x00 ∷ 0x00 ∷ 0x00 ∷ 0x00 ∷ 0x00 ∷ 0x00 ∷ 0x00 ∷ 0x00 ∷ 0x01 ∷ 0x00 ∷ 0x02 ∷ 0x02
+-- an entry "A" at block 5, with the checksum k, the CRC c of no bytes, and its characteristics
+abbrev pub entryOfA : ℕ → ℕ → ℕ → List ℕ
+entryOfA k c marks =
+    0x01 ∷ 0x01 ∷ 0x02 ∷ 0x00 ∷ k ∷ 0x00 ∷ 0x00 ∷ 0x00 ∷ c ∷ 0x00 ∷ 0x00 ∷ 0x00 ∷ 0x00 ∷ 0x00 ∷ 0x00 ∷ 0x00 ∷ 0x01 ∷ 0x00 ∷ marks ∷ 0x02
     ∷ 0x00 ∷ 0x08 ∷ 0x00 ∷ 0x00 ∷ 0x05 ∷ 0x00 ∷ 0x00 ∷ 0x00 ∷ 0x00 ∷ 0x00 ∷ 0x00 ∷ 0x00 ∷ 0x00 ∷ 0x00 ∷ 0x00 ∷ 0x00 ∷ 0x00 ∷ 0x00 ∷ 0x08 ∷ 0x41 ∷ []
 
-pub one-listed : listing entryA
+-- a directory, with the CRC that no bytes have
+abbrev pub entryA : List ℕ
+entryA = entryOfA 0x04 0x00 0x02
+
+pub one-listed : (check : Bool) → listing check entryA
     ≡ answered (0x44 ∷ 0x45 ∷ 1 ∷ 0x00 ∷ 0x08 ∷ 0x00 ∷ 0x00 ∷ 0x05 ∷ 0x00 ∷ 0x00 ∷ 0x00 ∷ 0x00 ∷ 0x00 ∷ 0x00 ∷ 0x00 ∷ 0x00 ∷ 0x00 ∷ 0x00 ∷ 0x00 ∷ 1 ∷ 0 ∷ 0x41 ∷ [])
-unfolding pairs untilZero surrogate dropSurrogates encode utf8 nameOf nameAt nameEnd recordedName nextAt identifierOf identifierSized identifierNamed withId readHead readIdentifier entryRead isSkipped nameIn entriesFrom entries recordHead shown records listing
-one-listed = refl
+unfolding pairs untilZero surrogate dropSurrogates encode utf8 nameOf nameAt nameEnd recordedName nextAt identifierOf identifierSized identifierNamed crcFrom crcOf bodyRight withBody withId readHead readIdentifier entryRead isSkipped nameIn entriesFrom entries recordHead shown records listing
+one-listed true = refl
+one-listed false = refl
+
+-- a deleted one with another CRC is passed over, and where bodies are checked refuses the directory all the same
+pub deleted-checked : (listing false (entryOfA 0x05 0x01 0x04) ≡ answered []) × (listing true (entryOfA 0x05 0x01 0x04) ≡ refused BadCrc)
+unfolding pairs untilZero surrogate dropSurrogates encode utf8 nameOf nameAt nameEnd recordedName nextAt identifierOf identifierSized identifierNamed crcFrom crcOf bodyRight withBody withId readHead readIdentifier entryRead isSkipped nameIn entriesFrom entries recordHead shown records listing
+deleted-checked = (refl, refl)
 
 -- three bytes hold no entry, and 38 or more that are none refuse the listing
-pub none-listed : (listing (0 ∷ 0 ∷ 0 ∷ []) ≡ answered []) × (listing (0 ∷ entryA) ≡ refused Malformed)
-unfolding pairs untilZero surrogate dropSurrogates encode utf8 nameOf nameAt nameEnd recordedName nextAt identifierOf identifierSized identifierNamed withId readHead readIdentifier entryRead isSkipped nameIn entriesFrom entries recordHead shown records listing
-none-listed = (refl, refl)
+pub none-listed : (check : Bool) → (listing check (0 ∷ 0 ∷ 0 ∷ []) ≡ answered []) × (listing check (0 ∷ entryA) ≡ refused Malformed)
+unfolding pairs untilZero surrogate dropSurrogates encode utf8 nameOf nameAt nameEnd recordedName nextAt identifierOf identifierSized identifierNamed withBody withId readHead readIdentifier entryRead isSkipped nameIn entriesFrom entries recordHead shown records listing
+none-listed check = (refl, refl)
 
 -- "/a//b/" has the components "a", at 1, and "b", at 4
 pub two-components : components (0x2f ∷ 0x61 ∷ 0x2f ∷ 0x2f ∷ 0x62 ∷ 0x2f ∷ []) ≡ record { bytes = 0x61 ∷ []; at = 1 } ∷ record { bytes = 0x62 ∷ []; at = 4 } ∷ []

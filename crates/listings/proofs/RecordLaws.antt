@@ -25,36 +25,37 @@ use Rattle.listings.specs.Listings.{recordHead, shown, records, listing,
 use Rattle.listings.specs.Paths.{Component}
 use Rattle.listings.proofs.EntryLaws.{Known, known, size-is, icb-recorded}
 
--- ---- every entry of a directory stands at the front of some bytes
+-- ---- every entry of a directory stands at the front of some bytes, and was read there with its body checked or without
 
 pub record WasRead (e : Entry) : Type 0 where
+  pub check : Bool
   pub raw : List ℕ
   pub are : Bytes raw
-  pub is : entryRead raw ≡ answered e
+  pub is : entryRead check raw ≡ answered e
 
 unfoldable pub EachRead : List Entry → Type 0
 EachRead [] = Unit {0}
 EachRead (e ∷ es) = WasRead e × EachRead es
 
-each-from : (k : ℕ) (s : List ℕ) → Bytes s → {es : List Entry} → entriesFrom k s ≡ answered es → EachRead es
+each-from : (check : Bool) (k : ℕ) (s : List ℕ) → Bytes s → {es : List Entry} → entriesFrom check k s ≡ answered es → EachRead es
 unfolding entriesFrom EachRead
-each-from k [] b {es} h = let z : es ≡ [] = cc in rw z tt
-each-from (suc k) (x ∷ s) b h = each-from k s (λ i. b (suc i)) h
-each-from zero (x ∷ s) b {es} h = by (λ fs q. each-from (nextAt (x ∷ s) - 1) s (λ i. b (suc i)) q) (ltb (length (x ∷ s)) 38) (entryRead (x ∷ s)) refl h
+each-from check k [] b {es} h = let z : es ≡ [] = cc in rw z tt
+each-from check (suc k) (x ∷ s) b h = each-from check k s (λ i. b (suc i)) h
+each-from check zero (x ∷ s) b {es} h = by (λ fs q. each-from check (nextAt (x ∷ s) - 1) s (λ i. b (suc i)) q) (ltb (length (x ∷ s)) 38) (entryRead check (x ∷ s)) refl h
   where
     others : (e : Entry) → WasRead e → (o : Outcome (List Entry)) → ((fs : List Entry) → o ≡ answered fs → EachRead fs) → inFront e o ≡ answered es → EachRead es
     others e w (answered fs) ih q = let z : es ≡ e ∷ fs = cc in rw z (w, ih fs refl)
     others e w (refused why) ih q = never q
 
-    by : ((fs : List Entry) → entriesFrom (nextAt (x ∷ s) - 1) s ≡ answered fs → EachRead fs) → (t : Bool) (o : Outcome Entry) → entryRead (x ∷ s) ≡ o
-        → pick t (answered []) (andThen o (λ e. inFront e (entriesFrom (nextAt (x ∷ s) - 1) s))) ≡ answered es → EachRead es
+    by : ((fs : List Entry) → entriesFrom check (nextAt (x ∷ s) - 1) s ≡ answered fs → EachRead fs) → (t : Bool) (o : Outcome Entry) → entryRead check (x ∷ s) ≡ o
+        → pick t (answered []) (andThen o (λ e. inFront e (entriesFrom check (nextAt (x ∷ s) - 1) s))) ≡ answered es → EachRead es
     by ih true o k q = let z : es ≡ [] = cc in rw z tt
-    by ih false (answered e) k q = others e (record { raw = x ∷ s; are = b; is = k }) (entriesFrom (nextAt (x ∷ s) - 1) s) ih q
+    by ih false (answered e) k q = others e (record { check = check; raw = x ∷ s; are = b; is = k }) (entriesFrom check (nextAt (x ∷ s) - 1) s) ih q
     by ih false (refused why) k q = never q
 
-pub each-read : (s : List ℕ) → Bytes s → {es : List Entry} → entries s ≡ answered es → EachRead es
+pub each-read : (check : Bool) (s : List ℕ) → Bytes s → {es : List Entry} → entries check s ≡ answered es → EachRead es
 unfolding entries
-each-read s b h = each-from 0 s b h
+each-read check s b h = each-from check 0 s b h
 
 pub each-at : (before : List Entry) (e : Entry) (rest : List Entry) → EachRead (before ++ e ∷ rest) → WasRead e
 unfolding EachRead
@@ -65,7 +66,7 @@ each-at (x ∷ before) e rest w = each-at before e rest (w .1)
 
 module _ {e : Entry} (w : WasRead e) where
   stands : Known (w .raw) e
-  stands = known (w .raw) (w .are) (w .is)
+  stands = known (w .check) (w .raw) (w .are) (w .is)
 
   recorded-there : e .recorded ≡ recordedName (w .raw)
   recorded-there = ap (λ (x : Entry). x .recorded) (stands .is)
@@ -157,6 +158,6 @@ unfolding records
 records-joined [] after = refl
 records-joined (e ∷ before) after = rw (records-joined before after, append-assoc)
 
-pub all-listed : (s : List ℕ) {es : List Entry} → entries s ≡ answered es → listing s ≡ answered (records es)
+pub all-listed : (check : Bool) (s : List ℕ) {es : List Entry} → entries check s ≡ answered es → listing check s ≡ answered (records es)
 unfolding listing
-all-listed s h = rw h
+all-listed check s h = rw h

@@ -38,35 +38,36 @@ use Rattle.listings.specs.declared.matchings.Matching.{Matching}
 use Rattle.listings.specs.declared.matchings.Matching.the-variants.{CaseIgnored, AsWritten, Unambiguous}
 use Rattle.listings.proofs.EntryLaws.{tail-over, read-good, read-whole, read-bad, shown-length}
 use Rattle.listings.proofs.RecordLaws.{all-listed}
+use Rattle.listings.proofs.GuardLaws.{entries-unchecked}
 
 -- ---- the entries at the front of s
 
-skips : (k : ℕ) (s : List ℕ) → entriesFrom k s ≡ entries (drop k s)
+skips : (check : Bool) (k : ℕ) (s : List ℕ) → entriesFrom check k s ≡ entries check (drop k s)
 unfolding entries entriesFrom
-skips zero s = refl
-skips (suc k) [] = refl
-skips (suc k) (b ∷ s) = skips k s
+skips check zero s = refl
+skips check (suc k) [] = refl
+skips check (suc k) (b ∷ s) = skips check k s
 
 next-some : (s : List ℕ) → nextAt s ≡ suc (nextAt s - 1)
 unfolding nextAt nameEnd nameAt
 next-some s = omega arith
 
-front-next : (s : List ℕ) → 38 ≤ length s → {e : Entry} → entryRead s ≡ answered e → entries s ≡ inFront e (entries (drop (nextAt s) s))
+front-next : (check : Bool) (s : List ℕ) → 38 ≤ length s → {e : Entry} → entryRead check s ≡ answered e → entries check s ≡ inFront e (entries check (drop (nextAt s) s))
 unfolding entries entriesFrom
-front-next [] h g = absurd (omega arith)
-front-next (b ∷ s) h {e} g =
+front-next check [] h g = absurd (omega arith)
+front-next check (b ∷ s) h {e} g =
     simp (le-ltb _ _ h, g)
-    (ap (inFront e) (skips (nextAt (b ∷ s) - 1) s ∙ ap (λ n. entries (drop n (b ∷ s))) (sym (next-some (b ∷ s)))))
+    (ap (inFront e) (skips check (nextAt (b ∷ s) - 1) s ∙ ap (λ n. entries check (drop n (b ∷ s))) (sym (next-some (b ∷ s)))))
 
-front-bad : (s : List ℕ) → 38 ≤ length s → {why : Refusal} → entryRead s ≡ refused why → entries s ≡ refused why
+front-bad : (check : Bool) (s : List ℕ) → 38 ≤ length s → {why : Refusal} → entryRead check s ≡ refused why → entries check s ≡ refused why
 unfolding entries entriesFrom
-front-bad [] h g = absurd (omega arith)
-front-bad (b ∷ s) h g = simp (le-ltb _ _ h, g)
+front-bad check [] h g = absurd (omega arith)
+front-bad check (b ∷ s) h g = simp (le-ltb _ _ h, g)
 
-front-end : (s : List ℕ) → length s < 38 → entries s ≡ answered []
+front-end : (check : Bool) (s : List ℕ) → length s < 38 → entries check s ≡ answered []
 unfolding entries entriesFrom
-front-end [] h = refl
-front-end (b ∷ s) h = simp (lt-ltb _ _ h)
+front-end check [] h = refl
+front-end check (b ∷ s) h = simp (lt-ltb _ _ h)
 
 -- ---- the same at `at`
 
@@ -77,41 +78,42 @@ module _ (raw : List ℕ) (at : ℕ) where
   tail-length : length (tail raw at) ≡ length raw - at
   tail-length = rw tail-is (length-drop at raw)
 
-  at-end : length raw < at + 38 → entries (drop at raw) ≡ answered []
-  at-end h = front-end (drop at raw) (rw length-drop (omega arith))
+module _ (check : Bool) (raw : List ℕ) (at : ℕ) where
+  at-end : length raw < at + 38 → entries check (drop at raw) ≡ answered []
+  at-end h = front-end check (drop at raw) (rw length-drop (omega arith))
 
   module _ (h : at + 38 ≤ length raw) where
-    at-bad : {why : Refusal} → entryRead (tail raw at) ≡ refused why → entries (drop at raw) ≡ refused why
-    at-bad n = rw (← tail-is) (front-bad (tail raw at) (rw tail-length (omega arith)) n)
+    at-bad : {why : Refusal} → entryRead check (tail raw at) ≡ refused why → entries check (drop at raw) ≡ refused why
+    at-bad n = rw (← tail-is raw at) (front-bad check (tail raw at) (rw (tail-length raw at) (omega arith)) n)
 
-    at-next : {e : Entry} → entryRead (tail raw at) ≡ answered e → {n : ℕ} → n ≡ nextAt (tail raw at) → entries (drop at raw) ≡ inFront e (entries (drop (at + n) raw))
+    at-next : {e : Entry} → entryRead check (tail raw at) ≡ answered e → {n : ℕ} → n ≡ nextAt (tail raw at) → entries check (drop at raw) ≡ inFront e (entries check (drop (at + n) raw))
     at-next {e} g {n} q =
         let z : drop (nextAt (tail raw at)) (tail raw at) ≡ drop (at + n) raw =
-        ap (drop (nextAt (tail raw at))) tail-is ∙ drop-drop _ at raw ∙ ap (λ k. drop (at + k) raw) (sym q) in
-        ap entries (sym tail-is) ∙ front-next (tail raw at) (rw tail-length (omega arith)) g ∙ ap (λ l. inFront e (entries l)) z
+        ap (drop (nextAt (tail raw at))) (tail-is raw at) ∙ drop-drop _ at raw ∙ ap (λ k. drop (at + k) raw) (sym q) in
+        ap (entries check) (sym (tail-is raw at)) ∙ front-next check (tail raw at) (rw (tail-length raw at) (omega arith)) g ∙ ap (λ l. inFront e (entries check l)) z
 
     -- what reading the entry there says
-    pub comes : Bytes raw → {r : IdentifierRead} → r ≡ identifierRead (readIdentifier (tail raw at)) → Comes raw at r
+    pub comes : Bytes raw → {r : IdentifierRead} → r ≡ identifierRead (readIdentifier check (tail raw at)) → Comes check raw at r
     comes a p =
-        let b : Bytes (tail raw at) = λ i. rw (tail-is, getD-drop) (a (at + i)) in
+        let b : Bytes (tail raw at) = λ i. rw (tail-is raw at, getD-drop) (a (at + i)) in
         record {
           good = λ z.
-              let w = read-whole (tail raw at) b p z in
+              let w = read-whole check (tail raw at) b p z in
               record {
-                is = at-next (read-good (tail raw at) b p z) (w .next);
+                is = at-next (read-good check (tail raw at) b p z) (w .next);
                 whole = w;
-                inside = omega (arith, w .within, tail-length);
-                near = omega (arith, w .within, w .near, tail-length);
+                inside = omega (arith, w .within, tail-length raw at);
+                near = omega (arith, w .within, w .near, tail-length raw at);
               };
           bad = λ n.
-              let w = read-bad (tail raw at) b p n in
+              let w = read-bad check (tail raw at) b p n in
               record { why = w .why; is = at-bad (w .is); numbered = w .numbered };
         }
 
 -- ---- an entry that was read at `at`, in the form that the loops ask for
 
-module _ (raw : List ℕ) (at : ℕ) {r : IdentifierRead} (p : Comes raw at r) (z : r .answer ≡ 0) where
-  good : GoodAt raw at (r .descriptor)
+module _ (check : Bool) (raw : List ℕ) (at : ℕ) {r : IdentifierRead} (p : Comes check raw at r) (z : r .answer ≡ 0) where
+  good : GoodAt check raw at (r .descriptor)
   good = p .good z
 
   pub name-inside : r .descriptor .«name_at» + r .descriptor .«name_length» ≤ length (tail raw at)
@@ -145,21 +147,21 @@ size-turn n e (answered es) q =
     rw (q, s)
 size-turn n e (refused why) q = refl
 
-pub record Measuring (raw : List ℕ) (n at : ℕ) : Type 0 where
+pub record Measuring (check : Bool) (raw : List ℕ) (n at : ℕ) : Type 0 where
   pub within : at ≤ length raw + 3
   pub small : n ≤ 2 * at
-  pub rest : sizeWith n (entries (drop at raw)) ≡ sizeOfListing (entries raw)
+  pub rest : sizeWith n (entries check (drop at raw)) ≡ sizeOfListing (entries check raw)
 
-pub measure-starts : (raw : List ℕ) → Measuring raw 0 0
-measure-starts raw = record { within = zero-le; small = zero-le; rest = size-starts (entries raw) }
+pub measure-starts : (check : Bool) (raw : List ℕ) → Measuring check raw 0 0
+measure-starts check raw = record { within = zero-le; small = zero-le; rest = size-starts (entries check raw) }
 
-module _ {raw : List ℕ} {n at : ℕ} (m : Measuring raw n at) where
-  module _ {r : IdentifierRead} (p : Comes raw at r) where
-    pub measure-bad : (r .answer ≡ 0 → ⊥) → record { answer = r .answer; size = 0 } ≡ sizeOfListing (entries raw)
+module _ {check : Bool} {raw : List ℕ} {n at : ℕ} (m : Measuring check raw n at) where
+  module _ {r : IdentifierRead} (p : Comes check raw at r) where
+    pub measure-bad : (r .answer ≡ 0 → ⊥) → record { answer = r .answer; size = 0 } ≡ sizeOfListing (entries check raw)
     measure-bad g = let w = p .bad g in rw (w .numbered) (rw (w .is) at (m .rest))
 
     module _ (z : r .answer ≡ 0) where
-      abbrev g : GoodAt raw at (r .descriptor)
+      abbrev g : GoodAt check raw at (r .descriptor)
       g = p .good z
 
       pub name-fits : length raw * 1 < 2 ^ 63 → 21 + r .descriptor .«name_size» < 18446744073709551616
@@ -172,20 +174,20 @@ module _ {raw : List ℕ} {n at : ℕ} (m : Measuring raw n at) where
         pub size-fits : length raw * 1 < 2 ^ 63 → Fits w64 (n + v)
         size-fits k = omega (arith, bound, g .inside)
 
-        pub measure-next : Measuring raw (n + v) (at + r .descriptor .«total_size»)
+        pub measure-next : Measuring check raw (n + v) (at + r .descriptor .«total_size»)
         measure-next =
             record {
               within = g .near;
               small = omega (arith, bound, g .whole .on);
               rest =
-                  size-turn n (entryOf (tail raw at) (r .descriptor)) (entries (drop (at + r .descriptor .«total_size») raw)) (e ∙ sym (shown-length (g .whole)))
+                  size-turn n (entryOf (tail raw at) (r .descriptor)) (entries check (drop (at + r .descriptor .«total_size») raw)) (e ∙ sym (shown-length (g .whole)))
                   ∙ (rw (g .is) at (m .rest));
             }
 
-  pub measure-ends : length raw < at + 38 → record { answer = 0; size = n } ≡ sizeOfListing (entries raw)
+  pub measure-ends : length raw < at + 38 → record { answer = 0; size = n } ≡ sizeOfListing (entries check raw)
   unfolding records
   measure-ends h =
-      let k : record { answer = 0; size = n + 0 } ≡ sizeOfListing (entries raw) = rw (at-end raw at h) at (m .rest) in
+      let k : record { answer = 0; size = n + 0 } ≡ sizeOfListing (entries check raw) = rw (at-end check raw at h) at (m .rest) in
       rw (add-zero n) at k
 
 -- ---- the loop that writes has come to `at`
@@ -193,7 +195,7 @@ module _ {raw : List ℕ} {n at : ℕ} (m : Measuring raw n at) where
 -- what is written, where the bytes are as they were measured, and the entries that are left
 pub record Filled (raw d₀ d : List ℕ) (n at : ℕ) (es : List Entry) : Type 0 where
   pub left : List Entry
-  pub are : entries (drop at raw) ≡ answered left
+  pub are : entries false (drop at raw) ≡ answered left
   pub size : n + length (records left) ≡ length d₀
   pub rest : sets d n (records left) ≡ sets d₀ 0 (records es)
 
@@ -202,7 +204,7 @@ pub record Filling (raw d₀ d : List ℕ) (n at : ℕ) : Type 0 where
   pub within : at ≤ length raw + 3
   pub inside : n ≤ length d
   pub long : length d ≡ length d₀
-  pub filled : (es : List Entry) → entries raw ≡ answered es → length (records es) ≡ length d₀ → Filled raw d₀ d n at es
+  pub filled : (es : List Entry) → entries false raw ≡ answered es → length (records es) ≡ length d₀ → Filled raw d₀ d n at es
 
 pub fill-starts : (raw d : List ℕ) → Filling raw d d 0 0
 fill-starts raw d =
@@ -224,11 +226,11 @@ taken e (answered es) q = record { others = es; are = refl; all = cc }
 taken e (refused why) q = absurd (let z : _≡_ {A = ℕ} 0 1 = cc in omega arith)
 
 module _ {raw d₀ d : List ℕ} {n at : ℕ} (m : Filling raw d₀ d n at) where
-  pub fill-ends : length raw < at + 38 → (es : List Entry) → entries raw ≡ answered es → length (records es) ≡ length d₀ → d ≡ records es
+  pub fill-ends : length raw < at + 38 → (es : List Entry) → entries false raw ≡ answered es → length (records es) ≡ length d₀ → d ≡ records es
   unfolding records
   fill-ends h es s l =
       let f = m .filled es s l in
-      let e : answered [] ≡ answered (f .left) = sym (at-end raw at h) ∙ f .are in
+      let e : answered [] ≡ answered (f .left) = sym (at-end false raw at h) ∙ f .are in
       let z : f .left ≡ [] = cc in
       (rw z at (f .rest)) ∙ sets-whole (records es) d₀ l
 
@@ -247,7 +249,7 @@ module _ {raw d₀ d : List ℕ} {n at : ℕ} (m : Filling raw d₀ d n at) wher
 
     -- a turn over bytes that are as they were measured
     turn : {es left : List Entry} {e : Entry} → n + length (records left) ≡ length d₀ → sets d n (records left) ≡ sets d₀ 0 (records es)
-        → entryRead (tail raw at) ≡ answered e → Taken e (entries (drop (at + p .next) raw)) left
+        → entryRead false (tail raw at) ≡ answered e → Taken e (entries false (drop (at + p .next) raw)) left
         → Filled raw d₀ (putMid n (length d - n) d ys) (n + p .wrote) (at + p .next) es
     unfolding records
     turn {left = left} {e = e} size rest r t =
@@ -263,11 +265,11 @@ module _ {raw d₀ d : List ℕ} {n at : ℕ} (m : Filling raw d₀ d n at) wher
         }
 
     turns : {es : List Entry} → Filled raw d₀ d n at es → Filled raw d₀ (putMid n (length d - n) d ys) (n + p .wrote) (at + p .next) es
-    turns {es} f = by (entryRead (tail raw at)) refl
+    turns {es} f = by (entryRead false (tail raw at)) refl
       where
-        by : (o : Outcome Entry) → entryRead (tail raw at) ≡ o → Filled raw d₀ (putMid n (length d - n) d ys) (n + p .wrote) (at + p .next) es
-        by (answered e) r = turn (f .size) (f .rest) r (taken e (entries (drop (at + p .next) raw)) (sym (at-next raw at h r (w .next e r)) ∙ f .are))
-        by (refused why) r = absurd (let k = sym (at-bad raw at h r) ∙ f .are in let z : _≡_ {A = ℕ} 0 1 = cc in omega arith)
+        by : (o : Outcome Entry) → entryRead false (tail raw at) ≡ o → Filled raw d₀ (putMid n (length d - n) d ys) (n + p .wrote) (at + p .next) es
+        by (answered e) r = turn (f .size) (f .rest) r (taken e (entries false (drop (at + p .next) raw)) (sym (at-next false raw at h r (w .next e r)) ∙ f .are))
+        by (refused why) r = absurd (let k = sym (at-bad false raw at h r) ∙ f .are in let z : _≡_ {A = ℕ} 0 1 = cc in omega arith)
 
     pub fill-next : length ys ≡ length (midOf n (length d - n) d) → Filling raw d₀ (putMid n (length d - n) d ys) (n + p .wrote) (at + p .next)
     fill-next k =
@@ -320,31 +322,31 @@ chosen-turn m component xs e (answered es) = ap (λ l. namedOf (chosen m l)) (by
     by true more = append-assoc xs (e ∷ []) more
     by false more = rw append-nil
 
-pub record Finding (m : Matching) (component raw : List ℕ) (found : Named) (at : ℕ) : Type 0 where
+pub record Finding (check : Bool) (m : Matching) (component raw : List ℕ) (found : Named) (at : ℕ) : Type 0 where
   pub small : length raw * 1 < 2 ^ 63
   pub within : at ≤ length raw + 3
   pub matches : List Entry
   pub is : found ≡ namedOf (chosen m matches)
-  pub rest : chosenWith m component matches (entries (drop at raw)) ≡ namedOf (findIn m component raw)
+  pub rest : chosenWith m component matches (entries check (drop at raw)) ≡ namedOf (findIn check m component raw)
 
-pub find-starts : (m : Matching) (component raw : List ℕ) {found : Named} → length raw * 1 < 2 ^ 63 → found ≡ unnamed 0 → Finding m component raw found 0
+pub find-starts : (check : Bool) (m : Matching) (component raw : List ℕ) {found : Named} → length raw * 1 < 2 ^ 63 → found ≡ unnamed 0 → Finding check m component raw found 0
 unfolding findIn chosen
-find-starts m component raw l e = record { small = l; within = zero-le; matches = []; is = e; rest = refl }
+find-starts check m component raw l e = record { small = l; within = zero-le; matches = []; is = e; rest = refl }
 
-module _ {m : Matching} {component raw : List ℕ} {found : Named} {at : ℕ} (f : Finding m component raw found at) where
-  pub find-ends : length raw < at + 38 → found ≡ namedOf (findIn m component raw)
+module _ {check : Bool} {m : Matching} {component raw : List ℕ} {found : Named} {at : ℕ} (f : Finding check m component raw found at) where
+  pub find-ends : length raw < at + 38 → found ≡ namedOf (findIn check m component raw)
   unfolding allNamed
-  find-ends h = f .is ∙ ap (λ l. namedOf (chosen m l)) (sym (append-nil (f .matches))) ∙ (rw (at-end raw at h) at (f .rest))
+  find-ends h = f .is ∙ ap (λ l. namedOf (chosen m l)) (sym (append-nil (f .matches))) ∙ (rw (at-end check raw at h) at (f .rest))
 
-  module _ {r : IdentifierRead} (p : Comes raw at r) where
-    pub find-bad : (r .answer ≡ 0 → ⊥) → {a : Named} → a ≡ unnamed (r .answer) → a ≡ namedOf (findIn m component raw)
+  module _ {r : IdentifierRead} (p : Comes check raw at r) where
+    pub find-bad : (r .answer ≡ 0 → ⊥) → {a : Named} → a ≡ unnamed (r .answer) → a ≡ namedOf (findIn check m component raw)
     find-bad n e = let w = p .bad n in e ∙ rw (w .numbered) (rw (w .is) at (f .rest))
 
     pub find-fits : r .answer ≡ 0 → Fits w64 (at + r .descriptor .«total_size»)
-    find-fits z = next-fits raw at p z (f .small)
+    find-fits z = next-fits check raw at p z (f .small)
 
     pub find-next : r .answer ≡ 0 → {a : Named} → (Whole (tail raw at) (r .descriptor) → a ≡ notedOf m found component (entryOf (tail raw at) (r .descriptor)))
-        → Finding m component raw a (at + r .descriptor .«total_size»)
+        → Finding check m component raw a (at + r .descriptor .«total_size»)
     find-next z e =
         let g = p .good z in
         let x : Entry = entryOf (tail raw at) (r .descriptor) in
@@ -353,23 +355,23 @@ module _ {m : Matching} {component raw : List ℕ} {found : Named} {at : ℕ} (f
           within = g .near;
           matches = f .matches ++ pick (answersTo (foldIn m) component x) (x ∷ []) [];
           is = e (g .whole) ∙ ap (λ n. notedOf m n component x) (f .is) ∙ noted-chosen m component x (f .matches);
-          rest = chosen-turn m component (f .matches) x (entries (drop (at + r .descriptor .«total_size») raw)) ∙ (rw (g .is) at (f .rest));
+          rest = chosen-turn m component (f .matches) x (entries check (drop (at + r .descriptor .«total_size») raw)) ∙ (rw (g .is) at (f .rest));
         }
 
 -- ---- the listing, by what was measured
 
-done-listing : (raw : List ℕ) {es : List Entry} → entries raw ≡ answered es → {n : ℕ} → n ≡ length (records es) → {d ys : List ℕ} → n ≤ length d
+done-listing : (check : Bool) (raw : List ℕ) {es : List Entry} → entries check raw ≡ answered es → {n : ℕ} → n ≡ length (records es) → {d ys : List ℕ} → n ≤ length d
     → (length (records es) ≡ length (midOf 0 (n - 0) d) → ys ≡ records es)
-    → Replied NoRoom (told (listing raw)) d (putMid 0 (n - 0) d ys) (record { answer = 0; count = 0; length = n })
-done-listing raw {es} are {n} q {d} h w =
+    → Replied NoRoom (told (listing check raw)) d (putMid 0 (n - 0) d ys) (record { answer = 0; count = 0; length = n })
+done-listing check raw {es} are {n} q {d} h w =
     let l : length (records es) ≤ length d = omega arith in
     let k : length (records es) ≡ length (midOf 0 (n - 0) d) = simp (length-take, length-drop) (omega arith) in
-    rw (all-listed raw are, w k, q) (reply-done (records es) 0 0 l refl (rw (over-fits (records es) d l, sub-zero)))
+    rw (all-listed check raw are, w k, q) (reply-done (records es) 0 0 l refl (rw (over-fits (records es) d l, sub-zero)))
 
-module _ (raw : List ℕ) {m : ListingSize} (p : m ≡ sizeOfListing (entries raw)) where
-  pub list-bad : (m .answer ≡ 0 → ⊥) → {d : List ℕ} {reply : Reply} → reply ≡ record { answer = m .answer; count = 0; length = 0 } → Replied NoRoom (told (listing raw)) d d reply
+module _ (check : Bool) (raw : List ℕ) {m : ListingSize} (p : m ≡ sizeOfListing (entries check raw)) where
+  pub list-bad : (m .answer ≡ 0 → ⊥) → {d : List ℕ} {reply : Reply} → reply ≡ record { answer = m .answer; count = 0; length = 0 } → Replied NoRoom (told (listing check raw)) d d reply
   unfolding listing
-  list-bad n {d} {reply} q = by (entries raw) p
+  list-bad n {d} {reply} q = by (entries check raw) p
     where
       by : (o : Outcome (List Entry)) → m ≡ sizeOfListing o → Replied NoRoom (told (andThen o (λ es. answered (records es)))) d d reply
       by (answered es) e = absurd (n (rw e))
@@ -379,19 +381,19 @@ module _ (raw : List ℕ) {m : ListingSize} (p : m ≡ sizeOfListing (entries ra
     -- the entries that were measured
     record Sized : Type 0 where
       es : List Entry
-      are : entries raw ≡ answered es
+      are : entries check raw ≡ answered es
       size : m .size ≡ length (records es)
 
     sized : Sized
-    sized = by (entries raw) refl
+    sized = by (entries check raw) refl
       where
-        by : (o : Outcome (List Entry)) → entries raw ≡ o → Sized
+        by : (o : Outcome (List Entry)) → entries check raw ≡ o → Sized
         by (answered es) e = record { es = es; are = e; size = rw (p, e) }
         by (refused why) e = absurd (refusal-numbered why (sym (ap (λ (x : ListingSize). x .answer) (p ∙ ap sizeOfListing e)) ∙ z))
 
-    pub list-full : {d : List ℕ} → length d < m .size → {a : ℕ} {reply : Reply} → a ≡ number NoRoom → reply ≡ record { answer = a; count = 0; length = 0 } → Replied NoRoom (told (listing raw)) d d reply
-    list-full h e q = rw (all-listed raw (sized .are)) (reply-full (records (sized .es)) 0 0 (omega (arith, sized .size)) refl (q ∙ rw e))
+    pub list-full : {d : List ℕ} → length d < m .size → {a : ℕ} {reply : Reply} → a ≡ number NoRoom → reply ≡ record { answer = a; count = 0; length = 0 } → Replied NoRoom (told (listing check raw)) d d reply
+    list-full h e q = rw (all-listed check raw (sized .are)) (reply-full (records (sized .es)) 0 0 (omega (arith, sized .size)) refl (q ∙ rw e))
 
-    pub list-done : {d ys : List ℕ} → m .size ≤ length d → ((es : List Entry) → entries raw ≡ answered es → length (records es) ≡ length (midOf 0 (m .size - 0) d) → ys ≡ records es)
-        → Replied NoRoom (told (listing raw)) d (putMid 0 (m .size - 0) d ys) (record { answer = 0; count = 0; length = m .size })
-    list-done h w = done-listing raw (sized .are) (sized .size) h (w (sized .es) (sized .are))
+    pub list-done : {d ys : List ℕ} → m .size ≤ length d → ((es : List Entry) → entries false raw ≡ answered es → length (records es) ≡ length (midOf 0 (m .size - 0) d) → ys ≡ records es)
+        → Replied NoRoom (told (listing check raw)) d (putMid 0 (m .size - 0) d ys) (record { answer = 0; count = 0; length = m .size })
+    list-done h w = done-listing check raw (sized .are) (sized .size) h (w (sized .es) (entries-unchecked check raw (sized .are)))

@@ -22,12 +22,12 @@ pub record Entry : Type 0 where
 abbrev pub entryOf : List ℕ → FileIdentifierDescriptor → Entry
 entryOf s f = record { identifier = f; recorded = recordedName s }
 
--- reading it: an identifier that is refused refuses the entry
+-- reading it: an identifier that is refused refuses the entry; where bodies are checked, by all the bytes from the entry on
 abbrev pub entryIn : List ℕ → Outcome FileIdentifierDescriptor → Outcome Entry
 entryIn s o = andThen o (λ f. answered (entryOf s f))
 
-unfoldable pub entryRead : List ℕ → Outcome Entry
-entryRead s = entryIn s (readIdentifier s)
+unfoldable pub entryRead : Bool → List ℕ → Outcome Entry
+entryRead check s = entryIn s (readIdentifier check s)
 
 -- a deleted entry, or that of the parent (4/14.4.3)
 unfoldable pub isSkipped : FileIdentifierDescriptor → Bool
@@ -43,13 +43,13 @@ nameIn e = written (nameOf (e .recorded))
 abbrev pub inFront : Entry → Outcome (List Entry) → Outcome (List Entry)
 inFront e others = andThen others (λ es. answered (e ∷ es))
 
--- the entries of s behind its first k bytes: one is read while 38 bytes remain, and a bad one refuses the directory
-unfoldable pub entriesFrom : ℕ → List ℕ → Outcome (List Entry)
-entriesFrom k [] = answered []
-entriesFrom (suc k) (b ∷ s) = entriesFrom k s
-entriesFrom zero (b ∷ s) =
+-- the entries of s behind its first k bytes: one is read while 38 bytes remain, and a bad one, deleted or not, refuses the directory
+unfoldable pub entriesFrom : Bool → ℕ → List ℕ → Outcome (List Entry)
+entriesFrom check k [] = answered []
+entriesFrom check (suc k) (b ∷ s) = entriesFrom check k s
+entriesFrom check zero (b ∷ s) =
     pick (ltb (length (b ∷ s)) 38) (answered [])
-    (andThen (entryRead (b ∷ s)) (λ e. inFront e (entriesFrom (nextAt (b ∷ s) - 1) s)))
+    (andThen (entryRead check (b ∷ s)) (λ e. inFront e (entriesFrom check (nextAt (b ∷ s) - 1) s)))
 
-unfoldable pub entries : List ℕ → Outcome (List Entry)
-entries s = entriesFrom 0 s
+unfoldable pub entries : Bool → List ℕ → Outcome (List Entry)
+entries check s = entriesFrom check 0 s

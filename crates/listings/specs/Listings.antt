@@ -39,8 +39,8 @@ records [] = []
 records (e ∷ es) = shown e ++ records es
 
 -- a bad entry refuses it
-unfoldable pub listing : List ℕ → Outcome (List ℕ)
-listing s = andThen (entries s) (λ es. answered (records es))
+unfoldable pub listing : Bool → List ℕ → Outcome (List ℕ)
+listing check s = andThen (entries check s) (λ es. answered (records es))
 
 -- ---- the entries of a name
 
@@ -75,8 +75,8 @@ chosen AsWritten (e ∷ f ∷ es) = answered (some e)
 chosen Unambiguous (e ∷ f ∷ es) = refused Ambiguous
 
 -- the whole directory is parsed before a name is matched
-unfoldable pub findIn : Matching → List ℕ → List ℕ → Outcome (Option Entry)
-findIn m component s = andThen (entries s) (λ es. chosen m (allNamed (foldIn m) component es))
+unfoldable pub findIn : Bool → Matching → List ℕ → List ℕ → Outcome (Option Entry)
+findIn check m component s = andThen (entries check s) (λ es. chosen m (allNamed (foldIn m) component es))
 
 -- the first of the entries that match: what the first two choices take
 unfoldable pub firstNamed : (ℕ → ℕ) → List ℕ → List Entry → Option Entry

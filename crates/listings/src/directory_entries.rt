@@ -26,11 +26,11 @@ use records::bytes::byte_at;
 const HEAD: usize = 21;
 
 // Reads the entry that stands at `at` in a directory's bytes: the cursor of the passes that check.
-pub(crate) fn entry_at(raw: &[u8], at: usize) -> IdentifierRead
+pub(crate) fn entry_at(check: bool, raw: &[u8], at: usize) -> IdentifierRead
     requires { ⌜ at + 38 ≤ length (now raw) ⌝ }
-    ensures { λ r. ⌜ Comes (now (raw .entry)) at r ⌝ }
+    ensures { λ r. ⌜ Comes check (now (raw .entry)) at r ⌝ }
 {
-    FileIdentifierDescriptor::parse(&raw[at..])
+    FileIdentifierDescriptor::parse(check, &raw[at..])
 }
 
 // Whether an entry of these characteristics is left out of listings and lookups: it is deleted, or the parent's.

@@ -84,13 +84,13 @@ fn noted(
 }
 
 // The entry of a name in a directory's bytes. One bad entry refuses the directory, so that the walk goes on past the entry.
-pub fn find(matching: Matching, raw: &[u8], component: &[u8]) -> Named
-    ensures { λ r. ⌜ r ≡ namedOf (findIn matching (now (component .entry)) (now (raw .entry))) ⌝ }
+pub fn find(check: bool, matching: Matching, raw: &[u8], component: &[u8]) -> Named
+    ensures { λ r. ⌜ r ≡ namedOf (findIn check matching (now (component .entry)) (now (raw .entry))) ⌝ }
 {
     let mut found = no_entry(0);
     let mut at: usize = 0;
     while at + LEAST_SIZE <= raw.len() {
-        let r = entry_at(raw, at);
+        let r = entry_at(check, raw, at);
         if r.answer != DONE {
             return no_entry(r.answer);
         }

@@ -1,5 +1,6 @@
 // A directory's listing: a record for each entry that is not skipped.
 ghost use mathlib.Core.Path.{_≡_};
+ghost use mathlib.Core.Bool.{false};
 ghost use mathlib.Core.List.{List};
 ghost use lib.ListN.{length};
 ghost use Rattle.disc.specs.Ran.{told};
@@ -24,13 +25,13 @@ pub struct ListingSize {
     pub size: usize,
 }
 
-fn measure(raw: &[u8]) -> ListingSize
-    ensures { λ r. ⌜ r ≡ sizeOfListing (entries (now (raw .entry))) ⌝ }
+fn measure(check: bool, raw: &[u8]) -> ListingSize
+    ensures { λ r. ⌜ r ≡ sizeOfListing (entries check (now (raw .entry))) ⌝ }
 {
     let mut n: usize = 0;
     let mut at: usize = 0;
     while at + LEAST_SIZE <= raw.len() {
-        let r = entry_at(raw, at);
+        let r = entry_at(check, raw, at);
         if r.answer != DONE {
             return ListingSize {
                 answer: r.answer,
@@ -50,7 +51,7 @@ fn measure(raw: &[u8]) -> ListingSize
 // Writes the records of the entries over out, each behind the one before. The entries are not checked again, so what is lent is the room
 // that was measured, and nothing behind it can be written, whatever the bytes are by now.
 fn put_entries(raw: &[u8], out: &mut [u8])
-    ensures { λ _. ⌜ ((es : List Entry) → entries (now (raw .entry)) ≡ answered es → length (records es) ≡ length (now (out .entry)) → now (out .exit) ≡ records es) ⌝ }
+    ensures { λ _. ⌜ ((es : List Entry) → entries false (now (raw .entry)) ≡ answered es → length (records es) ≡ length (now (out .entry)) → now (out .exit) ≡ records es) ⌝ }
 {
     let mut n: usize = 0;
     let mut at: usize = 0;
@@ -62,10 +63,10 @@ fn put_entries(raw: &[u8], out: &mut [u8])
 }
 
 // The listing of a directory's bytes over the front of out.
-pub fn list(raw: &[u8], out: &mut [u8]) -> Reply
-    ensures { λ r. ⌜ Replied NoRoom (told (listing (now (raw .entry)))) (now (out .entry)) (now (out .exit)) r ⌝ }
+pub fn list(check: bool, raw: &[u8], out: &mut [u8]) -> Reply
+    ensures { λ r. ⌜ Replied NoRoom (told (listing check (now (raw .entry)))) (now (out .entry)) (now (out .exit)) r ⌝ }
 {
-    let m = measure(raw);
+    let m = measure(check, raw);
     if m.answer != DONE {
         return refusal(m.answer, 0);
     }

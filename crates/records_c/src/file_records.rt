@@ -1,5 +1,6 @@
 // File structure: the ICB tag, the entry of a file, and the entry of a directory.
 ghost use mathlib.Core.Path.{_≡_};
+ghost use mathlib.Core.Bool.{false};
 ghost use Rattle.entries.specs.Answers.{noIcbTag, icbTagAnswer, entryAnswer};
 ghost use Rattle.entries.specs.FileEntries.{readEntry};
 ghost use Rattle.entries.specs.IcbTags.{readIcbTag};
@@ -162,9 +163,9 @@ fn no_fields() -> EntryFields
 
 #[no_mangle]
 pub extern "C" fn records_parse_file_entry(bytes: &[u8]) -> EntryAnswer
-    ensures { λ r. ⌜ r ≡ shown (entryAnswer (readEntry (now (bytes .entry)))) ⌝ }
+    ensures { λ r. ⌜ r ≡ shown (entryAnswer (readEntry false (now (bytes .entry)))) ⌝ }
 {
-    match FileEntry::parse(bytes) {
+    match FileEntry::parse(false, bytes) {
         EntryRead::Read(e) => EntryAnswer {
             answer: DONE,
             value: fields_of(e),
@@ -178,7 +179,7 @@ pub extern "C" fn records_parse_file_entry(bytes: &[u8]) -> EntryAnswer
 
 #[no_mangle]
 pub extern "C" fn records_parse_file_identifier(bytes: &[u8]) -> IdentifierRead
-    ensures { λ r. ⌜ r ≡ identifierRead (readIdentifier (now (bytes .entry))) ⌝ }
+    ensures { λ r. ⌜ r ≡ identifierRead (readIdentifier false (now (bytes .entry))) ⌝ }
 {
-    FileIdentifierDescriptor::parse(bytes)
+    FileIdentifierDescriptor::parse(false, bytes)
 }

@@ -1,10 +1,13 @@
-// The descriptor tag, and the header of an allocation extent.
+// The descriptor tag, its CRC, and the header of an allocation extent.
 //
-// A tag is refused unless its id is 1 to 9 or 256 to 266, its reserved byte 0 and its checksum right; the CRC isn't checked. Encoding takes
-// any id, and makes the checksum. A header is a tag with id 258 and two numbers.
+// A tag is refused unless its id is 1 to 9 or 256 to 266, its reserved byte 0 and its checksum right; the CRC is checked by
+// records_tag_body alone. Encoding takes any id, and makes the checksum. A header is a tag with id 258 and two numbers.
 ghost use mathlib.Core.Path.{_≡_};
+ghost use mathlib.Core.Bool.{false};
+ghost use Rattle.crcs.specs.Crcs.{crcOf};
 ghost use Rattle.tags.specs.Answers.{tagAnswer, aedAnswer};
-ghost use Rattle.tags.specs.Tags.{readTag, encodeTag, inPlace, readAed, encodeAed};
+ghost use Rattle.tags.specs.Tags.{readTag, encodeTag, inPlace, bodyRight, readAed, encodeAed};
+use crcs::crc;
 use disc::answers::DONE;
 use disc::places::Block;
 use disc::places::Sector;
@@ -71,11 +74,28 @@ pub extern "C" fn records_tag_in_place(tag: DescriptorTag, sector: u64, block: u
     tag.is_in_place(Sector(sector), Block(block))
 }
 
+// The CRC of `bytes`, which a tag has of its descriptor's body: x^16 + x^12 + x^5 + 1, starting at 0, the highest bit of a byte first.
+#[no_mangle]
+pub extern "C" fn records_crc(bytes: &[u8]) -> u16
+    ensures { λ r. ⌜ r ≡ crcOf (now (bytes .entry)) ⌝ }
+{
+    crc(bytes)
+}
+
+// The body check: `bytes` are those at hand from the descriptor on, with its tag in the first 16. Whether they hold as many behind these as the
+// tag's CRC length says, and these have the tag's CRC. A CRC length of 0 has the CRC 0.
+#[no_mangle]
+pub extern "C" fn records_tag_body(tag: DescriptorTag, bytes: &[u8]) -> bool
+    ensures { λ r. ⌜ r ≡ bodyRight (now (bytes .entry)) tag ⌝ }
+{
+    tag.has_right_body(bytes)
+}
+
 #[no_mangle]
 pub extern "C" fn records_parse_aed(bytes: &[u8]) -> AedAnswer
-    ensures { λ r. ⌜ record { number = r .answer; value = r .value } ≡ aedAnswer (readAed (now (bytes .entry))) ⌝ }
+    ensures { λ r. ⌜ record { number = r .answer; value = r .value } ≡ aedAnswer (readAed false (now (bytes .entry))) ⌝ }
 {
-    match AllocationExtentDescriptor::parse(bytes) {
+    match AllocationExtentDescriptor::parse(false, bytes) {
         AedRead::Header(value) => AedAnswer {
             answer: DONE,
             value,

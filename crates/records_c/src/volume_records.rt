@@ -3,6 +3,7 @@
 // Each begins with a tag that has its id (2, 1, 5, 6, 256). The identifiers are d-string fields as they are recorded; one that can't be decoded
 // is refused.
 ghost use mathlib.Core.Path.{_≡_};
+ghost use mathlib.Core.Bool.{false};
 ghost use Rattle.descriptors.specs.Answers.{anchorAnswer, partitionAnswer};
 ghost use Rattle.descriptors.specs.FileSets.{readFileSet, fileSetRead};
 ghost use Rattle.descriptors.specs.Volumes.{readAnchor, readPrimary, primaryRead, readPartition, readLogical, logicalRead};
@@ -34,9 +35,9 @@ pub struct PartitionAnswer {
 
 #[no_mangle]
 pub extern "C" fn records_parse_anchor(bytes: &[u8]) -> AnchorAnswer
-    ensures { λ r. ⌜ record { number = r .answer; value = r .value } ≡ anchorAnswer (readAnchor (now (bytes .entry))) ⌝ }
+    ensures { λ r. ⌜ record { number = r .answer; value = r .value } ≡ anchorAnswer (readAnchor false (now (bytes .entry))) ⌝ }
 {
-    match AnchorVolumeDescriptorPointer::parse(bytes) {
+    match AnchorVolumeDescriptorPointer::parse(false, bytes) {
         AnchorRead::Read(value) => AnchorAnswer {
             answer: DONE,
             value,
@@ -60,16 +61,16 @@ pub extern "C" fn records_parse_anchor(bytes: &[u8]) -> AnchorAnswer
 
 #[no_mangle]
 pub extern "C" fn records_parse_primary_volume(bytes: &[u8]) -> PrimaryRead
-    ensures { λ r. ⌜ r ≡ primaryRead (readPrimary (now (bytes .entry))) ⌝ }
+    ensures { λ r. ⌜ r ≡ primaryRead (readPrimary false (now (bytes .entry))) ⌝ }
 {
-    PrimaryVolumeDescriptor::parse(bytes)
+    PrimaryVolumeDescriptor::parse(false, bytes)
 }
 
 #[no_mangle]
 pub extern "C" fn records_parse_partition(bytes: &[u8]) -> PartitionAnswer
-    ensures { λ r. ⌜ record { number = r .answer; value = r .value } ≡ partitionAnswer (readPartition (now (bytes .entry))) ⌝ }
+    ensures { λ r. ⌜ record { number = r .answer; value = r .value } ≡ partitionAnswer (readPartition false (now (bytes .entry))) ⌝ }
 {
-    match PartitionDescriptor::parse(bytes) {
+    match PartitionDescriptor::parse(false, bytes) {
         PartitionRead::Read(value) => PartitionAnswer {
             answer: DONE,
             value,
@@ -90,14 +91,14 @@ pub extern "C" fn records_parse_partition(bytes: &[u8]) -> PartitionAnswer
 
 #[no_mangle]
 pub extern "C" fn records_parse_logical_volume(bytes: &[u8]) -> LogicalRead
-    ensures { λ r. ⌜ r ≡ logicalRead (readLogical (now (bytes .entry))) ⌝ }
+    ensures { λ r. ⌜ r ≡ logicalRead (readLogical false (now (bytes .entry))) ⌝ }
 {
-    LogicalVolumeDescriptor::parse(bytes)
+    LogicalVolumeDescriptor::parse(false, bytes)
 }
 
 #[no_mangle]
 pub extern "C" fn records_parse_file_set(bytes: &[u8]) -> FileSetRead
-    ensures { λ r. ⌜ r ≡ fileSetRead (readFileSet (now (bytes .entry))) ⌝ }
+    ensures { λ r. ⌜ r ≡ fileSetRead (readFileSet false (now (bytes .entry))) ⌝ }
 {
-    FileSetDescriptor::parse(bytes)
+    FileSetDescriptor::parse(false, bytes)
 }

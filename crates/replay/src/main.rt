@@ -221,6 +221,7 @@ fn volume_in(head: &[u8]) -> Volume {
         mount: Mount {
             start: le32(head, 0),
             partition: le16(head, 4),
+            checked: 0,
         },
         root: long_at(head, 6),
         label: [0; 32],

@@ -185,18 +185,18 @@ fn show_header(r: AedRead) {
 fn bad_header() {
     let mut bytes = header_with(258).encode();
     bytes[4] = 0;
-    show_header(AllocationExtentDescriptor::parse(&bytes));
+    show_header(AllocationExtentDescriptor::parse(false, &bytes));
 }
 
 // A header of 24 bytes, one byte short, under other ids, and with a bad checksum.
 pub(crate) fn headers() {
     let good = header_with(258).encode();
-    show_header(AllocationExtentDescriptor::parse(&good));
-    show_header(AllocationExtentDescriptor::parse(&good[0..23]));
+    show_header(AllocationExtentDescriptor::parse(false, &good));
+    show_header(AllocationExtentDescriptor::parse(false, &good[0..23]));
     let other = header_with(257).encode();
-    show_header(AllocationExtentDescriptor::parse(&other));
+    show_header(AllocationExtentDescriptor::parse(false, &other));
     let unlisted = header_with(267).encode();
-    show_header(AllocationExtentDescriptor::parse(&unlisted));
+    show_header(AllocationExtentDescriptor::parse(false, &unlisted));
     bad_header();
 }
 

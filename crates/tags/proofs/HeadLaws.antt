@@ -11,9 +11,10 @@ use Rattle.disc.specs.Choice.{pick}
 use Rattle.disc.specs.Ask.{Outcome}
 use Rattle.disc.specs.Ask.Outcome.{answered, refused}
 use Rattle.disc.specs.declared.refusals.Refusal.{Refusal}
-use Rattle.disc.specs.declared.refusals.Refusal.the-variants.{Malformed}
+use Rattle.disc.specs.declared.refusals.Refusal.the-variants.{Malformed, BadCrc}
+use Rattle.disc.proofs.PickLaws.{not-both}
 use Rattle.records.specs.Bytes.{u32at}
-use Rattle.tags.specs.Tags.{accepted, tagOf, readTag, withId, readHead, gated, aedAfter, readAed}
+use Rattle.tags.specs.Tags.{accepted, tagOf, readTag, bodyRight, withBody, withId, readHead, gated, aedAfter, readAed}
 use Rattle.tags.specs.declared.DescriptorTag.{DescriptorTag}
 use Rattle.tags.specs.declared.TagRead.{TagRead}
 use Rattle.tags.specs.declared.TagRead.the-variants.{Read, Refused}
@@ -45,106 +46,143 @@ module _ (id : ℕ) {r : TagRead} where
     unfolding withId
     id-same h = rw (e, eq-eqb (t .id) id h)
 
+-- ---- the returns of `with_body`
+
+module _ (check : Bool) (s : List ℕ) {r : TagRead} where
+  pub body-refused : {why : Refusal} → r ≡ Refused why → Refused why ≡ withBody check s r
+  unfolding withBody
+  body-refused e = rw e
+
+  module _ {t : DescriptorTag} (e : r ≡ Read t) where
+    pub body-unchecked : check ≡ false → Read t ≡ withBody check s r
+    unfolding withBody
+    body-unchecked h = rw (e, h)
+
+    pub body-right : check ≡ true → {b : Bool} → b ≡ bodyRight s t → b ≡ true → Read t ≡ withBody check s r
+    unfolding withBody
+    body-right h k z = rw (e, h, ← k, z)
+
+    pub body-wrong : check ≡ true → {b : Bool} → b ≡ bodyRight s t → b ≡ false → Refused BadCrc ≡ withBody check s r
+    unfolding withBody
+    body-wrong h k z = rw (e, h, ← k, z)
+
 -- ---- the returns of `read_head`
 
-module _ (s : List ℕ) (id size : ℕ) where
-  pub head-short : length s < size → Refused Malformed ≡ readHead s id size
+module _ (check : Bool) (s : List ℕ) (id size : ℕ) where
+  pub head-short : length s < size → Refused Malformed ≡ readHead check s id size
   unfolding readHead
   head-short h = rw (lt-leb size (length s) h)
 
-  pub head-whole : size ≤ length s → {r x : TagRead} → r ≡ readTag s → x ≡ withId id r → x ≡ readHead s id size
+  pub head-whole : size ≤ length s → {r x y : TagRead} → r ≡ readTag s → x ≡ withBody check s r → y ≡ withId id x → y ≡ readHead check s id size
   unfolding readHead
-  head-whole h e k = k ∙ rw (le-leb size (length s) h, e)
+  head-whole h e f k = k ∙ rw (le-leb size (length s) h, f, e)
 
   -- ---- what its answer tells
 
-  -- a descriptor that passed: its bytes are there, and the tag is the one at the front, with the id
+  -- a descriptor that passed: its bytes are there, and the tag is the one at the front, with the id, and where bodies are checked with a right one
   pub record Passed (t : DescriptorTag) : Type 0 where
     pub long : size ≤ length s
     pub tag : readTag s ≡ Read t
+    pub body : check ≡ true → bodyRight s t ≡ true
     pub is : t .id ≡ id
 
-  pub head-read : {t : DescriptorTag} → readHead s id size ≡ Read t → Passed t
-  unfolding readHead withId
+  pub head-read : {t : DescriptorTag} → readHead check s id size ≡ Read t → Passed t
+  unfolding readHead withId withBody
   head-read {t} e = told (leb size (length s)) (readTag s) refl refl e
     where
-      same : (b : Bool) (u : DescriptorTag) → eqb (u .id) id ≡ b → leb size (length s) ≡ true → readTag s ≡ Read u → pick b (Read u) (Refused Malformed) ≡ Read t → Passed t
-      same true u f l g k =
+      same : (b : Bool) (u : DescriptorTag) → eqb (u .id) id ≡ b → leb size (length s) ≡ true → readTag s ≡ Read u → (check ≡ true → bodyRight s u ≡ true)
+          → pick b (Read u) (Refused Malformed) ≡ Read t → Passed t
+      same true u f l g q k =
           let p : u ≡ t = cc in
-          record { long = leb-true size (length s) l; tag = rw p at g; is = rw p at (eqb-true (u .id) id f) }
-      same false u f l g k = absurd (let z : _≡_ {A = ℕ} 0 1 = cc in omega arith)
+          record { long = leb-true size (length s) l; tag = rw p at g; body = λ c. rw p at (q c); is = rw p at (eqb-true (u .id) id f) }
+      same false u f l g q k = absurd (let z : _≡_ {A = ℕ} 0 1 = cc in omega arith)
 
-      told : (a : Bool) (r : TagRead) → leb size (length s) ≡ a → readTag s ≡ r → pick a (withId id r) (Refused Malformed) ≡ Read t → Passed t
-      told true (Read u) l g k = same (eqb (u .id) id) u refl l g k
+      held : (c b : Bool) (u : DescriptorTag) → check ≡ c → bodyRight s u ≡ b → leb size (length s) ≡ true → readTag s ≡ Read u
+          → withId id (pick c (pick b (Read u) (Refused BadCrc)) (Read u)) ≡ Read t → Passed t
+      held true true u f h l g k = same (eqb (u .id) id) u refl l g (λ c. h) k
+      held true false u f h l g k = absurd (let z : _≡_ {A = ℕ} 0 1 = cc in omega arith)
+      held false b u f h l g k = same (eqb (u .id) id) u refl l g (λ c. not-both (sym f ∙ c)) k
+
+      told : (a : Bool) (r : TagRead) → leb size (length s) ≡ a → readTag s ≡ r → pick a (withId id (withBody check s r)) (Refused Malformed) ≡ Read t → Passed t
+      told true (Read u) l g k = held check (bodyRight s u) u refl refl l g k
       told true (Refused w) l g k = absurd (let z : _≡_ {A = ℕ} 0 1 = cc in omega arith)
       told false r l g k = absurd (let z : _≡_ {A = ℕ} 0 1 = cc in omega arith)
 
   -- the same as a caller of `read_head` has it
-  pub head-long : {x : TagRead} {t : DescriptorTag} → x ≡ readHead s id size → x ≡ Read t → size ≤ length s
+  pub head-long : {x : TagRead} {t : DescriptorTag} → x ≡ readHead check s id size → x ≡ Read t → size ≤ length s
   head-long e h = head-read (sym e ∙ h) .long
 
-  -- every refusal is `Malformed`
-  pub head-refused : {why : Refusal} → readHead s id size ≡ Refused why → why ≡ Malformed
-  unfolding readHead withId
-  head-refused {why} e = told (leb size (length s)) (readTag s) refl e
+  -- every refusal is `Malformed`, or where bodies are checked `BadCrc`
+  pub head-refused : (P : Refusal → Type 0) → P Malformed → (check ≡ true → P BadCrc) → {why : Refusal} → readHead check s id size ≡ Refused why → P why
+  unfolding readHead withId withBody
+  head-refused P bad crc {why} e = told (leb size (length s)) (readTag s) refl e
     where
-      same : (b : Bool) (u : DescriptorTag) → pick b (Read u) (Refused Malformed) ≡ Refused why → why ≡ Malformed
-      same true u k = absurd (let z : _≡_ {A = ℕ} 0 1 = cc in omega arith)
-      same false u k = cc
+      is : {w : Refusal} → P w → w ≡ why → P why
+      is p f = rw f at p
 
-      told : (a : Bool) (r : TagRead) → readTag s ≡ r → pick a (withId id r) (Refused Malformed) ≡ Refused why → why ≡ Malformed
-      told true (Read u) g k = same (eqb (u .id) id) u k
-      told true (Refused w) g k = let p : w ≡ why = cc in tag-refused s (rw p at g)
-      told false r g k = cc
+      same : (b : Bool) (u : DescriptorTag) → pick b (Read u) (Refused Malformed) ≡ Refused why → P why
+      same true u k = absurd (let z : _≡_ {A = ℕ} 0 1 = cc in omega arith)
+      same false u k = is bad cc
+
+      held : (c b : Bool) (u : DescriptorTag) → check ≡ c → withId id (pick c (pick b (Read u) (Refused BadCrc)) (Read u)) ≡ Refused why → P why
+      held true true u f k = same (eqb (u .id) id) u k
+      held true false u f k = is (crc f) cc
+      held false b u f k = same (eqb (u .id) id) u k
+
+      told : (a : Bool) (r : TagRead) → readTag s ≡ r → pick a (withId id (withBody check s r)) (Refused Malformed) ≡ Refused why → P why
+      told true (Read u) g k = held check (bodyRight s u) u refl k
+      told true (Refused w) g k = let p : w ≡ why = cc in is bad (sym (tag-refused s (rw p at g)))
+      told false r g k = is bad cc
 
 -- ---- behind the gate
 
-module _ {A : Type 0} (s : List ℕ) (id size : ℕ) (f : DescriptorTag → Outcome A) where
+module _ {A : Type 0} (check : Bool) (s : List ℕ) (id size : ℕ) (f : DescriptorTag → Outcome A) where
   -- an answer: the gate was passed with a tag
   pub record Behind (a : A) : Type 0 where
     pub tag : DescriptorTag
-    pub head : Passed s id size tag
+    pub head : Passed check s id size tag
     pub is : f tag ≡ answered a
 
-  pub gated-answered : {a : A} → gated (readHead s id size) f ≡ answered a → Behind a
-  gated-answered {a} e = told (readHead s id size) refl e
+  pub gated-answered : {a : A} → gated (readHead check s id size) f ≡ answered a → Behind a
+  gated-answered {a} e = told (readHead check s id size) refl e
     where
-      told : (h : TagRead) → readHead s id size ≡ h → gated h f ≡ answered a → Behind a
-      told (Read t) g k = record { tag = t; head = head-read s id size g; is = k }
+      told : (h : TagRead) → readHead check s id size ≡ h → gated h f ≡ answered a → Behind a
+      told (Read t) g k = record { tag = t; head = head-read check s id size g; is = k }
       told (Refused w) g k = absurd (let z : _≡_ {A = ℕ} 0 1 = cc in omega arith)
 
-  -- a refusal: it is `Malformed` where what stands behind refuses by nothing else
-  pub gated-refused : {why : Refusal} → ((t : DescriptorTag) → f t ≡ refused why → why ≡ Malformed) → gated (readHead s id size) f ≡ refused why → why ≡ Malformed
-  gated-refused {why} n e = told (readHead s id size) refl e
+  -- a refusal: one of the gate's, or of what stands behind it
+  pub gated-refused : (P : Refusal → Type 0) → P Malformed → (check ≡ true → P BadCrc) → {why : Refusal} → ((t : DescriptorTag) → f t ≡ refused why → P why)
+      → gated (readHead check s id size) f ≡ refused why → P why
+  gated-refused P bad crc {why} n e = told (readHead check s id size) refl e
     where
-      told : (h : TagRead) → readHead s id size ≡ h → gated h f ≡ refused why → why ≡ Malformed
+      told : (h : TagRead) → readHead check s id size ≡ h → gated h f ≡ refused why → P why
       told (Read t) g k = n t k
-      told (Refused w) g k = let p : w ≡ why = cc in head-refused s id size (rw p at g)
+      told (Refused w) g k = let p : w ≡ why = cc in head-refused check s id size P bad crc (rw p at g)
 
 -- ---- the header of an allocation extent
 
-module _ (s : List ℕ) where
-  module _ {x : TagRead} (e : x ≡ readHead s 258 24) where
-    pub aed-no : {why : Refusal} → x ≡ Refused why → NoHeader why ≡ readAed s
+module _ (check : Bool) (s : List ℕ) where
+  module _ {x : TagRead} (e : x ≡ readHead check s 258 24) where
+    pub aed-no : {why : Refusal} → x ≡ Refused why → NoHeader why ≡ readAed check s
     unfolding readAed aedAfter
     aed-no h = rw (← e, h)
 
     pub aed-yes : {t : DescriptorTag} {a b : ℕ} → x ≡ Read t → a ≡ u32at s 16 → b ≡ u32at s 20
-        → Header (record { tag = t; «previous_allocation_extent_location» = a; «length_of_allocation_descriptors» = b }) ≡ readAed s
+        → Header (record { tag = t; «previous_allocation_extent_location» = a; «length_of_allocation_descriptors» = b }) ≡ readAed check s
     unfolding readAed aedAfter
     aed-yes h p q = rw (← e, h, p, q)
 
   -- a header that was read: the gate was passed with its tag, and its numbers are those of the bytes
   pub record ReadHeader (a : AllocationExtentDescriptor) : Type 0 where
-    pub head : readHead s 258 24 ≡ Read (a .tag)
+    pub head : readHead check s 258 24 ≡ Read (a .tag)
     pub previous : a .«previous_allocation_extent_location» ≡ u32at s 16
     pub area : a .«length_of_allocation_descriptors» ≡ u32at s 20
 
-  pub aed-read : {r : AedRead} {a : AllocationExtentDescriptor} → r ≡ readAed s → r ≡ Header a → ReadHeader a
+  pub aed-read : {r : AedRead} {a : AllocationExtentDescriptor} → r ≡ readAed check s → r ≡ Header a → ReadHeader a
   unfolding readAed aedAfter
-  aed-read {r} {a} e h = told (readHead s 258 24) refl (sym e ∙ h)
+  aed-read {r} {a} e h = told (readHead check s 258 24) refl (sym e ∙ h)
     where
-      told : (x : TagRead) → readHead s 258 24 ≡ x → aedAfter s x ≡ Header a → ReadHeader a
+      told : (x : TagRead) → readHead check s 258 24 ≡ x → aedAfter s x ≡ Header a → ReadHeader a
       told (Refused w) g k = absurd (let z : _≡_ {A = ℕ} 0 1 = cc in omega arith)
       told (Read t) g k =
           let p : record { tag = t; «previous_allocation_extent_location» = u32at s 16; «length_of_allocation_descriptors» = u32at s 20 } ≡ a = cc in
@@ -154,11 +192,11 @@ module _ (s : List ℕ) where
             area = sym (ap (λ (x : AllocationExtentDescriptor). x .«length_of_allocation_descriptors») p);
           }
 
-  -- and one that was refused is malformed
-  pub aed-refused : {r : AedRead} {why : Refusal} → r ≡ readAed s → r ≡ NoHeader why → why ≡ Malformed
+  -- and one that was refused is refused as the gate refuses
+  pub aed-refused : (P : Refusal → Type 0) → P Malformed → (check ≡ true → P BadCrc) → {r : AedRead} {why : Refusal} → r ≡ readAed check s → r ≡ NoHeader why → P why
   unfolding readAed aedAfter
-  aed-refused {r} {why} e h = told (readHead s 258 24) refl (sym e ∙ h)
+  aed-refused P bad crc {r} {why} e h = told (readHead check s 258 24) refl (sym e ∙ h)
     where
-      told : (x : TagRead) → readHead s 258 24 ≡ x → aedAfter s x ≡ NoHeader why → why ≡ Malformed
-      told (Refused w) g k = let p : w ≡ why = cc in head-refused s 258 24 (rw p at g)
+      told : (x : TagRead) → readHead check s 258 24 ≡ x → aedAfter s x ≡ NoHeader why → P why
+      told (Refused w) g k = let p : w ≡ why = cc in head-refused check s 258 24 P bad crc (rw p at g)
       told (Read t) g k = absurd (let z : _≡_ {A = ℕ} 0 1 = cc in omega arith)

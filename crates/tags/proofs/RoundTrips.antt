@@ -13,7 +13,7 @@ use Rattle.disc.proofs.ByteLaws.{Bytes}
 use Rattle.disc.proofs.PickLaws.{picked}
 use Rattle.disc.specs.declared.refusals.Refusal.the-variants.{Malformed}
 use Rattle.records.specs.Bytes.{byte, u16at, le32}
-use Rattle.tags.specs.Tags.{listed, checksum, accepted, tagOf, readTag, tagBytes, encodeTag, withId, readHead, aedAfter, readAed, encodeAed}
+use Rattle.tags.specs.Tags.{listed, checksum, accepted, tagOf, readTag, tagBytes, encodeTag, withBody, withId, readHead, aedAfter, readAed, encodeAed}
 use Rattle.tags.specs.Values.{TagValue, AedValue}
 use Rattle.tags.specs.declared.DescriptorTag.{DescriptorTag}
 use Rattle.tags.specs.declared.TagRead.{TagRead}
@@ -97,11 +97,15 @@ module _ (a : AllocationExtentDescriptor) (h : AedValue a) where
   numbers = le32 (a .«previous_allocation_extent_location») ++ le32 (a .«length_of_allocation_descriptors»)
 
   -- by what its tag is read as
-  by-tag : {r : TagRead} → readTag (encodeAed a) ≡ r → readAed (encodeAed a) ≡ aedAfter (encodeAed a) (withId 258 r)
-  unfolding readAed readHead
-  by-tag e = ap (λ (r : TagRead). aedAfter (encodeAed a) (withId 258 r)) e
+  by-tag : {r : TagRead} → readTag (encodeAed a) ≡ r → readAed false (encodeAed a) ≡ aedAfter (encodeAed a) (withId 258 r)
+  unfolding readAed readHead withBody
+  by-tag {r} e = ap (λ (x : TagRead). aedAfter (encodeAed a) (withId 258 (withBody false (encodeAed a) x))) e ∙ ap (λ (x : TagRead). aedAfter (encodeAed a) (withId 258 x)) (unchecked r)
+    where
+      unchecked : (x : TagRead) → withBody false (encodeAed a) x ≡ x
+      unchecked (Read t) = refl
+      unchecked (Refused w) = refl
 
-  pub aed-again : a .tag .id ≡ 258 → readAed (encodeAed a) ≡ Header a
+  pub aed-again : a .tag .id ≡ 258 → readAed false (encodeAed a) ≡ Header a
   unfolding aedAfter withId
   aed-again e =
       by-tag (tag-again (a .tag) numbers (h .tag) (ap listed e)) ∙ simp (eq-eqb (a .tag .id) 258 e) (λ i.
@@ -111,18 +115,18 @@ module _ (a : AllocationExtentDescriptor) (h : AedValue a) where
         «length_of_allocation_descriptors» = u32-le32 (a .«length_of_allocation_descriptors») (h .area) i;
       }))
 
-  pub aed-other : (a .tag .id ≡ 258 → ⊥) → readAed (encodeAed a) ≡ NoHeader Malformed
+  pub aed-other : (a .tag .id ≡ 258 → ⊥) → readAed false (encodeAed a) ≡ NoHeader Malformed
   unfolding aedAfter withId
   aed-other n = by (listed (a .tag .id)) refl
     where
-      by : (b : Bool) → listed (a .tag .id) ≡ b → readAed (encodeAed a) ≡ NoHeader Malformed
+      by : (b : Bool) → listed (a .tag .id) ≡ b → readAed false (encodeAed a) ≡ NoHeader Malformed
       by true l = by-tag (tag-again (a .tag) numbers (h .tag) l) ∙ simp (ne-eqb (a .tag .id) 258 n)
       by false l = by-tag (tag-unlisted (a .tag) numbers (h .tag) l)
 
-pub aed-back : (s : List ℕ) → Bytes s → (a : AllocationExtentDescriptor) → readAed s ≡ Header a → encodeAed a ≡ take 24 s
-aed-back s h a e =
-    let q = aed-read s refl e in
-    let p = head-read s 258 24 (q .head) in
+pub aed-back : (check : Bool) (s : List ℕ) → Bytes s → (a : AllocationExtentDescriptor) → readAed check s ≡ Header a → encodeAed a ≡ take 24 s
+aed-back check s h a e =
+    let q = aed-read check s refl e in
+    let p = head-read check s 258 24 (q .head) in
     let r = read-only s (a .tag) (p .tag) in
     (λ i. (ap encodeTag (sym (r .2)) ∙ tag-bytes-back s h (r .1)) i ++ le32 (q .previous i) ++ le32 (q .area i))
     ∙ (λ i. from s 0 16 ++ le32-u32 s h 16 i ++ le32-u32 s h 20 i)

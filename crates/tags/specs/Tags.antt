@@ -1,14 +1,15 @@
--- The descriptor tag, 16 bytes (ECMA-167 3/7.2), and the header of an allocation extent, 24 (4/14.5): RULES 3.4 to 3.7, 3.14, 3.15 and 9.7.
+-- The descriptor tag, 16 bytes (ECMA-167 3/7.2), and the header of an allocation extent, 24 (4/14.5): RULES 3.4 to 3.7, 3.14, 3.15, 3.23, 3.24 and 9.7.
 use Prim.Native.Nat.{ℕ, _+_, _%_}
 use mathlib.Core.Bool.{Bool, false, _&&_, _||_}
 use mathlib.Core.List.{List, _∷_, _++_}
 use mathlib.Core.Option.{Option, none, some}
-use lib.ListN.{length}
+use lib.ListN.{length, take, drop}
 use lib.Dec.{leb, eqb}
 use Rattle.disc.specs.Choice.{pick}
 use Rattle.disc.specs.Ask.{Outcome}
 use Rattle.disc.specs.Ask.Outcome.{refused}
-use Rattle.disc.specs.declared.refusals.Refusal.the-variants.{Malformed}
+use Rattle.disc.specs.declared.refusals.Refusal.the-variants.{Malformed, BadCrc}
+use Rattle.crcs.specs.Crcs.{crcOf}
 use Rattle.records.specs.Bytes.{byte, u16at, u32at, le16, le32, sum4}
 use Rattle.tags.specs.declared.DescriptorTag.{DescriptorTag}
 use Rattle.tags.specs.declared.TagRead.{TagRead}
@@ -77,16 +78,28 @@ isPlace location (some n) = eqb location n
 unfoldable pub inPlace : DescriptorTag → ℕ → ℕ → Bool
 inPlace t sector block = isPlace (t .location) (placeOf (t .id) sector block)
 
+-- ---- the body
+
+-- a descriptor's body is right where as many bytes as its CRC length are at hand behind the tag, and have the CRC that the tag says (3/7.2.6, 3/7.2.7)
+unfoldable pub bodyRight : List ℕ → DescriptorTag → Bool
+bodyRight s t = leb (16 + t .«crc_length») (length s) && eqb (crcOf (take (t .«crc_length») (drop 16 s))) (t .crc)
+
 -- ---- the gate that every descriptor goes through
+
+-- a tag that was read, unless bodies are checked and the body behind it, in s, isn't right
+unfoldable pub withBody : Bool → List ℕ → TagRead → TagRead
+withBody check s (Refused r) = Refused r
+withBody check s (Read t) = pick check (pick (bodyRight s t) (Read t) (Refused BadCrc)) (Read t)
 
 -- a tag that was read, unless it has another id than the descriptor's (3/7.2.1, 4/7.2.1)
 unfoldable pub withId : ℕ → TagRead → TagRead
 withId id (Refused r) = Refused r
 withId id (Read t) = pick (eqb (t .id) id) (Read t) (Refused Malformed)
 
--- the tag of the descriptor at the front of s, which has this id and at least this many bytes: too few bytes, the tag's own refusals, another id
-unfoldable pub readHead : List ℕ → ℕ → ℕ → TagRead
-readHead s id size = pick (leb size (length s)) (withId id (readTag s)) (Refused Malformed)
+-- the tag of the descriptor at the front of s, which has this id and at least this many bytes: too few bytes, the tag's own refusals, where bodies
+-- are checked a wrong one, another id
+unfoldable pub readHead : Bool → List ℕ → ℕ → ℕ → TagRead
+readHead check s id size = pick (leb size (length s)) (withId id (withBody check s (readTag s))) (Refused Malformed)
 
 -- what stands behind the gate: a refusal of the gate passes through
 abbrev pub gated : {A : Type 0} → TagRead → (DescriptorTag → Outcome A) → Outcome A
@@ -100,8 +113,8 @@ unfoldable pub aedAfter : List ℕ → TagRead → AedRead
 aedAfter s (Refused r) = NoHeader r
 aedAfter s (Read t) = Header (record { tag = t; «previous_allocation_extent_location» = u32at s 16; «length_of_allocation_descriptors» = u32at s 20 })
 
-unfoldable pub readAed : List ℕ → AedRead
-readAed s = aedAfter s (readHead s 258 24)
+unfoldable pub readAed : Bool → List ℕ → AedRead
+readAed check s = aedAfter s (readHead check s 258 24)
 
 abbrev pub encodeAed : AllocationExtentDescriptor → List ℕ
 encodeAed a = encodeTag (a .tag) ++ le32 (a .«previous_allocation_extent_location») ++ le32 (a .«length_of_allocation_descriptors»)

@@ -1,4 +1,4 @@
-// Descriptor tags, the place check, the gate that every descriptor goes through, and the header of an allocation extent.
+// Descriptor tags, the place check, the body check, the gate that every descriptor goes through, and the header of an allocation extent.
 pub mod heads;
 
 ghost use mathlib.Core.Path.{_≡_};
@@ -7,8 +7,9 @@ ghost use Prim.Native.Nat.{_+_, _%_, _≤_, _<_};
 ghost use lib.ListN.{length};
 ghost use Rattle.records.specs.Bytes.{le32, sixteen, sum4};
 ghost use Rattle.tags.specs.Answers.{noTag};
-ghost use Rattle.tags.specs.Tags.{ofVolume, ofPartition, listed, checksum, accepted, tagOf, readTag, tagBytes, encodeTag, inPlace, readAed, encodeAed};
+ghost use Rattle.tags.specs.Tags.{ofVolume, ofPartition, listed, checksum, accepted, tagOf, readTag, tagBytes, encodeTag, inPlace, bodyRight, readAed, encodeAed};
 use crate::heads::read_head;
+use crcs::crc;
 use disc::places::Block;
 use disc::places::Sector;
 use disc::refusals::Refusal;
@@ -198,6 +199,18 @@ impl DescriptorTag {
         }
         false
     }
+
+    // The body check: whether the bytes at hand, of which this tag stands at the front, hold as many behind it as its CRC length says, and
+    // these have its CRC.
+    pub fn has_right_body(self, s: &[u8]) -> bool
+        ensures { λ r. ⌜ r ≡ bodyRight (now (s .entry)) self ⌝ }
+    {
+        let end = 16 + self.crc_length as usize;
+        if s.len() < end {
+            return false;
+        }
+        crc(&s[16..end]) == self.crc
+    }
 }
 
 // Of the header of an allocation extent, ECMA-167 4/14.5.
@@ -249,10 +262,10 @@ fn aed_bytes(h: [u8; 16], a: u32, b: u32) -> [u8; 24]
 }
 
 impl AllocationExtentDescriptor {
-    pub fn parse(s: &[u8]) -> AedRead
-        ensures { λ r. ⌜ r ≡ readAed (now (s .entry)) ⌝ }
+    pub fn parse(check: bool, s: &[u8]) -> AedRead
+        ensures { λ r. ⌜ r ≡ readAed check (now (s .entry)) ⌝ }
     {
-        match read_head(s, AED_ID, AED_SIZE) {
+        match read_head(check, s, AED_ID, AED_SIZE) {
             TagRead::Refused(why) => AedRead::NoHeader(why),
             TagRead::Read(t) => AedRead::Header(AllocationExtentDescriptor {
                 tag: t,

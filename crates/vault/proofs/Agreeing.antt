@@ -18,7 +18,7 @@ use Rattle.disc.specs.Images.{disc}
 use Rattle.disc.specs.Ran.{Ran, ran}
 use Rattle.disc.specs.Replies.{answerOf}
 use Rattle.disc.specs.declared.refusals.Refusal.{Refusal}
-use Rattle.disc.specs.declared.refusals.Refusal.the-variants.{Io, Malformed, NotBluray, Unsupported, NoRoom, NoWork, NoSlot, Ambiguous}
+use Rattle.disc.specs.declared.refusals.Refusal.the-variants.{Io, Malformed, NotBluray, Unsupported, NoRoom, NoWork, NoSlot, Ambiguous, BadCrc}
 use Rattle.disc.proofs.OnlyLaws.{Within, refuses-within}
 use Rattle.disc.proofs.RanLaws.{ran-then}
 use Rattle.disc.proofs.RefusalLaws.{refusal-numbered}
@@ -34,9 +34,8 @@ use Rattle.directories.proofs.LookupLaws.{look-is}
 use Rattle.directories.proofs.MatchingLaws.{only-agrees, written-agrees-only, ApartOn, IsLost, apart-only, apart-written-agrees, Doubles, doubles-refused, refused-doubles}
 use Rattle.volumes.specs.declared.openings.VolumeRecord.{VolumeRecord}
 use Rattle.vault.specs.Calls.{reading, seeking as seekingOf, finding, pathReading, cleared, worked, readsPath, looked, finds, lost as lostBy, fails, lostPlace, failsAt}
-use Rattle.vault.proofs.Exactly.{read-original}
 use Rattle.vault.proofs.Orders.{roomed, pathAnswer, read-path-order}
-use Rattle.vault.proofs.Refusing.{directory-only}
+use Rattle.vault.proofs.Refusing.{bytes-only, directory-only}
 use Rattle.vault.proofs.Soundness.{failed-sound}
 
 -- ---- which refusal has number 9
@@ -50,6 +49,11 @@ nine-is NoRoom e = absurd (omega arith)
 nine-is NoWork e = absurd (omega arith)
 nine-is NoSlot e = absurd (omega arith)
 nine-is Ambiguous e = refl
+nine-is BadCrc e = absurd (omega arith)
+
+-- every refusal but 9
+abbrev ButNine : Refusal → Type 0
+ButNine why = number why ≡ 9 → ⊥
 
 nine-walk : (o : Outcome Sought) → answerOf (andThen o icbOf) ≡ 9 → o ≡ refused Ambiguous
 nine-walk (answered (reached icb)) e = absurd (omega arith)
@@ -149,11 +153,12 @@ module _ (image : List ℕ) (v : VolumeRecord) (path work : List ℕ) where
   unfolding ran Within
   never-nine icb h =
       by (outcome (disc image) (directoryBytes (v .mount) (length work) icb)) h
-      (refuses-within (λ why. number why ≤ 6) (omega arith) (disc image) (directory-only (λ why. number why ≤ 6) (omega arith) (omega arith) (omega arith) (omega arith) (v .mount) (length work) icb))
+      (refuses-within ButNine (λ e. omega arith) (disc image)
+      (directory-only ButNine (λ e. omega arith) (λ e. omega arith) (λ e. omega arith) (λ e. omega arith) (v .mount) (λ c e. omega arith) (length work) icb))
     where
-      by : (o : Outcome (List ℕ)) → o ≡ refused Ambiguous → Within (λ why. number why ≤ 6) o → ⊥
+      by : (o : Outcome (List ℕ)) → o ≡ refused Ambiguous → Within ButNine o → ⊥
       by (answered b) h w = let z : _≡_ {A = ℕ} 0 1 = cc in omega arith
-      by (refused why) h w = let z : why ≡ Ambiguous = cc in let y = rw z at w in omega arith
+      by (refused why) h w = let z : why ≡ Ambiguous = cc in w (ap number z)
 
   pub lookup-9 : finds image v path Unambiguous work .found .answer ≡ 9 → SeveralOn
   unfolding seekPath
@@ -172,8 +177,8 @@ module _ (image : List ℕ) (v : VolumeRecord) (path work : List ℕ) where
   read-path-9 out h =
       lookup-9 (by (outcome (disc image) (finding v (length work) path Unambiguous)) (sym (read-path-order image v path Unambiguous out work) ∙ h))
     where
-      room : (o : Outcome (List ℕ)) → Within (λ why. number why ≤ 4) o → roomed (length out) o ≡ 9 → ⊥
-      room (refused why) w k = omega arith
+      room : (o : Outcome (List ℕ)) → Within ButNine o → roomed (length out) o ≡ 9 → ⊥
+      room (refused why) w k = w k
       room (answered b) w k = fits (leb (length b) (length out)) k
         where
           fits : (t : Bool) → _≡_ {A = ℕ} (pick t 0 5) 9 → ⊥
@@ -182,7 +187,7 @@ module _ (image : List ℕ) (v : VolumeRecord) (path work : List ℕ) where
 
       by : (o : Outcome LongAd) → pathAnswer (length out) o (λ icb. outcome (disc image) (reading v icb)) ≡ 9 → answerOf o ≡ 9
       by (refused why) k = k
-      by (answered icb) k = absurd (room (outcome (disc image) (reading v icb)) (read-original (disc image) v icb) k)
+      by (answered icb) k = absurd (room (outcome (disc image) (reading v icb)) (refuses-within ButNine (λ e. omega arith) (disc image) (bytes-only ButNine (λ e. omega arith) (λ e. omega arith) (v .mount) (λ c e. omega arith) icb)) k)
 
   -- and always then, after the sectors of the way to the directory and of its read; the component that failed is empty, and all else is as a refusal has it
   module _ (o : SeveralOn) where

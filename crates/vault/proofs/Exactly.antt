@@ -1,5 +1,5 @@
--- The table says "given exactly when". Memory aside, a call is refused by 1 to 4 alone, and one that takes a path, under the third choice of matching, by
--- 9 (Agreeing); so 5 is given exactly when the answer has more bytes than the
+-- The table says "given exactly when". Memory aside, a call is refused by 1 to 4 alone, where bodies are checked by 10 (Checking), and one that takes a
+-- path, under the third choice of matching, by 9 (Agreeing); so 5 is given exactly when the answer has more bytes than the
 -- output holds, 6 by a listing exactly when the directory's bytes exceed the work space, and 7 exactly when there are more extents than slots.
 -- Of 1, and of 6 along a path: Missing, Overflowing. Assumes nothing.
 use mathlib.Core.Path.{_≡_, refl, ap, _∙_}
@@ -12,6 +12,7 @@ use lib.ListN.{length}
 use lib.Dec.{eqb, leb}
 use borrow.Author.Tests.{ne-eqb}
 use Rattle.disc.specs.Choice.{pick}
+use Rattle.disc.specs.Places.{isChecked}
 use Rattle.disc.specs.Refusals.{number}
 use Rattle.disc.specs.Ask.{Disc, Outcome, outcome}
 use Rattle.disc.specs.Ask.Outcome.{answered, refused}
@@ -37,39 +38,50 @@ use Rattle.volumes.specs.declared.openings.VolumeRecord.{VolumeRecord}
 use Rattle.vault.proofs.Orders.{entriesAnswer, listingAnswer, slotted, extents-order, list-order}
 use Rattle.vault.proofs.Refusing.{bytes-only, part-only, list-only, opening-only, label-only, lookup-only, path-only, listing-only}
 
--- ---- memory aside, 1 to 4
+-- ---- memory aside, 1 to 4, and 10 where bodies are checked
 
--- the refusals of the original
-abbrev pub Original : Refusal → Type 0
-Original why = number why ≤ 4
+-- the refusals of the original, and of the check
+abbrev pub Original : Bool → Refusal → Type 0
+Original checked why = (number why ≤ 4) ⊎ ((checked ≡ true) × (number why ≡ 10))
 
 module _ (d : Disc) where
-  pub open-original : (how : How) → Within Original (outcome d (opening how))
-  open-original how = refuses-within Original (omega arith) d (opening-only Original (omega arith) (omega arith) (omega arith) how)
+  pub open-original : (how : How) → Within (Original (how .checked)) (outcome d (opening how))
+  open-original how =
+      refuses-within (Original (how .checked)) (inl (omega arith)) d
+      (opening-only (Original (how .checked)) (inl (omega arith)) (inl (omega arith)) (inl (omega arith)) how (λ c. inr (c, refl)))
 
-  pub label-original : (how : How) → Within Original (outcome d (labelling how))
-  label-original how = refuses-within Original (omega arith) d (label-only Original (omega arith) (omega arith) (omega arith) how)
+  pub label-original : (how : How) → Within (Original (how .checked)) (outcome d (labelling how))
+  label-original how =
+      refuses-within (Original (how .checked)) (inl (omega arith)) d
+      (label-only (Original (how .checked)) (inl (omega arith)) (inl (omega arith)) (inl (omega arith)) how (λ c. inr (c, refl)))
 
-  pub read-original : (v : VolumeRecord) (icb : LongAd) → Within Original (outcome d (reading v icb))
-  read-original v icb = refuses-within Original (omega arith) d (bytes-only Original (omega arith) (omega arith) (v .mount) icb)
+  module _ (v : VolumeRecord) (icb : LongAd) where
+    abbrev here : Refusal → Type 0
+    here = Original (isChecked (v .mount))
 
-  pub part-original : (v : VolumeRecord) (icb : LongAd) → Within Original (outcome d (parting v icb))
-  part-original v icb = refuses-within Original (omega arith) d (part-only Original (omega arith) (omega arith) (v .mount) icb)
+    pub read-original : Within (Original (isChecked (v .mount))) (outcome d (reading v icb))
+    read-original = refuses-within here (inl (omega arith)) d (bytes-only here (inl (omega arith)) (inl (omega arith)) (v .mount) (λ c. inr (c, refl)) icb)
 
-  pub extents-original : (v : VolumeRecord) (icb : LongAd) → Within Original (outcome d (extentListing v icb))
-  extents-original v icb = refuses-within Original (omega arith) d (list-only Original (omega arith) (omega arith) (v .mount) icb)
+    pub part-original : Within (Original (isChecked (v .mount))) (outcome d (parting v icb))
+    part-original = refuses-within here (inl (omega arith)) d (part-only here (inl (omega arith)) (inl (omega arith)) (v .mount) (λ c. inr (c, refl)) icb)
+
+    pub extents-original : Within (Original (isChecked (v .mount))) (outcome d (extentListing v icb))
+    extents-original = refuses-within here (inl (omega arith)) d (list-only here (inl (omega arith)) (inl (omega arith)) (v .mount) (λ c. inr (c, refl)) icb)
 
 -- a lookup is refused by 6 besides, and under the third choice of matching by 9
-abbrev pub OfALookup : Matching → Refusal → Type 0
-OfALookup matching why = (number why ≤ 6 × (number why ≡ 5 → ⊥)) ⊎ ((matching ≡ Unambiguous) × (number why ≡ 9))
+abbrev pub OfALookup : Bool → Matching → Refusal → Type 0
+OfALookup checked matching why = (number why ≤ 6 × (number why ≡ 5 → ⊥)) ⊎ ((matching ≡ Unambiguous) × (number why ≡ 9)) ⊎ ((checked ≡ true) × (number why ≡ 10))
 
-pub lookup-original : (d : Disc) (v : VolumeRecord) (work : ℕ) (path : List ℕ) (matching : Matching) → Within (OfALookup matching) (outcome d (finding v work path matching))
+pub lookup-original : (d : Disc) (v : VolumeRecord) (work : ℕ) (path : List ℕ) (matching : Matching) → Within (OfALookup (isChecked (v .mount)) matching) (outcome d (finding v work path matching))
 lookup-original d v work path matching =
-    refuses-within (OfALookup matching) (low Io (omega arith)) d
-    (lookup-only (OfALookup matching) (low Malformed (omega arith)) (low NotBluray (omega arith)) (low Unsupported (omega arith)) (inl (omega arith, λ e. omega arith)) matching (λ z. inr (z, refl))
-    (v .mount) work (v .root) path)
+    refuses-within here (low Io (omega arith)) d
+    (lookup-only here (low Malformed (omega arith)) (low NotBluray (omega arith)) (low Unsupported (omega arith)) (inl (omega arith, λ e. omega arith)) matching (λ z. inr (inl (z, refl)))
+    (v .mount) (λ c. inr (inr (c, refl))) work (v .root) path)
   where
-    low : (why : Refusal) → Original why → OfALookup matching why
+    here : Refusal → Type 0
+    here = OfALookup (isChecked (v .mount)) matching
+
+    low : (why : Refusal) → number why ≤ 4 → OfALookup (isChecked (v .mount)) matching why
     low why h = inl (omega arith, λ e. omega arith)
 
 -- ---- 5 exactly when the answer has more bytes than the output holds
@@ -96,42 +108,47 @@ pub label-5 : (image : List ℕ) (how : How) (out : List ℕ) → eqb (labels im
 unfolding ran
 label-5 image how out =
     five (length out) _ (outcome (disc image) (labelling how))
-    (refuses-within ButRoom (λ e. omega arith) (disc image) (label-only ButRoom (λ e. omega arith) (λ e. omega arith) (λ e. omega arith) how))
+    (refuses-within ButRoom (λ e. omega arith) (disc image) (label-only ButRoom (λ e. omega arith) (λ e. omega arith) (λ e. omega arith) how (λ c e. omega arith)))
 
 module _ (image : List ℕ) (v : VolumeRecord) where
   pub read-5 : (icb : LongAd) (out : List ℕ) → eqb (reads image v icb out .reply .answer) 5 ≡ overfull (length out) (ran (disc image) (reading v icb) .outcome)
   unfolding ran
-  read-5 icb out = five (length out) _ (outcome (disc image) (reading v icb)) (refuses-within ButRoom (λ e. omega arith) (disc image) (bytes-only ButRoom (λ e. omega arith) (λ e. omega arith) (v .mount) icb))
+  read-5 icb out = five (length out) _ (outcome (disc image) (reading v icb)) (refuses-within ButRoom (λ e. omega arith) (disc image) (bytes-only ButRoom (λ e. omega arith) (λ e. omega arith) (v .mount) (λ c e. omega arith) icb))
 
   pub list-5 : (icb : LongAd) (out work : List ℕ) → eqb (lists image v icb out work .reply .answer) 5 ≡ overfull (length out) (ran (disc image) (listing v (length work) icb) .outcome)
   unfolding ran
   list-5 icb out work =
       five (length out) _ (outcome (disc image) (listing v (length work) icb))
-      (refuses-within ButRoom (λ e. omega arith) (disc image) (listing-only ButRoom (λ e. omega arith) (λ e. omega arith) (λ e. omega arith) (λ e. omega arith) (v .mount) (length work) icb))
+      (refuses-within ButRoom (λ e. omega arith) (disc image) (listing-only ButRoom (λ e. omega arith) (λ e. omega arith) (λ e. omega arith) (λ e. omega arith) (v .mount) (λ c e. omega arith) (length work) icb))
 
   pub read-path-5 : (path : List ℕ) (matching : Matching) (out work : List ℕ) → eqb (readsPath image v path matching out work .reply .answer) 5 ≡ overfull (length out) (ran (disc image) (pathReading v (length work) path matching) .outcome)
   unfolding ran
   read-path-5 path matching out work =
       five (length out) _ (outcome (disc image) (pathReading v (length work) path matching))
-      (refuses-within ButRoom (λ e. omega arith) (disc image) (path-only ButRoom (λ e. omega arith) (λ e. omega arith) (λ e. omega arith) (λ e. omega arith) matching (λ z e. omega arith) (v .mount) (length work) (v .root) path))
+      (refuses-within ButRoom (λ e. omega arith) (disc image) (path-only ButRoom (λ e. omega arith) (λ e. omega arith) (λ e. omega arith) (λ e. omega arith) matching (λ z e. omega arith) (v .mount) (λ c e. omega arith) (length work) (v .root) path))
 
 -- ---- 6, of a listing, exactly when the directory's bytes exceed the work space
 
-six : (work room : ℕ) (o : Outcome (List ℕ)) → Within Original o → eqb (listingAnswer work room o) 6 ≡ overfull work o
+-- a refusal of the original or of the check has none of the numbers of memory
+of-memory : {checked : Bool} (n : ℕ) → (n ≤ 4) ⊎ ((checked ≡ true) × (n ≡ 10)) → (5 ≤ n × n ≤ 7) → ⊥
+of-memory n (inl h) k = omega (arith, k .0, k .1)
+of-memory n (inr h) k = omega (arith, h .1, k .0, k .1)
+
+six : (check : Bool) (work room : ℕ) (o : Outcome (List ℕ)) → Within (Original check) o → eqb (listingAnswer check work room o) 6 ≡ overfull work o
 unfolding Within
-six work room (refused why) p = ne-eqb (number why) 6 (λ e. omega arith)
-six work room (answered b) p = by (leb (length b) work)
+six check work room (refused why) p = ne-eqb (number why) 6 (λ e. of-memory (number why) p (omega arith, omega arith))
+six check work room (answered b) p = by (leb (length b) work)
   where
     fits : (t : Bool) → eqb (pick t 0 5) 6 ≡ false
     fits true = refl
     fits false = refl
 
-    listed : (o : Outcome (List Entry)) → entries b ≡ o → eqb (entriesAnswer room o) 6 ≡ false
+    listed : (o : Outcome (List Entry)) → entries check b ≡ o → eqb (entriesAnswer room o) 6 ≡ false
     listed (answered es) e = fits (leb (length (records es)) room)
-    listed (refused why) e = rw (entries-refused b e)
+    listed (refused why) e = entries-refused check b (λ r. eqb (number r) 6 ≡ false) refl (λ c. refl) e
 
-    by : (s : Bool) → eqb (pick s (entriesAnswer room (entries b)) 6) 6 ≡ not s
-    by true = listed (entries b) refl
+    by : (s : Bool) → eqb (pick s (entriesAnswer room (entries check b)) 6) 6 ≡ not s
+    by true = listed (entries check b) refl
     by false = refl
 
 pub list-6 : (image : List ℕ) (v : VolumeRecord) (icb : LongAd) (out work : List ℕ)
@@ -139,7 +156,7 @@ pub list-6 : (image : List ℕ) (v : VolumeRecord) (icb : LongAd) (out work : Li
 unfolding ran
 list-6 image v icb out work =
     ap (λ n. eqb n 6) (list-order image v icb out work)
-    ∙ six (length work) (length out) (outcome (disc image) (reading v icb)) (read-original (disc image) v icb)
+    ∙ six (isChecked (v .mount)) (length work) (length out) (outcome (disc image) (reading v icb)) (read-original (disc image) v icb)
 
 -- ---- 7 exactly when there are more extents than slots
 
@@ -147,10 +164,10 @@ abbrev pub overslotted : ℕ → Outcome (List AllocExtent) → Bool
 overslotted slots (answered es) = not (leb (length es) slots)
 overslotted slots (refused why) = false
 
-seven : (slots : ℕ) (o : Outcome (List AllocExtent)) → Within Original o → eqb (slotted slots o) 7 ≡ overslotted slots o
+seven : (check : Bool) (slots : ℕ) (o : Outcome (List AllocExtent)) → Within (Original check) o → eqb (slotted slots o) 7 ≡ overslotted slots o
 unfolding Within
-seven slots (refused why) p = ne-eqb (number why) 7 (λ e. omega arith)
-seven slots (answered es) p = by (leb (length es) slots)
+seven check slots (refused why) p = ne-eqb (number why) 7 (λ e. of-memory (number why) p (omega arith, omega arith))
+seven check slots (answered es) p = by (leb (length es) slots)
   where
     by : (t : Bool) → eqb (pick t 0 7) 7 ≡ not t
     by true = refl
@@ -161,4 +178,4 @@ pub extents-7 : {A : Type 0} (f : AllocExtent → A) (image : List ℕ) (v : Vol
 unfolding ran
 extents-7 f image v icb row =
     ap (λ n. eqb n 7) (extents-order f image v icb row)
-    ∙ seven (length row) (outcome (disc image) (extentListing v icb)) (extents-original (disc image) v icb)
+    ∙ seven (isChecked (v .mount)) (length row) (outcome (disc image) (extentListing v icb)) (extents-original (disc image) v icb)

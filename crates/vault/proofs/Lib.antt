@@ -11,3 +11,4 @@ pub mod Matching
 pub mod Cues
 pub mod Agreeing
 pub mod Prevailing
+pub mod Checking

@@ -60,26 +60,26 @@ each-io f (refused why) = refl
 module _ (image : List ℕ) where
   pub open-1 : (how : How) → eqb (opens image how .answer) 1 ≡ lacking image (opening how)
   unfolding ran
-  open-1 how = open-answer-1 _ (outcome (disc image) (opening how)) ∙ refused-missing image (opening-only ButIo (λ e. omega arith) (λ e. omega arith) (λ e. omega arith) how)
+  open-1 how = open-answer-1 _ (outcome (disc image) (opening how)) ∙ refused-missing image (opening-only ButIo (λ e. omega arith) (λ e. omega arith) (λ e. omega arith) how (λ c e. omega arith))
 
   pub label-1 : (how : How) (out : List ℕ) → eqb (labels image how out .reply .answer) 1 ≡ lacking image (labelling how)
   unfolding ran
   label-1 how out =
       reply-1 NoRoom (λ e. omega arith) (length out) _ (outcome (disc image) (labelling how))
-      ∙ refused-missing image (label-only ButIo (λ e. omega arith) (λ e. omega arith) (λ e. omega arith) how)
+      ∙ refused-missing image (label-only ButIo (λ e. omega arith) (λ e. omega arith) (λ e. omega arith) how (λ c e. omega arith))
 
   module _ (v : VolumeRecord) where
     pub read-1 : (icb : LongAd) (out : List ℕ) → eqb (reads image v icb out .reply .answer) 1 ≡ lacking image (reading v icb)
     unfolding ran
     read-1 icb out =
         reply-1 NoRoom (λ e. omega arith) (length out) _ (outcome (disc image) (reading v icb))
-        ∙ refused-missing image (bytes-only ButIo (λ e. omega arith) (λ e. omega arith) (v .mount) icb)
+        ∙ refused-missing image (bytes-only ButIo (λ e. omega arith) (λ e. omega arith) (v .mount) (λ c e. omega arith) icb)
 
     pub part-1 : (icb : LongAd) → eqb (parts image v icb .answer) 1 ≡ lacking image (parting v icb)
     unfolding ran
     part-1 icb =
         answer-1 (outcome (disc image) (parting v icb))
-        ∙ refused-missing image (part-only ButIo (λ e. omega arith) (λ e. omega arith) (v .mount) icb)
+        ∙ refused-missing image (part-only ButIo (λ e. omega arith) (λ e. omega arith) (v .mount) (λ c e. omega arith) icb)
 
     pub part-at-1 : (icb : LongAd) → eqb (partsAt image v icb .reply .answer) 1 ≡ lacking image (parting v icb)
     part-at-1 icb = part-1 icb
@@ -89,19 +89,19 @@ module _ (image : List ℕ) where
     extents-1 f icb row =
         reply-1 NoSlot (λ e. omega arith) (length row) _ (eachIn f (outcome (disc image) (extentListing v icb)))
         ∙ each-io f (outcome (disc image) (extentListing v icb))
-        ∙ refused-missing image (list-only ButIo (λ e. omega arith) (λ e. omega arith) (v .mount) icb)
+        ∙ refused-missing image (list-only ButIo (λ e. omega arith) (λ e. omega arith) (v .mount) (λ c e. omega arith) icb)
 
     pub list-1 : (icb : LongAd) (out work : List ℕ) → eqb (lists image v icb out work .reply .answer) 1 ≡ lacking image (listing v (length work) icb)
     unfolding ran
     list-1 icb out work =
         reply-1 NoRoom (λ e. omega arith) (length out) _ (outcome (disc image) (listing v (length work) icb))
-        ∙ refused-missing image (listing-only ButIo (λ e. omega arith) (λ e. omega arith) (λ e. omega arith) (λ e. omega arith) (v .mount) (length work) icb)
+        ∙ refused-missing image (listing-only ButIo (λ e. omega arith) (λ e. omega arith) (λ e. omega arith) (λ e. omega arith) (v .mount) (λ c e. omega arith) (length work) icb)
 
     pub lookup-1 : (path : List ℕ) (matching : Matching) (work : List ℕ) → eqb (finds image v path matching work .found .answer) 1 ≡ lacking image (finding v (length work) path matching)
     unfolding ran
     lookup-1 path matching work =
         answer-1 (outcome (disc image) (finding v (length work) path matching))
-        ∙ refused-missing image (lookup-only ButIo (λ e. omega arith) (λ e. omega arith) (λ e. omega arith) (λ e. omega arith) matching (λ z e. omega arith) (v .mount) (length work) (v .root) path)
+        ∙ refused-missing image (lookup-only ButIo (λ e. omega arith) (λ e. omega arith) (λ e. omega arith) (λ e. omega arith) matching (λ z e. omega arith) (v .mount) (λ c e. omega arith) (length work) (v .root) path)
 
     -- the component that failed and its place have the lookup's list
     pub failed-1 : (path : List ℕ) (matching : Matching) (work : List ℕ) → eqb (fails image v path matching work .answer) 1 ≡ lacking image (finding v (length work) path matching)
@@ -114,4 +114,4 @@ module _ (image : List ℕ) where
     unfolding ran
     read-path-1 path matching out work =
         reply-1 NoRoom (λ e. omega arith) (length out) _ (outcome (disc image) (pathReading v (length work) path matching))
-        ∙ refused-missing image (path-only ButIo (λ e. omega arith) (λ e. omega arith) (λ e. omega arith) (λ e. omega arith) matching (λ z e. omega arith) (v .mount) (length work) (v .root) path)
+        ∙ refused-missing image (path-only ButIo (λ e. omega arith) (λ e. omega arith) (λ e. omega arith) (λ e. omega arith) matching (λ z e. omega arith) (v .mount) (λ c e. omega arith) (length work) (v .root) path)

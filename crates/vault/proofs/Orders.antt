@@ -8,6 +8,7 @@ use lib.ListN.{length, length-map}
 use lib.Dec.{leb}
 use Rattle.disc.specs.declared.places.Mount.{Mount}
 use Rattle.disc.specs.Choice.{pick}
+use Rattle.disc.specs.Places.{isChecked}
 use Rattle.disc.specs.Refusals.{number}
 use Rattle.disc.specs.Counts.{reported}
 use Rattle.disc.specs.Ask.{Disc, Outcome, andThen}
@@ -80,41 +81,41 @@ abbrev pub entriesAnswer : ℕ → Outcome (List Entry) → ℕ
 entriesAnswer room (refused why) = number why
 entriesAnswer room (answered es) = pick (leb (length (records es)) room) 0 5
 
-abbrev pub listingAnswer : ℕ → ℕ → Outcome (List ℕ) → ℕ
-listingAnswer work room (refused why) = number why
-listingAnswer work room (answered b) = pick (leb (length b) work) (entriesAnswer room (entries b)) 6
+abbrev pub listingAnswer : Bool → ℕ → ℕ → Outcome (List ℕ) → ℕ
+listingAnswer check work room (refused why) = number why
+listingAnswer check work room (answered b) = pick (leb (length b) work) (entriesAnswer room (entries check b)) 6
 
 -- what a listing comes to, by what reading the directory comes to
 listing-is : (d : Disc) (v : Mount) (work : ℕ) (icb : LongAd)
-    → ran d (listingAt v work icb) .outcome ≡ andThen (andThen (ran d (fileBytes v icb) .outcome) (within work)) listingOf
+    → ran d (listingAt v work icb) .outcome ≡ andThen (andThen (ran d (fileBytes v icb) .outcome) (within work)) (listingOf (isChecked v))
 unfolding listingAt directoryBytes
 listing-is d v work icb =
-    ap (λ (r : Ran (List ℕ)). r .outcome) (ran-known d (directoryBytes v work icb) listingOf)
-    ∙ ap (λ (r : Ran (List ℕ)). andThen (r .outcome) listingOf) (ran-known d (fileBytes v icb) (within work))
+    ap (λ (r : Ran (List ℕ)). r .outcome) (ran-known d (directoryBytes v work icb) (listingOf (isChecked v)))
+    ∙ ap (λ (r : Ran (List ℕ)). andThen (r .outcome) (listingOf (isChecked v))) (ran-known d (fileBytes v icb) (within work))
 
-entries-ordered : (room : ℕ) (b : List ℕ) → roomed room (listingOf b) ≡ entriesAnswer room (entries b)
+entries-ordered : (check : Bool) (room : ℕ) (b : List ℕ) → roomed room (listingOf check b) ≡ entriesAnswer room (entries check b)
 unfolding listingOf
-entries-ordered room b = by (entries b)
+entries-ordered check room b = by (entries check b)
   where
     by : (o : Outcome (List Entry)) → roomed room (andThen o (λ es. answered (records es))) ≡ entriesAnswer room o
     by (answered es) = refl
     by (refused why) = refl
 
-ordered : (work room : ℕ) (o : Outcome (List ℕ)) → roomed room (andThen (andThen o (within work)) listingOf) ≡ listingAnswer work room o
+ordered : (check : Bool) (work room : ℕ) (o : Outcome (List ℕ)) → roomed room (andThen (andThen o (within work)) (listingOf check)) ≡ listingAnswer check work room o
 unfolding within
-ordered work room (refused why) = refl
-ordered work room (answered b) = by (leb (length b) work)
+ordered check work room (refused why) = refl
+ordered check work room (answered b) = by (leb (length b) work)
   where
-    by : (t : Bool) → roomed room (andThen (pick t (answered b) (refused NoWork)) listingOf) ≡ pick t (entriesAnswer room (entries b)) 6
+    by : (t : Bool) → roomed room (andThen (pick t (answered b) (refused NoWork)) (listingOf check)) ≡ pick t (entriesAnswer room (entries check b)) 6
     by false = refl
-    by true = entries-ordered room b
+    by true = entries-ordered check room b
 
 pub list-order : (image : List ℕ) (v : VolumeRecord) (icb : LongAd) (out work : List ℕ)
-    → lists image v icb out work .reply .answer ≡ listingAnswer (length work) (length out) (ran (disc image) (reading v icb) .outcome)
+    → lists image v icb out work .reply .answer ≡ listingAnswer (isChecked (v .mount)) (length work) (length out) (ran (disc image) (reading v icb) .outcome)
 list-order image v icb out work =
     room-last (length out) _ (ran (disc image) (listing v (length work) icb) .outcome)
     ∙ ap (roomed (length out)) (listing-is (disc image) (v .mount) (length work) icb)
-    ∙ ordered (length work) (length out) (ran (disc image) (reading v icb) .outcome)
+    ∙ ordered (isChecked (v .mount)) (length work) (length out) (ran (disc image) (reading v icb) .outcome)
 
 -- ---- a read by path: the lookup's refusals, and then those of the read
 

@@ -17,8 +17,8 @@ use Rattle.disc.specs.Images.{disc}
 use Rattle.disc.specs.Ran.{Ran, ran}
 use Rattle.disc.specs.Replies.{answerOf}
 use Rattle.disc.specs.declared.refusals.Refusal.{Refusal}
-use Rattle.disc.specs.declared.refusals.Refusal.the-variants.{Io, Malformed, NotBluray, Unsupported, NoRoom, NoWork, NoSlot, Ambiguous}
-use Rattle.disc.proofs.OnlyLaws.{Within}
+use Rattle.disc.specs.declared.refusals.Refusal.the-variants.{Io, Malformed, NotBluray, Unsupported, NoRoom, NoWork, NoSlot, Ambiguous, BadCrc}
+use Rattle.disc.proofs.OnlyLaws.{Within, refuses-within}
 use Rattle.disc.proofs.RanLaws.{ran-then}
 use Rattle.records.specs.Allocations.{noLong}
 use Rattle.records.specs.declared.allocations.LongAd.{LongAd}
@@ -30,7 +30,7 @@ use Rattle.directories.proofs.OverflowLaws.{Overflows, overflows-refused, refus
 use Rattle.listings.specs.declared.matchings.Matching.{Matching}
 use Rattle.volumes.specs.declared.openings.VolumeRecord.{VolumeRecord}
 use Rattle.vault.specs.Calls.{reading, finding, pathReading, cleared, worked, readsPath, looked, finds, lost as lostBy, fails, lostPlace, failsAt}
-use Rattle.vault.proofs.Exactly.{read-original}
+use Rattle.vault.proofs.Refusing.{bytes-only}
 use Rattle.vault.proofs.Orders.{roomed, pathAnswer, read-path-order}
 use Rattle.vault.proofs.Soundness.{failed-sound}
 
@@ -49,6 +49,11 @@ six-is NoRoom e = absurd (omega arith)
 six-is NoWork e = refl
 six-is NoSlot e = absurd (omega arith)
 six-is Ambiguous e = absurd (omega arith)
+six-is BadCrc e = absurd (omega arith)
+
+-- every refusal but 6
+abbrev ButSix : Refusal → Type 0
+ButSix why = number why ≡ 6 → ⊥
 
 six-walk : (o : Outcome Sought) → answerOf (andThen o icbOf) ≡ 6 → o ≡ refused NoWork
 six-walk (answered (reached icb)) e = absurd (omega arith)
@@ -57,13 +62,16 @@ six-walk (refused why) e = ap refused (six-is why e)
 
 -- a read that needs no work space isn't refused so
 module _ (image : List ℕ) (v : VolumeRecord) where
+  but-six : (icb : LongAd) → Within ButSix (outcome (disc image) (reading v icb))
+  but-six icb = refuses-within ButSix (λ e. omega arith) (disc image) (bytes-only ButSix (λ e. omega arith) (λ e. omega arith) (v .mount) (λ c e. omega arith) icb)
+
   never-six : (icb : LongAd) → ran (disc image) (reading v icb) .outcome ≡ refused NoWork → ⊥
   unfolding ran Within
-  never-six icb h = by (outcome (disc image) (reading v icb)) h (read-original (disc image) v icb)
+  never-six icb h = by (outcome (disc image) (reading v icb)) h (but-six icb)
     where
-      by : (o : Outcome (List ℕ)) → o ≡ refused NoWork → Within (λ why. number why ≤ 4) o → ⊥
+      by : (o : Outcome (List ℕ)) → o ≡ refused NoWork → Within ButSix o → ⊥
       by (answered b) h w = let z : _≡_ {A = ℕ} 0 1 = cc in omega arith
-      by (refused why) h w = let z : why ≡ NoWork = cc in let y = rw z at w in omega arith
+      by (refused why) h w = let z : why ≡ NoWork = cc in w (ap number z)
 
   module _ (path : List ℕ) (matching : Matching) (work : List ℕ) where
     -- ---- 6 only then
@@ -85,8 +93,8 @@ module _ (image : List ℕ) (v : VolumeRecord) where
     read-path-6 out h =
         lookup-6 (by (outcome (disc image) (finding v (length work) path matching)) (sym (read-path-order image v path matching out work) ∙ h))
       where
-        room : (o : Outcome (List ℕ)) → Within (λ why. number why ≤ 4) o → roomed (length out) o ≡ 6 → ⊥
-        room (refused why) w k = omega arith
+        room : (o : Outcome (List ℕ)) → Within ButSix o → roomed (length out) o ≡ 6 → ⊥
+        room (refused why) w k = w k
         room (answered b) w k = fits (leb (length b) (length out)) k
           where
             fits : (t : Bool) → _≡_ {A = ℕ} (pick t 0 5) 6 → ⊥
@@ -95,7 +103,7 @@ module _ (image : List ℕ) (v : VolumeRecord) where
 
         by : (o : Outcome LongAd) → pathAnswer (length out) o (λ icb. outcome (disc image) (reading v icb)) ≡ 6 → answerOf o ≡ 6
         by (refused why) k = k
-        by (answered icb) k = absurd (room (outcome (disc image) (reading v icb)) (read-original (disc image) v icb) k)
+        by (answered icb) k = absurd (room (outcome (disc image) (reading v icb)) (but-six icb) k)
 
     -- ---- and always then, after the sectors of the way to the directory and of its read; all else is as a refusal has it
 

@@ -1,5 +1,5 @@
--- Which refusals the tree of each call says by itself: 2, 3 and 4, 6 where a directory is read into the work space, and 9 where a component is to match
--- one entry alone. So 1 is given exactly when a sector is missing, and 5 and 7 exactly when memory is short. Assumes nothing.
+-- Which refusals the tree of each call says by itself: 2, 3 and 4, 6 where a directory is read into the work space, 9 where a component is to match
+-- one entry alone, and 10 where bodies are checked. So 1 is given exactly when a sector is missing, and 5 and 7 exactly when memory is short. Assumes nothing.
 use mathlib.Core.Path.{_≡_, refl, sym, subst}
 use mathlib.Core.Bool.{Bool, true, false}
 use mathlib.Core.List.{List, [], _∷_}
@@ -10,13 +10,13 @@ use lib.ListN.{length, take}
 use lib.Dec.{eqb, ltb, leb}
 use Rattle.files.specs.Files.File.{embedded, chained}
 use Rattle.disc.specs.declared.places.Mount.{Mount}
-use Rattle.disc.specs.Places.{placed, icbPlaced, standing}
+use Rattle.disc.specs.Places.{placed, icbPlaced, isChecked, standing}
 use Rattle.disc.specs.Choice.{pick}
 use Rattle.disc.specs.Ask.{Ask, Outcome, ended, andThen}
 use Rattle.disc.specs.Ask.Outcome.{answered, refused}
 use Rattle.disc.specs.Images.{sectors, sectorsFor}
 use Rattle.disc.specs.declared.refusals.Refusal.{Refusal}
-use Rattle.disc.specs.declared.refusals.Refusal.the-variants.{Malformed, NotBluray, Unsupported, NoWork, Ambiguous}
+use Rattle.disc.specs.declared.refusals.Refusal.the-variants.{Malformed, NotBluray, Unsupported, NoWork, Ambiguous, BadCrc}
 use Rattle.disc.proofs.OnlyLaws.{Refuses, done-only, refuse-only, ask-only, pick-only, then-only, Any}
 use Rattle.records.specs.Bytes.{u16at}
 use Rattle.records.specs.declared.allocations.LongAd.{LongAd}
@@ -76,7 +76,7 @@ EndsBy P (Refused r) = P r
 pub record Ends (P : Refusal → Type 0) (e : AdEnding) : Type 0 where
   pub by : EndsBy P e
 
--- ---- reading a file, for any P that has 2 and 4
+-- ---- reading a file, for any P that has 2 and 4, and 10 where bodies are checked
 
 module _ (P : Refusal → Type 0) (malformed : P Malformed) (unsupported : P Unsupported) where
   sectors-only : (n first : ℕ) → Refuses P Any (sectors n first)
@@ -93,11 +93,11 @@ module _ (P : Refusal → Type 0) (malformed : P Malformed) (unsupported : P Uns
       by (Continuation a) h = record { by = tt }
       by (Refused r) h = record { by = subst P (sym (area-refused kind s i size h)) unsupported }
 
-  area-only : (kind size : ℕ) (s : List ℕ) → Refuses P (λ (x : Area). Ends P (x .ending)) (areaIn kind size s (readAed s))
-  area-only kind size s = by (readAed s) refl
+  area-only : (check : Bool) → (check ≡ true → P BadCrc) → (kind size : ℕ) (s : List ℕ) → Refuses P (λ (x : Area). Ends P (x .ending)) (areaIn kind size s (readAed check s))
+  area-only check crc kind size s = by (readAed check s) refl
     where
-      by : (r : AedRead) → readAed s ≡ r → Refuses P (λ (x : Area). Ends P (x .ending)) (areaIn kind size s r)
-      by (NoHeader r) e = refuse-only (subst P (sym (aed-refused s (sym e) refl)) malformed)
+      by : (r : AedRead) → readAed check s ≡ r → Refuses P (λ (x : Area). Ends P (x .ending)) (areaIn kind size s r)
+      by (NoHeader r) e = refuse-only (aed-refused check s P malformed crc (sym e) refl)
       by (Header h) e =
           pick-only (ltb size (24 + h .«length_of_allocation_descriptors»)) (refuse-only malformed) (done-only (area-ends kind s 24 (h .«length_of_allocation_descriptors»)))
 
@@ -105,26 +105,26 @@ module _ (P : Refusal → Type 0) (malformed : P Malformed) (unsupported : P Uns
   standing-only none h = refuse-only unsupported
   standing-only (some s) h = h s
 
-  from-only : (kind length at : ℕ) → Refuses P (λ (x : Area). Ends P (x .ending)) (areaFrom kind length at)
+  from-only : (check : Bool) → (check ≡ true → P BadCrc) → (kind length at : ℕ) → Refuses P (λ (x : Area). Ends P (x .ending)) (areaFrom check kind length at)
   unfolding areaFrom
-  from-only kind length at =
+  from-only check crc kind length at =
       pick-only (ltb length 24) (refuse-only malformed)
       (pick-only (ltb 1048576 length) (refuse-only unsupported)
-      (then-only (sectors-only (sectorsFor length) at) (λ s q. area-only kind length s)))
+      (then-only (sectors-only (sectorsFor length) at) (λ s q. area-only check crc kind length s)))
 
-  next-only : (m : Mount) (kind : ℕ) (a : AdContinuation) → Refuses P (λ (x : Area). Ends P (x .ending)) (nextArea m kind a)
+  next-only : (m : Mount) → (isChecked m ≡ true → P BadCrc) → (kind : ℕ) (a : AdContinuation) → Refuses P (λ (x : Area). Ends P (x .ending)) (nextArea m kind a)
   unfolding nextArea
-  next-only m kind a = standing-only (placed m (a .«partition_ref») (a .block .0)) (from-only kind (a .length))
+  next-only m crc kind a = standing-only (placed m (a .«partition_ref») (a .block .0)) (from-only (isChecked m) crc kind (a .length))
 
-  continued-only : (m : Mount) (kind n : ℕ) (e : AdEnding) → Ends P e → Refuses P Any (continued m kind n e)
+  continued-only : (m : Mount) → (isChecked m ≡ true → P BadCrc) → (kind n : ℕ) (e : AdEnding) → Ends P e → Refuses P Any (continued m kind n e)
   unfolding continued EndsBy
-  continued-only m kind zero End p = done-only tt
-  continued-only m kind zero (Refused r) p = refuse-only (p .by)
-  continued-only m kind zero (Continuation a) p = refuse-only malformed
-  continued-only m kind (suc n) End p = done-only tt
-  continued-only m kind (suc n) (Refused r) p = refuse-only (p .by)
-  continued-only m kind (suc n) (Continuation a) p =
-      then-only (next-only m kind a) (λ x q. then-only (continued-only m kind n (x .ending) q) (λ more u. done-only tt))
+  continued-only m crc kind zero End p = done-only tt
+  continued-only m crc kind zero (Refused r) p = refuse-only (p .by)
+  continued-only m crc kind zero (Continuation a) p = refuse-only malformed
+  continued-only m crc kind (suc n) End p = done-only tt
+  continued-only m crc kind (suc n) (Refused r) p = refuse-only (p .by)
+  continued-only m crc kind (suc n) (Continuation a) p =
+      then-only (next-only m crc kind a) (λ x q. then-only (continued-only m crc kind n (x .ending) q) (λ more u. done-only tt))
 
   joining-only : (want : ℕ) (b : List ℕ) {more : Ask (List ℕ)} → Refuses P Any more → Refuses P Any (joining want b more)
   joining-only want b p = pick-only (leb want (length b)) (done-only tt) (then-only p (λ rest q. done-only tt))
@@ -144,39 +144,39 @@ module _ (P : Refusal → Type 0) (malformed : P Malformed) (unsupported : P Uns
       joining-only want b (extents-only m es (want - length b)))))
       (refuse-only unsupported)
 
-  entry-only : (m : Mount) (icb : LongAd) → Refuses P Any (entryAt m icb)
+  entry-only : (m : Mount) → (isChecked m ≡ true → P BadCrc) → (icb : LongAd) → Refuses P Any (entryAt m icb)
   unfolding entryAt
-  entry-only m icb = pick-only (eqb (icb .length) 0) (refuse-only malformed) (ask-only (λ s. by s (readEntry s) refl))
+  entry-only m crc icb = pick-only (eqb (icb .length) 0) (refuse-only malformed) (ask-only (λ s. by s (readEntry (isChecked m) s) refl))
     where
-      by : (s : List ℕ) (x : EntryRead) → x ≡ readEntry s → Refuses P Any (located (icbPlaced m (icb .location .block)) s x)
+      by : (s : List ℕ) (x : EntryRead) → x ≡ readEntry (isChecked m) s → Refuses P Any (located (icbPlaced m (icb .location .block)) s x)
       by s (Read e) h = done-only tt
-      by s (NoEntry r) h = refuse-only (subst P (sym (read-entry-refused s h refl)) malformed)
+      by s (NoEntry r) h = refuse-only (read-entry-refused (isChecked m) s P malformed crc h refl)
 
-  chain-only : (m : Mount) (x : Located) → Refuses P Any (chainOf m x)
-  chain-only m x =
-      then-only (continued-only m (x .entry .kind) 32 _ (area-ends (x .entry .kind) (x .sector) (x .entry .«area_at») (x .entry .«area_length»))) (λ more q. done-only tt)
+  chain-only : (m : Mount) → (isChecked m ≡ true → P BadCrc) → (x : Located) → Refuses P Any (chainOf m x)
+  chain-only m crc x =
+      then-only (continued-only m crc (x .entry .kind) 32 _ (area-ends (x .entry .kind) (x .sector) (x .entry .«area_at») (x .entry .«area_length»))) (λ more q. done-only tt)
 
-  file-only : (m : Mount) (icb : LongAd) → Refuses P Any (fileAt m icb)
+  file-only : (m : Mount) → (isChecked m ≡ true → P BadCrc) → (icb : LongAd) → Refuses P Any (fileAt m icb)
   unfolding fileAt
-  file-only m icb = then-only (entry-only m icb) (λ x q. pick-only (isEmbedded x) (done-only tt) (then-only (chain-only m x) (λ es u. done-only tt)))
+  file-only m crc icb = then-only (entry-only m crc icb) (λ x q. pick-only (isEmbedded x) (done-only tt) (then-only (chain-only m crc x) (λ es u. done-only tt)))
 
-  pub bytes-only : (m : Mount) (icb : LongAd) → Refuses P Any (fileBytes m icb)
+  pub bytes-only : (m : Mount) → (isChecked m ≡ true → P BadCrc) → (icb : LongAd) → Refuses P Any (fileBytes m icb)
   unfolding fileBytes
-  bytes-only m icb = then-only (file-only m icb) (λ f q. by f)
+  bytes-only m crc icb = then-only (file-only m crc icb) (λ f q. by f)
     where
       by : (f : File) → Refuses P Any (contentOf m f)
       by (embedded x) = done-only tt
       by (chained x es) = extents-only m es (x .entry .«information_length»)
 
-  pub part-only : (m : Mount) (icb : LongAd) → Refuses P Any (filePart m icb)
+  pub part-only : (m : Mount) → (isChecked m ≡ true → P BadCrc) → (icb : LongAd) → Refuses P Any (filePart m icb)
   unfolding filePart
-  part-only m icb = then-only (file-only m icb) (λ f q. done-only tt)
+  part-only m crc icb = then-only (file-only m crc icb) (λ f q. done-only tt)
 
-  pub list-only : (m : Mount) (icb : LongAd) → Refuses P Any (fileExtents m icb)
+  pub list-only : (m : Mount) → (isChecked m ≡ true → P BadCrc) → (icb : LongAd) → Refuses P Any (fileExtents m icb)
   unfolding fileExtents
-  list-only m icb = then-only (file-only m icb) (λ f q. done-only tt)
+  list-only m crc icb = then-only (file-only m crc icb) (λ f q. done-only tt)
 
--- ---- opening, for any P that has 2, 3 and 4
+-- ---- opening, for any P that has 2, 3 and 4, and 10 where bodies are checked
 
 module _ (P : Refusal → Type 0) (malformed : P Malformed) (missing : P NotBluray) (unsupported : P Unsupported) where
   found-only : (x : Says) (rest : Ask (List Parsed)) → Refuses P Any rest → ((r : Refusal) → x ≡ fails r → P r) → Refuses P Any (goOn x rest)
@@ -185,65 +185,65 @@ module _ (P : Refusal → Type 0) (malformed : P Malformed) (missing : P NotBlur
   found-only over rest h f = done-only tt
   found-only (fails r) rest h f = refuse-only (f r refl)
 
-  says-only : (b : List ℕ) (r : Refusal) → saysIn b ≡ fails r → P r
+  says-only : (check : Bool) → (check ≡ true → P BadCrc) → (b : List ℕ) (r : Refusal) → saysIn check b ≡ fails r → P r
   unfolding saysIn
-  says-only b r = by (eqb (u16at b 0) 1) (eqb (u16at b 0) 5) (eqb (u16at b 0) 6) (eqb (u16at b 0) 8)
+  says-only check crc b r = by (eqb (u16at b 0) 1) (eqb (u16at b 0) 5) (eqb (u16at b 0) 6) (eqb (u16at b 0) 8)
     where
       fails-by : {q : Refusal} → _≡_ {A = Says} (fails q) (fails r) → P q → P r
       fails-by e p = subst P (let z : _ ≡ r = cc in z) p
 
-      first : (x : Outcome PrimaryVolumeDescriptor) → readPrimary b ≡ x → primaryIn x ≡ fails r → P r
+      first : (x : Outcome PrimaryVolumeDescriptor) → readPrimary check b ≡ x → primaryIn x ≡ fails r → P r
       first (answered d) h e = absurd (let z : _≡_ {A = ℕ} 0 1 = cc in omega arith)
-      first (refused q) h e = fails-by e (subst P (sym (primary-refused b h)) malformed)
+      first (refused q) h e = fails-by e (primary-refused check b P malformed crc h)
 
-      whole : (x : Outcome LogicalVolumeDescriptor) → readLogical b ≡ x → logicalIn x ≡ fails r → P r
+      whole : (x : Outcome LogicalVolumeDescriptor) → readLogical check b ≡ x → logicalIn x ≡ fails r → P r
       whole (answered d) h e = absurd (let z : _≡_ {A = ℕ} 0 1 = cc in omega arith)
-      whole (refused q) h e = fails-by e (subst P (sym (logical-refused b h)) malformed)
+      whole (refused q) h e = fails-by e (logical-refused check b P malformed crc h)
 
-      parted : (x : PartitionRead) → x ≡ readPartition b → partitionIn x ≡ fails r → P r
+      parted : (x : PartitionRead) → x ≡ readPartition check b → partitionIn x ≡ fails r → P r
       parted (APartition d) h e = absurd (let z : _≡_ {A = ℕ} 0 1 = cc in omega arith)
-      parted (NoPartition q) h e = fails-by e (subst P (sym (partition-refused b h refl)) malformed)
+      parted (NoPartition q) h e = fails-by e (partition-refused check b P malformed crc h refl)
 
-      by : (t u v w : Bool) → pick t (primaryIn (readPrimary b)) (pick u (partitionIn (readPartition b)) (pick v (logicalIn (readLogical b)) (pick w over passed))) ≡ fails r → P r
-      by true u v w e = first (readPrimary b) refl e
-      by false true v w e = parted (readPartition b) refl e
-      by false false true w e = whole (readLogical b) refl e
+      by : (t u v w : Bool) → pick t (primaryIn (readPrimary check b)) (pick u (partitionIn (readPartition check b)) (pick v (logicalIn (readLogical check b)) (pick w over passed))) ≡ fails r → P r
+      by true u v w e = first (readPrimary check b) refl e
+      by false true v w e = parted (readPartition check b) refl e
+      by false false true w e = whole (readLogical check b) refl e
       by false false false true e = absurd (let z : _≡_ {A = ℕ} 0 1 = cc in omega arith)
       by false false false false e = absurd (let z : _≡_ {A = ℕ} 0 1 = cc in omega arith)
 
-  scan-only : (n at : ℕ) → Refuses P Any (scan n at)
+  scan-only : (check : Bool) → (check ≡ true → P BadCrc) → (n at : ℕ) → Refuses P Any (scan check n at)
   unfolding scan
-  scan-only zero at = done-only tt
-  scan-only (suc n) at = ask-only (λ b. found-only (saysIn b) _ (scan-only n (at + 1)) (says-only b))
+  scan-only check crc zero at = done-only tt
+  scan-only check crc (suc n) at = ask-only (λ b. found-only (saysIn check b) _ (scan-only check crc n (at + 1)) (says-only check crc b))
 
-  mounting-only : (k : Kept) → Refuses P Any (mounting k)
+  mounting-only : (check : Bool) → (check ≡ true → P BadCrc) → (k : Kept) → Refuses P Any (mounting check k)
   unfolding mounting
-  mounting-only k =
+  mounting-only check crc k =
       pick-only (k .«has_primary»)
       (pick-only (k .«has_partition»)
       (pick-only (k .«has_logical»)
       (pick-only (eqb (k .«block_size») 2048)
-      (standing-only P malformed unsupported (fileSetIn k) (λ s. ask-only (λ b. by b (readFileSet b) refl)))
+      (standing-only P malformed unsupported (fileSetIn check k) (λ s. ask-only (λ b. by b (readFileSet check b) refl)))
       (refuse-only unsupported))
       (refuse-only missing))
       (refuse-only missing))
       (refuse-only missing)
     where
-      by : (b : List ℕ) (x : Outcome FileSetDescriptor) → readFileSet b ≡ x → Refuses P Any (ended (volumeIn k x))
+      by : (b : List ℕ) (x : Outcome FileSetDescriptor) → readFileSet check b ≡ x → Refuses P Any (ended (volumeIn check k x))
       by b (answered d) e = done-only tt
-      by b (refused r) e = refuse-only (subst P (sym (file-set-refused b e)) malformed)
+      by b (refused r) e = refuse-only (file-set-refused check b P malformed crc e)
 
-  pub opening-only : (how : How) → Refuses P Any (opening how)
+  pub opening-only : (how : How) → (how .checked ≡ true → P BadCrc) → Refuses P Any (opening how)
   unfolding opening
-  opening-only how = ask-only (λ b. by b (readAnchor b) refl)
+  opening-only how crc = ask-only (λ b. by b (readAnchor (how .checked) b) refl)
     where
-      by : (b : List ℕ) (x : AnchorRead) → x ≡ readAnchor b → Refuses P Any (anchored how x)
-      by b (NoAnchor r) e = refuse-only (subst P (sym (anchor-refused b e refl)) malformed)
-      by b (AnAnchor a) e = then-only (scan-only _ _) (λ ps q. mounting-only (keptOf (orderOf how) nothing ps))
+      by : (b : List ℕ) (x : AnchorRead) → x ≡ readAnchor (how .checked) b → Refuses P Any (anchored how x)
+      by b (NoAnchor r) e = refuse-only (anchor-refused (how .checked) b P malformed crc e refl)
+      by b (AnAnchor a) e = then-only (scan-only (how .checked) crc _ _) (λ ps q. mounting-only (how .checked) crc (keptOf (orderOf how) nothing ps))
 
-  pub label-only : (how : How) → Refuses P Any (labelling how)
+  pub label-only : (how : How) → (how .checked ≡ true → P BadCrc) → Refuses P Any (labelling how)
   unfolding labelling
-  label-only how = then-only (opening-only how) (λ v q. by v (labelOf v) refl)
+  label-only how crc = then-only (opening-only how crc) (λ v q. by v (labelOf v) refl)
     where
       by : (v : VolumeRecord) (x : Outcome (List ℕ)) → labelOf v ≡ x → Refuses P Any (ended x)
       by v (answered name) e = done-only tt
@@ -252,24 +252,24 @@ module _ (P : Refusal → Type 0) (malformed : P Malformed) (missing : P NotBlur
 -- ---- directories, for any P that has 6 too
 
 module _ (P : Refusal → Type 0) (malformed : P Malformed) (missing : P NotBluray) (unsupported : P Unsupported) (full : P NoWork) where
-  pub directory-only : (m : Mount) (work : ℕ) (icb : LongAd) → Refuses P Any (directoryBytes m work icb)
+  pub directory-only : (m : Mount) → (isChecked m ≡ true → P BadCrc) → (work : ℕ) (icb : LongAd) → Refuses P Any (directoryBytes m work icb)
   unfolding directoryBytes within
-  directory-only m work icb = then-only (bytes-only P malformed unsupported m icb) (λ b q. by b (leb (length b) work))
+  directory-only m crc work icb = then-only (bytes-only P malformed unsupported m crc icb) (λ b q. by b (leb (length b) work))
     where
       by : (b : List ℕ) (t : Bool) → Refuses P Any (ended (pick t (answered b) (refused NoWork)))
       by b true = done-only tt
       by b false = refuse-only full
 
-  pub listing-only : (m : Mount) (work : ℕ) (icb : LongAd) → Refuses P Any (listingAt m work icb)
+  pub listing-only : (m : Mount) → (isChecked m ≡ true → P BadCrc) → (work : ℕ) (icb : LongAd) → Refuses P Any (listingAt m work icb)
   unfolding listingAt listing
-  listing-only m work icb = then-only (directory-only m work icb) (λ b q. by b (entries b) refl)
+  listing-only m crc work icb = then-only (directory-only m crc work icb) (λ b q. by b (entries (isChecked m) b) refl)
     where
-      by : (b : List ℕ) (o : Outcome (List Entry)) → entries b ≡ o → Refuses P Any (ended (andThen o (λ es. answered (records es))))
+      by : (b : List ℕ) (o : Outcome (List Entry)) → entries (isChecked m) b ≡ o → Refuses P Any (ended (andThen o (λ es. answered (records es))))
       by b (answered es) e = done-only tt
-      by b (refused why) e = refuse-only (rw (entries-refused b e) malformed)
+      by b (refused why) e = refuse-only (entries-refused (isChecked m) b P malformed crc e)
 
   -- paths, for any P that has 9 too under the third choice of matching
-  module _ (matching : Matching) (ambiguous : matching ≡ Unambiguous → P Ambiguous) (m : Mount) (work : ℕ) where
+  module _ (matching : Matching) (ambiguous : matching ≡ Unambiguous → P Ambiguous) (m : Mount) (crc : isChecked m ≡ true → P BadCrc) (work : ℕ) where
     chosen-only : (xs : List Entry) → Refuses P Any (ended (chosen matching xs))
     chosen-only xs = by (chosen matching xs) refl
       where
@@ -279,11 +279,11 @@ module _ (P : Refusal → Type 0) (malformed : P Malformed) (missing : P NotBlur
 
     entering-only : (icb : LongAd) (component : List ℕ) → Refuses P Any (entering matching m work icb component)
     unfolding entering findIn
-    entering-only icb component = then-only (directory-only m work icb) (λ b q. by b (entries b) refl)
+    entering-only icb component = then-only (directory-only m crc work icb) (λ b q. by b (entries (isChecked m) b) refl)
       where
-        by : (b : List ℕ) (o : Outcome (List Entry)) → entries b ≡ o → Refuses P Any (ended (andThen o (λ es. chosen matching (allNamed (foldIn matching) component es))))
+        by : (b : List ℕ) (o : Outcome (List Entry)) → entries (isChecked m) b ≡ o → Refuses P Any (ended (andThen o (λ es. chosen matching (allNamed (foldIn matching) component es))))
         by b (answered es) e = chosen-only (allNamed (foldIn matching) component es)
-        by b (refused why) e = refuse-only (rw (entries-refused b e) malformed)
+        by b (refused why) e = refuse-only (entries-refused (isChecked m) b P malformed crc e)
 
     seeking-only : (cs : List Component) (icb : LongAd) (directory : Bool) → Refuses P Any (seeking matching m work cs icb directory)
     unfolding seeking
@@ -305,4 +305,4 @@ module _ (P : Refusal → Type 0) (malformed : P Malformed) (missing : P NotBlur
 
     pub path-only : (root : LongAd) (path : List ℕ) → Refuses P Any (readPathOf matching m work root path)
     unfolding readPathOf
-    path-only root path = then-only (lookup-only root path) (λ icb q. bytes-only P malformed unsupported m icb)
+    path-only root path = then-only (lookup-only root path) (λ icb q. bytes-only P malformed unsupported m crc icb)

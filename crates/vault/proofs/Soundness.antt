@@ -9,6 +9,7 @@ use native.Mathlib.Omega.{arith}
 use lib.ListN.{length, drop, replicate}
 use lib.Dec.{leb}
 use Rattle.disc.specs.Choice.{pick}
+use Rattle.disc.specs.Places.{isChecked}
 use Rattle.disc.specs.Refusals.{number}
 use Rattle.disc.specs.Counts.{reported}
 use Rattle.disc.specs.Ask.{Ask, Outcome, outcome, asked, andThen}
@@ -17,7 +18,7 @@ use Rattle.disc.specs.Images.{disc, bytesOf}
 use Rattle.disc.specs.Ran.{Ran, ran, eachIn}
 use Rattle.disc.specs.Replies.{replyBy, leftBy, answerOf}
 use Rattle.disc.specs.declared.refusals.Refusal.{Refusal}
-use Rattle.disc.specs.declared.refusals.Refusal.the-variants.{Io, Malformed, NotBluray, Unsupported, NoRoom, NoWork, NoSlot, Ambiguous}
+use Rattle.disc.specs.declared.refusals.Refusal.the-variants.{Io, Malformed, NotBluray, Unsupported, NoRoom, NoWork, NoSlot, Ambiguous, BadCrc}
 use Rattle.disc.specs.declared.replies.Reply.{Reply}
 use Rattle.disc.proofs.PartLaws.{PartAt}
 use Rattle.disc.proofs.OnlyLaws.{Within, refuses-within}
@@ -49,7 +50,7 @@ one p q = p ∙ sym q
 
 -- ---- the table
 
-pub in-table : (why : Refusal) → (number why ≤ 7) ⊎ (number why ≡ 9)
+pub in-table : (why : Refusal) → (number why ≤ 7) ⊎ (number why ≡ 9) ⊎ (number why ≡ 10)
 in-table Io = inl (omega arith)
 in-table Malformed = inl (omega arith)
 in-table NotBluray = inl (omega arith)
@@ -57,36 +58,50 @@ in-table Unsupported = inl (omega arith)
 in-table NoRoom = inl (omega arith)
 in-table NoWork = inl (omega arith)
 in-table NoSlot = inl (omega arith)
-in-table Ambiguous = inr refl
+in-table Ambiguous = inr (inl refl)
+in-table BadCrc = inr (inr refl)
 
--- 0 to 7; and of a call that takes a path 9 too, under the third choice of matching alone
-abbrev pub Listed : ℕ → Type 0
-Listed n = n ≤ 7
+-- 0 to 7; where bodies are checked 10 too; and of a call that takes a path 9 too, under the third choice of matching alone
+abbrev pub Listed : Bool → ℕ → Type 0
+Listed checked n = (n ≤ 7) ⊎ ((checked ≡ true) × (n ≡ 10))
 
-abbrev pub ListedBy : Matching → ℕ → Type 0
-ListedBy matching n = (n ≤ 7) ⊎ ((matching ≡ Unambiguous) × (n ≡ 9))
+abbrev pub ListedBy : Bool → Matching → ℕ → Type 0
+ListedBy checked matching n = (n ≤ 7) ⊎ ((checked ≡ true) × (n ≡ 10)) ⊎ ((matching ≡ Unambiguous) × (n ≡ 9))
 
 -- what the trees say by themselves is in it
 module _ (image : List ℕ) where
-  widened : {A : Type 0} (o : Outcome A) → Within Original o → Within (λ why. Listed (number why)) o
+  widened : {A : Type 0} (checked : Bool) (o : Outcome A) → Within (Original checked) o → Within (λ why. Listed checked (number why)) o
   unfolding Within
-  widened (answered a) w = tt
-  widened (refused why) w = omega arith
+  widened checked (answered a) w = tt
+  widened checked (refused why) w = by w
+    where
+      by : Original checked why → Listed checked (number why)
+      by (inl h) = inl (omega arith)
+      by (inr h) = inr h
 
-  path-listed : (v : VolumeRecord) (path : List ℕ) (matching : Matching) (work : ℕ) → Within (λ why. ListedBy matching (number why)) (outcome (disc image) (pathReading v work path matching))
-  path-listed v path matching work =
-      refuses-within (λ why. ListedBy matching (number why)) (inl (omega arith)) (disc image)
-      (path-only (λ why. ListedBy matching (number why)) (inl (omega arith)) (inl (omega arith)) (inl (omega arith)) (inl (omega arith)) matching (λ z. inr (z, refl)) (v .mount) work (v .root) path)
+  module _ (v : VolumeRecord) where
+    abbrev on : ℕ → Type 0
+    on = Listed (isChecked (v .mount))
 
-  list-listed : (v : VolumeRecord) (icb : LongAd) (work : ℕ) → Within (λ why. Listed (number why)) (outcome (disc image) (listing v work icb))
-  list-listed v icb work =
-      refuses-within (λ why. Listed (number why)) (omega arith) (disc image)
-      (listing-only (λ why. Listed (number why)) (omega arith) (omega arith) (omega arith) (omega arith) (v .mount) work icb)
+    abbrev along : Matching → ℕ → Type 0
+    along = ListedBy (isChecked (v .mount))
 
-  find-listed : (v : VolumeRecord) (path : List ℕ) (matching : Matching) (work : ℕ) → Within (λ why. ListedBy matching (number why)) (outcome (disc image) (finding v work path matching))
-  find-listed v path matching work =
-      refuses-within (λ why. ListedBy matching (number why)) (inl (omega arith)) (disc image)
-      (lookup-only (λ why. ListedBy matching (number why)) (inl (omega arith)) (inl (omega arith)) (inl (omega arith)) (inl (omega arith)) matching (λ z. inr (z, refl)) (v .mount) work (v .root) path)
+    path-listed : (path : List ℕ) (matching : Matching) (work : ℕ) → Within (λ why. along matching (number why)) (outcome (disc image) (pathReading v work path matching))
+    path-listed path matching work =
+        refuses-within (λ why. along matching (number why)) (inl (omega arith)) (disc image)
+        (path-only (λ why. along matching (number why)) (inl (omega arith)) (inl (omega arith)) (inl (omega arith)) (inl (omega arith)) matching (λ z. inr (inr (z, refl))) (v .mount)
+        (λ c. inr (inl (c, refl))) work (v .root) path)
+
+    list-listed : (icb : LongAd) (work : ℕ) → Within (λ why. on (number why)) (outcome (disc image) (listing v work icb))
+    list-listed icb work =
+        refuses-within (λ why. on (number why)) (inl (omega arith)) (disc image)
+        (listing-only (λ why. on (number why)) (inl (omega arith)) (inl (omega arith)) (inl (omega arith)) (inl (omega arith)) (v .mount) (λ c. inr (c, refl)) work icb)
+
+    find-listed : (path : List ℕ) (matching : Matching) (work : ℕ) → Within (λ why. along matching (number why)) (outcome (disc image) (finding v work path matching))
+    find-listed path matching work =
+        refuses-within (λ why. along matching (number why)) (inl (omega arith)) (disc image)
+        (lookup-only (λ why. along matching (number why)) (inl (omega arith)) (inl (omega arith)) (inl (omega arith)) (inl (omega arith)) matching (λ z. inr (inr (z, refl))) (v .mount)
+        (λ c. inr (inl (c, refl))) work (v .root) path)
 
 -- ---- calls that write: the answer is 0 or in the table; a refusal has length 0, and leaves what was lent as it came
 
@@ -119,30 +134,33 @@ module _ (table : ℕ → Type 0) (done : table 0) where
       by true = record { listed = done; zeros = λ h. absurd (h refl); kept = λ h. absurd (h refl) }
       by false = record { listed = seven; zeros = λ h. refl; kept = λ h. refl }
 
-written-sound : (image out : List ℕ) (m : Ask (List ℕ)) → Within (λ why. Listed (number why)) (outcome (disc image) m)
-    → Sound Listed (written out (ran (disc image) m) .reply .answer) (written out (ran (disc image) m) .reply .length) out (written out (ran (disc image) m) .out)
+written-sound : (checked : Bool) (image out : List ℕ) (m : Ask (List ℕ)) → Within (λ why. Listed checked (number why)) (outcome (disc image) m)
+    → Sound (Listed checked) (written out (ran (disc image) m) .reply .answer) (written out (ran (disc image) m) .reply .length) out (written out (ran (disc image) m) .out)
 unfolding ran
-written-sound image out m w = sound-by Listed (omega arith) (omega arith) out _ (outcome (disc image) m) w
+written-sound checked image out m w = sound-by (Listed checked) (inl (omega arith)) (inl (omega arith)) out _ (outcome (disc image) m) w
 
 module _ (image : List ℕ) (v : VolumeRecord) (icb : LongAd) (path : List ℕ) (matching : Matching) (out work : List ℕ) where
-  pub label-sound : (how : How) → Sound Listed (labels image how out .reply .answer) (labels image how out .reply .length) out (labels image how out .out)
-  label-sound how = written-sound image out (labelling how) (widened image (outcome (disc image) (labelling how)) (label-original (disc image) how))
+  abbrev checked : Bool
+  checked = isChecked (v .mount)
 
-  pub read-sound : Sound Listed (reads image v icb out .reply .answer) (reads image v icb out .reply .length) out (reads image v icb out .out)
-  read-sound = written-sound image out (reading v icb) (widened image (outcome (disc image) (reading v icb)) (read-original (disc image) v icb))
+  pub label-sound : (how : How) → Sound (Listed (how .checked)) (labels image how out .reply .answer) (labels image how out .reply .length) out (labels image how out .out)
+  label-sound how = written-sound (how .checked) image out (labelling how) (widened image (how .checked) (outcome (disc image) (labelling how)) (label-original (disc image) how))
 
-  pub list-sound : Sound Listed (lists image v icb out work .reply .answer) (lists image v icb out work .reply .length) out (lists image v icb out work .out)
-  list-sound = written-sound image out (listing v (length work) icb) (list-listed image v icb (length work))
+  pub read-sound : Sound (Listed (isChecked (v .mount))) (reads image v icb out .reply .answer) (reads image v icb out .reply .length) out (reads image v icb out .out)
+  read-sound = written-sound checked image out (reading v icb) (widened image checked (outcome (disc image) (reading v icb)) (read-original (disc image) v icb))
 
-  pub read-path-sound : Sound (ListedBy matching) (readsPath image v path matching out work .reply .answer) (readsPath image v path matching out work .reply .length) out (readsPath image v path matching out work .out)
+  pub list-sound : Sound (Listed (isChecked (v .mount))) (lists image v icb out work .reply .answer) (lists image v icb out work .reply .length) out (lists image v icb out work .out)
+  list-sound = written-sound checked image out (listing v (length work) icb) (list-listed image v icb (length work))
+
+  pub read-path-sound : Sound (ListedBy (isChecked (v .mount)) matching) (readsPath image v path matching out work .reply .answer) (readsPath image v path matching out work .reply .length) out (readsPath image v path matching out work .out)
   unfolding ran
-  read-path-sound = sound-by (ListedBy matching) (inl (omega arith)) (inl (omega arith)) out _ (outcome (disc image) (pathReading v (length work) path matching)) (path-listed image v path matching (length work))
+  read-path-sound = sound-by (ListedBy checked matching) (inl (omega arith)) (inl (omega arith)) out _ (outcome (disc image) (pathReading v (length work) path matching)) (path-listed image v path matching (length work))
 
-  pub extents-sound : {A : Type 0} (f : AllocExtent → A) (row : List A) → Sound Listed (extents f image v icb row .reply .answer) (extents f image v icb row .reply .length) row (extents f image v icb row .row)
+  pub extents-sound : {A : Type 0} (f : AllocExtent → A) (row : List A) → Sound (Listed (isChecked (v .mount))) (extents f image v icb row .reply .answer) (extents f image v icb row .reply .length) row (extents f image v icb row .row)
   unfolding ran
   extents-sound f row =
-      rowed-by Listed (omega arith) (omega arith) f row (outcome (disc image) (extentListing v icb)) _
-      (widened image (outcome (disc image) (extentListing v icb)) (extents-original (disc image) v icb))
+      rowed-by (Listed checked) (inl (omega arith)) (inl (omega arith)) f row (outcome (disc image) (extentListing v icb)) _
+      (widened image checked (outcome (disc image) (extentListing v icb)) (extents-original (disc image) v icb))
 
   -- work space comes back all zero, as long as it was, from each call that takes one
   pub clears : (lists image v icb out work .work ≡ replicate (length work) 0)
@@ -154,30 +172,37 @@ module _ (image : List ℕ) (v : VolumeRecord) (icb : LongAd) (path : List ℕ) 
 
 -- ---- calls that give a value: zeros where they are refused
 
-pub open-sound : (image : List ℕ) (how : How) → (opens image how .answer ≤ 7) × ((opens image how .answer ≡ 0 → ⊥) → opens image how .volume ≡ noVolume)
+pub open-sound : (image : List ℕ) (how : How) → Listed (how .checked) (opens image how .answer) × ((opens image how .answer ≡ 0 → ⊥) → opens image how .volume ≡ noVolume)
 unfolding ran Within
-open-sound image how = by (outcome (disc image) (opening how)) _ (open-original (disc image) how)
+open-sound image how = by (outcome (disc image) (opening how)) _ (widened image (how .checked) (outcome (disc image) (opening how)) (open-original (disc image) how))
   where
-    by : (o : Outcome VolumeRecord) (n : ℕ) → Within Original o → (openedBy n o .answer ≤ 7) × ((openedBy n o .answer ≡ 0 → ⊥) → openedBy n o .volume ≡ noVolume)
-    by (answered v) n w = (omega arith, λ h. absurd (h refl))
-    by (refused why) n w = (omega arith, λ h. refl)
+    by : (o : Outcome VolumeRecord) (n : ℕ) → Within (λ why. Listed (how .checked) (number why)) o
+        → Listed (how .checked) (openedBy n o .answer) × ((openedBy n o .answer ≡ 0 → ⊥) → openedBy n o .volume ≡ noVolume)
+    by (answered v) n w = (inl (omega arith), λ h. absurd (h refl))
+    by (refused why) n w = (w, λ h. refl)
 
 pub lookup-sound : (image : List ℕ) (v : VolumeRecord) (path : List ℕ) (matching : Matching) (work : List ℕ)
-    → ListedBy matching (finds image v path matching work .found .answer) × ((finds image v path matching work .found .answer ≡ 0 → ⊥) → finds image v path matching work .found .icb ≡ noLong)
+    → ListedBy (isChecked (v .mount)) matching (finds image v path matching work .found .answer) × ((finds image v path matching work .found .answer ≡ 0 → ⊥) → finds image v path matching work .found .icb ≡ noLong)
 unfolding ran Within
 lookup-sound image v path matching work = by (outcome (disc image) (finding v (length work) path matching)) (reported (length (asked (disc image) (finding v (length work) path matching)))) (find-listed image v path matching (length work))
   where
-    by : (o : Outcome LongAd) (n : ℕ) → Within (λ why. ListedBy matching (number why)) o → ListedBy matching (foundTo o n .answer) × ((foundTo o n .answer ≡ 0 → ⊥) → foundTo o n .icb ≡ noLong)
+    along : ℕ → Type 0
+    along = ListedBy (isChecked (v .mount)) matching
+
+    by : (o : Outcome LongAd) (n : ℕ) → Within (λ why. along (number why)) o → along (foundTo o n .answer) × ((foundTo o n .answer ≡ 0 → ⊥) → foundTo o n .icb ≡ noLong)
     by (answered icb) n w = (inl (omega arith), λ h. absurd (h refl))
     by (refused why) n w = (w, λ h. refl)
 
-pub part-sound : (image : List ℕ) (v : VolumeRecord) (icb : LongAd) → (parts image v icb .answer ≤ 7) × ((parts image v icb .answer ≡ 0 → ⊥) → parts image v icb .part ≡ [])
+pub part-sound : (image : List ℕ) (v : VolumeRecord) (icb : LongAd) → Listed (isChecked (v .mount)) (parts image v icb .answer) × ((parts image v icb .answer ≡ 0 → ⊥) → parts image v icb .part ≡ [])
 unfolding ran Within
-part-sound image v icb = by (outcome (disc image) (parting v icb)) (part-original (disc image) v icb)
+part-sound image v icb = by (outcome (disc image) (parting v icb)) (widened image (isChecked (v .mount)) (outcome (disc image) (parting v icb)) (part-original (disc image) v icb))
   where
-    by : (o : Outcome Part) → Within Original o → (answerOf o ≤ 7) × ((answerOf o ≡ 0 → ⊥) → partIn o .bytes ≡ [])
-    by (answered p) w = (omega arith, λ h. absurd (h refl))
-    by (refused why) w = (omega arith, λ h. refl)
+    on : ℕ → Type 0
+    on = Listed (isChecked (v .mount))
+
+    by : (o : Outcome Part) → Within (λ why. on (number why)) o → on (answerOf o) × ((answerOf o ≡ 0 → ⊥) → partIn o .bytes ≡ [])
+    by (answered p) w = (inl (omega arith), λ h. absurd (h refl))
+    by (refused why) w = (w, λ h. refl)
 
 -- the call for the part's place has the part's number, count and length; the part stands there; a refusal has zeros
 pub part-at-sound : (image : List ℕ) (v : VolumeRecord) (icb : LongAd)

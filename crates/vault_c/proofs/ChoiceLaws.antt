@@ -4,9 +4,10 @@ use mathlib.Core.Path.{_≡_, refl, ap}
 use mathlib.Core.Bool.{Bool, true, false}
 use mathlib.Core.Option.{Option, none, some}
 use mathlib.Core.List.{List, []}
+use mathlib.Core.Logic.{inl}
 use native.Mathlib.Omega.{arith}
 use lib.Dec.{eqb}
-use borrow.Author.Tests.{eqb-true, ne-eqb}
+use borrow.Author.Tests.{eqb-true, eqb-false, ne-eqb}
 use Rattle.disc.specs.declared.replies.Reply.{Reply}
 use Rattle.records.specs.Allocations.{noLong}
 use Rattle.volumes.specs.Openings.{usual, noVolume}
@@ -25,10 +26,10 @@ module _ (n : ℕ) {r : Choice} where
   pub choice-high : (n / 8 ≡ 0 → ⊥) → r ≡ Unknown → r ≡ choiceOf (howOf n)
   choice-high h e = rw (ne-eqb (n / 8) 0 h) e
 
-  pub choice-low : n / 8 ≡ 0 → (n % 4 ≡ 0 → ⊥) → r ≡ Unknown → r ≡ choiceOf (howOf n)
-  choice-low h l e = rw (h, ne-eqb (n % 4) 0 l) e
+  pub choice-low : n / 8 ≡ 0 → (n / 2 % 2 ≡ 0 → ⊥) → r ≡ Unknown → r ≡ choiceOf (howOf n)
+  choice-low h l e = rw (h, ne-eqb (n / 2 % 2) 0 l) e
 
-  pub choice-known : n / 8 ≡ 0 → n % 4 ≡ 0 → r ≡ Known (record { highest = eqb (n / 4) 1 }) → r ≡ choiceOf (howOf n)
+  pub choice-known : n / 8 ≡ 0 → n / 2 % 2 ≡ 0 → r ≡ Known (record { highest = eqb (n / 4) 1; checked = eqb (n % 2) 1 }) → r ≡ choiceOf (howOf n)
   choice-known h l e = rw (h, l) e
 
 -- ---- the calls
@@ -63,44 +64,76 @@ module _ (image : List ℕ) (n : ℕ) {c : Choice} (q : c ≡ choiceOf (howOf n)
         by (some other) p = let s : how ≡ other = cc in rw (← s) e
         by none p = absurd (let z : _≡_ {A = ℕ} 0 1 = cc in omega arith)
 
--- ---- what a number comes to: 0 is the default, 4 the highest number, and every other one is refused
+-- ---- what a number comes to: 0 is the default, 1 that bodies are checked, 4 the highest number, 5 both, and every other one is refused
 
 pub none-chosen : howOf 0 ≡ some usual
 none-chosen = refl
 
-pub highest-chosen : howOf 4 ≡ some (record { highest = true })
+pub checked-chosen : howOf 1 ≡ some (record { highest = false; checked = true })
+checked-chosen = refl
+
+pub highest-chosen : howOf 4 ≡ some (record { highest = true; checked = false })
 highest-chosen = refl
 
-pub no-other : (n : ℕ) → (n ≡ 0 → ⊥) → (n ≡ 4 → ⊥) → howOf n ≡ none
-no-other n z f = by (eqb (n / 8) 0) refl
+pub both-chosen : howOf 5 ≡ some (record { highest = true; checked = true })
+both-chosen = refl
+
+-- a number below 8 whose middle bit is clear, by its other two
+module _ (n : ℕ) (h : n / 8 ≡ 0) (l : n / 2 % 2 ≡ 0) where
+  is-0 : n / 4 ≡ 0 → n % 2 ≡ 0 → n ≡ 0
+  is-0 a b = omega arith
+
+  is-1 : n / 4 ≡ 0 → (n % 2 ≡ 0 → ⊥) → n ≡ 1
+  is-1 a b = omega arith
+
+  is-4 : (n / 4 ≡ 0 → ⊥) → n % 2 ≡ 0 → n ≡ 4
+  is-4 a b = omega arith
+
+  is-5 : (n / 4 ≡ 0 → ⊥) → (n % 2 ≡ 0 → ⊥) → n ≡ 5
+  is-5 a b = omega arith
+
+pub no-other : (n : ℕ) → (n ≡ 0 → ⊥) → (n ≡ 1 → ⊥) → (n ≡ 4 → ⊥) → (n ≡ 5 → ⊥) → howOf n ≡ none
+no-other n p q f g = by (eqb (n / 8) 0) refl
   where
-    among : n / 8 ≡ 0 → n % 4 ≡ 0 → ⊥
-    among h l = omega (arith, z, f)
+    among : n / 8 ≡ 0 → n / 2 % 2 ≡ 0 → ⊥
+    among h l = bits (eqb (n / 4) 0) (eqb (n % 2) 0) refl refl
+      where
+        bits : (a b : Bool) → eqb (n / 4) 0 ≡ a → eqb (n % 2) 0 ≡ b → ⊥
+        bits true true i j = p (is-0 n h l (eqb-true (n / 4) 0 i) (eqb-true (n % 2) 0 j))
+        bits true false i j = q (is-1 n h l (eqb-true (n / 4) 0 i) (eqb-false (n % 2) 0 j))
+        bits false true i j = f (is-4 n h l (eqb-false (n / 4) 0 i) (eqb-true (n % 2) 0 j))
+        bits false false i j = g (is-5 n h l (eqb-false (n / 4) 0 i) (eqb-false (n % 2) 0 j))
 
     by : (t : Bool) → eqb (n / 8) 0 ≡ t → howOf n ≡ none
-    by true e = let h = eqb-true (n / 8) 0 e in rw (h, ne-eqb (n % 4) 0 (among h))
+    by true e = let h = eqb-true (n / 8) 0 e in rw (h, ne-eqb (n / 2 % 2) 0 (among h))
     by false e = rw e
 
 -- so with every other number nothing is asked for, and every value and every byte is as a refusal has it
-module _ (image : List ℕ) (n : ℕ) (z : n ≡ 0 → ⊥) (f : n ≡ 4 → ⊥) where
+module _ (image : List ℕ) (n : ℕ) (p : n ≡ 0 → ⊥) (q : n ≡ 1 → ⊥) (f : n ≡ 4 → ⊥) (g : n ≡ 5 → ⊥) where
   pub open-other : opensAs image n ≡ record { answer = 4; count = 0; volume = noVolume }
-  open-other = ap (opensBy image) (no-other n z f)
+  open-other = ap (opensBy image) (no-other n p q f g)
 
   pub label-other : (out : List ℕ) → labelsAs image n out ≡ record { reply = record { answer = 4; count = 0; length = 0 }; out = out }
-  label-other out = ap (λ o. labelsBy image o out) (no-other n z f)
+  label-other out = ap (λ o. labelsBy image o out) (no-other n p q f g)
 
 -- ---- whatever number is handed in, the answer is of the table, and a refusal has zeros and leaves the output as it came
 
-pub open-as-sound : (image : List ℕ) (n : ℕ) → (opensAs image n .answer ≤ 7) × ((opensAs image n .answer ≡ 0 → ⊥) → opensAs image n .volume ≡ noVolume)
+-- whether it chooses that bodies are checked
+abbrev pub checkedIn : Option How → Bool
+checkedIn (some how) = how .checked
+checkedIn none = false
+
+pub open-as-sound : (image : List ℕ) (n : ℕ) → Listed (checkedIn (howOf n)) (opensAs image n .answer) × ((opensAs image n .answer ≡ 0 → ⊥) → opensAs image n .volume ≡ noVolume)
 open-as-sound image n = by (howOf n)
   where
-    by : (o : Option How) → (opensBy image o .answer ≤ 7) × ((opensBy image o .answer ≡ 0 → ⊥) → opensBy image o .volume ≡ noVolume)
+    by : (o : Option How) → Listed (checkedIn o) (opensBy image o .answer) × ((opensBy image o .answer ≡ 0 → ⊥) → opensBy image o .volume ≡ noVolume)
     by (some how) = open-sound image how
-    by none = (omega arith, λ h. refl)
+    by none = (inl (omega arith), λ h. refl)
 
-pub label-as-sound : (image : List ℕ) (n : ℕ) (out : List ℕ) → Sound Listed (labelsAs image n out .reply .answer) (labelsAs image n out .reply .length) out (labelsAs image n out .out)
+pub label-as-sound : (image : List ℕ) (n : ℕ) (out : List ℕ)
+    → Sound (Listed (checkedIn (howOf n))) (labelsAs image n out .reply .answer) (labelsAs image n out .reply .length) out (labelsAs image n out .out)
 label-as-sound image n out = by (howOf n)
   where
-    by : (o : Option How) → Sound Listed (labelsBy image o out .reply .answer) (labelsBy image o out .reply .length) out (labelsBy image o out .out)
+    by : (o : Option How) → Sound (Listed (checkedIn o)) (labelsBy image o out .reply .answer) (labelsBy image o out .reply .length) out (labelsBy image o out .out)
     by (some how) = label-sound image noVolume noLong [] CaseIgnored out [] how
-    by none = record { listed = omega arith; zeros = λ h. refl; kept = λ h. refl }
+    by none = record { listed = inl (omega arith); zeros = λ h. refl; kept = λ h. refl }

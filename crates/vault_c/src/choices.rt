@@ -3,6 +3,10 @@ ghost use mathlib.Core.Path.{_≡_};
 ghost use Rattle.vault_c.specs.Choosing.{howOf, choiceOf};
 use volumes::openings::How;
 
+// A choice for `how`: the body of each descriptor that is parsed, on opening and in every call on the volume, must have the CRC that its tag
+// says, or the call is refused by VAULT_BAD_CRC.
+pub const CHECKED: u32 = 1;
+
 // A choice for `how`: of several primary volume, partition or logical volume descriptors the one with the highest volume descriptor
 // sequence number counts, the later of equals. Without it the last one does.
 pub const HIGHEST: u32 = 4;
@@ -19,10 +23,11 @@ pub(crate) fn chosen(how: u32) -> Choice
     if how / 8 != 0 {
         return Choice::Unknown;
     }
-    if how % HIGHEST != 0 {
+    if how / 2 % 2 != 0 {
         return Choice::Unknown;
     }
     Choice::Known(How {
         highest: how / HIGHEST == 1,
+        checked: how % 2 == CHECKED,
     })
 }

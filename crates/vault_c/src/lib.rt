@@ -48,12 +48,12 @@ pub const VAULT_AS_WRITTEN: u32 = AS_WRITTEN;
 pub const VAULT_UNAMBIGUOUS: u32 = UNAMBIGUOUS;
 
 // Goes up whenever a struct or a call changes.
-pub const VAULT_VERSION: u32 = 3;
+pub const VAULT_VERSION: u32 = 4;
 
 // The VAULT_VERSION of the archive, which is to be that of the header.
 #[no_mangle]
 pub extern "C" fn vault_version() -> u32
-    ensures { λ r. ⌜ r ≡ 3 ⌝ }
+    ensures { λ r. ⌜ r ≡ 4 ⌝ }
 {
     VAULT_VERSION
 }
@@ -67,7 +67,7 @@ pub extern "C" fn vault_probe(image: &[u8]) -> bool
 }
 
 // Opens the volume of an image. `how` is the sum of the choices, 0 for none of them; any other bit is VAULT_UNSUPPORTED with a count of 0.
-// The volume holds no trace of them: it is what came out.
+// A volume that is opened with VAULT_CHECKED says so in its mount, and every call on it checks; of the others it holds no trace.
 #[no_mangle]
 pub extern "C" fn vault_open(image: &[u8], how: u32) -> Opened
     ensures { λ r. ⌜ r ≡ opensAs (now (image .entry)) how ⌝ }

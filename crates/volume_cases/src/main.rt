@@ -117,11 +117,18 @@ fn say_labels(image: &[u8]) {
     say_short(image, reply.length);
 }
 
+fn by_highest() -> How {
+    How {
+        highest: true,
+        checked: false,
+    }
+}
+
 // By the highest numbers.
 fn say_highest(image: &[u8]) {
-    say_opened(b"highest ", open_volume(image, How { highest: true }));
+    say_opened(b"highest ", open_volume(image, by_highest()));
     let mut out = [0xeeu8; 64];
-    let reply = label(image, How { highest: true }, &mut out);
+    let reply = label(image, by_highest(), &mut out);
     say_reply(b"label ", reply, &out);
 }
 

@@ -6,3 +6,4 @@ pub mod LabelLaws
 pub mod NamedLaws
 pub mod Prevailing
 pub mod Promises
+pub mod GuardLaws

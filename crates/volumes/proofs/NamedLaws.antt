@@ -91,13 +91,13 @@ kept-named o k (p ∷ ps) h l = kept-named o (prevailing o k p) ps (prevailing-n
 
 -- ---- the sequence
 
-says-labelled : (b : List ℕ) {p : Parsed} → saysIn b ≡ found p → Labelled p
+says-labelled : (check : Bool) (b : List ℕ) {p : Parsed} → saysIn check b ≡ found p → Labelled p
 unfolding saysIn
-says-labelled b {p} = by (eqb (u16at b 0) 1) (eqb (u16at b 0) 5) (eqb (u16at b 0) 6) (eqb (u16at b 0) 8)
+says-labelled check b {p} = by (eqb (u16at b 0) 1) (eqb (u16at b 0) 5) (eqb (u16at b 0) 6) (eqb (u16at b 0) 8)
   where
-    first : (x : Outcome PrimaryVolumeDescriptor) → readPrimary b ≡ x → primaryIn x ≡ found p → Labelled p
+    first : (x : Outcome PrimaryVolumeDescriptor) → readPrimary check b ≡ x → primaryIn x ≡ found p → Labelled p
     first (answered d) h e =
-        let g = primary-good b h in
+        let g = primary-good check b h in
         let q : primary d ≡ p = cc in
         rw (← q) (record { value = g .name; is = g .named })
     first (refused r) h e = absurd (let z : _≡_ {A = ℕ} 0 1 = cc in omega arith)
@@ -110,20 +110,20 @@ says-labelled b {p} = by (eqb (u16at b 0) 1) (eqb (u16at b 0) 5) (eqb (u16at b 0
     whole (answered d) e = let q : logical d ≡ p = cc in rw (← q) tt
     whole (refused r) e = absurd (let z : _≡_ {A = ℕ} 0 1 = cc in omega arith)
 
-    by : (t u v w : Bool) → pick t (primaryIn (readPrimary b)) (pick u (partitionIn (readPartition b)) (pick v (logicalIn (readLogical b)) (pick w over passed))) ≡ found p → Labelled p
-    by true u v w e = first (readPrimary b) refl e
-    by false true v w e = parted (readPartition b) e
-    by false false true w e = whole (readLogical b) e
+    by : (t u v w : Bool) → pick t (primaryIn (readPrimary check b)) (pick u (partitionIn (readPartition check b)) (pick v (logicalIn (readLogical check b)) (pick w over passed))) ≡ found p → Labelled p
+    by true u v w e = first (readPrimary check b) refl e
+    by false true v w e = parted (readPartition check b) e
+    by false false true w e = whole (readLogical check b) e
     by false false false true e = absurd (let z : _≡_ {A = ℕ} 0 1 = cc in omega arith)
     by false false false false e = absurd (let z : _≡_ {A = ℕ} 0 1 = cc in omega arith)
 
-scan-labelled : (n at : ℕ) → Answers AllLabelled (scan n at)
+scan-labelled : (check : Bool) (n at : ℕ) → Answers AllLabelled (scan check n at)
 unfolding Only scan AllLabelled
-scan-labelled zero at = tt
-scan-labelled (suc n) at = λ b. by b (saysIn b) refl (scan-labelled n (at + 1))
+scan-labelled check zero at = tt
+scan-labelled check (suc n) at = λ b. by b (saysIn check b) refl (scan-labelled check n (at + 1))
   where
-    by : (b : List ℕ) (x : Says) → saysIn b ≡ x → Answers AllLabelled (scan n (at + 1)) → Answers AllLabelled (goOn x (scan n (at + 1)))
-    by b (found p) e h = only-then (λ why. Unit {0}) AllLabelled AllLabelled (scan n (at + 1)) (λ ps. done (p ∷ ps)) h (λ ps l. (says-labelled b e, l))
+    by : (b : List ℕ) (x : Says) → saysIn check b ≡ x → Answers AllLabelled (scan check n (at + 1)) → Answers AllLabelled (goOn x (scan check n (at + 1)))
+    by b (found p) e h = only-then (λ why. Unit {0}) AllLabelled AllLabelled (scan check n (at + 1)) (λ ps. done (p ∷ ps)) h (λ ps l. (says-labelled check b e, l))
     by b passed e h = h
     by b over e h = tt
     by b (fails r) e h = tt
@@ -133,20 +133,20 @@ scan-labelled (suc n) at = λ b. by b (saysIn b) refl (scan-labelled n (at + 1))
 abbrev pub Titled : VolumeRecord → Type 0
 Titled v = Named (v .label)
 
-mounting-named : (k : Kept) → Named (k .label) → Answers Titled (mounting k)
+mounting-named : (check : Bool) (k : Kept) → Named (k .label) → Answers Titled (mounting check k)
 unfolding Only mounting
-mounting-named k h = by (k .«has_primary») (k .«has_partition») (k .«has_logical») (eqb (k .«block_size») 2048)
+mounting-named check k h = by (k .«has_primary») (k .«has_partition») (k .«has_logical») (eqb (k .«block_size») 2048)
   where
-    set : (x : Outcome FileSetDescriptor) → Answers Titled (ended (volumeIn k x))
+    set : (x : Outcome FileSetDescriptor) → Answers Titled (ended (volumeIn check k x))
     set (answered d) = h
     set (refused r) = tt
 
-    stands : (o : Option ℕ) → Answers Titled (standing o (λ s. ask s (λ b. ended (volumeIn k (readFileSet b)))))
+    stands : (o : Option ℕ) → Answers Titled (standing o (λ s. ask s (λ b. ended (volumeIn check k (readFileSet check b)))))
     stands none = tt
-    stands (some s) = λ b. set (readFileSet b)
+    stands (some s) = λ b. set (readFileSet check b)
 
-    by : (t u v w : Bool) → Answers Titled (pick t (pick u (pick v (pick w (standing (fileSetIn k) (λ s. ask s (λ b. ended (volumeIn k (readFileSet b))))) (refuse Unsupported)) (refuse NotBluray)) (refuse NotBluray)) (refuse NotBluray))
-    by true true true true = stands (fileSetIn k)
+    by : (t u v w : Bool) → Answers Titled (pick t (pick u (pick v (pick w (standing (fileSetIn check k) (λ s. ask s (λ b. ended (volumeIn check k (readFileSet check b))))) (refuse Unsupported)) (refuse NotBluray)) (refuse NotBluray)) (refuse NotBluray))
+    by true true true true = stands (fileSetIn check k)
     by true true true false = tt
     by true true false w = tt
     by true false v w = tt
@@ -154,10 +154,10 @@ mounting-named k h = by (k .«has_primary») (k .«has_partition») (k .«has_lo
 
 pub opening-named : (how : How) → Answers Titled (opening how)
 unfolding Only opening
-opening-named how = λ b. by (readAnchor b)
+opening-named how = λ b. by (readAnchor (how .checked) b)
   where
     by : (x : AnchorRead) → Answers Titled (anchored how x)
     by (NoAnchor r) = tt
     by (AnAnchor a) =
-        only-then (λ why. Unit {0}) AllLabelled Titled (scan _ _) (λ ps. mounting (keptOf (orderOf how) nothing ps)) (scan-labelled _ _)
-        (λ ps l. mounting-named (keptOf (orderOf how) nothing ps) (kept-named (orderOf how) nothing ps nothing-named l))
+        only-then (λ why. Unit {0}) AllLabelled Titled (scan (how .checked) _ _) (λ ps. mounting (how .checked) (keptOf (orderOf how) nothing ps)) (scan-labelled (how .checked) _ _)
+        (λ ps l. mounting-named (how .checked) (keptOf (orderOf how) nothing ps) (kept-named (orderOf how) nothing ps nothing-named l))

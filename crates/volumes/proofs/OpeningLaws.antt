@@ -49,30 +49,34 @@ use Rattle.volumes.specs.declared.openings.Opened.{Opened}
 use Rattle.volumes.specs.declared.openings.How.{How}
 
 -- the return of `no_volume`
-pub volume-none : {root : LongAd} → root ≡ noLong → record { mount = record { start = 0; partition = 0 }; root = root; label = replicate 32 0 } ≡ noVolume
+pub volume-none : {root : LongAd} → root ≡ noLong → record { mount = record { start = 0; partition = 0; checked = 0 }; root = root; label = replicate 32 0 } ≡ noVolume
 volume-none e = rw e
+
+-- the return of `mount_in`
+pub mount-is : (check : Bool) (k : Kept) {n : ℕ} → n ≡ pick check 1 0 → record { start = k .«partition_start»; partition = k .«partition_number»; checked = n } ≡ mountIn check k
+mount-is check k e = rw e
 
 -- ---- the sector of the file set descriptor
 
-module _ (k : Kept) (b : List ℕ) (n : ℕ) {r : FileSetRead} (e : r ≡ fileSetRead (readFileSet b)) where
-  pub volume-not : {o : Opened} → (r .answer ≡ 0 → ⊥) → o ≡ record { answer = r .answer; count = n; volume = noVolume } → o ≡ openedBy n (volumeIn k (readFileSet b))
-  volume-not {o} h q = told (readFileSet b) e
+module _ (check : Bool) (k : Kept) (b : List ℕ) (n : ℕ) {r : FileSetRead} (e : r ≡ fileSetRead (readFileSet check b)) where
+  pub volume-not : {o : Opened} → (r .answer ≡ 0 → ⊥) → o ≡ record { answer = r .answer; count = n; volume = noVolume } → o ≡ openedBy n (volumeIn check k (readFileSet check b))
+  volume-not {o} h q = told (readFileSet check b) e
     where
-      told : (d : Outcome FileSetDescriptor) → r ≡ fileSetRead d → o ≡ openedBy n (volumeIn k d)
+      told : (d : Outcome FileSetDescriptor) → r ≡ fileSetRead d → o ≡ openedBy n (volumeIn check k d)
       told (answered d) p = absurd (h (ap (λ (x : FileSetRead). x .answer) p))
       told (refused why) p = q ∙ rw p
 
   pub volume-is : {o : Opened} → r .answer ≡ 0
-      → {m : Mount} → m ≡ mountIn k
+      → {m : Mount} → m ≡ mountIn check k
       → o ≡ record {
         answer = 0;
         count = n;
         volume = record { mount = m; root = r .descriptor .«root_directory_icb»; label = k .label };
       }
-      → o ≡ openedBy n (volumeIn k (readFileSet b))
-  volume-is {o} h {m} g q = told (readFileSet b) e
+      → o ≡ openedBy n (volumeIn check k (readFileSet check b))
+  volume-is {o} h {m} g q = told (readFileSet check b) e
     where
-      told : (d : Outcome FileSetDescriptor) → r ≡ fileSetRead d → o ≡ openedBy n (volumeIn k d)
+      told : (d : Outcome FileSetDescriptor) → r ≡ fileSetRead d → o ≡ openedBy n (volumeIn check k d)
       told (answered d) p = q ∙ rw (p, g)
       told (refused why) p = absurd (refusal-numbered why (rw p at h))
 
@@ -84,12 +88,12 @@ data Mounts (m x : Ask VolumeRecord) (n : ℕ) : Type 0 where
   stops : (r : Refusal) → x ≡ refuse r → n ≡ number r → Mounts m x n
 
 -- where the file set descriptor stands, its sector, and its parse
-abbrev fileSetOn : Kept → Ask VolumeRecord
-fileSetOn k = standing (fileSetIn k) (fileSetAt k)
+abbrev fileSetOn : Bool → Kept → Ask VolumeRecord
+fileSetOn check k = standing (fileSetIn check k) (fileSetAt check k)
 
-mounts : (k : Kept) → Mounts (fileSetOn k) (mounting k) (mountable k)
+mounts : (check : Bool) (k : Kept) → Mounts (fileSetOn check k) (mounting check k) (mountable k)
 unfolding mounting mountable
-mounts k = by (k .«has_primary») (k .«has_partition») (k .«has_logical») (eqb (k .«block_size») 2048) (fileSetOn k)
+mounts check k = by (k .«has_primary») (k .«has_partition») (k .«has_logical») (eqb (k .«block_size») 2048) (fileSetOn check k)
   where
     by : (a b c e : Bool) (m : Ask VolumeRecord)
         → Mounts m
@@ -116,32 +120,32 @@ refused-after d r n e q h k =
     let c : reported (n + 0) ≡ n = omega arith in
     rw (e, ran-refuse d r, c, ← q) k
 
-module _ (image : List ℕ) (k : Kept) (n : ℕ) (few : n < 2 ^ 32) {a : ℕ} (e : a ≡ mountable k) where
-  pub mount-not : {o : Opened} → (a ≡ 0 → ⊥) → o ≡ record { answer = a; count = n; volume = noVolume } → o ≡ openedOf (after n (ran (disc image) (mounting k)))
-  mount-not {o} h q = by (mounts k)
+module _ (check : Bool) (image : List ℕ) (k : Kept) (n : ℕ) (few : n < 2 ^ 32) {a : ℕ} (e : a ≡ mountable k) where
+  pub mount-not : {o : Opened} → (a ≡ 0 → ⊥) → o ≡ record { answer = a; count = n; volume = noVolume } → o ≡ openedOf (after n (ran (disc image) (mounting check k)))
+  mount-not {o} h q = by (mounts check k)
     where
-      by : Mounts (fileSetOn k) (mounting k) (mountable k) → o ≡ openedOf (after n (ran (disc image) (mounting k)))
+      by : Mounts (fileSetOn check k) (mounting check k) (mountable k) → o ≡ openedOf (after n (ran (disc image) (mounting check k)))
       by (goes f z) = absurd (h (e ∙ z))
       by (stops r f z) = refused-after (disc image) r n f (e ∙ z) few q
 
   module _ (y : a ≡ 0) where
-    goes-there : mounting k ≡ fileSetOn k
-    goes-there = goes-on (mounts k) (sym e ∙ y)
+    goes-there : mounting check k ≡ fileSetOn check k
+    goes-there = goes-on (mounts check k) (sym e ∙ y)
 
-    module _ {m : Mount} (c : m ≡ mountIn k) {p : Placed} (q : Stands m (Named (k .«file_set» .location .«partition_ref»)) (k .«file_set» .location .block) p) where
-      pub mount-nowhere : p ≡ Nowhere → {o : Opened} → o ≡ record { answer = 4; count = n; volume = noVolume } → o ≡ openedOf (after n (ran (disc image) (mounting k)))
+    module _ {m : Mount} (c : m ≡ mountIn check k) {p : Placed} (q : Stands m (Named (k .«file_set» .location .«partition_ref»)) (k .«file_set» .location .block) p) where
+      pub mount-nowhere : p ≡ Nowhere → {o : Opened} → o ≡ record { answer = 4; count = n; volume = noVolume } → o ≡ openedOf (after n (ran (disc image) (mounting check k)))
       mount-nowhere z g =
-          let w : fileSetIn k ≡ none = rw c at (stands-nowhere m _ _ q z) in
+          let w : fileSetIn check k ≡ none = rw c at (stands-nowhere m _ _ q z) in
           refused-after (disc image) Unsupported n (goes-there ∙ rw w) refl few g
 
-      pub mount-there : {s : Sector} → p ≡ At s → {o : Opened} → o ≡ openedOf (after n (ran (disc image) (fileSetAt k (s .0)))) → o ≡ openedOf (after n (ran (disc image) (mounting k)))
+      pub mount-there : {s : Sector} → p ≡ At s → {o : Opened} → o ≡ openedOf (after n (ran (disc image) (fileSetAt check k (s .0)))) → o ≡ openedOf (after n (ran (disc image) (mounting check k)))
       mount-there {s} z g =
-          let w : fileSetIn k ≡ some (s .0) = rw c at (stands-at m _ _ q z) in
+          let w : fileSetIn check k ≡ some (s .0) = rw c at (stands-at m _ _ q z) in
           g ∙ rw (goes-there, w)
 
 -- the file set descriptor in a sector
-module _ (image : List ℕ) (k : Kept) (n : ℕ) (few : n < 2 ^ 32) (s : ℕ) {m : ℕ} (g : m ≡ heldFrom image s) where
-  pub set-gone : {o : Opened} → m ≡ 0 → o ≡ record { answer = 1; count = n + 1; volume = noVolume } → o ≡ openedOf (after n (ran (disc image) (fileSetAt k s)))
+module _ (check : Bool) (image : List ℕ) (k : Kept) (n : ℕ) (few : n < 2 ^ 32) (s : ℕ) {m : ℕ} (g : m ≡ heldFrom image s) where
+  pub set-gone : {o : Opened} → m ≡ 0 → o ≡ record { answer = 1; count = n + 1; volume = noVolume } → o ≡ openedOf (after n (ran (disc image) (fileSetAt check k s)))
   set-gone z q =
       let c : reported (n + 1) ≡ n + 1 = omega arith in
       rw (ran-missing (disc image) s _ (missing image s (gone (length image) s g z)), c) q
@@ -152,13 +156,13 @@ module _ (image : List ℕ) (k : Kept) (n : ℕ) (few : n < 2 ^ 32) (s : ℕ) {m
   pub set-there : {b : List ℕ} {o : Opened}
       → (m ≡ 0 → ⊥)
       → b ≡ bytesIn (disc image s)
-      → o ≡ openedBy (n + 1) (volumeIn k (readFileSet b))
-      → o ≡ openedOf (after n (ran (disc image) (fileSetAt k s)))
+      → o ≡ openedBy (n + 1) (volumeIn check k (readFileSet check b))
+      → o ≡ openedOf (after n (ran (disc image) (fileSetAt check k s)))
   set-there {b} z u q =
       let p = held image s (there (length image) s g) in
       let v : disc image s ≡ holds b = p ∙ ap holds (sym (u ∙ rw p)) in
       let c : reported (n + (1 + 0)) ≡ n + 1 = omega arith in
-      rw (ran-there (disc image) s _ b v, ran-ended (disc image) (volumeIn k (readFileSet b)), c) q
+      rw (ran-there (disc image) s _ b v, ran-ended (disc image) (volumeIn check k (readFileSet check b)), c) q
     where
       there : (l a : ℕ) → m ≡ l / 2048 - a → 2048 * a + 2048 ≤ l
       there l a u = omega (arith, z)
@@ -183,35 +187,35 @@ scan-turn d n passed rest h = h
 scan-turn d n over rest h = rw ran-done (omega arith)
 scan-turn d n (fails r) rest h = rw ran-refuse (omega arith)
 
-pub scan-count : (d : Disc) (n at : ℕ) → ran d (scan n at) .count ≤ n
+pub scan-count : (check : Bool) (d : Disc) (n at : ℕ) → ran d (scan check n at) .count ≤ n
 unfolding scan
-scan-count d zero at = rw ran-done (omega arith)
-scan-count d (suc n) at = ask-count d at _ n (λ b e. scan-turn d n (saysIn b) (scan n (at + 1)) (scan-count d n (at + 1)))
+scan-count check d zero at = rw ran-done (omega arith)
+scan-count check d (suc n) at = ask-count d at _ n (λ b e. scan-turn d n (saysIn check b) (scan check n (at + 1)) (scan-count check d n (at + 1)))
 
 -- what the descriptors of a sequence lead to
 abbrev leads : How → List Parsed → Ask VolumeRecord
-leads how ps = mounting (keptOf (orderOf how) nothing ps)
+leads how ps = mounting (how .checked) (keptOf (orderOf how) nothing ps)
 
 -- one call behind another
-then-count : (d : Disc) (how : How) (m : Ask (List Parsed)) (n : ℕ) → ran d m .count ≤ n → ((k : Kept) → ran d (mounting k) .count ≤ 1) → ran d (then m (leads how)) .count ≤ 1 + n
+then-count : (d : Disc) (how : How) (m : Ask (List Parsed)) (n : ℕ) → ran d m .count ≤ n → ((k : Kept) → ran d (mounting (how .checked) k) .count ≤ 1) → ran d (then m (leads how)) .count ≤ 1 + n
 then-count d how m n h g = rw (ran-then d m (leads how)) (by (ran d m .outcome) (ran d m .count) h)
   where
     by : (o : Outcome (List Parsed)) (c : ℕ) → c ≤ n → onward o c (λ ps. ran d (leads how ps)) .count ≤ 1 + n
     by (answered ps) c h = let z = g (keptOf (orderOf how) nothing ps) in omega arith
     by (refused r) c h = omega arith
 
-mount-count : (d : Disc) (k : Kept) → ran d (mounting k) .count ≤ 1
-mount-count d k = by (mounts k)
+mount-count : (check : Bool) (d : Disc) (k : Kept) → ran d (mounting check k) .count ≤ 1
+mount-count check d k = by (mounts check k)
   where
-    set : (s : ℕ) → ran d (fileSetAt k s) .count ≤ 1
-    set s = ask-count d _ (λ b. ended (volumeIn k (readFileSet b))) 0 (λ b u. rw (ran-ended d (volumeIn k (readFileSet b))) (omega arith))
+    set : (s : ℕ) → ran d (fileSetAt check k s) .count ≤ 1
+    set s = ask-count d _ (λ b. ended (volumeIn check k (readFileSet check b))) 0 (λ b u. rw (ran-ended d (volumeIn check k (readFileSet check b))) (omega arith))
 
-    on : (o : Option ℕ) → ran d (standing o (fileSetAt k)) .count ≤ 1
+    on : (o : Option ℕ) → ran d (standing o (fileSetAt check k)) .count ≤ 1
     on none = rw (ran-refuse {A = VolumeRecord} d Unsupported) (omega arith)
     on (some s) = set s
 
-    by : {n : ℕ} → Mounts (fileSetOn k) (mounting k) n → ran d (mounting k) .count ≤ 1
-    by (goes e z) = rw e (on (fileSetIn k))
+    by : {n : ℕ} → Mounts (fileSetOn check k) (mounting check k) n → ran d (mounting check k) .count ≤ 1
+    by (goes e z) = rw e (on (fileSetIn check k))
     by (stops r e z) = rw (e, ran-refuse {A = VolumeRecord} d r) (omega arith)
 
 -- as the code reports it
@@ -223,11 +227,11 @@ scanned-count how r = by (r .outcome)
     by (refused w) = refl
 
 -- the main sequence has a length of 32 bits, so a count has room for the anchor's sector and the file set descriptor's
-module _ (d : Disc) (how : How) (l at : ℕ) {s : Scanned} (h : l < 2 ^ 32) (e : s ≡ scannedOf (orderOf how) nothing (ran d (scan (l / 2048) at))) where
+module _ (d : Disc) (how : How) (l at : ℕ) {s : Scanned} (h : l < 2 ^ 32) (e : s ≡ scannedOf (orderOf how) nothing (ran d (scan (how .checked) (l / 2048) at))) where
   scan-within : s .count ≤ l / 2048
   scan-within =
-      let c : s .count ≡ ran d (scan (l / 2048) at) .count = rw e (scanned-count how (ran d (scan (l / 2048) at))) in
-      rw c (scan-count d (l / 2048) at)
+      let c : s .count ≡ ran d (scan (how .checked) (l / 2048) at) .count = rw e (scanned-count how (ran d (scan (how .checked) (l / 2048) at))) in
+      rw c (scan-count (how .checked) d (l / 2048) at)
 
   pub scan-few : s .count + 1 < 2 ^ 32
   scan-few = let m = scan-within in omega arith
@@ -262,12 +266,12 @@ module _ (d : Disc) (how : How) {s : Scanned} {o : Opened} where
           rw (c, ← a) q
 
   scan-mounts : (r : Ran (List Parsed)) → s ≡ scannedOf (orderOf how) nothing r → s .answer ≡ 0
-      → o ≡ openedOf (after (s .count + 1) (ran d (mounting (s .kept))))
+      → o ≡ openedOf (after (s .count + 1) (ran d (mounting (how .checked) (s .kept))))
       → o ≡ openedOf (after 1 (onward (r .outcome) (r .count) (λ ps. ran d (leads how ps))))
   scan-mounts r = by (r .outcome) (r .count)
     where
       by : (x : Outcome (List Parsed)) (n : ℕ) → s ≡ scannedBy (orderOf how) nothing x n → s .answer ≡ 0
-          → o ≡ openedOf (after (s .count + 1) (ran d (mounting (s .kept))))
+          → o ≡ openedOf (after (s .count + 1) (ran d (mounting (how .checked) (s .kept))))
           → o ≡ openedOf (after 1 (onward x n (λ ps. ran d (leads how ps))))
       by (answered ps) n e h q =
           let a : s .kept ≡ keptOf (orderOf how) nothing ps = ap (λ (z : Scanned). z .kept) e in
@@ -277,30 +281,30 @@ module _ (d : Disc) (how : How) {s : Scanned} {o : Opened} where
       by (refused w) n e h q = absurd (refusal-numbered w (sym (ap (λ (z : Scanned). z .answer) e) ∙ h))
 
 -- the main sequence
-abbrev mainScan : AnchorVolumeDescriptorPointer → Ask (List Parsed)
-mainScan a = scan (a .«main_volume_descriptor_sequence» .length / 2048) (a .«main_volume_descriptor_sequence» .location)
+abbrev mainScan : Bool → AnchorVolumeDescriptorPointer → Ask (List Parsed)
+mainScan check a = scan check (a .«main_volume_descriptor_sequence» .length / 2048) (a .«main_volume_descriptor_sequence» .location)
 
 module _ (image : List ℕ) (how : How) {x : AnchorRead} {a : AnchorVolumeDescriptorPointer} (e : x ≡ AnAnchor a)
-    {s : Scanned} (f : s ≡ scannedOf (orderOf how) nothing (ran (disc image) (mainScan a))) {o : Opened} where
+    {s : Scanned} (f : s ≡ scannedOf (orderOf how) nothing (ran (disc image) (mainScan (how .checked) a))) {o : Opened} where
   pub anchor-stops : a .«main_volume_descriptor_sequence» .length < 2 ^ 32
       → (s .answer ≡ 0 → ⊥)
       → o ≡ record { answer = s .answer; count = s .count + 1; volume = noVolume }
       → o ≡ openedOf (after 1 (ran (disc image) (anchored how x)))
   anchor-stops few h q =
       let m = scan-few (disc image) how (a .«main_volume_descriptor_sequence» .length) (a .«main_volume_descriptor_sequence» .location) few f in
-      rw (e, ran-then (disc image) (mainScan a) (leads how)) (scan-refuses (disc image) how (ran (disc image) (mainScan a)) f h m q)
+      rw (e, ran-then (disc image) (mainScan (how .checked) a) (leads how)) (scan-refuses (disc image) how (ran (disc image) (mainScan (how .checked) a)) f h m q)
 
   pub anchor-leads : s .answer ≡ 0
-      → o ≡ openedOf (after (s .count + 1) (ran (disc image) (mounting (s .kept))))
+      → o ≡ openedOf (after (s .count + 1) (ran (disc image) (mounting (how .checked) (s .kept))))
       → o ≡ openedOf (after 1 (ran (disc image) (anchored how x)))
-  anchor-leads h q = rw (e, ran-then (disc image) (mainScan a) (leads how)) (scan-mounts (disc image) how (ran (disc image) (mainScan a)) f h q)
+  anchor-leads h q = rw (e, ran-then (disc image) (mainScan (how .checked) a) (leads how)) (scan-mounts (disc image) how (ran (disc image) (mainScan (how .checked) a)) f h q)
 
 -- ---- the whole call
 
 module _ (image : List ℕ) (how : How) {m : ℕ} (g : m ≡ heldFrom image 256) where
   pub opening-gone : {o : Opened} → m ≡ 0 → o ≡ record { answer = 1; count = 1; volume = noVolume } → o ≡ openedOf (ran (disc image) (opening how))
   unfolding opening
-  opening-gone z q = rw (ran-missing (disc image) 256 (λ b. anchored how (readAnchor b)) (missing image 256 (gone (length image) g))) q
+  opening-gone z q = rw (ran-missing (disc image) 256 (λ b. anchored how (readAnchor (how .checked) b)) (missing image 256 (gone (length image) g))) q
     where
       gone : (l : ℕ) → m ≡ l / 2048 - 256 → l < 2048 * 256 + 2048
       gone l u = omega arith
@@ -308,14 +312,14 @@ module _ (image : List ℕ) (how : How) {m : ℕ} (g : m ≡ heldFrom image 256)
   pub opening-there : {b : List ℕ} {x : AnchorRead} {o : Opened}
       → (m ≡ 0 → ⊥)
       → b ≡ bytesIn (disc image 256)
-      → x ≡ readAnchor b
+      → x ≡ readAnchor (how .checked) b
       → o ≡ openedOf (after 1 (ran (disc image) (anchored how x)))
       → o ≡ openedOf (ran (disc image) (opening how))
   unfolding opening
   opening-there {b} {x} z u f q =
       let p = held image 256 (there (length image) g) in
       let v : disc image 256 ≡ holds b = p ∙ ap holds (sym (u ∙ rw p)) in
-      rw (ran-there (disc image) 256 (λ b. anchored how (readAnchor b)) b v, ← f) q
+      rw (ran-there (disc image) 256 (λ b. anchored how (readAnchor (how .checked) b)) b v, ← f) q
     where
       there : (l : ℕ) → m ≡ l / 2048 - 256 → 2048 * 256 + 2048 ≤ l
       there l u = omega (arith, z)
@@ -329,5 +333,5 @@ mainLengthIn (NoAnchor r) = 0
 
 pub anchored-count : (d : Disc) (how : How) (x : AnchorRead) → ran d (anchored how x) .count ≤ 1 + mainLengthIn x / 2048
 anchored-count d how (AnAnchor a) =
-    then-count d how (mainScan a) (a .«main_volume_descriptor_sequence» .length / 2048) (scan-count d _ _) (mount-count d)
+    then-count d how (mainScan (how .checked) a) (a .«main_volume_descriptor_sequence» .length / 2048) (scan-count (how .checked) d _ _) (mount-count (how .checked) d)
 anchored-count d how (NoAnchor r) = rw (ran-refuse {A = VolumeRecord} d r) (omega arith)

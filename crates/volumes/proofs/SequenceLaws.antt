@@ -80,10 +80,10 @@ pub record Scanning (image : List ℕ) (how : How) (first n : ℕ) (kept : Kept)
   pub within : i ≤ n
   pub few : n < 2 ^ 32
   pub near : first < 2 ^ 32
-  pub rest : scannedOf (orderOf how) nothing (ran (disc image) (scan n first)) ≡ scannedOf (orderOf how) kept (after i (ran (disc image) (scan (n - i) (first + i))))
+  pub rest : scannedOf (orderOf how) nothing (ran (disc image) (scan (how .checked) n first)) ≡ scannedOf (orderOf how) kept (after i (ran (disc image) (scan (how .checked) (n - i) (first + i))))
 
 pub scan-starts : (image : List ℕ) (how : How) (first n : ℕ) {k : Kept} → first < 2 ^ 32 → n < 2 ^ 32 → k ≡ nothing → Scanning image how first n k 0
-scan-starts image how first n f m e = record { within = omega arith; few = m; near = f; rest = rw (e, sub-zero, add-zero) (sym (scanned-none (orderOf how) nothing (ran (disc image) (scan n first)))) }
+scan-starts image how first n f m e = record { within = omega arith; few = m; near = f; rest = rw (e, sub-zero, add-zero) (sym (scanned-none (orderOf how) nothing (ran (disc image) (scan (how .checked) n first)))) }
 
 module _ {image : List ℕ} {how : How} {first n i : ℕ} {kept : Kept} (p : Scanning image how first n kept i) (h : i < n) where
   one-more : n - i ≡ suc (n - (i + 1))
@@ -104,15 +104,15 @@ module _ {image : List ℕ} {how : How} {first n i : ℕ} {kept : Kept} (p : Sca
     sector-is = rw (held image (first + i) there)
 
     abbrev behind : Ask (List Parsed)
-    behind = scan (n - (i + 1)) (first + i + 1)
+    behind = scan (how .checked) (n - (i + 1)) (first + i + 1)
 
-    turn-rest : scannedOf (orderOf how) nothing (ran (disc image) (scan n first)) ≡ scannedOf (orderOf how) kept (after (i + 1) (ran (disc image) (goOn (saysIn sector) behind)))
+    turn-rest : scannedOf (orderOf how) nothing (ran (disc image) (scan (how .checked) n first)) ≡ scannedOf (orderOf how) kept (after (i + 1) (ran (disc image) (goOn (saysIn (how .checked) sector) behind)))
     unfolding scan
     turn-rest =
         p .rest
-        ∙ rw (one-more, ran-there (disc image) (first + i) _ sector (held image (first + i) there)) (scanned-twice (orderOf how) kept i (ran (disc image) (goOn (saysIn sector) behind)))
+        ∙ rw (one-more, ran-there (disc image) (first + i) _ sector (held image (first + i) there)) (scanned-twice (orderOf how) kept i (ran (disc image) (goOn (saysIn (how .checked) sector) behind)))
 
-    module _ {b : List ℕ} {t : SectorTurn} (g : b ≡ bytesIn (disc image (first + i))) (e : t ≡ turnOf (orderOf how) kept (saysIn b)) where
+    module _ {b : List ℕ} {t : SectorTurn} (g : b ≡ bytesIn (disc image (first + i))) (e : t ≡ turnOf (orderOf how) kept (saysIn (how .checked) b)) where
       same : b ≡ sector
       same = g ∙ sector-is
 
@@ -123,16 +123,16 @@ module _ {image : List ℕ} {how : How} {first n i : ℕ} {kept : Kept} (p : Sca
             within = omega arith;
             few = p .few;
             near = p .near;
-            rest = rw (← a, e, same) (turn-rest ∙ going-on (orderOf how) (disc image) kept (saysIn sector) behind (i + 1) (rw (← same, ← e) y));
+            rest = rw (← a, e, same) (turn-rest ∙ going-on (orderOf how) (disc image) kept (saysIn (how .checked) sector) behind (i + 1) (rw (← same, ← e) y));
           }
 
       pub scan-stops : (c : ℕ) → c ≡ i + 1 → t .going ≡ false
-          → record { answer = t .answer; count = c; kept = t .kept } ≡ scannedOf (orderOf how) nothing (ran (disc image) (scan n first))
-      scan-stops c m y = sym (turn-rest ∙ rw (m, e, same) (not-going (orderOf how) (disc image) kept (saysIn sector) behind (i + 1) (rw (← same, ← e) y)))
+          → record { answer = t .answer; count = c; kept = t .kept } ≡ scannedOf (orderOf how) nothing (ran (disc image) (scan (how .checked) n first))
+      scan-stops c m y = sym (turn-rest ∙ rw (m, e, same) (not-going (orderOf how) (disc image) kept (saysIn (how .checked) sector) behind (i + 1) (rw (← same, ← e) y)))
 
   -- it isn't
   pub scan-gone : {m : ℕ} → m ≡ heldFrom image (first + i) → m ≡ 0 → {r : Scanned} → r ≡ record { answer = 1; count = i + 1; kept = nothing }
-      → r ≡ scannedOf (orderOf how) nothing (ran (disc image) (scan n first))
+      → r ≡ scannedOf (orderOf how) nothing (ran (disc image) (scan (how .checked) n first))
   unfolding scan
   scan-gone {m} s z {r} e = rw (e, p .rest, one-more, ran-missing (disc image) (first + i) _ (missing image (first + i) (gone (length image) (first + i) s)))
     where
@@ -140,7 +140,7 @@ module _ {image : List ℕ} {how : How} {first n i : ℕ} {kept : Kept} (p : Sca
       gone l a e = omega arith
 
 pub scan-ends : {image : List ℕ} {how : How} {first n i : ℕ} {kept : Kept} → Scanning image how first n kept i → n ≤ i
-    → record { answer = 0; count = n; kept = kept } ≡ scannedOf (orderOf how) nothing (ran (disc image) (scan n first))
+    → record { answer = 0; count = n; kept = kept } ≡ scannedOf (orderOf how) nothing (ran (disc image) (scan (how .checked) n first))
 unfolding scan keptOf
 scan-ends {image} {how} {first} {n} {i} {kept} p h =
     let z : n - i ≡ 0 = omega arith in

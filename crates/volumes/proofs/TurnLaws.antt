@@ -28,26 +28,26 @@ use Rattle.volumes.specs.declared.openings.How.{How}
 -- ---- a descriptor that was parsed
 
 module _ (how : How) (k : Kept) {t : SectorTurn} where
-  module _ (b : List ℕ) {r : PrimaryRead} (q : r ≡ primaryRead (readPrimary b)) where
-    pub primary-fails : (r .answer ≡ 0 → ⊥) → t ≡ record { going = false; answer = r .answer; kept = nothing } → t ≡ turnOf (orderOf how) k (primaryIn (readPrimary b))
-    primary-fails h e = told (readPrimary b) q
+  module _ (b : List ℕ) {r : PrimaryRead} (q : r ≡ primaryRead (readPrimary (how .checked) b)) where
+    pub primary-fails : (r .answer ≡ 0 → ⊥) → t ≡ record { going = false; answer = r .answer; kept = nothing } → t ≡ turnOf (orderOf how) k (primaryIn (readPrimary (how .checked) b))
+    primary-fails h e = told (readPrimary (how .checked) b) q
       where
         told : (o : Outcome PrimaryVolumeDescriptor) → r ≡ primaryRead o → t ≡ turnOf (orderOf how) k (primaryIn o)
         told (answered d) p = absurd (h (ap (λ (x : PrimaryRead). x .answer) p))
         told (refused why) p = e ∙ rw p
 
-    primary-met : r .answer ≡ 0 → t ≡ turnOf (orderOf how) k (found (primary (r .descriptor))) → t ≡ turnOf (orderOf how) k (primaryIn (readPrimary b))
-    primary-met h e = told (readPrimary b) q
+    primary-met : r .answer ≡ 0 → t ≡ turnOf (orderOf how) k (found (primary (r .descriptor))) → t ≡ turnOf (orderOf how) k (primaryIn (readPrimary (how .checked) b))
+    primary-met h e = told (readPrimary (how .checked) b) q
       where
         told : (o : Outcome PrimaryVolumeDescriptor) → r ≡ primaryRead o → t ≡ turnOf (orderOf how) k (primaryIn o)
         told (answered d) p = e ∙ rw p
         told (refused why) p = absurd (refusal-numbered why (rw p at h))
 
     module _ (h : r .answer ≡ 0) {x : Bool} (g : x ≡ counts (orderOf how) k (primary (r .descriptor))) where
-      pub primary-taken : x ≡ true → t ≡ record { going = true; answer = 0; kept = replacing k (primary (r .descriptor)) } → t ≡ turnOf (orderOf how) k (primaryIn (readPrimary b))
+      pub primary-taken : x ≡ true → t ≡ record { going = true; answer = 0; kept = replacing k (primary (r .descriptor)) } → t ≡ turnOf (orderOf how) k (primaryIn (readPrimary (how .checked) b))
       primary-taken y e = primary-met h (e ∙ rw (← g, y))
 
-      pub primary-passed : x ≡ false → t ≡ record { going = true; answer = 0; kept = k } → t ≡ turnOf (orderOf how) k (primaryIn (readPrimary b))
+      pub primary-passed : x ≡ false → t ≡ record { going = true; answer = 0; kept = k } → t ≡ turnOf (orderOf how) k (primaryIn (readPrimary (how .checked) b))
       primary-passed y e = primary-met h (e ∙ rw (← g, y))
 
   pub partition-fails : {r : PartitionRead} {why : Refusal} {n : ℕ}
@@ -64,47 +64,47 @@ module _ (how : How) (k : Kept) {t : SectorTurn} where
     pub partition-passed : x ≡ false → t ≡ record { going = true; answer = 0; kept = k } → t ≡ turnOf (orderOf how) k (partitionIn r)
     partition-passed y e = rw (h, ← g, y) e
 
-  module _ (b : List ℕ) {r : LogicalRead} (q : r ≡ logicalRead (readLogical b)) where
-    pub logical-fails : (r .answer ≡ 0 → ⊥) → t ≡ record { going = false; answer = r .answer; kept = nothing } → t ≡ turnOf (orderOf how) k (logicalIn (readLogical b))
-    logical-fails h e = told (readLogical b) q
+  module _ (b : List ℕ) {r : LogicalRead} (q : r ≡ logicalRead (readLogical (how .checked) b)) where
+    pub logical-fails : (r .answer ≡ 0 → ⊥) → t ≡ record { going = false; answer = r .answer; kept = nothing } → t ≡ turnOf (orderOf how) k (logicalIn (readLogical (how .checked) b))
+    logical-fails h e = told (readLogical (how .checked) b) q
       where
         told : (o : Outcome LogicalVolumeDescriptor) → r ≡ logicalRead o → t ≡ turnOf (orderOf how) k (logicalIn o)
         told (answered d) p = absurd (h (ap (λ (x : LogicalRead). x .answer) p))
         told (refused why) p = e ∙ rw p
 
-    logical-met : r .answer ≡ 0 → t ≡ turnOf (orderOf how) k (found (logical (r .descriptor))) → t ≡ turnOf (orderOf how) k (logicalIn (readLogical b))
-    logical-met h e = told (readLogical b) q
+    logical-met : r .answer ≡ 0 → t ≡ turnOf (orderOf how) k (found (logical (r .descriptor))) → t ≡ turnOf (orderOf how) k (logicalIn (readLogical (how .checked) b))
+    logical-met h e = told (readLogical (how .checked) b) q
       where
         told : (o : Outcome LogicalVolumeDescriptor) → r ≡ logicalRead o → t ≡ turnOf (orderOf how) k (logicalIn o)
         told (answered d) p = e ∙ rw p
         told (refused why) p = absurd (refusal-numbered why (rw p at h))
 
     module _ (h : r .answer ≡ 0) {x : Bool} (g : x ≡ counts (orderOf how) k (logical (r .descriptor))) where
-      pub logical-taken : x ≡ true → t ≡ record { going = true; answer = 0; kept = replacing k (logical (r .descriptor)) } → t ≡ turnOf (orderOf how) k (logicalIn (readLogical b))
+      pub logical-taken : x ≡ true → t ≡ record { going = true; answer = 0; kept = replacing k (logical (r .descriptor)) } → t ≡ turnOf (orderOf how) k (logicalIn (readLogical (how .checked) b))
       logical-taken y e = logical-met h (e ∙ rw (← g, y))
 
-      pub logical-passed : x ≡ false → t ≡ record { going = true; answer = 0; kept = k } → t ≡ turnOf (orderOf how) k (logicalIn (readLogical b))
+      pub logical-passed : x ≡ false → t ≡ record { going = true; answer = 0; kept = k } → t ≡ turnOf (orderOf how) k (logicalIn (readLogical (how .checked) b))
       logical-passed y e = logical-met h (e ∙ rw (← g, y))
 
 -- ---- a sector, by its id
 
 module _ (how : How) (k : Kept) (b : List ℕ) {id : ℕ} (i : id ≡ u16at b 0) where
-  pub id-primary : {t : SectorTurn} → id ≡ 1 → t ≡ turnOf (orderOf how) k (primaryIn (readPrimary b)) → t ≡ turnOf (orderOf how) k (saysIn b)
+  pub id-primary : {t : SectorTurn} → id ≡ 1 → t ≡ turnOf (orderOf how) k (primaryIn (readPrimary (how .checked) b)) → t ≡ turnOf (orderOf how) k (saysIn (how .checked) b)
   unfolding saysIn
   id-primary h e = rw (← i, h) e
 
-  pub id-partition : {r : PartitionRead} {t : SectorTurn} → id ≡ 5 → r ≡ readPartition b → t ≡ turnOf (orderOf how) k (partitionIn r) → t ≡ turnOf (orderOf how) k (saysIn b)
+  pub id-partition : {r : PartitionRead} {t : SectorTurn} → id ≡ 5 → r ≡ readPartition (how .checked) b → t ≡ turnOf (orderOf how) k (partitionIn r) → t ≡ turnOf (orderOf how) k (saysIn (how .checked) b)
   unfolding saysIn
   id-partition h q e = rw (← i, h, ← q) e
 
-  pub id-logical : {t : SectorTurn} → id ≡ 6 → t ≡ turnOf (orderOf how) k (logicalIn (readLogical b)) → t ≡ turnOf (orderOf how) k (saysIn b)
+  pub id-logical : {t : SectorTurn} → id ≡ 6 → t ≡ turnOf (orderOf how) k (logicalIn (readLogical (how .checked) b)) → t ≡ turnOf (orderOf how) k (saysIn (how .checked) b)
   unfolding saysIn
   id-logical h e = rw (← i, h) e
 
-  pub id-terminating : {t : SectorTurn} → id ≡ 8 → t ≡ turnOf (orderOf how) k over → t ≡ turnOf (orderOf how) k (saysIn b)
+  pub id-terminating : {t : SectorTurn} → id ≡ 8 → t ≡ turnOf (orderOf how) k over → t ≡ turnOf (orderOf how) k (saysIn (how .checked) b)
   unfolding saysIn
   id-terminating h e = rw (← i, h) e
 
-  pub id-other : {t : SectorTurn} → (id ≡ 1 → ⊥) → (id ≡ 5 → ⊥) → (id ≡ 6 → ⊥) → (id ≡ 8 → ⊥) → t ≡ turnOf (orderOf how) k passed → t ≡ turnOf (orderOf how) k (saysIn b)
+  pub id-other : {t : SectorTurn} → (id ≡ 1 → ⊥) → (id ≡ 5 → ⊥) → (id ≡ 6 → ⊥) → (id ≡ 8 → ⊥) → t ≡ turnOf (orderOf how) k passed → t ≡ turnOf (orderOf how) k (saysIn (how .checked) b)
   unfolding saysIn
   id-other p q r s e = rw (← i, ne-eqb id 1 p, ne-eqb id 5 q, ne-eqb id 6 r, ne-eqb id 8 s) e

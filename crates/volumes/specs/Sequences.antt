@@ -143,12 +143,13 @@ abbrev pub logicalIn : Outcome LogicalVolumeDescriptor → Says
 logicalIn (answered d) = found (logical d)
 logicalIn (refused r) = fails r
 
--- by the id alone, of a sector's bytes b: 1, 5 and 6 are parsed, 8 ends the scan with no check of its tag, and all others are skipped unparsed
-unfoldable pub saysIn : List ℕ → Says
-saysIn b =
-    pick (eqb (u16at b 0) 1) (primaryIn (readPrimary b))
-    (pick (eqb (u16at b 0) 5) (partitionIn (readPartition b))
-    (pick (eqb (u16at b 0) 6) (logicalIn (readLogical b))
+-- by the id alone, of a sector's bytes b: 1, 5 and 6 are parsed, with bodies checked or not, 8 ends the scan with no check of its tag, and all
+-- others are skipped unparsed
+unfoldable pub saysIn : Bool → List ℕ → Says
+saysIn check b =
+    pick (eqb (u16at b 0) 1) (primaryIn (readPrimary check b))
+    (pick (eqb (u16at b 0) 5) (partitionIn (readPartition check b))
+    (pick (eqb (u16at b 0) 6) (logicalIn (readLogical check b))
     (pick (eqb (u16at b 0) 8) over
     passed)))
 
@@ -160,9 +161,9 @@ goOn passed rest = rest
 goOn over rest = done []
 goOn (fails r) rest = refuse r
 
-unfoldable pub scan : ℕ → ℕ → Ask (List Parsed)
-scan zero at = done []
-scan (suc n) at = ask at (λ b. goOn (saysIn b) (scan n (at + 1)))
+unfoldable pub scan : Bool → ℕ → ℕ → Ask (List Parsed)
+scan check zero at = done []
+scan check (suc n) at = ask at (λ b. goOn (saysIn check b) (scan check n (at + 1)))
 
 -- ---- as the code reports it, where k was kept before
 

@@ -1,6 +1,7 @@
 // Opening a volume.
 ghost use mathlib.Core.Path.{_≡_};
 ghost use Prim.Native.Nat.{_<_, _^_};
+ghost use Rattle.disc.specs.Choice.{pick};
 ghost use Rattle.disc.specs.Ran.{ran, after};
 ghost use Rattle.disc.specs.Images.{disc};
 ghost use Rattle.descriptors.specs.FileSets.{readFileSet};
@@ -25,10 +26,13 @@ use disc::places::Sector;
 use records::allocations::LongAd;
 use records::allocations::no_long;
 
-// The choices that are made on opening. They leave no trace in the volume's record, which is what came out.
+// The choices that are made on opening. Which descriptors count leaves no trace in the volume's record, which is what came out; that bodies are
+// checked stays in the record's mount.
 pub struct How {
     // Of several descriptors of one kind the one with the highest sequence number counts, the later of equals; else the last one does.
     pub highest: bool,
+    // The bodies of descriptors are checked, on opening and in every call on the volume.
+    pub checked: bool,
 }
 
 impl How {
@@ -36,7 +40,10 @@ impl How {
     pub fn usual() -> How
         ensures { λ r. ⌜ r ≡ usual ⌝ }
     {
-        How { highest: false }
+        How {
+            highest: false,
+            checked: false,
+        }
     }
 }
 
@@ -69,6 +76,7 @@ fn no_volume() -> VolumeRecord
         mount: Mount {
             start: 0,
             partition: 0,
+            checked: 0,
         },
         root: no_long(),
         label: [0; 32],
@@ -86,21 +94,32 @@ pub fn refused(answer: u64, count: u64) -> Opened
     }
 }
 
-// How the volume is read, by the partition that was kept.
-fn mount_in(kept: Kept) -> Mount
-    ensures { λ r. ⌜ r ≡ mountIn kept ⌝ }
+// The number of a choice in the volume's record.
+fn number_of(check: bool) -> u32
+    ensures { λ r. ⌜ r ≡ pick check 1 0 ⌝ }
+{
+    if check {
+        return 1;
+    }
+    0
+}
+
+// How the volume is read, by the partition that was kept, and with bodies checked or not.
+fn mount_in(check: bool, kept: Kept) -> Mount
+    ensures { λ r. ⌜ r ≡ mountIn check kept ⌝ }
 {
     Mount {
         start: kept.partition_start,
         partition: kept.partition_number,
+        checked: number_of(check),
     }
 }
 
 // The volume whose file set descriptor stands in the sector b.
-fn volume_in(kept: Kept, b: &[u8], count: u64) -> Opened
-    ensures { λ r. ⌜ r ≡ openedBy count (volumeIn kept (readFileSet (now (b .entry)))) ⌝ }
+fn volume_in(check: bool, kept: Kept, b: &[u8], count: u64) -> Opened
+    ensures { λ r. ⌜ r ≡ openedBy count (volumeIn check kept (readFileSet check (now (b .entry)))) ⌝ }
 {
-    let r = FileSetDescriptor::parse(b);
+    let r = FileSetDescriptor::parse(check, b);
     if r.answer != DONE {
         return refused(r.answer, count);
     }
@@ -111,7 +130,7 @@ fn volume_in(kept: Kept, b: &[u8], count: u64) -> Opened
         answer: DONE,
         count,
         volume: VolumeRecord {
-            mount: mount_in(kept),
+            mount: mount_in(check, kept),
             root,
             label,
         },
@@ -138,30 +157,30 @@ fn kept_answer(kept: Kept) -> u64
 }
 
 // The file set descriptor in a sector, `count` sectors having been asked for.
-fn mount_at(image: &[u8], kept: Kept, sector: Sector, count: u64) -> Opened
+fn mount_at(check: bool, image: &[u8], kept: Kept, sector: Sector, count: u64) -> Opened
     requires { ⌜ count < 2 ^ 32 ⌝ }
-    ensures { λ r. ⌜ r ≡ openedOf (after count (ran (disc (now (image .entry))) (fileSetAt kept (sector .0)))) ⌝ }
+    ensures { λ r. ⌜ r ≡ openedOf (after count (ran (disc (now (image .entry))) (fileSetAt check kept (sector .0)))) ⌝ }
 {
     if held_from(image, sector) == 0 {
         return refused(IO, count + 1);
     }
-    volume_in(kept, sector_at(image, sector), count + 1)
+    volume_in(check, kept, sector_at(image, sector), count + 1)
 }
 
 // What the descriptors that were kept lead to, `count` sectors having been asked for.
-fn mount(image: &[u8], kept: Kept, count: u64) -> Opened
+fn mount(check: bool, image: &[u8], kept: Kept, count: u64) -> Opened
     requires { ⌜ count < 2 ^ 32 ⌝ }
-    ensures { λ r. ⌜ r ≡ openedOf (after count (ran (disc (now (image .entry))) (mounting kept))) ⌝ }
+    ensures { λ r. ⌜ r ≡ openedOf (after count (ran (disc (now (image .entry))) (mounting check kept))) ⌝ }
 {
     let answer = kept_answer(kept);
     if answer != DONE {
         return refused(answer, count);
     }
     let place = kept.file_set.location;
-    let m = mount_in(kept);
+    let m = mount_in(check, kept);
     match m.placed(PartitionRef::Named(place.partition_ref), Block(place.block)) {
         Placed::Nowhere => refused(UNSUPPORTED, count),
-        Placed::At(sector) => mount_at(image, kept, sector, count),
+        Placed::At(sector) => mount_at(check, image, kept, sector, count),
     }
 }
 
@@ -177,7 +196,7 @@ fn open_from(image: &[u8], how: How, anchor: AnchorRead) -> Opened
             if scanned.answer != DONE {
                 return refused(scanned.answer, scanned.count + 1);
             }
-            mount(image, scanned.kept, scanned.count + 1)
+            mount(how.checked, image, scanned.kept, scanned.count + 1)
         }
     }
 }
@@ -192,6 +211,6 @@ pub fn open_volume(image: &[u8], how: How) -> Opened
     open_from(
         image,
         how,
-        AnchorVolumeDescriptorPointer::parse(sector_at(image, Sector(256))),
+        AnchorVolumeDescriptorPointer::parse(how.checked, sector_at(image, Sector(256))),
     )
 }

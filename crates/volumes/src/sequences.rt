@@ -109,9 +109,9 @@ fn is_taken(how: How, kept: bool, earlier: u32, later: u32) -> bool
 }
 
 fn take_primary(how: How, k: Kept, b: &[u8]) -> SectorTurn
-    ensures { λ t. ⌜ t ≡ turnOf (orderOf how) k (primaryIn (readPrimary (now (b .entry)))) ⌝ }
+    ensures { λ t. ⌜ t ≡ turnOf (orderOf how) k (primaryIn (readPrimary (how .checked) (now (b .entry)))) ⌝ }
 {
-    let r = PrimaryVolumeDescriptor::parse(b);
+    let r = PrimaryVolumeDescriptor::parse(how.checked, b);
     if r.answer != DONE {
         return fails(r.answer);
     }
@@ -158,9 +158,9 @@ fn take_partition(how: How, k: Kept, r: PartitionRead) -> SectorTurn
 }
 
 fn take_logical(how: How, k: Kept, b: &[u8]) -> SectorTurn
-    ensures { λ t. ⌜ t ≡ turnOf (orderOf how) k (logicalIn (readLogical (now (b .entry)))) ⌝ }
+    ensures { λ t. ⌜ t ≡ turnOf (orderOf how) k (logicalIn (readLogical (how .checked) (now (b .entry)))) ⌝ }
 {
-    let r = LogicalVolumeDescriptor::parse(b);
+    let r = LogicalVolumeDescriptor::parse(how.checked, b);
     if r.answer != DONE {
         return fails(r.answer);
     }
@@ -188,14 +188,14 @@ fn take_logical(how: How, k: Kept, b: &[u8]) -> SectorTurn
 
 // One sector of the sequence, by its id.
 fn take_sector(how: How, k: Kept, b: &[u8]) -> SectorTurn
-    ensures { λ t. ⌜ t ≡ turnOf (orderOf how) k (saysIn (now (b .entry))) ⌝ }
+    ensures { λ t. ⌜ t ≡ turnOf (orderOf how) k (saysIn (how .checked) (now (b .entry))) ⌝ }
 {
     let id = le16(b, 0);
     if id == 1 {
         return take_primary(how, k, b);
     }
     if id == 5 {
-        return take_partition(how, k, PartitionDescriptor::parse(b));
+        return take_partition(how, k, PartitionDescriptor::parse(how.checked, b));
     }
     if id == 6 {
         return take_logical(how, k, b);
@@ -222,7 +222,7 @@ fn scan_refused(answer: u64, count: u64) -> Scanned
 
 // n sectors of the sequence, from `first` on.
 pub fn scan_sequence(image: &[u8], how: How, first: u32, n: u32) -> Scanned
-    ensures { λ r. ⌜ r ≡ scannedOf (orderOf how) nothing (ran (disc (now (image .entry))) (scan n first)) ⌝ }
+    ensures { λ r. ⌜ r ≡ scannedOf (orderOf how) nothing (ran (disc (now (image .entry))) (scan (how .checked) n first)) ⌝ }
 {
     let mut kept = nothing_kept();
     let mut i: u32 = 0;

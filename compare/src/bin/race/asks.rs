@@ -5,9 +5,9 @@ use crate::memory::{Piece, Side, Store};
 use crate::stage::Raced;
 use common::calls::{Call, Choice, Query, Values};
 use common::linked::{self, Lends};
-use strandlodge_sys::vault::{AMBIGUOUS, AS_WRITTEN, CASE_IGNORED, NO_SLOT, UNAMBIGUOUS};
+use strandlodge_sys::vault::{AMBIGUOUS, AS_WRITTEN, BAD_CRC, CASE_IGNORED, NO_SLOT, UNAMBIGUOUS};
 
-/// The table's numbers: up to this one, and one more.
+/// The table's numbers: up to this one, and two more, each by a choice.
 const LAST_ANSWER: u64 = NO_SLOT;
 
 /// The choices of matching, by turns along the paths.
@@ -74,7 +74,8 @@ impl Lender {
 /// The numbers of an answer.
 fn in_range(q: &Query, v: &Values, image_length: usize) -> Result<(), String> {
     let ambiguous = v.answer == AMBIGUOUS && q.call.has_path() && q.matching == UNAMBIGUOUS;
-    if v.answer > LAST_ANSWER && !ambiguous {
+    let bad_crc = v.answer == BAD_CRC && q.is_checked();
+    if v.answer > LAST_ANSWER && !ambiguous && !bad_crc {
         return Err(format!("the answer is {}, which isn't in the table", v.answer));
     }
     if v.answer == 0 && q.call.has_room() && v.length > q.room as u64 {
@@ -148,6 +149,9 @@ fn queries(raced: &Raced, still: &mut impl FnMut(&Query) -> Result<[Values; 2], 
     for (i, q) in queries.iter_mut().filter(|q| q.call.has_path()).enumerate() {
         q.matching = MATCHINGS[i % MATCHINGS.len()];
     }
+    // All of it again with bodies checked, but for the call that has no such choice.
+    let checked: Vec<Query> = queries.iter().map(Query::checked).filter(Query::is_checked).collect();
+    queries.extend(checked);
     Ok(queries)
 }
 
@@ -181,5 +185,6 @@ fn words(raced: &Raced, q: &Query) -> String {
     };
     let room = if q.call.has_room() { format!(", room {}", q.room) } else { String::new() };
     let work = if q.call.has_work() { format!(", work space {}", q.work) } else { String::new() };
-    format!("{}{what}{room}{work}, on the flip \"{}\"", q.call.name(), raced.name)
+    let checked = if q.is_checked() { ", checked" } else { "" };
+    format!("{}{what}{room}{work}{checked}, on the flip \"{}\"", q.call.name(), raced.name)
 }

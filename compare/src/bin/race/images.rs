@@ -6,7 +6,7 @@ use common::disc::ANCHOR;
 use common::records::*;
 
 pub fn all() -> Vec<Raced> {
-    let groups = [lengths, types_and_blocks, areas, continuations, entries, directories, openings];
+    let groups = [lengths, types_and_blocks, areas, continuations, entries, directories, openings, bodies];
     groups.iter().flat_map(|make| make()).collect()
 }
 
@@ -191,6 +191,28 @@ fn directories() -> Vec<Raced> {
         let area = s.cues(30);
         let subject = s.entry(3, &area, ENDLESS);
         all.push(s.flipped(&format!("{name}, in an embedded directory"), subject, (subject, AREA + 5 * CUE + at), width, other));
+    }
+    all
+}
+
+/// A CRC's length, and a byte that it is of: of an entry, a continuation's header, an entry of a directory, and the anchor. Every other body of
+/// these images is right.
+fn bodies() -> Vec<Raced> {
+    let mut all = Vec::new();
+    for (i, (of, byte)) in
+        [("an entry", 40), ("a continuation's header", 16), ("a directory's entry", 16), ("the anchor", 40)].into_iter().enumerate()
+    {
+        for is_length in [true, false] {
+            let mut s = Stage::new();
+            let area = s.many(100);
+            let (further, cues) = (s.lay(&allocation_extent(&area)), s.lay_cues(1));
+            let subject = s.entry(0, &[short(CUE, cues), leads(2048, further)].concat(), ENDLESS);
+            let tag = [s.at(subject, 0), s.at(further, 0), s.at(cues, 0), ANCHOR as usize * 2048][i];
+            all.push(match is_length {
+                true => s.sealed_length(&format!("the CRC length of {of}, its own or too long"), subject, tag),
+                false => s.sealed(&format!("the body of {of}, right or not"), subject, tag + byte, 1, 0x77),
+            });
+        }
     }
     all
 }

@@ -72,24 +72,58 @@ impl Stage {
         self.lay(&Entry { extended: false, flags: kind.into(), information, attributes: 0, area }.bytes())
     }
 
+    /// Where a byte of a block stands in the image.
+    pub fn at(&self, block: u32, offset: usize) -> usize {
+        (self.disc.volume.start as usize + block as usize) * 2048 + offset
+    }
+
     /// The image whole, around its subject. What is flipped stands at `offset` in a block.
     pub fn flipped(self, name: &str, subject: u32, (block, offset): (u32, usize), width: usize, other: u64) -> Raced {
-        let at = (self.disc.volume.start as usize + block as usize) * 2048 + offset;
+        let at = self.at(block, offset);
         self.flipped_at(name, subject, at, width, other)
     }
 
     /// The same, where what is flipped stands at a place of the image.
     pub fn flipped_at(mut self, name: &str, subject: u32, at: usize, width: usize, other: u64) -> Raced {
-        let icb = Icb::at(subject, 0);
-        let item = |name: &[u8], characteristics| Item::new(name8(name), icb, characteristics);
+        let root = self.finish(subject);
+        self.raced(name, subject, root, (at, width, other))
+    }
+
+    /// The same with right CRCs.
+    pub fn sealed(mut self, name: &str, subject: u32, at: usize, width: usize, other: u64) -> Raced {
+        let root = self.finish(subject);
+        self.disc.seal();
+        self.raced(name, subject, root, (at, width, other))
+    }
+
+    /// The same, where what is flipped is the CRC length of the tag at a place: its own, or as many bytes as it can be. The location's low byte
+    /// keeps the checksum right.
+    pub fn sealed_length(mut self, name: &str, subject: u32, tag: usize) -> Raced {
+        let root = self.finish(subject);
+        self.disc.seal();
+        let mut behind: [u8; 8] = self.disc.image[tag + 8..tag + 16].try_into().unwrap();
+        let sum = |bytes: &[u8]| bytes.iter().fold(0u8, |sum, byte| sum.wrapping_add(*byte));
+        let right = sum(&behind);
+        behind[2..4].fill(0xff);
+        behind[4] = behind[4].wrapping_add(right.wrapping_sub(sum(&behind)));
+        self.raced(name, subject, root, (tag + 8, 8, u64::from_le_bytes(behind)))
+    }
+
+    /// Closes the disc around its subject: its root.
+    fn finish(&mut self, subject: u32) -> Icb {
+        let item = |name: &[u8], characteristics| Item::new(name8(name), Icb::at(subject, 0), characteristics);
         let root = self.disc.store_directory(&[item(b"FILE", 0), item(b"DIR", DIRECTORY)], &[], &Layout::of(3));
         self.disc.finish(root, &name8(&[0xe9; 20]));
+        root
+    }
+
+    fn raced(self, name: &str, subject: u32, root: Icb, (at, width, other): (usize, usize, u64)) -> Raced {
         let paths = [&b"FILE"[..], b"DIR/CUE 00005", b"dir/none"].map(|path| path.to_vec());
         Raced {
             name: name.to_string(),
             flip: Flip::new(&self.disc.image, at, width, other),
             volume: self.disc.volume,
-            icbs: vec![icb, root],
+            icbs: vec![Icb::at(subject, 0), root],
             paths: paths.to_vec(),
             image: self.disc.image,
         }

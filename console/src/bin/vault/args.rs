@@ -12,24 +12,24 @@ vault: look into a UDF disc. An image is a file or a drive; it is only read.
   vault                        a short tour of a sample show
   vault label IMAGE            the volume's name
   vault ls IMAGE [PATH]        what a directory holds, in the disc's order
-  vault cat IMAGE PATH         a file's bytes, to standard output
+  vault cat IMAGE PATH         a file's bytes; PATH is names between slashes
   vault get IMAGE PATH FILE    a file's bytes, to FILE, which is replaced
   vault stat IMAGE [PATH]      ICB, kind, extents; or the volume's descriptors
   vault probe IMAGE            whether it has a recognition sequence: yes or no
-  vault check IMAGE            which descriptors aren't where their tags say
+  vault check IMAGE            descriptors out of place, or with a ruined body
   vault sample FILE            writes the sample show's image, to try these on
 
   --as-written    take a name on PATH byte for byte; else ASCII case is ignored
-  --unambiguous   ignore case, but refuse a name that two or more entries match
+  --unambiguous   refuse a name that several entries match; else take the first
   --highest       of several volume descriptors the highest number counts
+  --checked       refuse a descriptor whose body is ruined: it has another CRC
   --copy          read the whole image into memory first, and look at that
   --sectors       print on standard error how many sectors each call asked for
   --help, --      print this; what follows is no option
 
-Names on a path stand between slashes; the first entry that matches is taken.
 Nobody may write to an image while it is mapped: where one may, use --copy.
-Status: 0 done, 1 to 7 and 9 refused by that number, 64 wrong usage, 65 not in
-place, 66 no image, 67 not all checked, 70 unknown answer, 74 no output.
+Status: 0 done, 1 to 7, 9, 10 refused by that number, 64 wrong usage, 65 check
+found one wrong, 66 no image, 67 not all read, 70 unknown answer, 74 no output.
 ";
 
 /// A path on the disc, in bytes: names there need not be this system's.
@@ -88,6 +88,7 @@ pub fn parse(given: impl IntoIterator<Item = OsString>) -> Result<Args, Failure>
             b"--as-written" => as_written = true,
             b"--unambiguous" => unambiguous = true,
             b"--highest" => how.highest = true,
+            b"--checked" => how.checked = true,
             b"--help" | b"-h" => help = true,
             [b'-', _, ..] => return Err(Failure::usage(format!("there is no option {}", shown(word.as_bytes())))),
             _ => words.push(word),
@@ -181,7 +182,13 @@ mod tests {
         assert_eq!(parsed("label a --sectors").unwrap(), asked(true, false));
         assert_eq!(parsed("label --copy a").unwrap(), asked(false, true));
         assert_eq!(parsed("--copy label a --sectors").unwrap(), asked(true, true));
-        assert_eq!(parsed("label --highest a").unwrap(), Args { how: How { highest: true }, ..asked(false, false) });
+        for (words, how) in [
+            ("label --highest a", How { highest: true, checked: false }),
+            ("label a --checked", How { highest: false, checked: true }),
+            ("--checked label --highest a", How { highest: true, checked: true }),
+        ] {
+            assert_eq!(parsed(words).unwrap(), Args { how, ..asked(false, false) });
+        }
         assert_eq!(parsed("label a --help").unwrap().command, Command::Help);
         assert_eq!(parsed("label -- --help").unwrap().command, label("--help"));
         assert_eq!(parsed("").unwrap().command, Command::Tour);
@@ -221,6 +228,7 @@ mod tests {
             "-x",
             "--sector",
             "--copies",
+            "--check ls a",
             "label a -v",
             "--as-writen ls a",
             "--as-written --unambiguous ls a",

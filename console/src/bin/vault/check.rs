@@ -1,4 +1,4 @@
-//! Whether each descriptor of a disc is in place.
+//! Whether each descriptor of a disc is in place, and has the body that its tag has the CRC of.
 
 use crate::disc::Disc;
 use crate::failure::Failure;
@@ -27,18 +27,19 @@ pub fn check(image: &[u8], how: How, name: &str, out: &mut impl Write, log: &mut
 /// The anchor and the main sequence, to its end or its terminator, whose id alone counts: the sectors that opening asks for. What can't be
 /// read here refuses the opening, which comes next.
 fn volume<W: Write>(image: &[u8], report: &mut Report<W>) -> Result<(), Failure> {
-    let Some((tag, first, length)) = sector(image, ANCHOR).and_then(records::anchor) else {
+    let anchor = sector(image, ANCHOR).unwrap_or_default();
+    let Some((tag, first, length)) = records::anchor(anchor) else {
         return Ok(());
     };
     let of = || "the volume".to_string();
-    report.tag(of, tag, Place::in_volume(ANCHOR))?;
+    report.descriptor(of, tag, Place::in_volume(ANCHOR), anchor)?;
     for i in 0..length / SECTOR {
         let at = u64::from(first) + u64::from(i);
         let Some(bytes) = sector(image, at) else {
             break;
         };
         if let Some(tag) = records::tag(bytes) {
-            report.tag(of, tag, Place::in_volume(at))?;
+            report.descriptor(of, tag, Place::in_volume(at), bytes)?;
         }
         if records::id(bytes) == Some(TERMINATOR) {
             break;

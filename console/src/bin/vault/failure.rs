@@ -8,8 +8,8 @@ use strandlodge::{Refusal, Refused};
 
 /// Wrong usage.
 pub const USAGE: u8 = 64;
-/// A descriptor that isn't in place.
-pub const MISPLACED: u8 = 65;
+/// A descriptor that isn't in place, or has a wrong body.
+pub const WRONG: u8 = 65;
 /// An image that can't be opened, mapped or copied.
 pub const NO_IMAGE: u8 = 66;
 /// Something that `check` couldn't read.
@@ -18,6 +18,9 @@ pub const UNREAD: u8 = 67;
 pub const UNKNOWN: u8 = 70;
 /// Output that can't be written.
 pub const NO_OUTPUT: u8 = 74;
+
+/// What to try where a body is wrong.
+const TO_TRY: &str = "`vault check` says which descriptors are so, and without --checked they are taken as they stand";
 
 /// An exit status, and the sentence that goes to standard error.
 #[derive(Debug)]
@@ -40,10 +43,11 @@ impl Failure {
         Failure::with_number(refused, format!("{}: {refused}", about.as_ref()))
     }
 
-    /// A refusal with its number behind the sentence. The number is the status, where it is one of the table.
+    /// A refusal with its number behind the sentence, and what to try. The number is the status, where it is one of the table.
     pub fn with_number(refused: Refused, says: String) -> Failure {
         match refused.why {
             Refusal::Unknown(_) => Failure::new(UNKNOWN, says),
+            why @ Refusal::BadCrc => Failure::new(why.number() as u8, format!("{says} (refusal {}); {TO_TRY}", why.number())),
             why => Failure::new(why.number() as u8, format!("{says} (refusal {})", why.number())),
         }
     }
@@ -70,6 +74,14 @@ mod tests {
         let failure = Failure::refused("a.img", Refused { why: Refusal::NoWork, sectors: 3 });
         assert_eq!(failure.status, 6);
         assert_eq!(failure.says.unwrap(), "a.img: a directory has more bytes than there is memory for (refusal 6)");
+    }
+
+    #[test]
+    fn a_wrong_body_has_a_way_out() {
+        let failure = Failure::refused("a.img", Refused { why: Refusal::BadCrc, sectors: 3 });
+        let says = failure.says.unwrap();
+        assert_eq!(failure.status, 10);
+        assert!(says.starts_with("a.img: a descriptor's body isn't") && says.contains("(refusal 10); `vault check`"), "{says}");
     }
 
     /// 256 would be a status of 0, and 320 that of wrong usage.

@@ -91,6 +91,17 @@ pub fn name(recorded: &[u8]) -> Vec<u8> {
     name.get(..written.length as usize).unwrap_or_default().to_vec()
 }
 
+/// The body check, as it is proved: `bytes` are those at hand from the descriptor on.
+pub fn has_right_body(tag: Tag, bytes: &[u8]) -> bool {
+    // SAFETY: the head of this module.
+    unsafe { records_tag_body(tag, bytes.as_ptr(), bytes.len()) }
+}
+
+pub fn crc(bytes: &[u8]) -> u16 {
+    // SAFETY: the head of this module.
+    unsafe { records_crc(bytes.as_ptr(), bytes.len()) }
+}
+
 /// The place check, as it is proved.
 pub fn is_in_place(tag: Tag, sector: u64, block: u32) -> bool {
     // SAFETY: values alone cross.

@@ -1,11 +1,14 @@
-//! What `check` prints: a line for each descriptor that isn't in place, and for each thing that can't be read.
+//! What `check` prints: a line for each descriptor that isn't in place, for each that has a wrong body, and for each thing that can't be read.
 
 use crate::bar::Word;
-use crate::failure::{Failure, MISPLACED, UNREAD};
-use crate::records::{Tag, is_in_place};
+use crate::failure::{Failure, UNREAD, WRONG};
+use crate::records::{Tag, crc, has_right_body, is_in_place};
 use std::fmt;
 use std::io::Write;
 use strandlodge::Refusal;
+
+/// The bytes of a tag.
+const TAG: usize = 16;
 
 /// Where the first byte of a descriptor stands.
 #[derive(Clone, Copy)]
@@ -44,25 +47,30 @@ pub struct Report<'o, W> {
     out: &'o mut W,
     /// Stands on a terminal until there is a line.
     word: Option<Word>,
-    in_place: u64,
+    descriptors: u64,
     misplaced: u64,
+    ruined: u64,
     unread: u64,
 }
 
 impl<'o, W: Write> Report<'o, W> {
     pub fn new(out: &'o mut W) -> Report<'o, W> {
-        Report { out, word: Some(Word::new("checking")), in_place: 0, misplaced: 0, unread: 0 }
+        Report { out, word: Some(Word::new("checking")), descriptors: 0, misplaced: 0, ruined: 0, unread: 0 }
     }
 
-    /// A descriptor's tag, and where it stands; `of` is what the descriptor is of.
-    pub fn tag(&mut self, of: impl FnOnce() -> String, tag: Tag, at: Place) -> Result<(), Failure> {
-        if at.holds(tag) {
-            self.in_place += 1;
-            return Ok(());
+    /// A descriptor's tag, where it stands, and the bytes at hand from it on; `of` is what the descriptor is of.
+    pub fn descriptor(&mut self, of: impl Fn() -> String, tag: Tag, at: Place, bytes: &[u8]) -> Result<(), Failure> {
+        self.descriptors += 1;
+        let (what, id) = (named(tag.id), tag.id);
+        if !at.holds(tag) {
+            self.misplaced += 1;
+            self.line(&format!("{}: {what} (id {id}) says {}, stands in {at}", of(), tag.location))?;
         }
-        self.misplaced += 1;
-        let (what, id, says) = (named(tag.id), tag.id, tag.location);
-        self.line(&format!("{}: {what} (id {id}) says {says}, stands in {at}", of()))
+        if !has_right_body(tag, bytes) {
+            self.ruined += 1;
+            self.line(&format!("{}: {what} (id {id}) in {at} has a wrong body: {}", of(), ruin(tag, bytes)))?;
+        }
+        Ok(())
     }
 
     /// What can't be read, and so isn't checked.
@@ -78,13 +86,23 @@ impl<'o, W: Write> Report<'o, W> {
 
     /// The last line, or how the command fails.
     pub fn end(mut self, name: &str) -> Result<(), Failure> {
-        let Report { in_place, misplaced, unread, .. } = self;
-        let says = || format!("{name}: descriptors in place: {in_place}, not in place: {misplaced}; places that can't be read: {unread}");
-        match (misplaced, unread) {
-            (0, 0) => self.line(&format!("{in_place} descriptors, each in place")),
+        let Report { descriptors, misplaced, ruined, unread, .. } = self;
+        let wrong = format!("not in place: {misplaced}, with a wrong body: {ruined}; places that can't be read: {unread}");
+        let says = || format!("{name}: descriptors: {descriptors}, {wrong}");
+        match (misplaced + ruined, unread) {
+            (0, 0) => self.line(&format!("{descriptors} descriptors, each in place and with a right body")),
             (0, _) => Err(Failure::new(UNREAD, says())),
-            _ => Err(Failure::new(MISPLACED, says())),
+            _ => Err(Failure::new(WRONG, says())),
         }
+    }
+}
+
+/// What a wrong body's tag says, and what there is.
+fn ruin(tag: Tag, bytes: &[u8]) -> String {
+    let (body, length) = (bytes.get(TAG..).unwrap_or_default(), tag.crc_length);
+    match body.get(..length.into()) {
+        Some(summed) => format!("its tag has the CRC {:04x}, and its {length} bytes have {:04x}", tag.crc, crc(summed)),
+        None => format!("its tag has the CRC of {length} bytes, and {} are there", body.len()),
     }
 }
 

@@ -93,8 +93,8 @@ impl<'a, 'r, 'o, W: Write> Walk<'a, 'r, 'o, W> {
         let Some(place) = block.map(|block| self.place(block.into())) else {
             return Ok(());
         };
-        let tag = sector(self.image, place.sector).and_then(records::tag);
-        tag.map_or(Ok(()), |tag| self.report.tag(|| "the volume".to_string(), tag, place))
+        let bytes = sector(self.image, place.sector).unwrap_or_default();
+        records::tag(bytes).map_or(Ok(()), |tag| self.report.descriptor(|| "the volume".to_string(), tag, place, bytes))
     }
 
     /// The root, and all below it.
@@ -136,7 +136,7 @@ impl<'a, 'r, 'o, W: Write> Walk<'a, 'r, 'o, W> {
         let bytes = sector(self.image, place.sector).unwrap_or_default();
         if let Some(entry) = records::file_entry(bytes) {
             if self.entries.insert(block) {
-                self.report.tag(|| path(&self.names, visit.name, None), entry.tag, place)?;
+                self.report.descriptor(|| path(&self.names, visit.name, None), entry.tag, place, bytes)?;
                 self.chain(visit, &entry, bytes)?;
             }
             if visit.is_directory && read.is_ok() {
@@ -150,25 +150,27 @@ impl<'a, 'r, 'o, W: Write> Walk<'a, 'r, 'o, W> {
     fn chain(&mut self, visit: &Visit, entry: &FileEntry, bytes: &'a [u8]) -> Result<(), Failure> {
         let mut area = bytes.get(entry.area_at..).and_then(|rest| rest.get(..entry.area_length)).unwrap_or_default();
         for _ in 0..MOST_CONTINUATIONS {
-            let Some((next, block)) = continuation(entry.kind, area).and_then(|next| Some((self.stands(&next)?, next.block))) else {
+            let Some(next) = continuation(entry.kind, area) else {
                 break;
             };
-            let Some((tag, length)) = records::header(next).filter(|_| self.continuations.insert(block)) else {
+            let sectors = self.stands(&next).unwrap_or_default();
+            let bytes = sectors.get(..next.length as usize).unwrap_or_default();
+            let Some((tag, length)) = records::header(bytes).filter(|_| self.continuations.insert(next.block)) else {
                 break;
             };
-            self.report.tag(|| path(&self.names, visit.name, None), tag, self.place(block.into()))?;
-            area = next.get(HEADER..).and_then(|rest| rest.get(..length)).unwrap_or_default();
+            self.report.descriptor(|| path(&self.names, visit.name, None), tag, self.place(next.block.into()), sectors)?;
+            area = bytes.get(HEADER..).and_then(|rest| rest.get(..length)).unwrap_or_default();
         }
         Ok(())
     }
 
-    /// The bytes of a continuation, where it is one that is read.
+    /// The sectors of a continuation, where it is one that is read.
     fn stands(&self, next: &Descriptor) -> Option<&'a [u8]> {
         if next.partition.is_some_and(|number| number != self.vault.partition_number()) || next.length > LONGEST {
             return None;
         }
         let first = self.place(next.block.into()).sector;
-        run(self.image, first, u64::from(next.length).div_ceil(SECTOR_SIZE))?.get(..next.length as usize)
+        run(self.image, first, u64::from(next.length).div_ceil(SECTOR_SIZE))
     }
 
     /// The identifiers of a directory, and what they name.
@@ -196,12 +198,13 @@ impl<'a, 'r, 'o, W: Write> Walk<'a, 'r, 'o, W> {
         Ok(())
     }
 
+    /// An identifier, and what it names; `bytes` are the directory's from it on.
     fn identifier(&mut self, visit: &Visit, found: &FileIdentifier, bytes: &[u8], place: Place) -> Result<(), Failure> {
         let marks = found.file_characteristics;
         let recorded = bytes.get(found.name_at..).and_then(|rest| rest.get(..found.name_length)).unwrap_or_default();
         let name = if marks & PARENT != 0 { b"..".to_vec() } else { records::name(recorded) };
         let deleted = if marks & DELETED != 0 { " (deleted)" } else { "" };
-        self.report.tag(|| path(&self.names, visit.name, Some(&name)) + deleted, found.tag, place)?;
+        self.report.descriptor(|| path(&self.names, visit.name, Some(&name)) + deleted, found.tag, place, bytes)?;
         if marks & (DELETED | PARENT) != 0 {
             return Ok(());
         }

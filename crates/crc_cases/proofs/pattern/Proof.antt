@@ -7,15 +7,15 @@ use Rattle.crc_cases.proofs.pattern.Statement.{statement}
 use Rattle.crc_cases.proofs.pattern.Tie as tie
 
 abbrev Inv-loop : tie.InvT-loop
-Inv-loop made₀ i₀ made i = 2032 ≡ length made
+Inv-loop made₀ i₀ made i = 4100 ≡ length made
 
 abbrev μ-loop : tie.MeasureT-loop
-μ-loop made₀ i₀ made i = 2032 - i
+μ-loop made₀ i₀ made i = 4100 - i
 
 pub pattern-spec : {M : Type 1} → statement M
 pattern-spec =
     tie.close (tie.spec Inv-loop μ-loop
-    (λ c. sym (length-replicate {A = ℕ} 2032 0))
+    (λ c. sym (length-replicate {A = ℕ} 4100 0))
     (λ c. search needs)
     (λ c. search needs)
     (λ c. search needs)

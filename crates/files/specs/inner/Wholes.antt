@@ -1,6 +1,7 @@
 -- What the parts of a call come to on an image: for the contracts of private functions.
 use Prim.Native.Nat.{ℕ, _+_, _*_, _≤_, min}
 use mathlib.Core.Path.{_≡_}
+use mathlib.Core.Bool.{Bool}
 use mathlib.Core.List.{List}
 use lib.ListN.{length, take, drop}
 use Rattle.disc.specs.Ask.Outcome.{answered, refused}
@@ -30,8 +31,8 @@ abbrev pub readBy : ℕ → EntryRead → PlaceRead
 readBy from (NoEntry r) = Refused r 1
 readBy from (Read e) = Found (placeAt from e)
 
-unfoldable pub placeIn : List ℕ → ℕ → PlaceRead
-placeIn s from = readBy from (readEntry s)
+unfoldable pub placeIn : Bool → List ℕ → ℕ → PlaceRead
+placeIn check s from = readBy from (readEntry check s)
 
 -- the bytes that stand in the entry itself
 abbrev pub embeddedIn : List ℕ → Place → List ℕ

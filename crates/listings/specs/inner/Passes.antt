@@ -25,28 +25,28 @@ use Rattle.listings.specs.declared.listing.ListingSize.{ListingSize}
 use Rattle.listings.specs.declared.matchings.Matching.{Matching}
 use Rattle.listings.specs.declared.matchings.Matching.the-variants.{CaseIgnored, AsWritten, Unambiguous}
 
--- ---- the entry that stands at a place
+-- ---- the entry that stands at a place, with its body checked or not
 
 -- the bytes from there on
 abbrev pub tail : List ℕ → ℕ → List ℕ
 tail raw at = take (length raw - at) (drop at raw)
 
 -- it is good, with its identifier f: the next one starts at most three bytes past the end
-pub record GoodAt (raw : List ℕ) (at : ℕ) (f : FileIdentifierDescriptor) : Type 0 where
-  pub is : entries (drop at raw) ≡ inFront (entryOf (tail raw at) f) (entries (drop (at + f .«total_size») raw))
+pub record GoodAt (check : Bool) (raw : List ℕ) (at : ℕ) (f : FileIdentifierDescriptor) : Type 0 where
+  pub is : entries check (drop at raw) ≡ inFront (entryOf (tail raw at) f) (entries check (drop (at + f .«total_size») raw))
   pub whole : Whole (tail raw at) f
   pub inside : at + (f .«name_at» + f .«name_length») ≤ length raw
   pub near : at + f .«total_size» ≤ length raw + 3
 
 -- it is bad, and this is its number
-pub record BadAt (raw : List ℕ) (at n : ℕ) : Type 0 where
+pub record BadAt (check : Bool) (raw : List ℕ) (at n : ℕ) : Type 0 where
   pub why : Refusal
-  pub is : entries (drop at raw) ≡ refused why
+  pub is : entries check (drop at raw) ≡ refused why
   pub numbered : n ≡ number why
 
-pub record Comes (raw : List ℕ) (at : ℕ) (r : IdentifierRead) : Type 0 where
-  pub good : r .answer ≡ 0 → GoodAt raw at (r .descriptor)
-  pub bad : (r .answer ≡ 0 → ⊥) → BadAt raw at (r .answer)
+pub record Comes (check : Bool) (raw : List ℕ) (at : ℕ) (r : IdentifierRead) : Type 0 where
+  pub good : r .answer ≡ 0 → GoodAt check raw at (r .descriptor)
+  pub bad : (r .answer ≡ 0 → ⊥) → BadAt check raw at (r .answer)
 
 -- ---- a record
 
@@ -67,13 +67,13 @@ pub record Recorded (marks : ℕ) (s name before after : List ℕ) (r : ℕ) : T
   pub wrote : 21 + length name ≤ length before → Wrote (recordIn marks s name) before after r
 
 -- what writing an entry says, whatever bytes s has: what is written has room, and the next entry starts further on, at most three
--- bytes past the end
+-- bytes past the end. Nothing is checked again: an entry that was read with its body checked is read the same without
 pub record Puts (s before after : List ℕ) (r : Put) : Type 0 where
   pub inside : r .wrote ≤ length before
   pub further : 1 ≤ r .next
   pub near : r .next ≤ length s + 3
-  pub next : (e : Entry) → entryRead s ≡ answered e → r .next ≡ nextAt s
-  pub wrote : (e : Entry) → entryRead s ≡ answered e → length (shown e) ≤ length before → Wrote (shown e) before after (r .wrote)
+  pub next : (e : Entry) → entryRead false s ≡ answered e → r .next ≡ nextAt s
+  pub wrote : (e : Entry) → entryRead false s ≡ answered e → length (shown e) ≤ length before → Wrote (shown e) before after (r .wrote)
 
 -- ---- all entries
 

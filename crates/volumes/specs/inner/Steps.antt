@@ -1,5 +1,6 @@
 -- What the contracts of private functions cite.
 use Prim.Native.Nat.{ℕ}
+use mathlib.Core.Bool.{Bool}
 use lib.Dec.{eqb}
 use Rattle.disc.specs.Choice.{pick}
 use Rattle.disc.specs.Ask.{Ask, ended}
@@ -22,5 +23,5 @@ mountable k =
     3
 
 -- the file set descriptor's sector, and its parse
-abbrev pub fileSetAt : Kept → ℕ → Ask VolumeRecord
-fileSetAt k s = ask s (λ b. ended (volumeIn k (readFileSet b)))
+abbrev pub fileSetAt : Bool → Kept → ℕ → Ask VolumeRecord
+fileSetAt check k s = ask s (λ b. ended (volumeIn check k (readFileSet check b)))

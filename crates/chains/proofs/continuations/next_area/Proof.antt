@@ -14,5 +14,6 @@ next-area-spec =
     (λ c. search nexts)
     (λ c. search nexts)
     (λ c κs. search nexts)
+    (λ c κs. search nexts)
     (λ c. search nexts)
     (λ c. search nexts))

@@ -13,6 +13,7 @@ list-read-spec =
     (λ c κs. search lists)
     (λ c. search lists)
     (λ c. search lists)
+    (λ c κs. search lists)
     (λ c. search lists)
     (λ c. search lists)
     (λ c. search lists)

@@ -14,6 +14,7 @@ enter-spec =
     (λ c κs. search enters)
     (λ c. search enters)
     (λ c. search enters)
+    (λ c κs. search enters)
     (λ c. search enters)
     (λ c. search enters)
     (λ c. search enters)

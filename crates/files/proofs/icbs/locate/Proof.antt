@@ -14,6 +14,7 @@ locate-spec =
     (λ c κs. search locates)
     (λ c. search locates)
     (λ c κs. search locates)
+    (λ c κs. search locates)
     (λ c. search locates)
     (λ c κs. search locates)
     (λ c. search locates))

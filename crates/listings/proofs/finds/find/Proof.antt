@@ -9,10 +9,10 @@ use Rattle.listings.proofs.finds.find.Tie as tie
 ruleset finds = (find-starts, find-bad, name-inside, find-fits, at-less, find-next, find-ends, needs)
 
 abbrev Inv-loop : tie.InvT-loop
-Inv-loop matching raw component found₀ at₀ found at = Finding matching component raw found at
+Inv-loop check matching raw component found₀ at₀ found at = Finding check matching component raw found at
 
 abbrev μ-loop : tie.MeasureT-loop
-μ-loop matching raw component found₀ at₀ found at = length raw + 3 - at
+μ-loop check matching raw component found₀ at₀ found at = length raw + 3 - at
 
 pub find-spec : {M : Type 1} → statement M
 find-spec =

@@ -9,10 +9,10 @@ use Rattle.listings.proofs.listing.measure.Tie as tie
 ruleset measures = (measure-starts, measure-bad, name-fits, size-fits, next-fits, at-less, measure-next, measure-ends, needs)
 
 abbrev Inv-loop : tie.InvT-loop
-Inv-loop raw n₀ at₀ n at = Measuring raw n at
+Inv-loop check raw n₀ at₀ n at = Measuring check raw n at
 
 abbrev μ-loop : tie.MeasureT-loop
-μ-loop raw n₀ at₀ n at = length raw + 3 - at
+μ-loop check raw n₀ at₀ n at = length raw + 3 - at
 
 pub measure-spec : {M : Type 1} → statement M
 measure-spec =

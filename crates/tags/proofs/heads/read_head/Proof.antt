@@ -12,4 +12,5 @@ read-head-spec =
     (λ c. search heads)
     (λ c κs. search needs)
     (λ c κs. search needs)
+    (λ c κs. search needs)
     (λ c. search heads))

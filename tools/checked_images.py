@@ -1,0 +1,253 @@
+#!/usr/bin/env python3
+"""Writes crates/checked_cases/data/images: a good disc, what is asked of it, and the ways in which one of its descriptors is ruined.
+
+The file has, with little-endian numbers,
+
+    u32 length of the packed image, the packed image, u32 bytes of the queries, the queries, and then a row of cases
+
+tools/udf.py says what a packed image is, and the layout of a volume. A query is
+
+    u32 the number that the volume's mount has as `checked`, u32 room of the output, u32 size of the work space, u32 block of an ICB, u16 length of
+    a path, the path
+
+and a case is the good disc with bytes put over it:
+
+    u16 length of the name, the name, u16 a bit for each query that is made, u16 bytes of the patches, and each patch: u32 offset, u16 length, that
+    many bytes
+
+Usage: tools/checked_images.py. Needs Python's standard library alone, prints nothing, and writes the same bytes each time. tools/checked_model.py
+says what is expected.
+"""
+
+import os
+import struct
+import sys
+
+sys.dont_write_bytecode = True
+import udf
+from directory_images import DELETED, DIRECTORY, identifier, parent
+from udf import ANCHOR, BLOCK, EMBEDDED, EXTENDED_FILE_ENTRY, LONG, MAIN, NEXT, SECTOR, SHORT, START
+from udf import aed, anchor, entry, file_set, logical, long_ad, other, partition, primary, short_ad
+
+# Blocks of the partition: entries, the bytes of directories and files, and continuations.
+ROOT, ROOT_BYTES, SHOW, SHOW_BYTES, DEEP, SMALL, CUE, CHAIN, CUE_BYTES = 5, 6, 8, 9, 10, 12, 13, 14, 20
+FIRST, LONGER, SECOND, LONGER_BYTES, LAST = 21, 22, 25, 24, 26
+SECTORS = START + 32
+
+
+def crc(data):
+    """ECMA-167 3/7.2.6, a bit at a time."""
+    register = 0
+    for byte in data:
+        register ^= byte << 8
+        for _ in range(8):
+            register = (register << 1 ^ 0x1021) & 0xFFFF if register & 0x8000 else register << 1
+    return register
+
+
+def tagged(data, number, length, identifier=None, wrong=0):
+    """A descriptor with this CRC and CRC length in its tag, and the checksum of that."""
+    t = bytearray(data[:16])
+    struct.pack_into("<HH", t, 8, number, length)
+    if identifier is not None:
+        struct.pack_into("<H", t, 0, identifier)
+    t[4] = 0
+    t[4] = (sum(t) + wrong) % 256
+    return bytes(t) + data[16:]
+
+
+def summed(data, size=None):
+    """A descriptor whose CRC is that of its bytes behind the tag: of all, or of those up to a size."""
+    size = size or len(data)
+    return tagged(data, crc(data[16:size]), size - 16)
+
+
+def embedded(data, **how):
+    return entry(EMBEDDED, data, len(data), **how)
+
+
+# ---- the good disc: a descriptor of each kind, at each depth
+
+
+class Good(udf.Image):
+    def __init__(self):
+        super().__init__("the good disc", SECTORS)
+        self.descriptors = {}
+
+    def put(self, name, sector, data, hand=SECTOR, within=0):
+        """A descriptor under its name, with so many bytes at hand from it on."""
+        at = sector * SECTOR + within
+        self.bytes[at : at + len(data)] = data
+        self.descriptors[name] = (at, hand)
+
+    def directory(self, sector, within, entries):
+        """The identifiers of a directory, of which the bytes at hand end with its last one."""
+        rest = sum(len(data) for _, data in entries)
+        for name, data in entries:
+            self.put(name, sector, data, rest, within)
+            within, rest = within + len(data), rest - len(data)
+
+
+def icb(block):
+    return long_ad(SECTOR, block)
+
+
+def named(name, block, marks=0):
+    return summed(identifier(name, icb(block), marks))
+
+
+def volume(disc):
+    disc.put("anchor", ANCHOR, summed(anchor(), 512))
+    disc.put("primary", MAIN, summed(primary(MAIN), 512))
+    # Neither of these is parsed, nor is the terminating descriptor: their bodies aren't looked at.
+    disc.put("skipped", MAIN + 1, tagged(other(4)(MAIN + 1), 0xBEEF, 100))
+    disc.put("partition", MAIN + 2, summed(partition(MAIN + 2, number=udf.PARTITION), 512))
+    disc.put("unlisted", MAIN + 3, tagged(other(77)(MAIN + 3), 0xBEEF, 100))
+    disc.put("logical", MAIN + 4, summed(logical(MAIN + 4, number=udf.PARTITION)))
+    disc.put("terminating", MAIN + 5, tagged(udf.TERMINATOR(MAIN + 5), 0xBEEF, 65535))
+    disc.put("file set", START + BLOCK, summed(file_set(START + BLOCK, root=icb(ROOT))))
+
+
+def directories(disc):
+    root = [
+        ("root's parent", summed(parent())),
+        ("root's deleted", named("old", SMALL, DELETED)),
+        ("root's show", named("show", SHOW, DIRECTORY)),
+        ("root's small", named("small", SMALL)),
+        ("root's last", named("last", CUE)),
+    ]
+    n = sum(len(data) for _, data in root)
+    disc.put("root", START + ROOT, summed(entry(SHORT, short_ad(n, ROOT_BYTES), n)))
+    disc.directory(START + ROOT_BYTES, 0, root)
+    show = [("show's parent", summed(parent())), ("show's chain", named("chain", CHAIN)), ("show's deep", named("deep", DEEP, DIRECTORY))]
+    n = sum(len(data) for _, data in show)
+    disc.put("show", START + SHOW, summed(entry(LONG, long_ad(n, SHOW_BYTES), n, EXTENDED_FILE_ENTRY, attributes=b"attr")))
+    disc.directory(START + SHOW_BYTES, 0, show)
+    # A directory that stands in its own entry, whose CRC is of what stands before it.
+    deep = [("deep's parent", summed(parent())), ("deep's cue", named("cue", CUE))]
+    data = embedded(b"".join(data for _, data in deep))
+    disc.put("deep", START + DEEP, summed(data, 176))
+    disc.directory(START + DEEP, 176, deep)
+
+
+def files(disc):
+    disc.put("small", START + SMALL, summed(embedded(b"a small file")))
+    disc.put("cue", START + CUE, summed(entry(SHORT, short_ad(700, CUE_BYTES), 700)))
+    area = long_ad(100, FIRST) + long_ad(2100, LONGER, NEXT)
+    disc.put("chain", START + CHAIN, summed(entry(LONG, area, 200)))
+    # The first continuation has 2,100 bytes in two sectors, all of which are at hand.
+    area = long_ad(50, LONGER_BYTES) + long_ad(200, SECOND, NEXT)
+    disc.put("first continuation", START + LONGER, summed(aed(area)), 2 * SECTOR)
+    disc.put("second continuation", START + SECOND, summed(aed(long_ad(50, LAST))))
+    for block, size, byte in ((CUE_BYTES, 700, b"c"), (FIRST, 100, b"1"), (LONGER_BYTES, 50, b"2"), (LAST, 50, b"3")):
+        disc.bytes[(START + block) * SECTOR : (START + block) * SECTOR + size] = byte * size
+
+
+# ---- what is ruined: each gives the bytes at hand anew
+
+
+def flipped(data, at):
+    return data[:at] + bytes([data[at] ^ 0x10]) + data[at + 1 :]
+
+
+def of_tag(data):
+    """Its CRC and its CRC length."""
+    return struct.unpack_from("<HH", data, 8)
+
+
+def ruins(name, hand):
+    # The main extent of an anchor is at 16; of all others what stands there has no meaning for a reader.
+    body = flipped(hand, 24 if name == "anchor" else 16)
+    number, length = of_tag(hand)
+    whole = len(hand) - 16
+    yield "body", body
+    yield "last byte of the body", flipped(hand, 15 + length)
+    yield "crc", tagged(hand, number ^ 0x0100, length)
+    yield "length one less", tagged(hand, number, length - 1)
+    yield "length to the end", tagged(hand, crc(hand[16:]), whole)
+    yield "length past the end", tagged(hand, crc(hand[16:]), whole + 1)
+    yield "length 0, crc 0", tagged(body, 0, 0)
+    yield "length 0, crc 1", tagged(hand, 1, 0)
+    yield "body and checksum", tagged(body, number, length, wrong=1)
+    yield "body and reserved byte", body[:5] + b"\1" + body[6:]
+    # By their ids these are taken for something else, or skipped.
+    if name not in ("primary", "partition", "logical"):
+        yield "body and id", tagged(body, number, length, identifier=259)
+        yield "id", tagged(hand, number, length, identifier=259)
+
+
+def cases(disc):
+    """A name, and the bytes that are put over the good disc at a place."""
+    yield "nothing", 0, b""
+    for name, (at, hand) in disc.descriptors.items():
+        good = bytes(disc.bytes[at : at + hand])
+        if name in ("skipped", "unlisted", "terminating"):
+            continue
+        for what, ruined in ruins(name, good):
+            yield f"{name}: {what}", at, ruined
+    at, hand = disc.descriptors["first continuation"]
+    good = bytes(disc.bytes[at : at + hand])
+    yield "first continuation: length past its own, within its sectors", at, tagged(good, crc(good[16:2117]), 2101)
+    yield "first continuation: the second of its sectors, length to the end", at, flipped(tagged(good, crc(good[16:]), hand - 16), 3000)
+
+
+def patches(good, at, data):
+    """Where the bytes differ, from the first to the last of them."""
+    places = [i for i, byte in enumerate(data) if byte != good[at + i]]
+    if not places:
+        return b""
+    first, last = places[0], places[-1] + 1
+    return struct.pack("<IH", at + first, last - first) + data[first:last]
+
+
+# ---- what is asked
+
+UNCHECKED, BY_ROOT, BY_SHOW, BY_DEEP, BY_SMALL, BY_CUE, BY_CHAIN = (1 << n for n in range(7))
+ALL = 127
+
+
+def query(checked, block=ROOT, path=b"", room=1024, work=1024):
+    return struct.pack("<IIIIH", checked, room, work, block, len(path)) + path
+
+
+def queries():
+    yield query(0, CHAIN, b"show/chain")
+    yield query(1, ROOT, b"show/chain")
+    yield query(1, SHOW, b"show/deep/cue")
+    yield query(2**31, DEEP, b"SMALL")
+    yield query(256, SMALL, b"nothing")
+    yield query(1, CUE, b"small/x")
+    yield query(1, CHAIN, b"last", room=99, work=300)
+
+
+def reaching(name):
+    """The queries that come to a descriptor, or by it; a volume's is met on opening alone."""
+    if name.startswith("root"):
+        return UNCHECKED | BY_ROOT | BY_SMALL
+    if name.startswith("show"):
+        return UNCHECKED | BY_SHOW
+    if name.startswith("deep"):
+        return BY_SHOW | BY_DEEP
+    return {"small": BY_DEEP | BY_SMALL, "cue": BY_SHOW | BY_CUE, "nothing": ALL}.get(
+        name, UNCHECKED | BY_ROOT | BY_CHAIN if name in ("chain", "first continuation", "second continuation") else 0
+    )
+
+
+def main():
+    disc = Good()
+    volume(disc)
+    directories(disc)
+    files(disc)
+    packed, asked = udf.packed(bytes(disc.bytes)), b"".join(queries())
+    parts = [struct.pack("<I", len(packed)), packed, struct.pack("<I", len(asked)), asked]
+    for name, at, data in cases(disc):
+        text, patch = name.encode("ascii"), patches(disc.bytes, at, data)
+        asks = reaching(name.partition(":")[0])
+        parts.append(struct.pack("<H", len(text)) + text + struct.pack("<HH", asks, len(patch)) + patch)
+    here = os.path.join(os.path.dirname(os.path.abspath(__file__)), "..", "crates", "checked_cases", "data")
+    os.makedirs(here, exist_ok=True)
+    udf.write_records(os.path.join(here, "images"), parts)
+
+
+if __name__ == "__main__":
+    main()
