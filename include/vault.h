@@ -44,6 +44,7 @@ enum {
     VAULT_AMBIGUOUS = 9,
     /* A descriptor that is checked has a wrong CRC, or a CRC length that passes the bytes at hand. */
     VAULT_BAD_CRC = 10,
+    VAULT_TOO_MANY = 12, /* There are more paths than places for their lengths, or than places for their answers. */
 };
 
 enum {
@@ -51,7 +52,7 @@ enum {
     VAULT_AS_WRITTEN = 1, /* A name matches byte for byte, and the first entry that matches is taken. */
     /* ASCII case is ignored, and a component that two or more entries match is refused by VAULT_AMBIGUOUS. */
     VAULT_UNAMBIGUOUS = 2,
-    VAULT_VERSION = 4, /* Goes up whenever a struct or a call changes. */
+    VAULT_VERSION = 5, /* Goes up whenever a struct or a call changes. */
 };
 
 enum {
@@ -180,6 +181,17 @@ vault_reply vault_extents(vault_volume volume, const uint8_t *image, size_t imag
 vault_reply vault_read_path(vault_volume volume, const uint8_t *image, size_t image_length, const uint8_t *path,
                             size_t path_length, uint32_t matching, uint8_t *out, size_t out_length, uint8_t *work,
                             size_t work_length);
+
+/* Reads many files to `out`, one behind the other. `paths` has their paths with a zero byte between each two: n
+ * zeros make n + 1 paths, so that no bytes are one path, and an empty path reads the root's bytes. Of each in turn
+ * `lengths` and `answers` say how many bytes it has and its answer, as vault_read_path gives them for the room that
+ * is left; one that is refused has length 0, takes no room, and the rest go on. So the answer is VAULT_DONE also
+ * where every path was refused, with the count of all and in `length` the bytes of all. More paths than places in
+ * either row are VAULT_TOO_MANY, and then nothing is read or written. */
+vault_reply vault_read_all(vault_volume volume, const uint8_t *image, size_t image_length, const uint8_t *paths,
+                           size_t paths_length, uint32_t matching, uint8_t *out, size_t out_length, uint64_t *lengths,
+                           size_t lengths_places, uint32_t *answers, size_t answers_places, uint8_t *work,
+                           size_t work_length);
 
 #ifdef __cplusplus
 }

@@ -33,6 +33,8 @@ FAULTS = (
     turned("vault_read_path", PATH, OUT),
     turned("vault_read_path", MATCHING, OUT),
     turned("vault_read_path", IMAGE, PATH),
+    turned("vault_read_all", r"paths: &\[u8\]", OUT),
+    turned("vault_read_all", r"lengths: &mut \[u64\]", r"answers: &mut \[u32\]"),
     turned("vault_lookup", PATH, WORK),
     turned("vault_failed", WORK, "component_at: &mut usize"),
     turned("vault_label", IMAGE, OUT),

@@ -11,7 +11,7 @@ import struct
 import sys
 
 sys.dont_write_bytecode = True
-from model import ABSENT, BAD, ROOM, SEVERAL, SIZE, WORK, Disc, Refused, front, stored, text
+from model import ABSENT, BAD, OTHER, ROOM, SEVERAL, SIZE, WORK, Disc, Refused, front, stored, text
 
 CASE_IGNORED, AS_WRITTEN = 0, 1
 
@@ -52,6 +52,8 @@ def content(disc, start, icb):
     found = b""
     for at in range(0, size, 8):
         length, block = struct.unpack_from("<II", area, at)
+        if length >> 30:
+            raise Refused(OTHER)
         for n in range((length + SIZE - 1) // SIZE):
             found += disc.sector(start + block + n)[: length - n * SIZE]
     return found[:information]

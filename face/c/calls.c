@@ -151,6 +151,25 @@ static void read_cue(vault_volume v, vault_long_ad icb) {
     EXPECT(holds("", 0) && is_all(work, WORK, 0));
 }
 
+/* Three cues in one call, of which the second isn't there: it takes no room, and the third stands behind the first. */
+static void read_all(vault_volume v) {
+    static const char paths[] = "SHOW/10.1A\0SHOW/none\0SHOW/10.1a";
+    size_t n = sizeof cue - 1, m = sizeof other - 1;
+    uint64_t lengths[4] = {99, 99, 99, 99};
+    uint32_t answers[4] = {99, 99, 99, 99};
+    const uint8_t *list = (const uint8_t *)paths;
+    lend();
+    EXPECT(is_reply(vault_read_all(v, image, IMAGE, list, sizeof paths - 1, VAULT_AS_WRITTEN, out, OUT, lengths, 2, answers, 4, work, WORK),
+                    VAULT_TOO_MANY, 0, 0));
+    EXPECT(holds("", 0) && is_all(work, WORK, 0) && lengths[0] == 99 && answers[0] == 99);
+    lend();
+    EXPECT(is_reply(vault_read_all(v, image, IMAGE, list, sizeof paths - 1, VAULT_AS_WRITTEN, out, OUT, lengths, 4, answers, 3, work, WORK),
+                    VAULT_DONE, 10, n + m));
+    EXPECT(!memcmp(out, cue, n) && !memcmp(out + n, other, m) && is_all(out + n + m, OUT - n - m, FREE) && is_all(work, WORK, 0));
+    EXPECT(lengths[0] == n && lengths[1] == 0 && lengths[2] == m && lengths[3] == 99);
+    EXPECT(answers[0] == VAULT_DONE && answers[1] == VAULT_NOT_BLURAY && answers[2] == VAULT_DONE && answers[3] == 99);
+}
+
 /* A directory of this show is embedded in its entry; a cue is not. */
 static void part(vault_volume v, vault_long_ad directory, vault_long_ad icb) {
     size_t at = 99, n = number(image + (START + 4) * SECTOR + ENTRY - 4);
@@ -174,6 +193,7 @@ static void asked(vault_volume v) {
     failed(v);
     list(v, directory);
     read_cue(v, icb);
+    read_all(v);
     part(v, directory, icb);
     extents(v, icb);
 }

@@ -16,7 +16,8 @@ static vault_volume volume;
 static vault_long_ad icb;
 static const char *path;
 static size_t length, room, at;
-static uint32_t how, matching;
+static uint32_t how, matching, answers[1];
+static uint64_t lengths[1];
 
 /* What is called. A reply in memory is asked for by a first argument that is also the result. */
 static void (*volatile callee)(void);
@@ -39,12 +40,14 @@ CALL(vault_read, volume, DISC, icb, out, room)
 CALL(vault_part, volume, DISC, icb, &at)
 CALL(vault_extents, volume, DISC, icb, row, SLOTS)
 CALL(vault_read_path, volume, DISC, PATH, matching, out, room, work, WORK)
+CALL(vault_read_all, volume, DISC, PATH, matching, out, room, lengths, 1, answers, 1, work, WORK)
 
 static const struct {
     const char *name;
     void (*call)(void), (*made)(void);
 } calls[] = {ROW(vault_version), ROW(vault_probe), ROW(vault_open), ROW(vault_label), ROW(vault_lookup),   ROW(vault_failed),
-             ROW(vault_list),    ROW(vault_read),  ROW(vault_part), ROW(vault_extents), ROW(vault_read_path)};
+             ROW(vault_list),    ROW(vault_read),  ROW(vault_part), ROW(vault_extents), ROW(vault_read_path),
+             ROW(vault_read_all)};
 
 /* Makes a call on the painted stack. */
 static void make(void (*call)(void), void (*made)(void)) {

@@ -39,6 +39,8 @@ pub const NO_SLOT: u64 = 7;
 pub const AMBIGUOUS: u64 = 9;
 /// A descriptor that is checked has a wrong CRC, or a CRC length that passes the bytes at hand.
 pub const BAD_CRC: u64 = 10;
+/// There are more paths than places for their lengths, or than places for their answers.
+pub const TOO_MANY: u64 = 12;
 
 /// ASCII case is ignored, and the first entry that matches is taken.
 pub const CASE_IGNORED: u32 = 0;
@@ -47,7 +49,7 @@ pub const AS_WRITTEN: u32 = 1;
 /// ASCII case is ignored, and a component that two or more entries match is refused by VAULT_AMBIGUOUS.
 pub const UNAMBIGUOUS: u32 = 2;
 /// Goes up whenever a struct or a call changes.
-pub const VERSION: u32 = 4;
+pub const VERSION: u32 = 5;
 
 /// A choice for `how`: the body of each descriptor that is parsed, on opening and in every call on the volume, must
 /// have the CRC that its tag says, or the call is refused by VAULT_BAD_CRC.
@@ -225,6 +227,29 @@ unsafe extern "C" {
         matching: u32,
         out: *mut u8,
         out_length: usize,
+        work: *mut u8,
+        work_length: usize,
+    ) -> Reply;
+
+    /// Reads many files to `out`, one behind the other. `paths` has their paths with a zero byte between each two: n
+    /// zeros make n + 1 paths, so that no bytes are one path, and an empty path reads the root's bytes. Of each in turn
+    /// `lengths` and `answers` say how many bytes it has and its answer, as vault_read_path gives them for the room
+    /// that is left; one that is refused has length 0, takes no room, and the rest go on. So the answer is VAULT_DONE
+    /// also where every path was refused, with the count of all and in `length` the bytes of all. More paths than
+    /// places in either row are VAULT_TOO_MANY, and then nothing is read or written.
+    pub fn vault_read_all(
+        volume: Volume,
+        image: *const u8,
+        image_length: usize,
+        paths: *const u8,
+        paths_length: usize,
+        matching: u32,
+        out: *mut u8,
+        out_length: usize,
+        lengths: *mut u64,
+        lengths_places: usize,
+        answers: *mut u32,
+        answers_places: usize,
         work: *mut u8,
         work_length: usize,
     ) -> Reply;

@@ -17,6 +17,7 @@ use Rattle.disc.specs.declared.places.PartitionRef.{PartitionRef}
 use Rattle.disc.specs.declared.places.PartitionRef.the-variants.{Unnamed, Named}
 use Rattle.disc.specs.declared.refusals.Refusal.{Refusal}
 use Rattle.disc.specs.declared.refusals.Refusal.the-variants.{Malformed, Unsupported}
+use Rattle.disc.proofs.AskLaws.{then-then}
 use Rattle.disc.proofs.MarkedLaws.{ButBad, Guards, done-guards, refuse-guards, ask-guards, then-guards}
 use Rattle.records.specs.Bytes.{u32at}
 use Rattle.tags.specs.Tags.{aedAfter, readAed}
@@ -35,12 +36,6 @@ unfolding then
 then-done (done a) = refl
 then-done (refuse r) = refl
 then-done (ask s k) = ap (ask s) (fun-ext (λ b. then-done (k b)))
-
-then-then : {A B C : Type 0} (m : Ask A) (f : A → Ask B) (g : B → Ask C) → then (then m f) g ≡ then m (λ a. then (f a) g)
-unfolding then
-then-then (done a) f g = refl
-then-then (refuse r) f g = refl
-then-then (ask s k) f g = ap (ask s) (fun-ext (λ b. then-then (k b) f g))
 
 -- two trees with what comes behind each
 record Before {A B : Type 0} (f f′ : A → Ask B) (m m′ : Ask A) : Type 0 where

@@ -101,16 +101,21 @@ found-path (answered icb) n {found} p h f {lent} read q {c} e =
       leaves = s .leaves;
     }
 
-module _ (d : Disc) (matching : Matching) (v : Mount) (work : ℕ) (root : LongAd) (path : List ℕ) {found : Found} (p : found ≡ foundOf (ran d (lookupOf matching v work root path))) where
+module _ (d : Disc) (matching : Matching) (v : Mount) (work : ℕ) (root : LongAd) (path : List ℕ) where
   path-is : ran d (readPathOf matching v work root path) ≡ followed (ran d (lookupOf matching v work root path)) (λ icb. ran d (fileBytes v icb))
   unfolding readPathOf
   path-is = ran-then d (lookupOf matching v work root path) (λ icb. fileBytes v icb)
 
-  pub path-refused : (found .answer ≡ 0 → ⊥) → (lent : List ℕ) {reply : Reply} → reply ≡ record { answer = found .answer; count = found .count; length = 0 }
-      → Replied NoRoom (ran d (readPathOf matching v work root path)) lent lent reply
-  path-refused h lent q = rw path-is (refused-path (ran d (lookupOf matching v work root path) .outcome) (ran d (lookupOf matching v work root path) .count) p h (λ icb. ran d (fileBytes v icb)) lent q)
+  module _ {q : PathPlace} (w : Walks d matching v work root path q) where
+    pub path-refused : (q .answer ≡ 0 → ⊥) → (lent : List ℕ) {reply : Reply} → reply ≡ record { answer = q .answer; count = q .count; length = 0 }
+        → Replied NoRoom (ran d (readPathOf matching v work root path)) lent lent reply
+    path-refused h lent e =
+        rw path-is
+        (refused-path (ran d (lookupOf matching v work root path) .outcome) (ran d (lookupOf matching v work root path) .count) (look-found d matching v work root path w) h (λ icb. ran d (fileBytes v icb)) lent e)
 
-  pub path-read : found .answer ≡ 0 → {lent after : List ℕ} (read : Reply) → Replied NoRoom (ran d (fileBytes v (found .icb))) lent after read
-      → {c : ℕ} → c ≡ reported (found .count + read .count)
-      → Replied NoRoom (ran d (readPathOf matching v work root path)) lent after (record { answer = read .answer; count = c; length = read .length })
-  path-read h read q e = rw path-is (found-path (ran d (lookupOf matching v work root path) .outcome) (ran d (lookupOf matching v work root path) .count) p h (λ icb. ran d (fileBytes v icb)) read q e)
+    pub path-read : q .answer ≡ 0 → {lent after : List ℕ} (read : Reply) → Replied NoRoom (ran d (fileBytes v (q .icb))) lent after read
+        → {c : ℕ} → c ≡ reported (q .count + read .count)
+        → Replied NoRoom (ran d (readPathOf matching v work root path)) lent after (record { answer = read .answer; count = c; length = read .length })
+    path-read h read r e =
+        rw path-is
+        (found-path (ran d (lookupOf matching v work root path) .outcome) (ran d (lookupOf matching v work root path) .count) (look-found d matching v work root path w) h (λ icb. ran d (fileBytes v icb)) read r e)

@@ -100,6 +100,32 @@ pub fn failed<'i, 'p>(
     &path[at..end]
 }
 
+// The bytes of the file that the path names, over the front of out, with the work space left as the walk leaves it: for a caller that reads
+// several paths, and clears it once.
+pub fn read_reached(
+    image: &[u8],
+    mount: Mount,
+    root: LongAd,
+    path: &[u8],
+    matching: Matching,
+    out: &mut [u8],
+    work: &mut [u8],
+) -> Reply
+    ensures { λ r. ⌜ Replied NoRoom (ran (disc (now (image .entry))) (readPathOf matching mount (length (now (work .entry))) root (now (path .entry)))) (now (out .entry)) (now (out .exit)) r ⌝ }
+{
+    let p = walk(image, mount, root, path, matching, work);
+    if p.answer != DONE {
+        return refusal(p.answer, p.count);
+    }
+    let file = p.icb;
+    let read = read_file(image, mount, file, out, Refusal::NoRoom);
+    Reply {
+        answer: read.answer,
+        count: add_counts(p.count, read.count),
+        length: read.length,
+    }
+}
+
 // The bytes of the file that the path names, over the front of out.
 pub fn read_path(
     image: &[u8],
@@ -113,15 +139,7 @@ pub fn read_path(
     ensures { λ r. ⌜ Replied NoRoom (ran (disc (now (image .entry))) (readPathOf matching mount (length (now (work .entry))) root (now (path .entry)))) (now (out .entry)) (now (out .exit)) r ⌝ }
     ensures { λ _. ⌜ now (work .exit) ≡ replicate (length (now (work .entry))) 0 ⌝ }
 {
-    let found = lookup(image, mount, root, path, matching, work);
-    if found.answer != DONE {
-        return refusal(found.answer, found.count);
-    }
-    let icb = found.icb;
-    let read = read_file(image, mount, icb, out, Refusal::NoRoom);
-    Reply {
-        answer: read.answer,
-        count: add_counts(found.count, read.count),
-        length: read.length,
-    }
+    let reply = read_reached(image, mount, root, path, matching, out, work);
+    clear(work);
+    reply
 }

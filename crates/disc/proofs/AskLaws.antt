@@ -1,6 +1,6 @@
 -- Laws of every tree of questions: what two discs that agree on its list make of it, what a grown disc makes of it, and that walking it
 -- by hand asks and ends the same. Assumes nothing.
-use mathlib.Core.Path.{_≡_, refl, ap, _∙_}
+use mathlib.Core.Path.{_≡_, refl, ap, _∙_, fun-ext}
 use mathlib.Core.List.{List, [], _∷_, _++_, append-nil}
 use mathlib.Core.Logic.{_⊎_, inl, inr}
 use Prim.Native.Nat.{ℕ}
@@ -115,3 +115,10 @@ fed-ends d (ask s k) = on (d s) (λ b. fed-ends d (k b))
         → fedTimes (length (given x (λ b. asked d (k b)) [])) d (given x k (refuse Io)) ≡ ended (given x (λ b. outcome d (k b)) (refused Io))
     on (holds b) ih = ih b
     on lacks ih = refl
+
+-- ---- one call behind two others: it doesn't matter which two are put together first
+pub then-then : {A B C : Type 0} (m : Ask A) (f : A → Ask B) (g : B → Ask C) → then (then m f) g ≡ then m (λ a. then (f a) g)
+unfolding then
+then-then (done a) f g = refl
+then-then (refuse r) f g = refl
+then-then (ask s k) f g = ap (ask s) (fun-ext (λ b. then-then (k b) f g))

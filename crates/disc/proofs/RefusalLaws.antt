@@ -1,9 +1,23 @@
 -- Laws of refusals. Assumes nothing.
 use mathlib.Core.Path.{_≡_}
+use Prim.Native.Nat.{_<_, _^_}
 use native.Mathlib.Omega.{arith}
 use Rattle.disc.specs.Refusals.{number}
 use Rattle.disc.specs.declared.refusals.Refusal.{Refusal}
-use Rattle.disc.specs.declared.refusals.Refusal.the-variants.{Io, Malformed, NotBluray, Unsupported, NoRoom, NoWork, NoSlot, Ambiguous, BadCrc}
+use Rattle.disc.specs.declared.refusals.Refusal.the-variants.{Io, Malformed, NotBluray, Unsupported, NoRoom, NoWork, NoSlot, Ambiguous, BadCrc, TooMany}
+
+-- each number fits in 32 bits
+pub refusal-small : (why : Refusal) → number why < 2 ^ 32
+refusal-small Io = omega arith
+refusal-small Malformed = omega arith
+refusal-small NotBluray = omega arith
+refusal-small Unsupported = omega arith
+refusal-small NoRoom = omega arith
+refusal-small NoWork = omega arith
+refusal-small NoSlot = omega arith
+refusal-small Ambiguous = omega arith
+refusal-small BadCrc = omega arith
+refusal-small TooMany = omega arith
 
 -- no refusal has number 0, which is "done"
 pub refusal-numbered : (why : Refusal) → number why ≡ 0 → ⊥
@@ -16,3 +30,4 @@ refusal-numbered NoWork e = omega arith
 refusal-numbered NoSlot e = omega arith
 refusal-numbered Ambiguous e = omega arith
 refusal-numbered BadCrc e = omega arith
+refusal-numbered TooMany e = omega arith

@@ -29,3 +29,6 @@ pub const AMBIGUOUS: u64 = 9;
 
 // A descriptor that is checked has a wrong CRC, or a CRC length that passes the bytes at hand.
 pub const BAD_CRC: u64 = 10;
+
+// There are more paths than places for their lengths, or than places for their answers.
+pub const TOO_MANY: u64 = 12;

@@ -9,6 +9,7 @@ use crate::answers::NO_ROOM;
 use crate::answers::NO_SLOT;
 use crate::answers::NO_WORK;
 use crate::answers::NOT_BLURAY;
+use crate::answers::TOO_MANY;
 use crate::answers::UNSUPPORTED;
 
 pub enum Refusal {
@@ -27,6 +28,8 @@ pub enum Refusal {
     Ambiguous,
     // A descriptor that is checked has a wrong body.
     BadCrc,
+    // There are more paths than places for what each is answered.
+    TooMany,
 }
 
 impl Refusal {
@@ -44,6 +47,7 @@ impl Refusal {
             Refusal::NoSlot => NO_SLOT,
             Refusal::Ambiguous => AMBIGUOUS,
             Refusal::BadCrc => BAD_CRC,
+            Refusal::TooMany => TOO_MANY,
         }
     }
 }

@@ -1,5 +1,5 @@
 -- What a call leaves, from the contract of the crate below that it passes on. Assumes nothing.
-use mathlib.Core.Path.{_≡_, refl}
+use mathlib.Core.Path.{_≡_, refl, ap}
 use mathlib.Core.List.{List}
 use Prim.Native.Nat.{ℕ}
 use Rattle.disc.specs.Counts.{reported}
@@ -15,7 +15,8 @@ use Rattle.files.specs.Files.{Part}
 use Rattle.layouts.specs.Calls.{partIn, partReply, PartReplied, Listed}
 use Rattle.directories.specs.Lookups.{Sought, foundOf, failedOf, failedReply}
 use Rattle.directories.specs.declared.lookups.Found.{Found}
-use Rattle.vault.specs.Calls.{Written, written, cleared, Worked, worked, Looked, looked, Lost, lost, Parted, parted, Rowed, rowed, LostPlace, lostPlace, PartedPlace, partedPlace}
+use Rattle.cue_stacks.specs.Stacks.{Stacked}
+use Rattle.vault.specs.Calls.{Written, written, cleared, Worked, worked, Looked, looked, Lost, lost, Parted, parted, Rowed, rowed, LostPlace, lostPlace, PartedPlace, partedPlace, AllRead, allRead}
 
 pub written-is : {r : Ran (List ℕ)} {out out′ : List ℕ} {reply : Reply} → Replied NoRoom r out out′ reply → _≡_ {A = Written} (record { reply = reply; out = out′ }) (written out r)
 written-is h = rw (h .says, h .leaves)
@@ -46,3 +47,8 @@ rowed-is f r h = rw (h .says, h .leaves)
 pub parted-place-is : (r : Ran Part) {reply : Reply} {at : ℕ} → reply ≡ partReply r → at ≡ partIn (r .outcome) .at
     → _≡_ {A = PartedPlace} (record { reply = reply; at = at }) (partedPlace r)
 parted-place-is r p q = rw (p, q)
+
+pub all-is : (work : List ℕ) (r : Stacked) {work′ out lengths answers : List ℕ} {reply : Reply}
+    → _≡_ {A = Stacked} (record { reply = reply; out = out; lengths = lengths; answers = answers }) r → work′ ≡ cleared work
+    → _≡_ {A = AllRead} (record { reply = reply; out = out; lengths = lengths; answers = answers; work = work′ }) (allRead work r)
+all-is work r h z = rw z (ap (allRead work) h)

@@ -12,3 +12,4 @@ pub mod Cues
 pub mod Agreeing
 pub mod Prevailing
 pub mod Checking
+pub mod Stacking

@@ -25,6 +25,7 @@ use Rattle.listings.specs.declared.matchings.Matching.{Matching}
 use Rattle.directories.specs.Directories.{listingAt}
 use Rattle.directories.specs.Lookups.{Sought, seekPath, lookupOf, readPathOf, foundOf, failedOf, failedReply}
 use Rattle.directories.specs.declared.lookups.Found.{Found}
+use Rattle.cue_stacks.specs.Stacks.{Stacked, readAllOf}
 
 -- ---- the tree of questions of each call; `work` is how many bytes of work space there are, `matching` the choice of matching
 
@@ -87,6 +88,22 @@ lists image v icb out work = worked out work (ran (disc image) (listing v (lengt
 
 abbrev pub readsPath : List ℕ → VolumeRecord → List ℕ → Matching → List ℕ → List ℕ → Worked
 readsPath image v path matching out work = worked out work (ran (disc image) (pathReading v (length work) path matching))
+
+-- many files in one call, each by its path (RULES 8.26 to 8.33): the output, a row of their lengths and one of their answer numbers
+
+pub record AllRead : Type 0 where
+  pub reply : Reply
+  pub out : List ℕ
+  pub lengths : List ℕ
+  pub answers : List ℕ
+  pub work : List ℕ
+
+abbrev pub allRead : List ℕ → Stacked → AllRead
+allRead work s = record { reply = s .reply; out = s .out; lengths = s .lengths; answers = s .answers; work = cleared work }
+
+abbrev pub readsAll : List ℕ → VolumeRecord → List ℕ → Matching → List ℕ → List ℕ → List ℕ → List ℕ → AllRead
+readsAll image v paths matching out lengths answers work =
+    allRead work (readAllOf (λ path. ran (disc image) (pathReading v (length work) path matching)) paths out lengths answers)
 
 -- ---- paths, by a choice of matching
 

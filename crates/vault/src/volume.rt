@@ -2,7 +2,7 @@
 ghost use mathlib.Core.Path.{_≡_};
 ghost use Rattle.layouts.specs.Calls.{wordsOf, extentOf};
 ghost use Rattle.probes.specs.Probes.{probed};
-ghost use Rattle.vault.specs.Calls.{opens, labels, reads, lists, readsPath, finds, fails, failsAt, parts, partsAt, extents};
+ghost use Rattle.vault.specs.Calls.{opens, labels, reads, lists, readsPath, readsAll, finds, fails, failsAt, parts, partsAt, extents};
 use directories::listed::list_directory;
 use directories::lookups::Found;
 use disc::refusals::Refusal;
@@ -144,6 +144,36 @@ impl Volume {
         let mount = v.mount;
         let root = v.root;
         directories::lookups::read_path(image, mount, root, path, matching, out, work)
+    }
+
+    // The bytes of many files, one behind another, each named by a path of a list: a zero byte stands between each two. `lengths` and `answers` say of
+    // each in turn how many bytes it has and its answer; one that is refused takes no room, and the rest go on.
+    pub fn read_all(
+        self,
+        image: &[u8],
+        paths: &[u8],
+        matching: Matching,
+        out: &mut [u8],
+        lengths: &mut [u64],
+        answers: &mut [u32],
+        work: &mut [u8],
+    ) -> Reply
+        ensures { λ r. ⌜ record { reply = r; out = now (out .exit); lengths = now (lengths .exit); answers = now (answers .exit); work = now (work .exit) } ≡ readsAll (now (image .entry)) (self .0) (now (paths .entry)) matching (now (out .entry)) (now (lengths .entry)) (now (answers .entry)) (now (work .entry)) ⌝ }
+    {
+        let v = self.0;
+        let mount = v.mount;
+        let root = v.root;
+        cue_stacks::stacks::read_all(
+            image,
+            mount,
+            root,
+            paths,
+            matching,
+            out,
+            lengths,
+            answers,
+            work,
+        )
     }
 }
 

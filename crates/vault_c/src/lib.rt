@@ -18,7 +18,7 @@ ghost use Rattle.layouts.specs.Calls.{wordsOf};
 ghost use Rattle.listings.specs.Listings.{matchingOf};
 ghost use Rattle.probes.specs.Probes.{probed};
 ghost use Rattle.vault_c.specs.Choosing.{opensAs, labelsAs};
-ghost use Rattle.vault.specs.Calls.{reads, lists, readsPath, finds, failsAt, partsAt, extents};
+ghost use Rattle.vault.specs.Calls.{reads, lists, readsPath, readsAll, finds, failsAt, partsAt, extents};
 use crate::choices::Choice;
 use crate::choices::chosen;
 use directories::lookups::Found;
@@ -48,12 +48,12 @@ pub const VAULT_AS_WRITTEN: u32 = AS_WRITTEN;
 pub const VAULT_UNAMBIGUOUS: u32 = UNAMBIGUOUS;
 
 // Goes up whenever a struct or a call changes.
-pub const VAULT_VERSION: u32 = 4;
+pub const VAULT_VERSION: u32 = 5;
 
 // The VAULT_VERSION of the archive, which is to be that of the header.
 #[no_mangle]
 pub extern "C" fn vault_version() -> u32
-    ensures { λ r. ⌜ r ≡ 4 ⌝ }
+    ensures { λ r. ⌜ r ≡ 5 ⌝ }
 {
     VAULT_VERSION
 }
@@ -187,4 +187,33 @@ pub extern "C" fn vault_read_path(
     ensures { λ r. ⌜ record { reply = r; out = now (out .exit); work = now (work .exit) } ≡ readsPath (now (image .entry)) (volume .0) (now (path .entry)) (matchingOf matching) (now (out .entry)) (now (work .entry)) ⌝ }
 {
     volume.read_path(image, path, matching_of(matching), out, work)
+}
+
+// Reads many files to `out`, one behind the other. `paths` has their paths with a zero byte between each two: n zeros make n + 1 paths, so that no bytes
+// are one path, and an empty path reads the root's bytes. Of each in turn `lengths` and `answers` say how many bytes it has and its answer, as vault_read_path
+// gives them for the room that is left; one that is refused has length 0, takes no room, and the rest go on. So the answer is VAULT_DONE also where every
+// path was refused, with the count of all and in `length` the bytes of all. More paths than places in either row are VAULT_TOO_MANY, and then nothing is
+// read or written.
+#[no_mangle]
+pub extern "C" fn vault_read_all(
+    volume: Volume,
+    image: &[u8],
+    paths: &[u8],
+    matching: u32,
+    out: &mut [u8],
+    lengths: &mut [u64],
+    answers: &mut [u32],
+    work: &mut [u8],
+) -> Reply
+    ensures { λ r. ⌜ record { reply = r; out = now (out .exit); lengths = now (lengths .exit); answers = now (answers .exit); work = now (work .exit) } ≡ readsAll (now (image .entry)) (volume .0) (now (paths .entry)) (matchingOf matching) (now (out .entry)) (now (lengths .entry)) (now (answers .entry)) (now (work .entry)) ⌝ }
+{
+    volume.read_all(
+        image,
+        paths,
+        matching_of(matching),
+        out,
+        lengths,
+        answers,
+        work,
+    )
 }

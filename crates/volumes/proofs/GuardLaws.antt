@@ -16,6 +16,7 @@ use Rattle.disc.specs.Places.{placed, standing, isChecked}
 use Rattle.disc.specs.declared.places.Mount.{Mount}
 use Rattle.disc.specs.declared.refusals.Refusal.{Refusal}
 use Rattle.disc.specs.declared.refusals.Refusal.the-variants.{Malformed, NotBluray, Unsupported}
+use Rattle.disc.proofs.AskLaws.{then-then}
 use Rattle.disc.proofs.MarkedLaws.{ButBad, Guards, done-guards, refuse-guards, ask-guards, then-guards}
 use Rattle.records.specs.Bytes.{u16at}
 use Rattle.tags.specs.Tags.{gated}
@@ -134,13 +135,6 @@ mounting-guards k = by (k .«has_primary») (k .«has_partition») (k .«has_log
     by true true false w = refuse-guards NotBluray (λ e. omega arith)
     by true false v w = refuse-guards NotBluray (λ e. omega arith)
     by false u v w = refuse-guards NotBluray (λ e. omega arith)
-
--- two calls behind a first, one by one
-then-then : {A B C : Type 0} (m : Ask A) (f : A → Ask B) (g : B → Ask C) → then (then m f) g ≡ then m (λ a. then (f a) g)
-unfolding then
-then-then (done a) f g = refl
-then-then (refuse r) f g = refl
-then-then (ask s k) f g = ap (ask s) (fun-ext (λ b. then-then (k b) f g))
 
 -- the choice with bodies checked, or not
 abbrev choice : Bool → Bool → How

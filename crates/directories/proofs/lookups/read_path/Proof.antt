@@ -1,10 +1,10 @@
--- `directories::lookups::read_path` meets its contract: a read behind a lookup, counts added. Assumes nothing.
+-- `directories::lookups::read_path` meets its contract: a read, and the work space cleared behind it. Assumes nothing.
 use borrow.Author.Needs.{needs}
-use Rattle.directories.proofs.LookupLaws.{path-refused, path-read}
+use Rattle.disc.proofs.MoveLaws.{zeros-of}
 use Rattle.directories.proofs.lookups.read_path.Statement.{statement}
 use Rattle.directories.proofs.lookups.read_path.Tie as tie
 
-ruleset reads = (path-refused, path-read, needs)
+ruleset reads = (zeros-of, needs)
 
 pub read-path-spec : {M : Type 1} → statement M
 read-path-spec =
@@ -12,9 +12,5 @@ read-path-spec =
     (λ c κs. search reads)
     (λ c κs. search reads)
     (λ c. search reads)
-    (λ c. (search reads, search needs))
-    (λ c κs. search reads)
-    (λ c κs. search reads)
     (λ c. search reads)
-    (λ c. search reads)
-    (λ c. (search reads, search needs)))
+    (λ c. (search reads, search reads)))

@@ -1,0 +1,303 @@
+-- One item read behind those before it. Assumes nothing.
+use mathlib.Core.Path.{_≡_, refl, ap, sym, _∙_}
+use mathlib.Core.Bool.{Bool, true, false}
+use mathlib.Core.List.{List, [], _++_, append-nil, append-assoc}
+use Prim.Native.Nat.{ℕ, suc, _+_, _-_, _<_, _≤_, _^_, min}
+use native.Mathlib.Nat.{zero-add}
+use native.Mathlib.Numerals.{add-one}
+use native.Mathlib.Omega.{arith}
+use lib.ListN.{length, take, drop, set, length-append, length-take, length-drop, length-set, drop-of-length-le, take-append-drop}
+use lib.Seq.{take-all, drop-drop, length-take-le, take-append-add, drop-append-add}
+use lib.Dec.{leb}
+use borrow.Author.Tests.{le-leb, lt-leb, leb-true, leb-false}
+use borrow.Rule.Slice.PartMut.{midOf, putMid}
+use Rattle.disc.specs.Choice.{pick}
+use Rattle.disc.specs.Refusals.{number}
+use Rattle.disc.specs.Counts.{reported}
+use Rattle.disc.specs.Ask.{Disc, Outcome}
+use Rattle.disc.specs.Ask.Outcome.{answered, refused}
+use Rattle.disc.specs.Ran.{Ran, ran}
+use Rattle.disc.specs.Replies.{replyBy, Replied}
+use Rattle.disc.specs.declared.places.Mount.{Mount}
+use Rattle.disc.specs.declared.refusals.Refusal.the-variants.{NoRoom, TooMany}
+use Rattle.disc.specs.declared.replies.Reply.{Reply}
+use Rattle.disc.proofs.RefusalLaws.{refusal-small}
+use Rattle.disc.proofs.ReplyLaws.{reply-counts}
+use Rattle.records.specs.declared.allocations.LongAd.{LongAd}
+use Rattle.listings.specs.declared.matchings.Matching.{Matching}
+use Rattle.directories.specs.Lookups.{readPathOf}
+use Rattle.cue_stacks.specs.Stacks.{item, itemsBehind, items, replyIn, roomLeft, Stack, onTop, stacked, Stacked, readAllOf}
+use Rattle.cue_stacks.specs.inner.Turns.{placeBehind, itemsAt, laidAt, leadsTo, start, allRead, On, turnsLeft, Turns}
+use Rattle.cue_stacks.specs.declared.stacks.Place.{Place}
+use Rattle.disc.proofs.MoveLaws.{sets-front}
+use Rattle.cue_stacks.proofs.StackLaws.{reply-fits, left-long, lengths-many, answers-many}
+use Rattle.cue_stacks.proofs.ItemLaws.{item-short, item-front, behind-none, behind-zero}
+
+-- ---- the place behind an item
+
+module _ (paths : List ℕ) (p : Place) (end : ℕ) (reply : Reply) {n : ℕ} (c : n ≡ reported (p .count + reply .count)) where
+  pub behind-last : length paths ≤ end → record { going = false; from = end; places = p .places + 1; filled = p .filled + reply .length; count = n } ≡ placeBehind paths p end reply
+  unfolding placeBehind
+  behind-last h = rw (le-leb _ _ h, c)
+
+  pub behind-next : end < length paths → record { going = true; from = end + 1; places = p .places + 1; filled = p .filled + reply .length; count = n } ≡ placeBehind paths p end reply
+  unfolding placeBehind
+  behind-next h = rw (lt-leb _ _ h, c)
+
+-- ---- what an item's reply says of numbers
+
+reply-small : (room n : ℕ) (o : Outcome (List ℕ)) → replyBy NoRoom room n o .answer < 2 ^ 32
+reply-small room n (refused why) = refusal-small why
+reply-small room n (answered b) = by (leb (length b) room)
+  where
+    by : (t : Bool) → pick {A = Reply} t (record { answer = 0; count = n; length = length b }) (record { answer = number NoRoom; count = n; length = 0 }) .answer < 2 ^ 32
+    by true = omega arith
+    by false = omega arith
+
+-- a row of 32 bits holds every answer number
+answer-fits : {r : Ran (List ℕ)} {before after : List ℕ} {reply : Reply} → Replied NoRoom r before after reply → reply .answer < 2 ^ 32
+answer-fits {r} {before} e = rw (e .says) (omega (arith, reply-small (length before) (reported (r .count)) (r .outcome)))
+
+-- what is read into the room that is left has room
+pub fills : (out : List ℕ) (filled : ℕ) {r : Ran (List ℕ)} {after : List ℕ} {reply : Reply} → filled ≤ length out → Replied NoRoom r (midOf filled (length out - filled) out) after reply
+    → filled + reply .length ≤ length out
+fills out filled {r} {reply = reply} h e =
+    let l : length (midOf filled (length out - filled) out) ≡ length out - filled = simp (length-take, length-drop) (omega arith) in
+    let f : reply .length ≤ length out - filled = rw (e .says, l) (reply-fits (length out - filled) (reported (r .count)) (r .outcome)) in
+    omega arith
+
+-- ---- one turn
+
+module _ {paths : List ℕ} {p : Place} {out lengths answers : ℕ} (g : p .going ≡ true) (o : On paths p out lengths answers) where
+  abbrev s : List ℕ
+  s = drop (p .from) paths
+
+  left-is : itemsAt paths p ≡ items s
+  unfolding itemsAt
+  left-is = rw g
+
+  place-length : p .places < lengths
+  place-length = omega (arith, o .lengths-fit, ap length left-is)
+
+  place-answer : p .places < answers
+  place-answer = omega (arith, o .answers-fit, ap length left-is)
+
+  -- what the stores and the next place ask for
+  pub put-fits : {r : Ran (List ℕ)} {before after : List ℕ} {reply : Reply} → Replied NoRoom r before after reply → (reply .answer < 2 ^ 32) × (p .places < lengths) × (p .places < answers)
+  put-fits e = (answer-fits e, place-length, place-answer)
+
+  pub behind-fits : (n : ℕ) → p .filled + n ≤ out → out < 2 ^ 64 → lengths < 2 ^ 64 → (p .places + 1 < 2 ^ 64) × (p .filled + n < 2 ^ 64)
+  behind-fits n h k l = (omega (arith, place-length), omega arith)
+
+  module _ {end : ℕ} (e : end ≡ p .from + length (item s)) where
+    pub end-within : end ≤ length paths
+    end-within = omega (arith, o .within, item-short s, length-drop (p .from) paths)
+
+    -- the place behind the item, by its parts
+    record Behind (reply : Reply) (q : Place) : Type 0 where
+      left : itemsAt paths q ≡ itemsBehind s
+      places : q .places ≡ p .places + 1
+      filled : q .filled ≡ p .filled + reply .length
+      count : q .count ≡ reported (p .count + reply .count)
+      within : q .from ≤ length paths
+      less : turnsLeft paths q < turnsLeft paths p
+
+    behind : (reply : Reply) → Behind reply (placeBehind paths p end reply)
+    unfolding placeBehind itemsAt
+    behind reply = by (leb (length paths) end) refl
+      where
+        by : (t : Bool) → leb (length paths) end ≡ t
+            → Behind reply (pick t
+            (record { going = false; from = end; places = p .places + 1; filled = p .filled + reply .length; count = reported (p .count + reply .count) })
+            (record { going = true; from = end + 1; places = p .places + 1; filled = p .filled + reply .length; count = reported (p .count + reply .count) }))
+        by true f =
+            let h : length paths ≤ end = leb-true (length paths) end f in
+            record {
+              left = sym (behind-none s (rw length-drop (omega arith)));
+              places = refl;
+              filled = refl;
+              count = refl;
+              within = end-within;
+              less = rw g (omega arith);
+            }
+        by false f =
+            let h : end < length paths = leb-false (length paths) end f in
+            let k : p .from + suc (length (item s)) ≡ end + 1 = omega arith in
+            record {
+              left = sym (behind-zero s (rw length-drop (omega arith)) ∙ rw (drop-drop, k));
+              places = refl;
+              filled = refl;
+              count = refl;
+              within = omega arith;
+              less = rw g (omega arith);
+            }
+
+-- equal by their parts
+same-stacked : {m m′ n n′ : ℕ} {a a′ b b′ c c′ : List ℕ} → m ≡ m′ → n ≡ n′ → a ≡ a′ → b ≡ b′ → c ≡ c′
+    → _≡_ {A = Stacked}
+    (record { reply = record { answer = 0; count = m; length = n }; out = a; lengths = b; answers = c })
+    (record { reply = record { answer = 0; count = m′; length = n′ }; out = a′; lengths = b′; answers = c′ })
+same-stacked e f g h k = rw (e, f, g, h, k)
+
+-- counts are held as they are added
+count-on : (a b c : ℕ) → reported (reported (a + reported b) + c) ≡ reported (a + (b + c))
+count-on a b c = omega arith
+
+module _ (read : List ℕ → Ran (List ℕ)) {paths : List ℕ} {p : Place} (out lengths answers : List ℕ)
+    (g : p .going ≡ true) (o : On paths p (length out) (length lengths) (length answers)) {end : ℕ} (e : end ≡ p .from + length (item (drop (p .from) paths)))
+    {ys : List ℕ} {reply : Reply} (r : Replied NoRoom (read (take (end - p .from) (drop (p .from) paths))) (midOf (p .filled) (length out - p .filled) out) ys reply) where
+  abbrev t : List ℕ
+  t = drop (p .from) paths
+
+  abbrev room : List ℕ
+  room = drop (p .filled) out
+
+  room-long : length room ≤ length out - p .filled
+  room-long = rw length-drop (omega arith)
+
+  -- the item, read into all the room that is left
+  replied : Replied NoRoom (read (item t)) room ys reply
+  replied =
+      let a : end - p .from ≡ length (item t) = omega arith in
+      let b : take (end - p .from) t ≡ item t = rw a (item-front t) in
+      rw (b, take-all (length out - p .filled) room room-long) at r
+
+  abbrev out′ : List ℕ
+  out′ = putMid (p .filled) (length out - p .filled) out ys
+
+  out-is : out′ ≡ take (p .filled) out ++ ys
+  out-is = rw (drop-of-length-le room room-long, append-nil)
+
+  front-long : length (take (p .filled) out) ≡ p .filled
+  front-long = length-take-le (p .filled) out (o .room)
+
+  taken : take (p .filled + reply .length) out′ ≡ take (p .filled) out ++ take (reply .length) ys
+  taken = rw out-is (rw front-long at (take-append-add (take (p .filled) out) ys (reply .length)))
+
+  dropped : drop (p .filled + reply .length) out′ ≡ drop (reply .length) ys
+  dropped = rw out-is (rw front-long at (drop-append-add (take (p .filled) out) ys (reply .length)))
+
+  module _ {lengths′ answers′ : List ℕ} (j : lengths′ ≡ set lengths (p .places) (reply .length)) (k : answers′ ≡ set answers (p .places) (reply .answer))
+      {q : Place} (f : q ≡ placeBehind paths p end reply) where
+    b : Behind g o e reply q
+    b = rw f (behind g o e reply)
+
+    abbrev R : Ran (List ℕ)
+    R = read (item t)
+
+    -- what the items behind it will leave
+    abbrev rest : Stack
+    rest = stacked read (roomLeft room R) (itemsBehind t)
+
+    says-length : reply .length ≡ replyIn room R .length
+    says-length = ap (λ (x : Reply). x .length) (replied .says)
+
+    says-answer : reply .answer ≡ replyIn room R .answer
+    says-answer = ap (λ (x : Reply). x .answer) (replied .says)
+
+    says-count : reply .count ≡ reported (R .count)
+    says-count = ap (λ (x : Reply). x .count) (replied .says) ∙ reply-counts NoRoom (length room) (reported (R .count)) (R .outcome)
+
+    laid-on : laidAt q out′ lengths′ answers′ rest ≡ laidAt p out lengths answers (onTop room R rest)
+    laid-on = same-stacked
+        (rw (b .count, says-count) (count-on (p .count) (R .count) (rest .count)))
+        (omega (arith, b .filled, says-length))
+        (rw (b .filled, taken, says-length, replied .leaves, append-assoc))
+        (rw (j, b .places, add-one, says-length))
+        (rw (k, b .places, add-one, says-answer))
+
+    behind-it : stacked read (drop (q .filled) out′) (itemsAt paths q) ≡ rest
+    behind-it = cc (b .filled, b .left, dropped, says-length, replied .leaves)
+
+    from-it : stacked read room (itemsAt paths p) ≡ onTop room R rest
+    unfolding stacked
+    from-it = rw (left-is g o)
+
+    leads : leadsTo read paths q out′ lengths′ answers′ ≡ leadsTo read paths p out lengths answers
+    unfolding leadsTo
+    leads = ap (laidAt q out′ lengths′ answers′) behind-it ∙ laid-on ∙ sym (ap (laidAt p out lengths answers) from-it)
+
+    pub turn : Turns read paths p out lengths answers q out′ lengths′ answers′
+    turn = record {
+      same = leads;
+      on = record {
+        within = b .within;
+        room = rw (b .filled) (fills out (p .filled) (o .room) r);
+        lengths-fit = omega (arith, b .places, ap length (b .left), o .lengths-fit, ap length (left-is g o));
+        answers-fit = omega (arith, b .places, ap length (b .left), o .answers-fit, ap length (left-is g o));
+        counted = rw (b .count) (omega arith);
+      };
+      out-long = rw (out-is, length-append, front-long, replied .leaves, left-long, length-drop) (omega (arith, o .room));
+      lengths-long = rw (j, length-set);
+      answers-long = rw (k, length-set);
+      less = b .less;
+    }
+
+-- ---- the loop over the items: what the place that it has come to leads to is what the whole comes to
+
+pub record Reading (read : List ℕ → Ran (List ℕ)) (paths out₀ lengths₀ answers₀ : List ℕ) (p : Place) (out lengths answers : List ℕ) : Type 0 where
+  pub same : leadsTo read paths p out lengths answers ≡ allRead read paths out₀ lengths₀ answers₀
+  pub on : On paths p (length out) (length lengths) (length answers)
+  pub out-long : length out ≡ length out₀
+  pub lengths-long : length lengths ≡ length lengths₀
+  pub answers-long : length answers ≡ length answers₀
+
+module _ (read : List ℕ → Ran (List ℕ)) (paths out₀ lengths₀ answers₀ : List ℕ) where
+  abbrev whole : Stack
+  whole = stacked read out₀ (items paths)
+
+  pub read-starts : (length (items paths) ≤ length lengths₀) × (length (items paths) ≤ length answers₀) → Reading read paths out₀ lengths₀ answers₀ start out₀ lengths₀ answers₀
+  unfolding leadsTo itemsAt
+  read-starts h = record {
+    same = same-stacked
+        (ap reported (zero-add (whole .count)))
+        (zero-add (whole .filled))
+        refl
+        (sets-front (whole .lengths) lengths₀ (rw (lengths-many read out₀ (items paths)) (h .0)))
+        (sets-front (whole .answers) answers₀ (rw (answers-many read out₀ (items paths)) (h .1)));
+    on = record { within = omega arith; room = omega arith; lengths-fit = omega arith; answers-fit = omega arith; counted = omega arith };
+    out-long = refl;
+    lengths-long = refl;
+    answers-long = refl;
+  }
+
+  module _ {p : Place} {out lengths answers : List ℕ} (i : Reading read paths out₀ lengths₀ answers₀ p out lengths answers) where
+    read-next : {q : Place} {out′ lengths′ answers′ : List ℕ} → Turns read paths p out lengths answers q out′ lengths′ answers′ → Reading read paths out₀ lengths₀ answers₀ q out′ lengths′ answers′
+    read-next t = record {
+      same = t .same ∙ i .same;
+      on = rw (t .out-long, t .lengths-long, t .answers-long) (t .on);
+      out-long = t .out-long ∙ i .out-long;
+      lengths-long = t .lengths-long ∙ i .lengths-long;
+      answers-long = t .answers-long ∙ i .answers-long;
+    }
+
+    pub read-ends : p .going ≡ false → record { reply = record { answer = 0; count = p .count; length = p .filled }; out = out; lengths = lengths; answers = answers } ≡ allRead read paths out₀ lengths₀ answers₀
+    unfolding leadsTo itemsAt stacked
+    read-ends g =
+        let z : leadsTo read paths p out lengths answers ≡ laidAt p out lengths answers (record { out = drop (p .filled) out; lengths = []; answers = []; count = 0; filled = 0 }) = rw g in
+        same-stacked (omega (arith, i .on .counted)) (omega arith) (sym (take-append-drop (p .filled) out)) refl refl ∙ sym z ∙ i .same
+
+-- the next turn finds a work space of the same size
+pub read-on : (d : Disc) (matching : Matching) (v : Mount) (root : LongAd) (paths out₀ lengths₀ answers₀ : List ℕ) {w w₀ : ℕ} → w ≡ w₀
+    → {p : Place} {out lengths answers : List ℕ} → Reading (λ path. ran d (readPathOf matching v w₀ root path)) paths out₀ lengths₀ answers₀ p out lengths answers
+    → {q : Place} {out′ lengths′ answers′ : List ℕ} → Turns (λ path. ran d (readPathOf matching v w root path)) paths p out lengths answers q out′ lengths′ answers′
+    → Reading (λ path. ran d (readPathOf matching v w₀ root path)) paths out₀ lengths₀ answers₀ q out′ lengths′ answers′
+read-on d matching v root paths out₀ lengths₀ answers₀ {w} {w₀} e {p} {out} {lengths} {answers} i {q} {out′} {lengths′} {answers′} t =
+    let s : Turns (λ path. ran d (readPathOf matching v w₀ root path)) paths p out lengths answers q out′ lengths′ answers′ = rw e at t in
+    read-next (λ path. ran d (readPathOf matching v w₀ root path)) paths out₀ lengths₀ answers₀ i s
+
+-- ---- the two ends of the call: m is the lesser of the rows' places, n how many items stand behind the first
+
+module _ (read : List ℕ → Ran (List ℕ)) (paths out lengths answers : List ℕ) {m n : ℕ} (e : n ≡ length (itemsBehind paths)) (f : m ≡ min (length lengths) (length answers)) where
+  pub all-refused : m ≤ n → {a : ℕ} → a ≡ number TooMany → {reply : Reply} → reply ≡ record { answer = a; count = 0; length = 0 }
+      → record { reply = reply; out = out; lengths = lengths; answers = answers } ≡ readAllOf read paths out lengths answers
+  unfolding readAllOf
+  all-refused h {a} g {reply} k =
+      let w : min (length lengths) (length answers) < length (items paths) = omega arith in
+      rw (lt-leb _ _ w, k, g)
+
+  pub all-read : n < m → {left : Stacked} → left ≡ allRead read paths out lengths answers → left ≡ readAllOf read paths out lengths answers
+  unfolding readAllOf
+  all-read h k =
+      let w : length (items paths) ≤ min (length lengths) (length answers) = omega arith in
+      k ∙ rw (le-leb _ _ w)

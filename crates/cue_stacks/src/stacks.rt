@@ -1,0 +1,181 @@
+// Files read by a list of paths, each into the room that those before it left. The work space is all zero on return.
+ghost use mathlib.Core.Path.{_≡_};
+ghost use mathlib.Core.Bool.{true};
+ghost use Prim.Native.Nat.{_+_, _<_, _≤_, _^_};
+ghost use lib.ListN.{length, set, replicate};
+ghost use Rattle.disc.specs.Ran.{ran};
+ghost use Rattle.disc.specs.Images.{disc};
+ghost use Rattle.directories.specs.Lookups.{readPathOf};
+ghost use Rattle.cue_stacks.specs.Stacks.{items, readAllOf};
+ghost use Rattle.cue_stacks.specs.inner.Turns.{placeBehind, allRead, On, Turns};
+use crate::items::item_end;
+use crate::items::items_behind;
+use directories::lookups::read_reached;
+use disc::answers::DONE;
+use disc::counts::add_counts;
+use disc::moves::clear;
+use disc::moves::least;
+use disc::places::Mount;
+use disc::refusals::Refusal;
+use disc::replies::Reply;
+use disc::replies::refusal;
+use listings::matchings::Matching;
+use records::allocations::LongAd;
+
+// A place among the items: while going, the next one starts at `from`. Those before it took `places` of the rows, `filled` bytes of the output and
+// `count` sectors.
+struct Place {
+    going: bool,
+    from: usize,
+    places: usize,
+    filled: usize,
+    count: u64,
+}
+
+// The place behind an item that ends at `end` and was answered so.
+fn place_behind(paths: &[u8], p: Place, end: usize, reply: Reply) -> Place
+    requires { ⌜ (p .places + 1 < 2 ^ 64) × (p .filled + reply .length < 2 ^ 64) ⌝ }
+    ensures { λ r. ⌜ r ≡ placeBehind (now (paths .entry)) p end reply ⌝ }
+{
+    let places = p.places + 1;
+    let filled = p.filled + reply.length as usize;
+    let count = add_counts(p.count, reply.count);
+    if paths.len() <= end {
+        return Place {
+            going: false,
+            from: end,
+            places,
+            filled,
+            count,
+        };
+    }
+    Place {
+        going: true,
+        from: end + 1,
+        places,
+        filled,
+        count,
+    }
+}
+
+// Puts what is said of an item into its places of the rows.
+fn put_reply(reply: Reply, lengths: &mut [u64], answers: &mut [u32], i: usize)
+    requires { ⌜ (reply .answer < 2 ^ 32) × (i < length (now lengths)) × (i < length (now answers)) ⌝ }
+    ensures { λ _. ⌜ now (lengths .exit) ≡ set (now (lengths .entry)) i (reply .length) ⌝ }
+    ensures { λ _. ⌜ now (answers .exit) ≡ set (now (answers .entry)) i (reply .answer) ⌝ }
+{
+    lengths[i] = reply.length;
+    answers[i] = reply.answer as u32;
+}
+
+// Reads the item at a place into the room that is left, and puts its length and its answer into its places of the rows.
+fn read_item(
+    image: &[u8],
+    mount: Mount,
+    root: LongAd,
+    paths: &[u8],
+    matching: Matching,
+    p: Place,
+    out: &mut [u8],
+    lengths: &mut [u64],
+    answers: &mut [u32],
+    work: &mut [u8],
+) -> Place
+    requires { ⌜ (p .going ≡ true) × On (now paths) p (length (now out)) (length (now lengths)) (length (now answers)) ⌝ }
+    ensures { λ q. ⌜ Turns (λ path. ran (disc (now (image .entry))) (readPathOf matching mount (length (now (work .entry))) root path)) (now (paths .entry)) p (now (out .entry)) (now (lengths .entry)) (now (answers .entry)) q (now (out .exit)) (now (lengths .exit)) (now (answers .exit)) ⌝ }
+{
+    let from = p.from;
+    let filled = p.filled;
+    let end = item_end(paths, from);
+    let reply = read_reached(
+        image,
+        mount,
+        root,
+        &paths[from..end],
+        matching,
+        &mut out[filled..],
+        work,
+    );
+    put_reply(reply, lengths, answers, p.places);
+    place_behind(paths, p, end, reply)
+}
+
+// Reads every item, each behind those before it. What is left in the work space is of no use to the caller.
+fn read_items(
+    image: &[u8],
+    mount: Mount,
+    root: LongAd,
+    paths: &[u8],
+    matching: Matching,
+    out: &mut [u8],
+    lengths: &mut [u64],
+    answers: &mut [u32],
+    work: &mut [u8],
+) -> Reply
+    requires { ⌜ (length (items (now paths)) ≤ length (now lengths)) × (length (items (now paths)) ≤ length (now answers)) ⌝ }
+    ensures { λ r. ⌜ record { reply = r; out = now (out .exit); lengths = now (lengths .exit); answers = now (answers .exit) } ≡ allRead (λ path. ran (disc (now (image .entry))) (readPathOf matching mount (length (now (work .entry))) root path)) (now (paths .entry)) (now (out .entry)) (now (lengths .entry)) (now (answers .entry)) ⌝ }
+{
+    let mut p = Place {
+        going: true,
+        from: 0,
+        places: 0,
+        filled: 0,
+        count: 0,
+    };
+    while p.going {
+        let q = read_item(
+            image,
+            mount,
+            root,
+            paths,
+            matching,
+            p,
+            out,
+            lengths,
+            answers,
+            work,
+        );
+        p = q;
+    }
+    Reply {
+        answer: DONE,
+        count: p.count,
+        length: p.filled as u64,
+    }
+}
+
+// The files that the paths name, over the front of out, one behind another; in the rows, for each path in turn, the length of its file and its
+// answer number.
+pub fn read_all(
+    image: &[u8],
+    mount: Mount,
+    root: LongAd,
+    paths: &[u8],
+    matching: Matching,
+    out: &mut [u8],
+    lengths: &mut [u64],
+    answers: &mut [u32],
+    work: &mut [u8],
+) -> Reply
+    ensures { λ r. ⌜ record { reply = r; out = now (out .exit); lengths = now (lengths .exit); answers = now (answers .exit) } ≡ readAllOf (λ path. ran (disc (now (image .entry))) (readPathOf matching mount (length (now (work .entry))) root path)) (now (paths .entry)) (now (out .entry)) (now (lengths .entry)) (now (answers .entry)) ⌝ }
+    ensures { λ _. ⌜ now (work .exit) ≡ replicate (length (now (work .entry))) 0 ⌝ }
+{
+    let behind = items_behind(paths);
+    if least(lengths.len(), answers.len()) <= behind {
+        clear(work);
+        return refusal(Refusal::TooMany.number(), 0);
+    }
+    let reply = read_items(
+        image,
+        mount,
+        root,
+        paths,
+        matching,
+        out,
+        lengths,
+        answers,
+        work,
+    );
+    clear(work);
+    reply
+}
