@@ -156,7 +156,7 @@ static void give_icb(vault_long_ad a) {
 }
 
 static vault_volume take_volume(void) {
-    vault_volume v;
+    vault_volume v = {.mount = {.maps = 0}};
     v.mount.start = (uint32_t)take_number(4);
     v.mount.partition = (uint16_t)take_number(2);
     v.mount.checked = (uint32_t)take_number(4);
@@ -389,7 +389,8 @@ FIELDS(partition, TAG(records_partition_answer, value.tag), SEQUENCE_NUMBER(reco
        V(partition, partition_number), V(partition, partition_starting_location), V(partition, partition_length))
 FIELDS(logical_volume, TAG(records_logical_volume_answer, value.tag), SEQUENCE_NUMBER(records_logical_volume_answer),
        V(logical_volume, logical_volume_identifier), V(logical_volume, logical_block_size),
-       LONG(records_logical_volume_answer, value.file_set_descriptor_location))
+       LONG(records_logical_volume_answer, value.file_set_descriptor_location), V(logical_volume, map_table_length),
+       V(logical_volume, number_of_partition_maps), V(logical_volume, partition_maps))
 FIELDS(file_set, TAG(records_file_set_answer, value.tag), LONG(records_file_set_answer, value.root_directory_icb))
 FIELDS(icb_tag, ICB_TAG(records_icb_tag_answer, value))
 FIELDS(file_entry, TAG(records_file_entry_answer, value.tag), ICB_TAG(records_file_entry_answer, value.icb_tag), V(file_entry, uid),

@@ -308,6 +308,10 @@ typedef struct {
     uint8_t logical_volume_identifier[128];
     uint32_t logical_block_size; /* In bytes. */
     records_long_ad file_set_descriptor_location;
+    uint32_t map_table_length; /* In bytes. */
+    uint32_t number_of_partition_maps;
+    /* The first 24 bytes of the map table, as recorded; zeros past the bytes that were given. */
+    uint8_t partition_maps[24];
 } records_logical_volume;
 
 typedef struct {

@@ -52,25 +52,36 @@ enum {
     VAULT_AS_WRITTEN = 1, /* A name matches byte for byte, and the first entry that matches is taken. */
     /* ASCII case is ignored, and a component that two or more entries match is refused by VAULT_AMBIGUOUS. */
     VAULT_UNAMBIGUOUS = 2,
-    VAULT_VERSION = 5, /* Goes up whenever a struct or a call changes. */
+    VAULT_VERSION = 6, /* Goes up whenever a struct or a call changes. */
 };
 
 enum {
     /* A choice for `how`: the body of each descriptor that is parsed, on opening and in every call on the volume,
      * must have the CRC that its tag says, or the call is refused by VAULT_BAD_CRC. */
     VAULT_CHECKED = 1,
+    /* A choice for `how`: the partition references of descriptors and ICBs are indices into the logical volume's
+     * partition maps, of which there may be four, all of type 1. Without it they are compared with the partition's
+     * number, and those of ICBs aren't looked at. */
+    VAULT_MAPS = 2,
     /* A choice for `how`: of several primary volume, partition or logical volume descriptors the one with the
      * highest volume descriptor sequence number counts, the later of equals. Without it the last one does. */
     VAULT_HIGHEST = 4,
 };
 
-/* How a volume is read: where its partition starts, the partition's number, and whether the bodies of its
- * descriptors are checked. */
+/* How a volume is read: where its partition starts, the partition's number, whether the bodies of its descriptors
+ * are checked, and the partition maps by which references are resolved, if there are any. */
 typedef struct {
-    uint32_t start; /* The sector in which the partition starts. */
+    uint32_t start; /* The sector in which the partition starts; of a volume with maps the file set's. */
     uint16_t partition; /* The partition's number. */
     /* Any number but 0: the body of each descriptor that is parsed must have the CRC that its tag says. */
     uint32_t checked;
+    /* How many partition maps there are: 0: references are compared with `partition`; above 4 counts as 4. */
+    uint32_t maps;
+    /* Of each map, the volume sequence number, the partition's number and the sector in which it starts; zeros where
+     * there is none. */
+    uint16_t volumes[4];
+    uint16_t numbers[4];
+    uint32_t starts[4];
 } vault_mount;
 
 /* A block of a partition. */
@@ -131,8 +142,8 @@ uint32_t vault_version(void);
 bool vault_probe(const uint8_t *image, size_t image_length);
 
 /* Opens the volume of an image. `how` is the sum of the choices, 0 for none of them; any other bit is
- * VAULT_UNSUPPORTED with a count of 0. A volume that is opened with VAULT_CHECKED says so in its mount, and every
- * call on it checks; of the others it holds no trace. */
+ * VAULT_UNSUPPORTED with a count of 0. A volume that is opened with VAULT_CHECKED or VAULT_MAPS says so in its
+ * mount, and every call on it goes by that; of VAULT_HIGHEST it holds no trace. */
 vault_opened vault_open(const uint8_t *image, size_t image_length, uint32_t how);
 
 /* Opens an image, as vault_open does, and writes its label to `out`, as UTF-8 with no zero behind it; `length` is
@@ -173,7 +184,9 @@ vault_reply vault_part(vault_volume volume, const uint8_t *image, size_t image_l
                        size_t *part_at);
 
 /* The extents of a file, in the order in which they are read, one to a slot of `row`; `length` is how many. An
- * embedded file has none. */
+ * embedded file has none. An extent's partition is the reference as it is recorded. Its first sector is its block
+ * and the partition's start, added: where the mount has no maps that is `start`; where it has, it is the reference's
+ * in `starts`, and for 65,536, none, that of the ICB's reference. */
 vault_reply vault_extents(vault_volume volume, const uint8_t *image, size_t image_length, vault_long_ad icb,
                           vault_extent *row, size_t row_slots);
 

@@ -42,7 +42,8 @@ pub struct Lends {
 ///
 /// The header's word: lent pieces are as long as said, and don't overlap.
 pub unsafe fn make(q: &Query, lends: Lends) -> Values {
-    let mount = Mount { start: q.volume.start, partition: q.volume.partition, checked: q.volume.checked };
+    let (start, partition, checked) = (q.volume.start, q.volume.partition, q.volume.checked);
+    let mount = Mount { start, partition, checked, maps: 0, volumes: [0; 4], numbers: [0; 4], starts: [0; 4] };
     let v = face::Volume { mount, root: lent(q.volume.root), label: q.volume.label };
     let Lends { image: d, image_length: n, path: p, out, work, place } = lends;
     let (icb, m, matching, mut values) = (lent(q.icb), q.path.len(), q.matching, Values::default());
@@ -52,7 +53,7 @@ pub unsafe fn make(q: &Query, lends: Lends) -> Values {
             Call::Probe => Reply { answer: vault_probe(d, n) as u64, count: 0, length: 0 },
             Call::Open => {
                 let o = vault_open(d, n, q.how);
-                let face::Volume { mount: Mount { start, partition, checked }, root, label } = o.volume;
+                let face::Volume { mount: Mount { start, partition, checked, .. }, root, label } = o.volume;
                 values.volume = Volume { start, partition, checked, root: given(root), label };
                 Reply { answer: o.answer, count: o.count, length: 0 }
             }

@@ -25,6 +25,13 @@
 //! each descriptor that is parsed, by this call and by every later one on the volume, and refuses by 10 where it is another. The bytes of a
 //! file have no CRC.
 //!
+//! # Several partitions
+//!
+//! By ECMA-167 a partition reference is an index into the logical volume's partition maps. The original compares it with the partition's number
+//! instead, and so does [`Vault::open`], which refuses by 4 a disc whose one partition has another number than 0, and one with two. With
+//! [`How::maps`](How) references go through the maps, [`Vault::maps`] has them, and [`Vault::extent_sector`] says where an extent's bytes are.
+//! [`map_table`] shows the maps of any disc, also those of a form that isn't read.
+//!
 //! # The image stands still
 //!
 //! A `&[u8]` says that nobody writes to its bytes while it is borrowed. Memory of one's own is such a slice by itself. A map of a file is one
@@ -48,10 +55,12 @@ compile_error!("the archive is x86-64 code for Linux");
 mod answer;
 mod calls;
 mod how;
+mod maps;
 mod matching;
 mod records;
 mod room;
 mod sequence;
+mod table;
 mod vault;
 
 #[cfg(test)]
@@ -62,9 +71,11 @@ mod replays;
 
 pub use answer::{Answer, Refusal, Refused, Result};
 pub use how::How;
+pub use maps::PartitionMap;
 pub use matching::Matching;
 pub use records::{AllocExtent, DirEntry, LbAddr, LongAd};
 pub use sequence::{Kind, VolumeDescriptor, volume_descriptors};
+pub use table::{MapForm, MapTable, map_table};
 pub use vault::{SECTOR_SIZE, Vault, probe_vrs, read_volume_label, read_volume_label_as};
 
 /// The code in README.md is compiled with the tests.

@@ -1,6 +1,6 @@
 //! The raw calls on stored images, with memory of exactly the size that each query lends: refusals 5, 6 and 7 are among the answers. What
 //! is expected are the original's answers, stored with the programs `replay` and `file_cases`, whose sources say the form of the files; and
-//! what a model says of the choices of matching, stored with `matching_cases`.
+//! what models say of the choices of matching and of checked bodies, stored with `matching_cases` and `checked_cases`.
 //!
 //! What a call leaves in memory that it doesn't answer with is seen by those programs and by `compare`, and not here.
 
@@ -8,9 +8,9 @@ use crate::answer::{Answer, Result};
 use crate::calls;
 use crate::input::Input;
 use crate::matching::Matching;
-use crate::records::LongAd;
+use crate::records::{LbAddr, LongAd};
 use strandlodge_sys::sparse::expand;
-use strandlodge_sys::vault::{Extent, Mount, Volume};
+use strandlodge_sys::vault::{CHECKED, Extent, Mount, Volume};
 
 impl Input<'_> {
     fn long_ad(&mut self) -> LongAd {
@@ -18,7 +18,8 @@ impl Input<'_> {
     }
 
     fn mount(&mut self) -> Mount {
-        Mount { start: self.number(4) as u32, partition: self.number(2) as u16, checked: 0 }
+        let (start, partition) = (self.number(4) as u32, self.number(2) as u16);
+        Mount { start, partition, checked: 0, maps: 0, volumes: [0; 4], numbers: [0; 4], starts: [0; 4] }
     }
 
     fn image(&mut self) -> Vec<u8> {
@@ -237,4 +238,98 @@ fn the_choices_of_the_gate() {
         }
     }
     assert_eq!((expected.next(), asked), (None, 804));
+}
+
+/// The call, its number and its count.
+fn head<T>(call: &str, answer: &Result<T>) -> String {
+    match answer {
+        Ok(a) => format!("{call} 0 count {}", a.sectors),
+        Err(r) => format!("{call} {} count {}", r.number(), r.sectors),
+    }
+}
+
+/// The two lines of `checked_cases` on opening by a choice.
+fn opening_case(image: &[u8], how: u32) -> [String; 2] {
+    let opened = calls::open(image, how);
+    let none = Volume { mount: Mount { start: 0, partition: 0, checked: 0 }, root: LongAd::recorded(&[0; 16]).to_c(), label: [0; 32] };
+    let Volume { mount, root, .. } = opened.as_ref().map_or(none, |a| a.value);
+    let says = format!(" start {} partition {} checked {}", mount.start, mount.partition, mount.checked);
+    let mut out = room(32);
+    let label = calls::label(image, how, &mut out);
+    [
+        head("open", &opened) + &says + " root " + &shown(&recorded(LongAd::of_c(root))),
+        head("label", &label) + &format!(" length {}", out.len()),
+    ]
+}
+
+/// The lines of a query, without whether the work space came back all zero.
+fn checked_case(v: Volume, image: &[u8], path: &[u8], icb: LongAd, lent: usize, space: usize) -> [String; 7] {
+    let (mut out, mut work, mut row) = (room(lent), room(space), room(8));
+    let matching = Matching::CaseIgnored;
+    let lookup = calls::lookup(v, image, path, matching, &mut work);
+    let icb_text = shown(&lookup.as_ref().map_or([0; 16].to_vec(), |a| recorded(a.value)));
+    // The component stands in an answer here, where the list has the lookup's 3.
+    let failed = match calls::failed(v, image, path, matching, &mut work) {
+        Ok(Answer { value: Some(lost), sectors }) => format!("failed 3 count {sectors} component {}", shown(lost)),
+        other => head("failed", &other) + " component ",
+    };
+    let written = |out: &[u8]| format!(" length {} sum {}", out.len(), sum_lent(out, lent));
+    let read_path = head("read_path", &calls::read_path(v, image, path, matching, &mut out, &mut work)) + &written(&out);
+    let list = head("list", &calls::list(v, image, icb, &mut out, &mut work)) + &written(&out);
+    let read = head("read", &calls::read(v, image, icb, &mut out)) + &written(&out);
+    let part = calls::part(v, image, icb);
+    let bytes = part.as_ref().map_or(&image[..0], |a| a.value);
+    let at = if bytes.is_empty() { 0 } else { bytes.as_ptr().addr() - image.as_ptr().addr() };
+    let part = head("part", &part) + &format!(" length {} at {at}", bytes.len());
+    let extents = head("extents", &calls::extents(v, image, icb, &mut row)) + &format!(" length {}", row.len());
+    let slots: String = row.iter().map(|s: &Extent| format!(" ({} {} {} {})", s.length, s.extent_type, s.block, s.partition)).collect();
+    [head("lookup", &lookup) + " icb " + &icb_text, failed, read_path, list, read, part, extents + &slots]
+}
+
+/// The good disc with some bytes put over it.
+fn patched(good: &[u8], mut patches: Input) -> Vec<u8> {
+    let mut image = good.to_vec();
+    while !patches.0.is_empty() {
+        let at = patches.number(4);
+        let bytes = patches.sized(2);
+        image[at..at + bytes.len()].copy_from_slice(bytes);
+    }
+    image
+}
+
+#[test]
+fn the_checks_of_the_gate() {
+    let mut all = Input(include_bytes!("../../crates/checked_cases/data/images"));
+    let mut expected = include_str!("../../crates/checked_cases/stdout").lines();
+    let (good, queries) = (all.image(), all.sized(4));
+    let (mut asked, mut refused) = (0, 0);
+    while !all.0.is_empty() {
+        assert_eq!(expected.next().unwrap().as_bytes(), [b"case ", all.sized(2)].concat());
+        let bits = all.number(2);
+        let image = patched(&good, Input(all.sized(2)));
+        for line in [0, CHECKED].into_iter().flat_map(|how| opening_case(&image, how)) {
+            assert_eq!(Some(line.as_str()), expected.next());
+        }
+        let (opened, mut queries, mut bits) = (calls::open(&image, 0), Input(queries), bits);
+        while !queries.0.is_empty() {
+            let (checked, lent, space, block) = (queries.number(4) as u32, queries.number(4), queries.number(4), queries.number(4) as u32);
+            let (path, is_asked) = (queries.sized(2), bits % 2 == 1);
+            bits /= 2;
+            if !is_asked {
+                continue;
+            }
+            let v = opened.as_ref().unwrap().value;
+            let v = Volume { mount: Mount { checked, ..v.mount }, ..v };
+            let location = LbAddr { block, partition_ref: 0 };
+            let icb = LongAd { length: 2048, extent_type: 0, location, implementation_use: [0; 6] };
+            let what = expected.next().unwrap();
+            for given in checked_case(v, &image, path, icb, lent, space) {
+                let line = expected.next().unwrap();
+                assert_eq!(given, line.strip_suffix(" zero").unwrap_or(line), "{what}");
+                refused += u32::from(given.split(' ').nth(1) == Some("10"));
+            }
+            asked += 1;
+        }
+    }
+    assert_eq!((expected.next(), asked, refused), (None, 553, 733));
 }

@@ -4,9 +4,10 @@
 use crate::answer::{Refusal, Refused};
 use crate::calls;
 use crate::how::How;
+use std::collections::HashMap;
 use std::fmt;
 
-const SECTOR: usize = 2048;
+pub(crate) const SECTOR: usize = 2048;
 
 /// The sector of the anchor, where the place and the length of the sequence stand.
 const ANCHOR: usize = 256;
@@ -15,7 +16,7 @@ const ANCHOR: usize = 256;
 const TERMINATING: u16 = 8;
 
 /// The kinds of descriptors of which one prevails.
-#[derive(Debug, Clone, Copy, PartialEq, Eq)]
+#[derive(Debug, Clone, Copy, PartialEq, Eq, Hash)]
 pub enum Kind {
     /// It has the label.
     PrimaryVolume,
@@ -64,33 +65,47 @@ pub fn volume_descriptors(image: &[u8], how: How) -> Vec<VolumeDescriptor> {
             1 => Kind::PrimaryVolume,
             5 => Kind::Partition,
             6 => Kind::LogicalVolume,
-            TERMINATING => return marked(found, how),
+            TERMINATING => return marked(image, found, how),
             _ => continue,
         };
         found.push(VolumeDescriptor { sector: sector as u64, kind, number: number(image, sector, 16), prevails: false });
     }
-    if accepted < whole { found } else { marked(found, how) }
+    if accepted < whole { found } else { marked(image, found, how) }
 }
 
 /// How many sectors of the sequence opening has accepted, at most. A refusal by 1, 2 or 10 is that of the last sector that was asked for: the
 /// anchor, which is the first, a sector of the sequence, or the file set descriptor's, which is behind them all.
 fn accepted(image: &[u8], how: How) -> usize {
-    match calls::open(image, how.number()) {
+    // The sectors are the same without the maps, whose table has a refusal by 2 of its own.
+    match calls::open(image, How { maps: false, ..how }.number()) {
         Err(Refused { why: Refusal::Io | Refusal::Malformed | Refusal::BadCrc, sectors }) => (sectors as usize).saturating_sub(2),
         _ => usize::MAX,
     }
 }
 
-/// The same, with those marked that prevail: of each kind the last, or the last of those with the highest number.
-fn marked(mut found: Vec<VolumeDescriptor>, how: How) -> Vec<VolumeDescriptor> {
-    for kind in [Kind::PrimaryVolume, Kind::Partition, Kind::LogicalVolume] {
-        let alike = found.iter_mut().filter(|descriptor| descriptor.kind == kind);
-        let one = if how.highest { alike.max_by_key(|descriptor| descriptor.number) } else { alike.last() };
-        if let Some(one) = one {
-            one.prevails = true;
+/// The same, with those marked that prevail: of each kind the last, or the last of those with the highest number. Through maps the partition
+/// descriptors of each partition number are a kind by themselves.
+fn marked(image: &[u8], mut found: Vec<VolumeDescriptor>, how: How) -> Vec<VolumeDescriptor> {
+    let mut prevail = HashMap::new();
+    for (i, one) in found.iter().enumerate() {
+        let kind = (one.kind, (how.maps && one.kind == Kind::Partition).then(|| partition(image, one)));
+        let earlier = prevail.get(&kind).map(|at: &usize| found[*at].number);
+        if !(how.highest && earlier.is_some_and(|number| number > one.number)) {
+            prevail.insert(kind, i);
         }
     }
+    prevail.into_values().for_each(|at| found[at].prevails = true);
     found
+}
+
+/// The number of the partition that a partition descriptor is of.
+pub(crate) fn partition(image: &[u8], one: &VolumeDescriptor) -> u16 {
+    (number(image, one.sector as usize, 20) >> 16) as u16
+}
+
+/// The sector in which it says that its partition starts.
+pub(crate) fn partition_start(image: &[u8], one: &VolumeDescriptor) -> u32 {
+    number(image, one.sector as usize, 188)
 }
 
 fn holds(image: &[u8], sector: usize) -> bool {
@@ -98,6 +113,6 @@ fn holds(image: &[u8], sector: usize) -> bool {
 }
 
 /// The number at a place of a sector, whose low half is an id.
-fn number(image: &[u8], sector: usize, at: usize) -> u32 {
+pub(crate) fn number(image: &[u8], sector: usize, at: usize) -> u32 {
     calls::peek(image, sector * SECTOR + at).map_or(0, u32::from_le_bytes)
 }

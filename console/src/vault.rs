@@ -3,8 +3,9 @@
 use crate::answer::{Answer, Refusal, Refused, Result};
 use crate::calls;
 use crate::how::How;
+use crate::maps::{PartitionMap, maps, place_of, started};
 use crate::matching::Matching;
-use crate::records::{AllocExtent, DirEntry, LongAd, entries, text};
+use crate::records::{AllocExtent, DirEntry, LbAddr, LongAd, entries, text};
 use crate::room::{FIRST, MOST_DIRECTORY, Room, most_file, retry};
 use std::fmt;
 use strandlodge_sys::vault::{Extent, Volume};
@@ -70,8 +71,8 @@ impl<'a> Vault<'a> {
         Vault::open_as(image, How::default())
     }
 
-    /// The same, as it is chosen: which of several descriptors of one kind counts, and whether the bodies of descriptors are checked, here and
-    /// in every call on what is opened.
+    /// The same, as it is chosen: which of several descriptors of one kind counts, whether the bodies of descriptors are checked, here and in
+    /// every call on what is opened, and whether partition references go through the volume's maps.
     pub fn open_as(image: &'a [u8], how: How) -> Result<Vault<'a>> {
         Ok(calls::open(image, how.number())?.map(|volume| Vault { image, volume, how }))
     }
@@ -81,7 +82,7 @@ impl<'a> Vault<'a> {
         self.how
     }
 
-    /// The sector in which the partition starts.
+    /// The sector in which the partition starts; of a volume that was opened through its maps, the file set's.
     pub fn partition_start_sector(&self) -> u64 {
         self.volume.mount.start.into()
     }
@@ -89,6 +90,34 @@ impl<'a> Vault<'a> {
     /// The partition's number.
     pub fn partition_number(&self) -> u16 {
         self.volume.mount.partition
+    }
+
+    /// The partition maps through which references are resolved, in their order: one that was opened without [`How::maps`](How) has none. A
+    /// reference is an index into them.
+    pub fn maps(&self) -> Vec<PartitionMap> {
+        maps(self.volume.mount)
+    }
+
+    /// The sector of a block, by the reference that a descriptor on the disc gives with it: through the maps, or without them where the
+    /// reference is the partition's number. None where it is of no partition of this volume, which calls refuse by 4.
+    pub fn sector_of(&self, place: LbAddr) -> Option<u64> {
+        place_of(self.volume.mount, place)
+    }
+
+    /// The sector in which the entry stands that an ICB names. Without maps an ICB's reference isn't looked at.
+    pub fn icb_sector(&self, icb: impl Into<LongAd>) -> Option<u64> {
+        let (icb, mount) = (icb.into(), self.volume.mount);
+        Some(started(mount, icb)? + u64::from(icb.location.block))
+    }
+
+    /// The first sector of an extent that [`Vault::extents`] gives of the file that an ICB names: one that names no partition stands in that of
+    /// the file's entry. The extent's bytes are the first of that sector and of those behind it. None where a read that comes to this extent is
+    /// refused by 4; what an extent's type says isn't looked at.
+    pub fn extent_sector(&self, icb: impl Into<LongAd>, extent: &AllocExtent) -> Option<u64> {
+        match extent.partition_ref {
+            Some(partition_ref) => self.sector_of(LbAddr { block: extent.block, partition_ref }),
+            None => Some(started(self.volume.mount, icb.into())? + u64::from(extent.block)),
+        }
     }
 
     /// The root directory.

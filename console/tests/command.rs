@@ -81,15 +81,16 @@ fn the_descriptors_of_a_volume() {
     folder.write("old.img", &reclosed());
     let found = "found    sector 32, primary volume, number 1, prevails\nfound    sector 33, partition, number 2, prevails\n\
                  found    sector 34, logical volume, number 3, prevails\n";
+    let none = "maps     none\n";
     let volume = "label    SHOW 1\nstart    sector 288, partition 5\nroot     block 3, partition 5, 2048 bytes, type 0\n";
-    answers(&folder.vault(&["stat", "show.img"]), &format!("{found}{volume}sectors  open 6, label 6\n"));
-    answers(&folder.vault(&["stat", "--highest", "show.img"]), &format!("{found}{volume}sectors  open 6, label 6\n"));
+    answers(&folder.vault(&["stat", "show.img"]), &format!("{found}{none}{volume}sectors  open 6, label 6\n"));
+    answers(&folder.vault(&["stat", "--highest", "show.img"]), &format!("{found}{none}{volume}sectors  open 6, label 6\n"));
     let older = "found    sector 35, partition, number 1\n";
-    answers(&folder.vault(&["stat", "old.img", "--highest"]), &format!("{found}{older}{volume}sectors  open 7, label 7\n"));
+    answers(&folder.vault(&["stat", "old.img", "--highest"]), &format!("{found}{older}{none}{volume}sectors  open 7, label 7\n"));
     // Refused, and the descriptors say why: the older one prevailed.
     let said = folder.vault(&["stat", "old.img"]);
     let (newer, older) = ("found    sector 33, partition, number 2\n", "found    sector 35, partition, number 1, prevails\n");
-    assert!(said.out.contains(newer) && said.out.ends_with(older), "{said:?}");
+    assert!(said.out.contains(newer) && said.out.ends_with(&format!("{older}{none}")), "{said:?}");
     assert_eq!((said.status, said.error.lines().count()), (2, 1));
 }
 

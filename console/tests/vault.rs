@@ -107,7 +107,7 @@ fn the_highest_number_prevails_where_it_is_chosen() {
     assert_eq!(format!("{:?}", Vault::open_as(&show, how)), format!("{:?}", Vault::open(&show)));
 }
 
-const CHECKED: How = How { highest: false, checked: true };
+const CHECKED: How = How { highest: false, checked: true, maps: false };
 
 #[test]
 fn a_checked_vault_answers_as_an_unchecked_one() {

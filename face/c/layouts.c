@@ -32,14 +32,19 @@ HOLDS(VAULT_TOO_MANY == 12);
 HOLDS(VAULT_CASE_IGNORED == 0);
 HOLDS(VAULT_AS_WRITTEN == 1);
 HOLDS(VAULT_UNAMBIGUOUS == 2);
-HOLDS(VAULT_VERSION == 5);
+HOLDS(VAULT_VERSION == 6);
 HOLDS(VAULT_CHECKED == 1);
+HOLDS(VAULT_MAPS == 2);
 HOLDS(VAULT_HIGHEST == 4);
 
-HOLDS(sizeof(vault_mount) == 12 && ALIGN(vault_mount) == 4);
+HOLDS(sizeof(vault_mount) == 48 && ALIGN(vault_mount) == 4);
 FIELD(vault_mount, start, 0, 4, uint32_t *);
 FIELD(vault_mount, partition, 4, 2, uint16_t *);
 FIELD(vault_mount, checked, 8, 4, uint32_t *);
+FIELD(vault_mount, maps, 12, 4, uint32_t *);
+FIELD(vault_mount, volumes, 16, 8, uint16_t (*)[4]);
+FIELD(vault_mount, numbers, 24, 8, uint16_t (*)[4]);
+FIELD(vault_mount, starts, 32, 16, uint32_t (*)[4]);
 
 HOLDS(sizeof(vault_lb_addr) == 8 && ALIGN(vault_lb_addr) == 4);
 FIELD(vault_lb_addr, block, 0, 4, uint32_t *);
@@ -51,15 +56,15 @@ FIELD(vault_long_ad, extent_type, 4, 1, uint8_t *);
 FIELD(vault_long_ad, location, 8, 8, vault_lb_addr *);
 FIELD(vault_long_ad, implementation_use, 16, 6, uint8_t (*)[6]);
 
-HOLDS(sizeof(vault_volume) == 68 && ALIGN(vault_volume) == 4);
-FIELD(vault_volume, mount, 0, 12, vault_mount *);
-FIELD(vault_volume, root, 12, 24, vault_long_ad *);
-FIELD(vault_volume, label, 36, 32, uint8_t (*)[32]);
+HOLDS(sizeof(vault_volume) == 104 && ALIGN(vault_volume) == 4);
+FIELD(vault_volume, mount, 0, 48, vault_mount *);
+FIELD(vault_volume, root, 48, 24, vault_long_ad *);
+FIELD(vault_volume, label, 72, 32, uint8_t (*)[32]);
 
-HOLDS(sizeof(vault_opened) == 88 && ALIGN(vault_opened) == 8);
+HOLDS(sizeof(vault_opened) == 120 && ALIGN(vault_opened) == 8);
 FIELD(vault_opened, answer, 0, 8, uint64_t *);
 FIELD(vault_opened, count, 8, 8, uint64_t *);
-FIELD(vault_opened, volume, 16, 68, vault_volume *);
+FIELD(vault_opened, volume, 16, 104, vault_volume *);
 
 HOLDS(sizeof(vault_reply) == 24 && ALIGN(vault_reply) == 8);
 FIELD(vault_reply, answer, 0, 8, uint64_t *);
@@ -244,12 +249,15 @@ FIELD(records_partition, partition_number, 22, 2, uint16_t *);
 FIELD(records_partition, partition_starting_location, 24, 4, uint32_t *);
 FIELD(records_partition, partition_length, 28, 4, uint32_t *);
 
-HOLDS(sizeof(records_logical_volume) == 176 && ALIGN(records_logical_volume) == 4);
+HOLDS(sizeof(records_logical_volume) == 208 && ALIGN(records_logical_volume) == 4);
 FIELD(records_logical_volume, tag, 0, 16, records_tag *);
 FIELD(records_logical_volume, volume_descriptor_sequence_number, 16, 4, uint32_t *);
 FIELD(records_logical_volume, logical_volume_identifier, 20, 128, uint8_t (*)[128]);
 FIELD(records_logical_volume, logical_block_size, 148, 4, uint32_t *);
 FIELD(records_logical_volume, file_set_descriptor_location, 152, 24, records_long_ad *);
+FIELD(records_logical_volume, map_table_length, 176, 4, uint32_t *);
+FIELD(records_logical_volume, number_of_partition_maps, 180, 4, uint32_t *);
+FIELD(records_logical_volume, partition_maps, 184, 24, uint8_t (*)[24]);
 
 HOLDS(sizeof(records_file_set) == 40 && ALIGN(records_file_set) == 4);
 FIELD(records_file_set, tag, 0, 16, records_tag *);
@@ -267,9 +275,9 @@ HOLDS(sizeof(records_partition_answer) == 40 && ALIGN(records_partition_answer) 
 FIELD(records_partition_answer, answer, 0, 8, uint64_t *);
 FIELD(records_partition_answer, value, 8, 32, records_partition *);
 
-HOLDS(sizeof(records_logical_volume_answer) == 184 && ALIGN(records_logical_volume_answer) == 8);
+HOLDS(sizeof(records_logical_volume_answer) == 216 && ALIGN(records_logical_volume_answer) == 8);
 FIELD(records_logical_volume_answer, answer, 0, 8, uint64_t *);
-FIELD(records_logical_volume_answer, value, 8, 176, records_logical_volume *);
+FIELD(records_logical_volume_answer, value, 8, 208, records_logical_volume *);
 
 HOLDS(sizeof(records_file_set_answer) == 48 && ALIGN(records_file_set_answer) == 8);
 FIELD(records_file_set_answer, answer, 0, 8, uint64_t *);

@@ -165,13 +165,18 @@ structs! {
     }
 
     /// The identifier is the label's field as recorded.
-    records_logical_volume as LogicalVolume, 176 aligned to 4 {
+    records_logical_volume as LogicalVolume, 208 aligned to 4 {
         0 tag: Tag,
         16 volume_descriptor_sequence_number: u32,
         20 logical_volume_identifier: [u8; 128],
         /// In bytes.
         148 logical_block_size: u32,
         152 file_set_descriptor_location: LongAd,
+        /// In bytes.
+        176 map_table_length: u32,
+        180 number_of_partition_maps: u32,
+        /// The first 24 bytes of the map table, as recorded; zeros past the bytes that were given.
+        184 partition_maps: [u8; 24],
     }
 
     records_file_set as FileSet, 40 aligned to 4 {
@@ -204,7 +209,7 @@ layouts! {
     records_anchor_answer as Answer<Anchor>, 40 aligned to 8 { 0 answer, 8 value, }
     records_primary_volume_answer as Answer<PrimaryVolume>, 64 aligned to 8 { 0 answer, 8 value, }
     records_partition_answer as Answer<Partition>, 40 aligned to 8 { 0 answer, 8 value, }
-    records_logical_volume_answer as Answer<LogicalVolume>, 184 aligned to 8 { 0 answer, 8 value, }
+    records_logical_volume_answer as Answer<LogicalVolume>, 216 aligned to 8 { 0 answer, 8 value, }
     records_file_set_answer as Answer<FileSet>, 48 aligned to 8 { 0 answer, 8 value, }
 }
 

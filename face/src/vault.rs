@@ -18,6 +18,7 @@
 //! 0.
 //!
 //! Made by tools/faces.py from the comments and declarations of crates/vault_c.
+#![allow(missing_docs)]
 
 /// Done.
 pub const DONE: u64 = 0;
@@ -49,25 +50,36 @@ pub const AS_WRITTEN: u32 = 1;
 /// ASCII case is ignored, and a component that two or more entries match is refused by VAULT_AMBIGUOUS.
 pub const UNAMBIGUOUS: u32 = 2;
 /// Goes up whenever a struct or a call changes.
-pub const VERSION: u32 = 5;
+pub const VERSION: u32 = 6;
 
 /// A choice for `how`: the body of each descriptor that is parsed, on opening and in every call on the volume, must
 /// have the CRC that its tag says, or the call is refused by VAULT_BAD_CRC.
 pub const CHECKED: u32 = 1;
+/// A choice for `how`: the partition references of descriptors and ICBs are indices into the logical volume's partition
+/// maps, of which there may be four, all of type 1. Without it they are compared with the partition's number, and those
+/// of ICBs aren't looked at.
+pub const MAPS: u32 = 2;
 /// A choice for `how`: of several primary volume, partition or logical volume descriptors the one with the highest
 /// volume descriptor sequence number counts, the later of equals. Without it the last one does.
 pub const HIGHEST: u32 = 4;
 
 structs! {
-    /// How a volume is read: where its partition starts, the partition's number, and whether the bodies of its
-    /// descriptors are checked.
-    vault_mount as Mount, 12 aligned to 4 {
-        /// The sector in which the partition starts.
+    /// How a volume is read: where its partition starts, the partition's number, whether the bodies of its descriptors
+    /// are checked, and the partition maps by which references are resolved, if there are any.
+    vault_mount as Mount, 48 aligned to 4 {
+        /// The sector in which the partition starts; of a volume with maps the file set's.
         0 start: u32,
         /// The partition's number.
         4 partition: u16,
         /// Any number but 0: the body of each descriptor that is parsed must have the CRC that its tag says.
         8 checked: u32,
+        /// How many partition maps there are: 0: references are compared with `partition`; above 4 counts as 4.
+        12 maps: u32,
+        /// Of each map, the volume sequence number, the partition's number and the sector in which it starts; zeros
+        /// where there is none.
+        16 volumes: [u16; 4],
+        24 numbers: [u16; 4],
+        32 starts: [u32; 4],
     }
 
     /// A block of a partition.
@@ -91,17 +103,17 @@ structs! {
     }
 
     /// An opened volume. It holds no pointer: copy it, keep it, or make one by hand.
-    vault_volume as Volume, 68 aligned to 4 {
+    vault_volume as Volume, 104 aligned to 4 {
         /// How it is read.
         0 mount: Mount,
         /// The root directory.
-        12 root: LongAd,
+        48 root: LongAd,
         /// The label's field as recorded.
-        36 label: [u8; 32],
+        72 label: [u8; 32],
     }
 
     /// The answer number, the count of sectors, and the volume.
-    vault_opened as Opened, 88 aligned to 8 {
+    vault_opened as Opened, 120 aligned to 8 {
         /// A number of the table.
         0 answer: u64,
         /// The sectors asked for.
@@ -151,8 +163,8 @@ unsafe extern "C" {
     pub fn vault_probe(image: *const u8, image_length: usize) -> bool;
 
     /// Opens the volume of an image. `how` is the sum of the choices, 0 for none of them; any other bit is
-    /// VAULT_UNSUPPORTED with a count of 0. A volume that is opened with VAULT_CHECKED says so in its mount, and every
-    /// call on it checks; of the others it holds no trace.
+    /// VAULT_UNSUPPORTED with a count of 0. A volume that is opened with VAULT_CHECKED or VAULT_MAPS says so in its
+    /// mount, and every call on it goes by that; of VAULT_HIGHEST it holds no trace.
     pub fn vault_open(image: *const u8, image_length: usize, how: u32) -> Opened;
 
     /// Opens an image, as vault_open does, and writes its label to `out`, as UTF-8 with no zero behind it; `length` is
@@ -214,7 +226,9 @@ unsafe extern "C" {
     pub fn vault_part(volume: Volume, image: *const u8, image_length: usize, icb: LongAd, part_at: *mut usize) -> Reply;
 
     /// The extents of a file, in the order in which they are read, one to a slot of `row`; `length` is how many. An
-    /// embedded file has none.
+    /// embedded file has none. An extent's partition is the reference as it is recorded. Its first sector is its block
+    /// and the partition's start, added: where the mount has no maps that is `start`; where it has, it is the
+    /// reference's in `starts`, and for 65,536, none, that of the ICB's reference.
     pub fn vault_extents(volume: Volume, image: *const u8, image_length: usize, icb: LongAd, row: *mut Extent, row_slots: usize) -> Reply;
 
     /// Looks a path up and reads what it names to `out`; the count is that of both.

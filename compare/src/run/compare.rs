@@ -77,7 +77,7 @@ impl Comparison {
                 return;
             }
         }
-        self.sealed_shapes();
+        self.sealed_shapes(seconds);
         let mut number = 0u64;
         while self.tally.seconds() < seconds && !self.is_over() {
             number += 1;
@@ -114,12 +114,17 @@ impl Comparison {
         }
     }
 
-    /// The shapes of wrong bodies; and every other shape with right CRCs, and with one of its descriptors ruined.
-    fn sealed_shapes(&mut self) {
+    /// The shapes of wrong bodies; and every other shape with right CRCs, and with one of its descriptors ruined, as long as a quarter of the time
+    /// is left for volumes at random.
+    fn sealed_shapes(&mut self, seconds: u64) {
         for (name, disc) in shapes_bodies::shapes() {
             self.checked(&name, &disc, Depth::All);
         }
-        for (name, disc) in shapes().into_iter().chain(shapes_prevailing::shapes()).chain(shapes_matching::shapes()) {
+        let others = shapes().into_iter().chain(shapes_prevailing::shapes()).chain(shapes_matching::shapes());
+        for (name, disc) in others {
+            if self.tally.seconds() * 4 > seconds * 3 {
+                return;
+            }
             let (mut disc, mut random) = (disc, Random::new(self.bodies.next()));
             disc.seal_oddly(&mut random);
             self.checked(&format!("{name}, sealed"), &disc, Depth::Some);

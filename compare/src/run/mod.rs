@@ -101,7 +101,7 @@ pub fn main() {
     if let Some(folder) = o.stored {
         return match stored::held(Path::new(&folder)).expect("the files are there, and whole") {
             Ok(queries) => {
-                println!("compare: {queries} queries stored in {folder}, each answered as by the walk over the original's listings")
+                println!("compare: {queries} queries stored in {folder}, each answered as by what the original reads")
             }
             Err(what) => {
                 eprintln!("compare: {folder}: {what}");

@@ -145,7 +145,7 @@ fn sizes(random: &mut Random, q: &Query, e: &Expected, depth: Depth) -> Vec<(usi
 /// Opening and the label by the highest numbers, and once in a while by a number with a bit that is of no choice.
 pub fn chosen(random: &mut Random, disc: &Disc) -> Vec<Case> {
     let mut all = Vec::new();
-    let odd = *random.pick(&[2, 3, 6, 8, HIGHEST | 1 << 31, u32::MAX]);
+    let odd = *random.pick(&[8, 10, 12, HIGHEST | 1 << 31, u32::MAX]);
     let hows = [Some(HIGHEST), random.once_in(4).then_some(odd)];
     for (how, call) in hows.into_iter().flatten().flat_map(|how| [(how, Call::Open), (how, Call::Label)]) {
         let q = Query { how, ..Query::of(call, Volume::default()) };

@@ -1,13 +1,15 @@
-//! The stored output of the program `matching_cases`, which a model in another language computes, held to the walk over the original's
-//! listings. The source of the program says what stands in its files.
+//! The stored outputs of the programs `matching_cases` and `checked_cases`, which models in another language compute, held to the walk over the
+//! original's listings, and to the original with the body check behind its parser of tags. The source of each program says what stands in its
+//! files.
 
-use super::calls::{Call, Query, Values, Volume};
+use super::calls::{Call, Icb, Query, Values, Volume};
 use super::expect::expected;
 use super::original;
 use super::{sparse, wire};
 use std::fs;
 use std::io::Result;
 use std::path::Path;
+use strandlodge_sys::vault::CHECKED;
 
 /// Printable bytes as they are, and every other as \ and two digits.
 fn shown(bytes: &[u8]) -> String {
@@ -49,10 +51,9 @@ fn query(from: &mut &[u8]) -> Result<Query> {
     Ok(Query { path: sized(from, 2)?, ..Query::of(Call::Lookup, Volume::default()).matched(matching).with(room, work) })
 }
 
-/// Holds the output stored in a program's folder. Says how many queries it has, or what its first wrong line is.
-pub fn held(folder: &Path) -> Result<std::result::Result<usize, String>> {
-    let (images, stored) = (fs::read(folder.join("data/images"))?, fs::read_to_string(folder.join("stdout"))?);
-    let (mut from, mut wanted, mut queries) = (&images[..], Vec::new(), 0);
+/// The lines of `matching_cases`, and how many queries they are of.
+fn of_matching(mut from: &[u8]) -> Result<(Vec<String>, usize)> {
+    let (mut wanted, mut queries) = (Vec::new(), 0);
     while !from.is_empty() {
         wanted.push(format!("image {}", String::from_utf8_lossy(&sized(&mut from, 2)?)));
         let image = sparse::expand(&sized(&mut from, 4)?).expect("a packed image");
@@ -66,6 +67,93 @@ pub fn held(folder: &Path) -> Result<std::result::Result<usize, String>> {
             queries += 1;
         }
     }
+    Ok((wanted, queries))
+}
+
+/// What `checked_cases` prints of opening and the label by a choice.
+fn opening(image: &[u8], how: u32) -> [String; 2] {
+    let answer = |call| expected(image, &Query { how, ..Query::of(call, Volume::default()).with(32, 0) }).values;
+    let (opened, label) = (answer(Call::Open), answer(Call::Label));
+    let Volume { start, partition, checked, root, .. } = opened.volume;
+    let says = format!("start {start} partition {partition} checked {checked} root {}", shown(&root.recorded()));
+    [
+        format!("open {} count {} {says}", opened.answer, opened.count),
+        format!("label {} count {} length {}", label.answer, label.count, label.length),
+    ]
+}
+
+/// What it prints of a query: what is asked, each call along the path, and each on the ICB.
+fn checked(image: &[u8], q: &Query) -> Vec<String> {
+    let answer = |call| expected(image, &Query { call, ..q.clone() }).values;
+    let head = |word: &str, v: &Values| format!("{word} {} count {}", v.answer, v.count);
+    let written = |word: &str, call| {
+        let v = answer(call);
+        format!("{} length {} sum {}", head(word, &v), v.length, sum(&v, q.room))
+    };
+    let (found, failed, part) = (answer(Call::Lookup), answer(Call::Failed), answer(Call::Part));
+    let extents = expected(image, &Query { call: Call::Extents, room: 8, ..q.clone() }).values;
+    let number = |b: &[u8]| u32::from_le_bytes(b.try_into().unwrap()).to_string();
+    let slot = |s: &[u8]| format!(" ({})", s.chunks(4).map(number).collect::<Vec<_>>().join(" "));
+    let component = &q.path[failed.place as usize..][..failed.length as usize];
+    vec![
+        format!("checked {} path {} block {} room {} work {}", q.volume.checked, shown(&q.path), q.icb.block, q.room, q.work),
+        format!("{} icb {} zero", head("lookup", &found), shown(&found.icb.recorded())),
+        format!("{} component {} zero", head("failed", &failed), shown(component)),
+        written("read_path", Call::ReadPath) + " zero",
+        written("list", Call::List) + " zero",
+        written("read", Call::Read),
+        format!("{} length {} at {}", head("part", &part), part.length, part.place),
+        format!("{} length {}{}", head("extents", &extents), extents.length, extents.written.chunks(16).map(slot).collect::<String>()),
+    ]
+}
+
+/// The good disc with some bytes put over it.
+fn patched(good: &[u8], mut patches: &[u8]) -> Result<Vec<u8>> {
+    let mut image = good.to_vec();
+    while !patches.is_empty() {
+        let at = wire::number(&mut patches, 4)? as usize;
+        let bytes = sized(&mut patches, 2)?;
+        image[at..at + bytes.len()].copy_from_slice(&bytes);
+    }
+    Ok(image)
+}
+
+/// The queries of `checked_cases`, on no volume yet but for the number that says whether it is checked.
+fn checked_queries(mut from: &[u8]) -> Result<Vec<Query>> {
+    let mut all = Vec::new();
+    while !from.is_empty() {
+        let [says, room, work, block] = [0; 4].map(|_| wire::number(&mut from, 4));
+        let volume = Volume { checked: says? as u32, ..Volume::default() };
+        let icb = Icb::at(block? as u32, 0);
+        all.push(Query { icb, path: sized(&mut from, 2)?, ..Query::of(Call::Lookup, volume).with(room? as usize, work? as usize) });
+    }
+    Ok(all)
+}
+
+/// The lines of `checked_cases`, and how many queries they are of.
+fn of_checked(mut from: &[u8]) -> Result<(Vec<String>, usize)> {
+    let good = sparse::expand(&sized(&mut from, 4)?).expect("a packed image");
+    let queries = checked_queries(&sized(&mut from, 4)?)?;
+    let (mut wanted, mut asked) = (Vec::new(), 0);
+    while !from.is_empty() {
+        wanted.push(format!("case {}", String::from_utf8_lossy(&sized(&mut from, 2)?)));
+        let bits = wire::number(&mut from, 2)?;
+        let image = patched(&good, &sized(&mut from, 2)?)?;
+        wanted.extend([0, CHECKED].into_iter().flat_map(|how| opening(&image, how)));
+        let opened = original::open(&image).value.map_or(Volume::default(), |(volume, _)| volume);
+        for (_, q) in queries.iter().enumerate().filter(|(i, _)| bits >> i & 1 == 1) {
+            let volume = Volume { checked: q.volume.checked, ..opened };
+            wanted.extend(checked(&image, &Query { volume, ..q.clone() }));
+            asked += 1;
+        }
+    }
+    Ok((wanted, asked))
+}
+
+/// Holds the output stored in a program's folder. Says how many queries it has, or what its first wrong line is.
+pub fn held(folder: &Path) -> Result<std::result::Result<usize, String>> {
+    let (images, stored) = (fs::read(folder.join("data/images"))?, fs::read_to_string(folder.join("stdout"))?);
+    let (wanted, queries) = if folder.ends_with("checked_cases") { of_checked(&images)? } else { of_matching(&images)? };
     let mut stored = stored.lines();
     let wrong = wanted.iter().find(|line| stored.next() != Some(line));
     Ok(match (wrong, stored.next()) {

@@ -11,7 +11,7 @@ use Rattle.disc.specs.Choice.{pick}
 use Rattle.disc.specs.Ask.{Ask, then}
 use Rattle.disc.specs.Ask.Ask.{done, refuse, ask}
 use Rattle.disc.specs.Images.{sectors, sectorsFor}
-use Rattle.disc.specs.Places.{placed, isChecked, unchecked, standing}
+use Rattle.disc.specs.Places.{mappedStart, startFor, placed, isChecked, unchecked, standing}
 use Rattle.disc.specs.declared.places.Mount.{Mount}
 use Rattle.disc.specs.declared.places.PartitionRef.{PartitionRef}
 use Rattle.disc.specs.declared.places.PartitionRef.the-variants.{Unnamed, Named}
@@ -58,7 +58,7 @@ sectors-guards zero at = done-guards []
 sectors-guards (suc n) at = ask-guards at (λ b. then-guards (sectors-guards n (at + 1)) (λ rest. done-guards _))
 
 pub placed-unchecked : (m : Mount) (r : PartitionRef) (block : ℕ) → placed (unchecked m) r block ≡ placed m r block
-unfolding placed
+unfolding placed startFor mappedStart
 placed-unchecked m Unnamed block = refl
 placed-unchecked m (Named p) block = refl
 

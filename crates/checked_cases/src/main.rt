@@ -38,6 +38,7 @@ fn say_open(image: &[u8], checked: bool) {
         How {
             highest: false,
             checked,
+            maps: false,
         },
     );
     let v = opened.volume;
@@ -57,6 +58,7 @@ fn say_label(image: &[u8], checked: bool) {
         How {
             highest: false,
             checked,
+            maps: false,
         },
         &mut out,
     );
@@ -168,6 +170,10 @@ fn with_check(v: VolumeRecord, checked: u32) -> Volume {
             start: v.mount.start,
             partition: v.mount.partition,
             checked,
+            maps: 0,
+            volumes: [0; 4],
+            numbers: [0; 4],
+            starts: [0; 4],
         },
         root,
         label,

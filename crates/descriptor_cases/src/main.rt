@@ -188,6 +188,24 @@ fn logical(s: &[u8], n: usize) {
     }
 }
 
+fn say_map_bytes(b: [u8; 24]) {
+    say(b" maps");
+    say_bytes(&b);
+}
+
+fn map_table(s: &[u8], n: usize) {
+    if n <= s.len() {
+        let r = LogicalVolumeDescriptor::parse(false, &s[0..n]);
+        let d = r.descriptor;
+        say_number(b"answer", r.answer);
+        say_number(b"table", d.map_table_length as u64);
+        say_number(b"number", d.number_of_partition_maps as u64);
+        let maps = d.partition_maps;
+        say_map_bytes(maps);
+        say(b"\n");
+    }
+}
+
 fn file_set(s: &[u8], n: usize) {
     if n <= s.len() {
         let r = FileSetDescriptor::parse(false, &s[0..n]);
@@ -221,6 +239,12 @@ fn logical_case(d: &mut [u8], id: u16, n: usize, at: usize, b: u8) {
     build(d, id, at, b);
     asked(b"logical", id, n, at, b);
     logical(d, n);
+}
+
+fn map_case(d: &mut [u8], n: usize, at: usize, b: u8) {
+    build(d, 6, at, b);
+    asked(b"map_table", 6, n, at, b);
+    map_table(d, n);
 }
 
 fn file_set_case(d: &mut [u8], id: u16, n: usize, at: usize, b: u8) {
@@ -321,6 +345,17 @@ fn file_sets(d: &mut [u8]) {
     file_set_case(d, 256, 416, 4, 0);
 }
 
+// The map table: none of it given, its first byte, a part, all but a byte, all, and more; and one that isn't read.
+fn map_tables(d: &mut [u8]) {
+    map_case(d, 440, 511, 0);
+    map_case(d, 441, 511, 0);
+    map_case(d, 453, 440, 1);
+    map_case(d, 463, 511, 0);
+    map_case(d, 464, 463, 255);
+    map_case(d, 512, 268, 0);
+    map_case(d, 464, 4, 0);
+}
+
 fn main() {
     let mut d = [0u8; 512];
     anchors(&mut d);
@@ -332,4 +367,5 @@ fn main() {
     logicals(&mut d);
     logical_labels(&mut d);
     file_sets(&mut d);
+    map_tables(&mut d);
 }

@@ -1,15 +1,17 @@
 -- The anchor and the descriptors of a volume descriptor sequence: which case of its definition each reader is in. Assumes nothing.
-use Prim.Native.Nat.{ℕ}
+use Prim.Native.Nat.{ℕ, zero, suc, _+_, _-_, _<_}
 use mathlib.Core.Path.{_≡_, refl, sym, ap, _∙_}
 use mathlib.Core.Bool.{Bool}
-use mathlib.Core.List.{List}
+use mathlib.Core.List.{List, [], _∷_, _++_}
 use native.Mathlib.Omega.{arith}
-use lib.ListN.{take, drop, replicate}
+use lib.ListN.{length, getD, take, drop, replicate, length-drop, getD-replicate}
+use lib.Seq.{take-all, getD-drop}
 use Rattle.disc.specs.Refusals.{number}
 use Rattle.disc.specs.Ask.{Outcome}
 use Rattle.disc.specs.Ask.Outcome.{answered, refused}
+use Rattle.disc.specs.Moves.{over}
 use Rattle.disc.specs.declared.refusals.Refusal.{Refusal}
-use Rattle.records.specs.Bytes.{u16at, u32at}
+use Rattle.records.specs.Bytes.{byte, u16at, u32at}
 use Rattle.records.specs.Allocations.{extentOf, longOf, noLong}
 use Rattle.records.specs.declared.allocations.ExtentAd.{ExtentAd}
 use Rattle.records.specs.declared.allocations.LongAd.{LongAd}
@@ -21,7 +23,7 @@ use Rattle.tags.specs.declared.TagRead.the-variants.{Read as ATag, Refused as N
 use Rattle.names.specs.Names.{nameOfField, sizeOf}
 use Rattle.names.specs.declared.dstrings.NameSize.{NameSize}
 use Rattle.names.specs.declared.dstrings.NameSize.the-variants.{Size, Refused as NoName}
-use Rattle.descriptors.specs.Volumes.{readAnchor, labelled, primaryOf, primaryBehind, readPrimary, primaryRead, readPartition, logicalOf, logicalBehind, readLogical, logicalRead}
+use Rattle.descriptors.specs.Volumes.{readAnchor, labelled, primaryOf, primaryBehind, readPrimary, primaryRead, readPartition, mapsIn, logicalOf, logicalBehind, readLogical, logicalRead}
 use Rattle.descriptors.specs.declared.anchors.AnchorRead.the-variants.{Read as AnAnchor, Refused as NoAnchor}
 use Rattle.descriptors.specs.declared.primaries.PrimaryRead.{PrimaryRead}
 use Rattle.descriptors.specs.declared.partitions.PartitionRead.the-variants.{Read as APartition, Refused as NoPartition}
@@ -43,9 +45,30 @@ module _ (why : Refusal) {n : ℕ} {t : DescriptorTag} (p : n ≡ number why) (q
       «logical_volume_identifier» = replicate 128 0;
       «logical_block_size» = 0;
       «file_set_descriptor_location» = location;
+      «map_table_length» = 0;
+      «number_of_partition_maps» = 0;
+      «partition_maps» = replicate 24 0;
     };
   } ≡ logicalRead (refused why)
   logical-none r = rw (p, q, r)
+
+-- ---- the front of the map table
+
+-- the return of `first_maps`
+pub maps-copied : (s : List ℕ) {a : List ℕ} → a ≡ over (take (length s - 440) (drop 440 s)) (replicate 24 0) → a ≡ mapsIn s
+maps-copied s e = e ∙ rw (take-all (length s - 440) (drop 440 s) (rw length-drop (omega arith)))
+
+-- a list over the front of n zeros has its own elements in the first n places, and zeros past its end
+over-zeros : (l : List ℕ) (n i : ℕ) → i < n → getD (take n l ++ drop (length l) (replicate n 0)) i 0 ≡ getD l i 0
+over-zeros [] zero i h = refl
+over-zeros [] (suc n) i h = getD-replicate (suc n) i 0 0 h
+over-zeros (x ∷ l) zero i h = absurd (omega arith)
+over-zeros (x ∷ l) (suc n) zero h = refl
+over-zeros (x ∷ l) (suc n) (suc i) h = over-zeros l n i (omega arith)
+
+-- so each of the 24 bytes is the byte at its place, 0 past the bytes given
+pub maps-byte : (s : List ℕ) (i : ℕ) → i < 24 → byte (mapsIn s) i ≡ byte s (440 + i)
+maps-byte s i h = over-zeros (drop 440 s) 24 i h ∙ getD-drop 440 s i 0
 
 -- ---- what each reader's proof cites: `x` is what `read_head` gave
 
@@ -139,11 +162,14 @@ module _ (s : List ℕ) (t : DescriptorTag) {label : List ℕ} {z : NameSize} (e
   unfolding logicalBehind
   logical-unnamed l h k = k ∙ ap logicalRead (sym (labelled-no (nameOfField (take 128 (drop 84 s))) (logicalOf s t) (rw l at e) h))
 
-  pub logical-named : label ≡ take 128 (drop 84 s) → {k m n : ℕ} {place : LongAd}
+  pub logical-named : label ≡ take 128 (drop 84 s) → {k m n i j : ℕ} {place : LongAd} {maps : List ℕ}
       → z ≡ Size k
       → m ≡ u32at s 16
       → n ≡ u32at s 212
       → place ≡ longOf s 248
+      → i ≡ u32at s 264
+      → j ≡ u32at s 268
+      → maps ≡ mapsIn s
       → record {
         answer = 0;
         descriptor = record {
@@ -152,7 +178,10 @@ module _ (s : List ℕ) (t : DescriptorTag) {label : List ℕ} {z : NameSize} (e
           «logical_volume_identifier» = label;
           «logical_block_size» = n;
           «file_set_descriptor_location» = place;
+          «map_table_length» = i;
+          «number_of_partition_maps» = j;
+          «partition_maps» = maps;
         };
       } ≡ logicalRead (logicalBehind s t)
   unfolding logicalBehind
-  logical-named l h p q k = rw (p, q, k, l) (ap logicalRead (sym (labelled-yes (nameOfField (take 128 (drop 84 s))) (logicalOf s t) (rw l at e) h)))
+  logical-named l h p q k u v w = rw (p, q, k, u, v, w, l) (ap logicalRead (sym (labelled-yes (nameOfField (take 128 (drop 84 s))) (logicalOf s t) (rw l at e) h)))

@@ -7,6 +7,7 @@ use lib.ListN.{take, drop, replicate}
 use Rattle.disc.specs.Refusals.{number}
 use Rattle.disc.specs.Ask.{Outcome}
 use Rattle.disc.specs.Ask.Outcome.{answered, refused}
+use Rattle.disc.specs.Moves.{over}
 use Rattle.records.specs.Bytes.{u16at, u32at}
 use Rattle.records.specs.Allocations.{extentOf, longOf, noLong}
 use Rattle.tags.specs.Tags.{readHead, gated}
@@ -105,8 +106,12 @@ readPartition check s = partitionAfter s (readHead check s 5 196)
 
 -- ---- logical volume descriptor: id 6, 440 bytes (3/10.6)
 
--- Sequence number, the label's field as recorded, block size, and the logical volume contents use, which has the file set descriptor's
--- place (3/10.6.2, 10.6.4, 10.6.5, 10.6.7; 4/3.1).
+-- The first 24 bytes of the map table, as recorded, over as many zeros: room for four maps of type 1 (3/10.6.13, 10.7.2).
+abbrev pub mapsIn : List ℕ → List ℕ
+mapsIn s = over (drop 440 s) (replicate 24 0)
+
+-- Sequence number, the label's field as recorded, block size, the logical volume contents use, which has the file set descriptor's place, and the
+-- map table: its length in bytes, how many maps there are, and its front (3/10.6.2, 10.6.4, 10.6.5, 10.6.7 to 10.6.9, 10.6.13; 4/3.1).
 abbrev pub logicalOf : List ℕ → DescriptorTag → LogicalVolumeDescriptor
 logicalOf s t = record {
   tag = t;
@@ -114,6 +119,9 @@ logicalOf s t = record {
   «logical_volume_identifier» = take 128 (drop 84 s);
   «logical_block_size» = u32at s 212;
   «file_set_descriptor_location» = longOf s 248;
+  «map_table_length» = u32at s 264;
+  «number_of_partition_maps» = u32at s 268;
+  «partition_maps» = mapsIn s;
 }
 
 unfoldable pub logicalBehind : List ℕ → DescriptorTag → Outcome LogicalVolumeDescriptor
@@ -131,6 +139,9 @@ noLogical = record {
   «logical_volume_identifier» = replicate 128 0;
   «logical_block_size» = 0;
   «file_set_descriptor_location» = noLong;
+  «map_table_length» = 0;
+  «number_of_partition_maps» = 0;
+  «partition_maps» = replicate 24 0;
 }
 
 abbrev pub logicalRead : Outcome LogicalVolumeDescriptor → LogicalRead

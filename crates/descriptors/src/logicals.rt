@@ -1,11 +1,12 @@
-// The logical volume descriptor: the size of a block, and where the file set descriptor is.
+// The logical volume descriptor: the size of a block, where the file set descriptor is, and the partition maps.
 ghost use mathlib.Core.Path.{_≡_};
 ghost use Prim.Native.Nat.{_≤_};
 ghost use lib.ListN.{length};
 ghost use Rattle.disc.specs.Ask.Outcome.{refused};
-ghost use Rattle.descriptors.specs.Volumes.{logicalBehind, readLogical, logicalRead};
+ghost use Rattle.descriptors.specs.Volumes.{mapsIn, logicalBehind, readLogical, logicalRead};
 use crate::labels::logical_label;
 use disc::answers::DONE;
+use disc::moves::copy;
 use disc::refusals::Refusal;
 use names::dstrings::NameSize;
 use names::fields::field_size;
@@ -32,6 +33,11 @@ pub struct LogicalVolumeDescriptor {
     // In bytes.
     pub logical_block_size: u32,
     pub file_set_descriptor_location: LongAd,
+    // In bytes.
+    pub map_table_length: u32,
+    pub number_of_partition_maps: u32,
+    // The first 24 bytes of the map table, as recorded; zeros past the bytes that were given.
+    pub partition_maps: [u8; 24],
 }
 
 // An enum can hold no array, so the answer is a number, with zeros where it is a refusal.
@@ -52,8 +58,21 @@ fn no_logical(why: Refusal) -> LogicalRead
             logical_volume_identifier: [0; 128],
             logical_block_size: 0,
             file_set_descriptor_location: no_long(),
+            map_table_length: 0,
+            number_of_partition_maps: 0,
+            partition_maps: [0; 24],
         },
     }
+}
+
+// The first bytes of the map table.
+fn first_maps(s: &[u8]) -> [u8; 24]
+    requires { ⌜ 440 ≤ length (now s) ⌝ }
+    ensures { λ r. ⌜ r ≡ mapsIn (now (s .entry)) ⌝ }
+{
+    let mut maps = [0u8; 24];
+    copy(&s[440..], &mut maps);
+    maps
 }
 
 // The descriptor in `s` behind its tag `t`. The label is copied first: the copy is checked and kept.
@@ -72,6 +91,9 @@ fn logical_behind(s: &[u8], t: DescriptorTag) -> LogicalRead
                 logical_volume_identifier: label,
                 logical_block_size: le32(s, 212),
                 file_set_descriptor_location: long_at(s, 248),
+                map_table_length: le32(s, 264),
+                number_of_partition_maps: le32(s, 268),
+                partition_maps: first_maps(s),
             },
         },
     }

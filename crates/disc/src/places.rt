@@ -1,7 +1,7 @@
 // Two counters that stay apart: a block is counted from the partition's start, a sector from the disc's. One value says how a volume is read,
 // and it alone turns the one into the other.
 ghost use mathlib.Core.Path.{_≡_};
-ghost use Rattle.disc.specs.Places.{sectorOf, placed, placedBy, icbPlaced, isChecked, Stands};
+ghost use Rattle.disc.specs.Places.{sectorOf, isMapped, mappedStart, startFor, icbStart, crossing, startBy, icbPlaced, atEntry, isChecked, StandsIn, Stands};
 
 pub struct Block(pub u32);
 
@@ -14,15 +14,28 @@ pub enum PartitionRef {
     Named(u16),
 }
 
-// How a volume is read: where its partition starts, the partition's number, and whether the bodies of its descriptors are checked.
+// How a volume is read: where its partition starts, the partition's number, whether the bodies of its descriptors are checked, and the partition
+// maps by which references are resolved, if there are any.
 #[repr(C)]
 pub struct Mount {
-    // The sector in which the partition starts.
+    // The sector in which the partition starts; of a volume with maps the file set's.
     pub start: u32,
     // The partition's number.
     pub partition: u16,
     // Any number but 0: the body of each descriptor that is parsed must have the CRC that its tag says.
     pub checked: u32,
+    // How many partition maps there are: 0: references are compared with `partition`; above 4 counts as 4.
+    pub maps: u32,
+    // Of each map, the volume sequence number, the partition's number and the sector in which it starts; zeros where there is none.
+    pub volumes: [u16; 4],
+    pub numbers: [u16; 4],
+    pub starts: [u32; 4],
+}
+
+// Where a partition starts that a reference names: it is one of this volume, or none.
+pub(crate) enum Start {
+    In(u32),
+    Foreign,
 }
 
 // Where a block stands: in a sector, or nowhere on this volume.
@@ -31,34 +44,98 @@ pub enum Placed {
     Nowhere,
 }
 
+// The sole crossing.
+fn sector_of(start: u32, block: Block) -> Sector
+    ensures { λ r. ⌜ r .0 ≡ sectorOf start (block .0) ⌝ }
+{
+    Sector(start as u64 + block.0 as u64)
+}
+
+// The sector of a block of the partition that starts there.
+fn crossed(start: Start, block: Block) -> Placed
+    ensures { λ r. ⌜ StandsIn (crossing (block .0) (startBy start)) r ⌝ }
+{
+    match start {
+        Start::In(s) => Placed::At(sector_of(s, block)),
+        Start::Foreign => Placed::Nowhere,
+    }
+}
+
 impl Mount {
-    // The sole crossing.
-    fn sector_of(self, block: Block) -> Sector
-        ensures { λ r. ⌜ r .0 ≡ sectorOf self (block .0) ⌝ }
+    // Whether references are resolved through maps.
+    fn is_mapped(self) -> bool
+        ensures { λ r. ⌜ r ≡ isMapped self ⌝ }
     {
-        Sector(self.start as u64 + block.0 as u64)
+        self.maps != 0
     }
 
-    // The sector of a block under the reference that a descriptor gives.
+    // The start of a map's partition, if there is such a map.
+    fn mapped(self, reference: u16) -> Start
+        ensures { λ r. ⌜ startBy r ≡ mappedStart self reference ⌝ }
+    {
+        let i = reference as usize;
+        if self.maps as usize <= i {
+            return Start::Foreign;
+        }
+        if 4 <= i {
+            return Start::Foreign;
+        }
+        let starts = self.starts;
+        Start::In(starts[i])
+    }
+
+    // The start of the partition that a descriptor's reference names: through the maps, or by the volume's own number.
+    fn start_for(self, reference: u16) -> Start
+        ensures { λ r. ⌜ startBy r ≡ startFor self reference ⌝ }
+    {
+        if self.is_mapped() {
+            return self.mapped(reference);
+        }
+        if reference != self.partition {
+            return Start::Foreign;
+        }
+        Start::In(self.start)
+    }
+
+    // The start of the partition that an ICB's reference names: where there are no maps it isn't looked at.
+    fn icb_start(self, reference: u16) -> Start
+        ensures { λ r. ⌜ startBy r ≡ icbStart self reference ⌝ }
+    {
+        if self.is_mapped() {
+            return self.mapped(reference);
+        }
+        Start::In(self.start)
+    }
+
+    // The sector of a block under the reference that a descriptor gives: one that names no partition stands in that of its entry.
     pub fn placed(self, reference: PartitionRef, block: Block) -> Placed
         ensures { λ r. ⌜ Stands self reference (block .0) r ⌝ }
     {
         match reference {
-            PartitionRef::Unnamed => Placed::At(self.sector_of(block)),
-            PartitionRef::Named(p) => {
-                if p != self.partition {
-                    return Placed::Nowhere;
-                }
-                Placed::At(self.sector_of(block))
-            }
+            PartitionRef::Unnamed => Placed::At(sector_of(self.start, block)),
+            PartitionRef::Named(p) => crossed(self.start_for(p), block),
         }
     }
 
-    // The sector of the block that an ICB names: its reference isn't looked at.
-    pub fn icb_placed(self, block: Block) -> Sector
-        ensures { λ r. ⌜ r .0 ≡ icbPlaced self (block .0) ⌝ }
+    // The sector of the block that an ICB names.
+    pub fn icb_placed(self, reference: u16, block: Block) -> Placed
+        ensures { λ r. ⌜ StandsIn (icbPlaced self reference (block .0)) r ⌝ }
     {
-        self.sector_of(block)
+        crossed(self.icb_start(reference), block)
+    }
+
+    // How the descriptors of an entry are read that an ICB names: what names no partition stands in the entry's own.
+    pub fn at_entry(self, reference: u16) -> Mount
+        ensures { λ r. ⌜ r ≡ atEntry self reference ⌝ }
+    {
+        match self.icb_start(reference) {
+            Start::Foreign => self,
+            Start::In(start) => {
+                let mut m = self;
+                m.start = start;
+                m
+            }
+        }
     }
 
     // Whether the bodies of descriptors are checked.

@@ -129,15 +129,26 @@ fn say_query(q: &[u8], icb: LongAd) {
     say(b"\n");
 }
 
+// The mount of a query: without maps, and unchecked.
+fn mount_of(q: &[u8]) -> Mount {
+    let numbers: [u16; 4] = [0; 4];
+    let starts: [u32; 4] = [0; 4];
+    Mount {
+        start: le32(q, 0),
+        partition: le16(q, 4),
+        checked: 0,
+        maps: 0,
+        volumes: numbers,
+        numbers: numbers,
+        starts: starts,
+    }
+}
+
 fn query(image: &[u8], q: &[u8], out: &mut [u8]) {
     let icb = long_at(q, 6);
     say_query(q, icb);
     let room = least(le32(q, 22) as usize, out.len());
-    let mount = Mount {
-        start: le32(q, 0),
-        partition: le16(q, 4),
-        checked: 0,
-    };
+    let mount = mount_of(q);
     say_read(image, mount, icb, &mut out[..room]);
     say_part(image, mount, icb);
     say_extents(image, mount, icb, least(le16(q, 26) as usize, 256));

@@ -20,7 +20,7 @@ use Rattle.entries.specs.FileEntries.{readEntry}
 use Rattle.entries.specs.declared.«file_entries».EntryRead.{EntryRead}
 use Rattle.entries.specs.declared.«file_entries».EntryRead.the-variants.{Read, Refused}
 use Rattle.files.specs.Reads.{joining, extentBytes, extentsBytes}
-use Rattle.files.specs.Files.{Located, located, entryAt, isEmbedded, chainOf, File, fileAt, contentOf, fileBytes}
+use Rattle.files.specs.Files.{Located, located, entryIn, entryAt, entryMount, isEmbedded, chainOf, File, fileAt, contentOf, fileBytes}
 use Rattle.files.specs.Files.File.{embedded, chained}
 
 joining-bytes : (want : ℕ) (b : List ℕ) (more : Ask (List ℕ)) → Bytes b → Gives Bytes more → Gives Bytes (joining want b more)
@@ -49,23 +49,27 @@ Embedded (chained x es) = Unit {0}
 
 entry-bytes : (m : Mount) (icb : LongAd) → Gives (λ (x : Located). Bytes (x .sector)) (entryAt m icb)
 unfolding Gives entryAt
-entry-bytes m icb = gives-pick _ (eqb (icb .length) 0) _ _ tt (λ s h. by s h (readEntry (isChecked m) s))
+entry-bytes m icb = gives-pick _ (eqb (icb .length) 0) _ _ tt (stood (icbPlaced m (icb .location .«partition_ref») (icb .location .block)))
   where
-    by : (s : List ℕ) → Bytes s → (x : EntryRead) → Gives (λ (x : Located). Bytes (x .sector)) (located (icbPlaced m (icb .location .block)) s x)
-    by s h (Read e) = h
-    by s h (Refused r) = tt
+    by : (at : ℕ) (s : List ℕ) → Bytes s → (x : EntryRead) → Gives (λ (x : Located). Bytes (x .sector)) (located at s x)
+    by at s h (Read e) = h
+    by at s h (Refused r) = tt
+
+    stood : (o : Option ℕ) → Gives (λ (x : Located). Bytes (x .sector)) (standing o (entryIn (isChecked m)))
+    stood none = tt
+    stood (some at) = λ s h. by at s h (readEntry (isChecked m) s)
 
 file-bytes : (m : Mount) (icb : LongAd) → Gives Bytes (fileBytes m icb)
 unfolding Gives fileBytes fileAt
 file-bytes m icb =
-    gives-then Embedded Bytes (fileAt m icb) (contentOf m)
+    gives-then Embedded Bytes (fileAt m icb) (contentOf (entryMount m icb))
     (gives-then (λ (x : Located). Bytes (x .sector)) Embedded (entryAt m icb) _ (entry-bytes m icb)
-    (λ x h. gives-pick Embedded (isEmbedded x) _ _ h (gives-then (λ es. Unit {0}) Embedded (chainOf m x) _ (gives-any (chainOf m x)) (λ es q. tt))))
+    (λ x h. gives-pick Embedded (isEmbedded x) _ _ h (gives-then (λ es. Unit {0}) Embedded (chainOf (entryMount m icb) x) _ (gives-any (chainOf (entryMount m icb) x)) (λ es q. tt))))
     by
   where
-    by : (f : File) → Embedded f → Gives Bytes (contentOf m f)
+    by : (f : File) → Embedded f → Gives Bytes (contentOf (entryMount m icb) f)
     by (embedded x) h = bytes-taken (min (x .entry .«area_length») (x .entry .«information_length»)) (drop (x .entry .«area_at») (x .sector)) (bytes-dropped (x .entry .«area_at») (x .sector) h)
-    by (chained x es) h = extents-bytes m es (x .entry .«information_length»)
+    by (chained x es) h = extents-bytes (entryMount m icb) es (x .entry .«information_length»)
 
 pub content-bytes : (image : List ℕ) → Bytes image → (m : Mount) (icb : LongAd) {b : List ℕ} → ran (disc image) (fileBytes m icb) .outcome ≡ answered b → Bytes b
 unfolding ran

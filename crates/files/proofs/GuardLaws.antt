@@ -1,7 +1,7 @@
 -- A file of a volume whose descriptors' bodies are checked is the file without that check, with its entry and the header of each continuation marked where
 -- they are parsed. Assumes nothing.
-use mathlib.Core.Path.{_≡_, refl}
-use mathlib.Core.Bool.{true}
+use mathlib.Core.Path.{_≡_, refl, _∙_}
+use mathlib.Core.Bool.{true, false}
 use mathlib.Core.List.{List, [], _∷_}
 use mathlib.Core.Option.{Option, none, some}
 use Prim.Native.Nat.{ℕ, zero, suc, _+_, _-_}
@@ -14,6 +14,7 @@ use Rattle.disc.specs.Places.{placed, icbPlaced, isChecked, unchecked, standing
 use Rattle.disc.specs.declared.places.Mount.{Mount}
 use Rattle.disc.specs.declared.refusals.Refusal.the-variants.{Malformed, Unsupported}
 use Rattle.disc.proofs.MarkedLaws.{Guards, done-guards, refuse-guards, ask-guards, pick-guards, then-guards}
+use Rattle.disc.proofs.PlaceLaws.{entry-checked, entry-unchecked, icb-unchecked}
 use Rattle.records.specs.declared.allocations.LongAd.{LongAd}
 use Rattle.tags.proofs.BodyLaws.{rightAt, gate-guards}
 use Rattle.tags.specs.declared.DescriptorTag.{DescriptorTag}
@@ -25,7 +26,7 @@ use Rattle.entries.specs.declared.«file_entries».EntryRead.the-variants.{Read
 use Rattle.entries.proofs.EntryLaws.{behind-refused}
 use Rattle.chains.proofs.GuardLaws.{placed-unchecked, area-ends, chain-guards}
 use Rattle.files.specs.Reads.{joining, extentBytes, extentsBytes}
-use Rattle.files.specs.Files.{Located, located, entryAt, isEmbedded, chainOf, File, fileAt, contentOf, fileBytes, filePart, fileExtents}
+use Rattle.files.specs.Files.{Located, located, entryIn, entryAt, entryMount, isEmbedded, chainOf, File, fileAt, contentOf, fileBytes, filePart, fileExtents}
 use Rattle.files.specs.Files.File.{embedded, chained}
 
 -- ---- its extents hold no descriptor
@@ -52,38 +53,55 @@ read-guards m (e ∷ es) want = rw (placed-unchecked m) (pick-guards (eqb (e .«
 
 -- ---- its entry, its chain, and what is asked of it
 
+-- the entry in a sector
+sector-guards : (at : ℕ) → Guards rightAt (entryIn true at) (entryIn false at)
+unfolding readEntry
+sector-guards at = ask-guards at (λ s.
+    gate-guards s (entryId s) 176 (λ r. located at s (entryAfter s r)) (λ r. located at s (entryAfter s r)) (λ r. refl) (λ r. refl)
+    (λ t. by s t (entryBehind s t) refl))
+  where
+    by : (s : List ℕ) (t : DescriptorTag) (x : EntryRead) → entryBehind s t ≡ x → Guards rightAt (located at s x) (located at s x)
+    by s t (Read e) q = done-guards _
+    by s t (Refused r) q = refuse-guards r (rw (behind-refused s t q) (λ z. omega arith))
+
 module _ (m : Mount) (c : isChecked m ≡ true) (icb : LongAd) where
-  abbrev at : ℕ
-  at = icbPlaced m (icb .location .block)
-
   pub entry-guards : Guards rightAt (entryAt m icb) (entryAt (unchecked m) icb)
-  unfolding entryAt icbPlaced readEntry
-  entry-guards = rw c (pick-guards (eqb (icb .length) 0) (refuse-guards Malformed (λ z. omega arith)) (ask-guards at (λ s.
-      gate-guards s (entryId s) 176 (λ r. located at s (entryAfter s r)) (λ r. located at s (entryAfter s r)) (λ r. refl) (λ r. refl)
-      (λ t. by s t (entryBehind s t) refl))))
+  unfolding entryAt
+  entry-guards =
+      rw (c, icb-unchecked m) (pick-guards (eqb (icb .length) 0) (refuse-guards Malformed (λ z. omega arith))
+      (by (icbPlaced m (icb .location .«partition_ref») (icb .location .block))))
     where
-      by : (s : List ℕ) (t : DescriptorTag) (x : EntryRead) → entryBehind s t ≡ x → Guards rightAt (located at s x) (located at s x)
-      by s t (Read e) q = done-guards _
-      by s t (Refused r) q = refuse-guards r (rw (behind-refused s t q) (λ z. omega arith))
+      by : (o : Option ℕ) → Guards rightAt (standing o (entryIn true)) (standing o (entryIn false))
+      by none = refuse-guards Unsupported (λ z. omega arith)
+      by (some at) = sector-guards at
 
-  chain-guarded : (x : Located) → Guards rightAt (chainOf m x) (chainOf (unchecked m) x)
+  -- the mount by which the entry's own descriptors are read
+  abbrev own : Mount
+  own = entryMount m icb
+
+  own-checked : isChecked own ≡ true
+  own-checked = entry-checked m (icb .location .«partition_ref») ∙ c
+
+  chain-guarded : (x : Located) → Guards rightAt (chainOf own x) (chainOf (unchecked own) x)
   chain-guarded x =
       let k = x .entry .kind in
       let i = x .entry .«area_at» in
       let n = x .entry .«area_length» in
-      chain-guards m c k 32 (areaAt k (x .sector) i n) (area-ends k (x .sector) i n)
+      chain-guards own own-checked k 32 (areaAt k (x .sector) i n) (area-ends k (x .sector) i n)
 
   pub file-guards : Guards rightAt (fileAt m icb) (fileAt (unchecked m) icb)
   unfolding fileAt
-  file-guards = then-guards entry-guards (λ x. pick-guards (isEmbedded x) (done-guards (embedded x)) (then-guards (chain-guarded x) (λ es. done-guards (chained x es))))
+  file-guards =
+      rw (entry-unchecked m) (then-guards entry-guards (λ x.
+      pick-guards (isEmbedded x) (done-guards (embedded x)) (then-guards (chain-guarded x) (λ es. done-guards (chained x es)))))
 
   pub bytes-guards : Guards rightAt (fileBytes m icb) (fileBytes (unchecked m) icb)
   unfolding fileBytes
-  bytes-guards = then-guards file-guards by
+  bytes-guards = rw (entry-unchecked m) (then-guards file-guards by)
     where
-      by : (f : File) → Guards rightAt (contentOf m f) (contentOf (unchecked m) f)
+      by : (f : File) → Guards rightAt (contentOf own f) (contentOf (unchecked own) f)
       by (embedded x) = done-guards _
-      by (chained x es) = read-guards m es (x .entry .«information_length»)
+      by (chained x es) = read-guards own es (x .entry .«information_length»)
 
   pub part-guards : Guards rightAt (filePart m icb) (filePart (unchecked m) icb)
   unfolding filePart

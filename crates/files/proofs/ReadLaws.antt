@@ -25,7 +25,7 @@ use Rattle.chains.specs.declared.cursors.ChainCursor.{ChainCursor}
 use Rattle.files.specs.declared.icbs.Place.{Place}
 use Rattle.files.specs.declared.extents.Measured.{Measured}
 use Rattle.files.specs.declared.extents.Measured.the-variants.{Sized, Refused}
-use Rattle.files.specs.Files.{fileBytes}
+use Rattle.files.specs.Files.{entryMount, fileBytes}
 use Rattle.files.specs.inner.Pieces.{restAt}
 use Rattle.files.specs.inner.Passes.{sizedBy, sized, Copied}
 use Rattle.files.specs.inner.Wholes.{embeddedIn, embeddedRun, frontOf, EmbeddedFile, ChainedFile, Resolves}
@@ -168,11 +168,12 @@ module _ (full : Refusal) (image : List ℕ) (m : Mount) (icb : LongAd) (out : L
     in-chain : ChainedFile image m icb p n
     in-chain = rw e at y
 
-    pub read-out : {front : ChainCursor} → front ≡ frontOf p → {z : List ℕ} {x : Reply} → Replied full (after n (restAt image m (p .kind) front (p .information))) out z x → Replied full file out z x
+    pub read-out : {own : Mount} → own ≡ entryMount m icb → {front : ChainCursor} → front ≡ frontOf p → {z : List ℕ} {x : Reply} → Replied full (after n (restAt image own (p .kind) front (p .information))) out z x
+        → Replied full file out z x
     unfolding fileBytes
-    read-out g q =
+    read-out o g q =
         let w : p .information ≡ in-chain .entry .entry .«information_length» = ap (λ (x : Place). x .information) (in-chain .is) in
-        replied-as (rw (ran-then, in-chain .runs, ← w, g)) q
+        replied-as (rw (ran-then, in-chain .runs, ← w, o, g)) q
 
 -- the entry's area, or the embedded file, lies in the image
 pub place-inside : (image : List ℕ) (m : Mount) (icb : LongAd) (r : Resolved) → Resolves image m icb r → {p : Place} → r ≡ Embedded p → p .at + p .size ≤ length image

@@ -8,7 +8,7 @@ use Rattle.disc.specs.Choice.{pick}
 use Rattle.disc.specs.Ask.{Ask, Outcome, then}
 use Rattle.disc.specs.Ask.Ask.{done, refuse, ask}
 use Rattle.disc.specs.Ask.Outcome.{answered, refused}
-use Rattle.disc.specs.Places.{icbPlaced, isChecked}
+use Rattle.disc.specs.Places.{icbPlaced, atEntry, isChecked, standing}
 use Rattle.disc.specs.declared.places.Mount.{Mount}
 use Rattle.disc.specs.declared.refusals.Refusal.the-variants.{Malformed}
 use Rattle.records.specs.declared.allocations.LongAd.{LongAd}
@@ -36,9 +36,15 @@ located at s (Read e) = done (record { at = at; sector = s; entry = e })
 abbrev pub entryIn : Bool → ℕ → Ask Located
 entryIn check at = ask at (λ s. located at s (readEntry check s))
 
--- an ICB's length 0 is refused before any sector; its type and partition aren't looked at
+-- an ICB's length 0 is refused before any sector, and then a reference beyond the maps; its type isn't looked at
 unfoldable pub entryAt : Mount → LongAd → Ask Located
-entryAt m icb = pick (eqb (icb .length) 0) (refuse Malformed) (entryIn (isChecked m) (icbPlaced m (icb .location .block)))
+entryAt m icb =
+    pick (eqb (icb .length) 0) (refuse Malformed)
+    (standing (icbPlaced m (icb .location .«partition_ref») (icb .location .block)) (entryIn (isChecked m)))
+
+-- how the entry's own descriptors are read, those of its chain and its extents: a short_ad stands in the partition that the ICB names
+abbrev pub entryMount : Mount → LongAd → Mount
+entryMount m icb = atEntry m (icb .location .«partition_ref»)
 
 -- kind 3: the file stands in the entry itself (ECMA-167 4/14.6.8)
 abbrev pub embeddedKind : ℕ
@@ -65,7 +71,7 @@ abbrev pub resolved : Mount → Located → Ask File
 resolved m x = pick (isEmbedded x) (done (embedded x)) (then (chainOf m x) (λ es. done (chained x es)))
 
 unfoldable pub fileAt : Mount → LongAd → Ask File
-fileAt m icb = then (entryAt m icb) (resolved m)
+fileAt m icb = then (entryAt m icb) (resolved (entryMount m icb))
 
 -- ---- what is asked of a file
 
@@ -75,7 +81,7 @@ contentOf m (embedded x) = done (embeddedBytes x)
 contentOf m (chained x es) = extentsBytes m es (x .entry .«information_length»)
 
 unfoldable pub fileBytes : Mount → LongAd → Ask (List ℕ)
-fileBytes m icb = then (fileAt m icb) (contentOf m)
+fileBytes m icb = then (fileAt m icb) (contentOf (entryMount m icb))
 
 -- its part of the image, by its place and its bytes: the embedded bytes, or none for any other file
 pub record Part : Type 0 where

@@ -2,12 +2,14 @@
 ghost use mathlib.Core.Path.{_≡_};
 ghost use Prim.Native.Nat.{_+_, _≤_, _<_, _^_};
 ghost use lib.ListN.{length};
-ghost use Rattle.files.specs.inner.Places.{placeOf};
+ghost use Rattle.files.specs.inner.Places.{placeFrom, placeOf};
 ghost use Rattle.files.specs.inner.Wholes.{placeIn};
 use disc::images::held_from;
 use disc::images::sector_at;
 use disc::places::Block;
 use disc::places::Mount;
+use disc::places::Placed;
+use disc::places::Sector;
 use disc::refusals::Refusal;
 use entries::file_entries::EntryRead;
 use entries::file_entries::FileEntry;
@@ -43,20 +45,27 @@ fn place_in(check: bool, s: &[u8], from: usize) -> PlaceRead
     }
 }
 
-// The entry that an ICB names: its block is asked for and parsed. The ICB's type and partition aren't looked at.
+// The entry in a sector of the disc.
+fn place_from(image: &[u8], check: bool, sector: Sector) -> PlaceRead
+    requires { ⌜ sector .0 < 2 ^ 33 ⌝ }
+    ensures { λ r. ⌜ r ≡ placeFrom (now (image .entry)) check (sector .0) ⌝ }
+{
+    if held_from(image, sector) == 0 {
+        return PlaceRead::Refused(Refusal::Io, 1);
+    }
+    place_in(check, sector_at(image, sector), (2048 * sector.0) as usize)
+}
+
+// The entry that an ICB names: its block is asked for and parsed, if its reference is one of this volume. The ICB's type isn't looked at.
 pub(crate) fn locate(image: &[u8], mount: Mount, icb: LongAd) -> PlaceRead
     ensures { λ r. ⌜ r ≡ placeOf (now (image .entry)) mount icb ⌝ }
 {
     if icb.length == 0 {
         return PlaceRead::Refused(Refusal::Malformed, 0);
     }
-    let sector = mount.icb_placed(Block(icb.location.block));
-    if held_from(image, sector) == 0 {
-        return PlaceRead::Refused(Refusal::Io, 1);
+    let at = icb.location;
+    match mount.icb_placed(at.partition_ref, Block(at.block)) {
+        Placed::Nowhere => PlaceRead::Refused(Refusal::Unsupported, 0),
+        Placed::At(sector) => place_from(image, mount.is_checked(), sector),
     }
-    place_in(
-        mount.is_checked(),
-        sector_at(image, sector),
-        (2048 * sector.0) as usize,
-    )
 }

@@ -81,7 +81,7 @@ pub fn read_file(image: &[u8], mount: Mount, icb: LongAd, out: &mut [u8], full: 
         Resolved::Embedded(p) => read_embedded(image, p, out, full),
         Resolved::Chained(p, n) => read_whole(
             image,
-            mount,
+            mount.at_entry(icb.location.partition_ref),
             p.kind,
             front_of(p),
             p.information,

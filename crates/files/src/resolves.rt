@@ -45,7 +45,8 @@ pub fn resolve(image: &[u8], mount: Mount, icb: LongAd) -> Resolved
             if p.kind == EMBEDDED {
                 return Resolved::Embedded(p);
             }
-            match follow(image, mount, p.kind, front_of(p)) {
+            let own = mount.at_entry(icb.location.partition_ref);
+            match follow(image, own, p.kind, front_of(p)) {
                 Chain::Refused(why, n) => Resolved::Refused(why, n + 1),
                 Chain::Whole(n) => Resolved::Chained(p, n + 1),
             }

@@ -34,7 +34,7 @@ use Rattle.chains.specs.declared.cursors.ChainStep.the-variants.{Takes, Hops, E
 use Rattle.chains.specs.inner.Walks.{left, weight, stepOf}
 use Rattle.chains.proofs.WalkLaws.{Taken, Hopped, Stepped, steps}
 use Rattle.files.specs.declared.icbs.Place.{Place}
-use Rattle.files.specs.Files.{fileExtents}
+use Rattle.files.specs.Files.{entryMount, fileExtents}
 use Rattle.files.specs.declared.resolves.Resolved.{Resolved}
 use Rattle.files.specs.declared.resolves.Resolved.the-variants.{Embedded, Chained, Refused as Unresolved}
 use Rattle.files.specs.inner.Wholes.{frontOf, ChainedFile, Resolves}
@@ -178,9 +178,9 @@ module _ (image : List ℕ) (v : Mount) (icb : LongAd) (r : Resolved) (y : Resol
     pub list-small : {front : ChainCursor} → front ≡ frontOf p → front .left ≤ 2048
     list-small g = rw g (in-chain .small)
 
-    pub list-out : {front : ChainCursor} → front ≡ frontOf p → {l : Listing} → Planned image (listedRun image v (p .kind) front n) room l → Planned image file room l
+    pub list-out : {own : Mount} → own ≡ entryMount v icb → {front : ChainCursor} → front ≡ frontOf p → {l : Listing} → Planned image (listedRun image own (p .kind) front n) room l → Planned image file room l
     unfolding fileExtents
-    list-out g h = rw (ran-then, in-chain .runs, ran-done, add-zero, ← g) h
+    list-out o g h = rw (ran-then, in-chain .runs, ran-done, add-zero, ← o, ← g) h
 
 -- ---- the loop that stores: what is stored and what is left to store are all there is
 

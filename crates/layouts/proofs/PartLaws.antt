@@ -29,7 +29,7 @@ use Rattle.files.specs.declared.resolves.Resolved.{Resolved}
 use Rattle.files.specs.declared.resolves.Resolved.the-variants.{Embedded, Chained, Refused as Unresolved}
 use Rattle.files.specs.declared.icbs.PlaceRead.{PlaceRead}
 use Rattle.files.specs.declared.icbs.PlaceRead.the-variants.{Found, Refused as NoPlace}
-use Rattle.files.specs.Files.{Located, entryAt, isEmbedded, chainOf, fileAt, Part, noPart, partOf, filePart}
+use Rattle.files.specs.Files.{Located, entryAt, entryMount, isEmbedded, chainOf, fileAt, Part, noPart, partOf, filePart}
 use Rattle.files.specs.Files.File.{chained}
 use Rattle.files.specs.inner.Places.{placeOf}
 use Rattle.files.specs.inner.Wholes.{embeddedIn, FoundPlace, Locates, EmbeddedFile, ChainedFile, NoFile, Resolves}
@@ -101,12 +101,12 @@ no-part d x (answered es) n = rw (ran-done, ran-done)
 no-part d x (refused r) n = refl
 
 module _ (image : List ℕ) (m : Mount) (icb : LongAd) where
-  chain-part : {p : Place} → FoundPlace image m icb p → (p .kind ≡ 3 → ⊥) → partIn (file image m icb .outcome) ≡ noPart
+  chain-part : {p : Place} → FoundPlace image (entryAt m icb) p → (p .kind ≡ 3 → ⊥) → partIn (file image m icb .outcome) ≡ noPart
   unfolding filePart
   chain-part {p} q k =
       let n : isEmbedded (q .entry) ≡ false = rw (← found-kind image m icb q) (ne-eqb (p .kind) 3 k) in
-      rw (ran-then (disc image) (fileAt m icb), found-goes image m icb q, n, ran-then (disc image) (chainOf m (q .entry)))
-      (no-part (disc image) (q .entry) (ran (disc image) (chainOf m (q .entry)) .outcome) (ran (disc image) (chainOf m (q .entry)) .count))
+      rw (ran-then (disc image) (fileAt m icb), found-goes image m icb q, n, ran-then (disc image) (chainOf (entryMount m icb) (q .entry)))
+      (no-part (disc image) (q .entry) (ran (disc image) (chainOf (entryMount m icb) (q .entry)) .outcome) (ran (disc image) (chainOf (entryMount m icb) (q .entry)) .count))
 
   no-entry : {why : Refusal} {n : ℕ} → ran (disc image) (entryAt m icb) ≡ record { outcome = refused why; count = n } → file image m icb ≡ record { outcome = refused why; count = n }
   unfolding filePart fileAt
@@ -118,7 +118,7 @@ module _ (image : List ℕ) (m : Mount) (icb : LongAd) where
       Stands : Type 0
       Stands = PartAt image (partIn (file image m icb .outcome) .bytes) (partIn (file image m icb .outcome) .at)
 
-      kept : (p : Place) → FoundPlace image m icb p → (b : Bool) → eqb (p .kind) 3 ≡ b → Stands
+      kept : (p : Place) → FoundPlace image (entryAt m icb) p → (b : Bool) → eqb (p .kind) 3 ≡ b → Stands
       kept p q true e =
           let y : EmbeddedFile image m icb p = found-embedded image m icb q (eqb-true _ _ e) in
           rw (embedded-runs image m icb y) (record {

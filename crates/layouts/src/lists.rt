@@ -37,7 +37,7 @@ pub struct Extent {
     pub partition: u32,
 }
 
-// A list under way: the reply of the whole call, the next extent to store, and the cursor at those behind it.
+// A list under way: the reply of the whole call, the next extent to store, and the cursor at those behind it, with how the entry's descriptors are read.
 struct Listing {
     reply: Reply,
     mount: Mount,
@@ -79,16 +79,12 @@ fn words(e: Extent) -> [u32; 4]
 // ---- the listing
 
 // A listing with nothing to store.
-fn empty(reply: Reply) -> Listing
+fn empty(mount: Mount, reply: Reply) -> Listing
     ensures { λ r. ⌜ r .reply ≡ reply ⌝ }
 {
     Listing {
         reply,
-        mount: Mount {
-            start: 0,
-            partition: 0,
-            checked: 0,
-        },
+        mount,
         kind: 0,
         front: Extent {
             length: 0,
@@ -111,7 +107,7 @@ fn listing_at(image: &[u8], mount: Mount, kind: u8, first: ChainCursor, reply: R
     let mut c = first;
     loop {
         match advance(image, mount, kind, c) {
-            ChainStep::Ends => return empty(reply),
+            ChainStep::Ends => return empty(mount, reply),
             ChainStep::Hops(next) => c = next,
             ChainStep::Takes(e, next) => {
                 return Listing {
@@ -169,7 +165,7 @@ fn list_whole(
 {
     let m = count_extents(image, mount, kind, first);
     if (room as u64) < m {
-        return empty(refusal(Refusal::NoSlot.number(), n));
+        return empty(mount, refusal(Refusal::NoSlot.number(), n));
     }
     listing_at(
         image,
@@ -189,13 +185,23 @@ fn plan(image: &[u8], mount: Mount, icb: LongAd, room: usize) -> Listing
     ensures { λ r. ⌜ Planned (now (image .entry)) (ran (disc (now (image .entry))) (fileExtents mount icb)) room r ⌝ }
 {
     match resolve(image, mount, icb) {
-        Resolved::Refused(why, n) => empty(refusal(why.number(), n)),
-        Resolved::Embedded(_) => empty(Reply {
-            answer: DONE,
-            count: 1,
-            length: 0,
-        }),
-        Resolved::Chained(p, n) => list_whole(image, mount, p.kind, front_of(p), n, room),
+        Resolved::Refused(why, n) => empty(mount, refusal(why.number(), n)),
+        Resolved::Embedded(_) => empty(
+            mount,
+            Reply {
+                answer: DONE,
+                count: 1,
+                length: 0,
+            },
+        ),
+        Resolved::Chained(p, n) => list_whole(
+            image,
+            mount.at_entry(icb.location.partition_ref),
+            p.kind,
+            front_of(p),
+            n,
+            room,
+        ),
     }
 }
 

@@ -76,6 +76,11 @@ fn sum_row(row: &[[u32; 4]]) -> u64 {
     s
 }
 
+// The sum of a label.
+fn sum_label(label: [u8; 32]) -> u64 {
+    sum(&label)
+}
+
 // ---- the calls, by the number of each
 
 fn ask_open(image: &[u8]) {
@@ -89,7 +94,7 @@ fn ask_open(image: &[u8]) {
         b"open",
         reply(o.answer, o.count, place),
         sum_icb(root),
-        sum(&name),
+        sum_label(name),
     );
 }
 
@@ -222,6 +227,10 @@ fn volume_in(head: &[u8]) -> Volume {
             start: le32(head, 0),
             partition: le16(head, 4),
             checked: 0,
+            maps: 0,
+            volumes: [0; 4],
+            numbers: [0; 4],
+            starts: [0; 4],
         },
         root: long_at(head, 6),
         label: [0; 32],

@@ -6,11 +6,10 @@ use mathlib.Core.Option.{Option, none, some}
 use native.Mathlib.Omega.{arith}
 use lib.Dec.{leb, eqb}
 use borrow.Author.Tests.{eq-eqb, eqb-true, le-leb, lt-leb}
-use Rattle.disc.proofs.PickLaws.{not-both, picked}
+use Rattle.disc.proofs.PickLaws.{not-both}
 use Rattle.disc.specs.Choice.{pick}
-use Rattle.disc.specs.Places.{sectorOf, placed, icbPlaced}
+use Rattle.disc.specs.Places.{sectorOf, startFor, icbStart, crossing, placed, icbPlaced}
 use Rattle.disc.specs.declared.places.Mount.{Mount}
-use Rattle.disc.specs.declared.places.PartitionRef.{PartitionRef}
 use Rattle.disc.specs.declared.places.PartitionRef.the-variants.{Unnamed, Named}
 use Rattle.tags.specs.Tags.{ofVolume, ofPartition, listed, placeOf, isPlace, inPlace}
 use Rattle.tags.specs.declared.DescriptorTag.{DescriptorTag}
@@ -68,35 +67,39 @@ place-unlisted t e sector block = by (ofVolume (t .id)) (ofPartition (t .id)) e
     by false true q = not-both (sym q)
     by false false q = refl
 
--- ---- a tag that the crossing places: block b of a partition that starts at m .start is sector m .start + b
+-- ---- a tag that the crossing places: block b of a partition that starts at `start` is sector start + b
 
-pub record Crossed (m : Mount) (t : DescriptorTag) (block sector : ℕ) : Type 0 where
+pub record Crossed (start : ℕ) (t : DescriptorTag) (block sector : ℕ) : Type 0 where
   pub of-partition : 256 ≤ t .id → t .id ≤ 266 → (inPlace t sector block ≡ true → t .location ≡ block) × (t .location ≡ block → inPlace t sector block ≡ true)
   pub of-volume : 1 ≤ t .id → t .id ≤ 9
-      → (inPlace t sector block ≡ true → t .location ≡ m .start + block) × (t .location ≡ m .start + block → inPlace t sector block ≡ true)
+      → (inPlace t sector block ≡ true → t .location ≡ start + block) × (t .location ≡ start + block → inPlace t sector block ≡ true)
 
 module _ (m : Mount) (t : DescriptorTag) (block : ℕ) where
-  crossed-at : {sector : ℕ} → sector ≡ m .start + block → Crossed m t block sector
-  crossed-at {sector} e =
+  crossed-at : {start sector : ℕ} → sector ≡ start + block → Crossed start t block sector
+  crossed-at {start} {sector} e =
       record {
         of-partition = λ l h. (block-only t sector block l h, block-enough t sector block l h);
         of-volume = λ l h. ((λ p. sector-only t sector block l h p ∙ e), (λ p. sector-enough t sector block l h (p ∙ sym e)));
       }
 
-  -- under the reference that a descriptor gives
-  pub placed-crossed : (r : PartitionRef) {sector : ℕ} → placed m r block ≡ some sector → Crossed m t block sector
+  crossed-by : (o : Option ℕ) {start sector : ℕ} → o ≡ some start → crossing block o ≡ some sector → sector ≡ start + block
+  crossed-by none f e = absurd (let z : _≡_ {A = ℕ} 0 1 = cc in omega arith)
+  crossed-by (some s) {start} {sector} f e = let p : s ≡ start = cc in let q : sector ≡ s + block = cc in q ∙ rw p
+
+  -- where a descriptor names no partition, that of its entry
+  pub unnamed-crossed : {sector : ℕ} → placed m Unnamed block ≡ some sector → Crossed (m .start) t block sector
   unfolding placed
-  placed-crossed Unnamed {sector} e = crossed-at (by e)
+  unnamed-crossed {sector} e = crossed-at (by e)
     where
-      by : some (sectorOf m block) ≡ some sector → sector ≡ m .start + block
-      by q = cc
-  placed-crossed (Named p) {sector} e =
-      crossed-at (by (picked (λ a. a ≡ some sector) (eqb p (m .partition)) (some (sectorOf m block)) none e (λ f. let z : _≡_ {A = ℕ} 0 1 = cc in omega arith) .1))
-    where
-      by : some (sectorOf m block) ≡ some sector → sector ≡ m .start + block
+      by : some (sectorOf (m .start) block) ≡ some sector → sector ≡ m .start + block
       by q = cc
 
+  -- under the reference that it gives
+  pub placed-crossed : (p : ℕ) {start sector : ℕ} → startFor m p ≡ some start → placed m (Named p) block ≡ some sector → Crossed start t block sector
+  unfolding placed
+  placed-crossed p f e = crossed-at (crossed-by (startFor m p) f e)
+
   -- and of an ICB
-  pub icb-crossed : Crossed m t block (icbPlaced m block)
+  pub icb-crossed : (p : ℕ) {start sector : ℕ} → icbStart m p ≡ some start → icbPlaced m p block ≡ some sector → Crossed start t block sector
   unfolding icbPlaced
-  icb-crossed = crossed-at refl
+  icb-crossed p f e = crossed-at (crossed-by (icbStart m p) f e)

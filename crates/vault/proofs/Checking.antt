@@ -210,11 +210,11 @@ module _ (image : List ℕ) (v : VolumeRecord) (c : isChecked (v .mount) ≡ tru
 -- ---- opening and the label
 
 -- the choice with the check, and without
-abbrev pub checkedBy : Bool → How
-checkedBy h = record { highest = h; checked = true }
+abbrev pub checkedBy : Bool → Bool → How
+checkedBy h maps = record { highest = h; checked = true; maps = maps }
 
-abbrev pub plainBy : Bool → How
-plainBy h = record { highest = h; checked = false }
+abbrev pub plainBy : Bool → Bool → How
+plainBy h maps = record { highest = h; checked = false; maps = maps }
 
 -- an opening without the check, as it is with it: the volume says that it is checked
 abbrev pub asOpened : Opened → Opened
@@ -224,31 +224,31 @@ opened-as : (n : ℕ) (o : Outcome VolumeRecord) → openedBy n (andThen o (λ v
 opened-as n (answered v) = refl
 opened-as n (refused why) = rw (ne-eqb (number why) 0 (refusal-numbered why))
 
-module _ (image : List ℕ) (h : Bool) where
-  pub opened-10 : eqb (opens image (checkedBy h) .answer) 10 ≡ wrongOn (opening-guards h) image
+module _ (image : List ℕ) (h maps : Bool) where
+  pub opened-10 : eqb (opens image (checkedBy h maps) .answer) 10 ≡ wrongOn (opening-guards h maps) image
   unfolding ran
-  opened-10 = open-10 _ (outcome (disc image) (opening (checkedBy h))) ∙ guards-bad (opening-guards h) (disc image)
+  opened-10 = open-10 _ (outcome (disc image) (opening (checkedBy h maps))) ∙ guards-bad (opening-guards h maps) (disc image)
 
-  pub open-checked : (opens image (checkedBy h) .answer ≡ 10 → ⊥) → opens image (checkedBy h) ≡ asOpened (opens image (plainBy h))
+  pub open-checked : (opens image (checkedBy h maps) .answer ≡ 10 → ⊥) → opens image (checkedBy h maps) ≡ asOpened (opens image (plainBy h maps))
   unfolding ran
   open-checked n =
-      ap openedOf (run ∙ ran-known (disc image) (opening (plainBy h)) (λ v. answered (asChecked v)))
-      ∙ opened-as (reported (ran (disc image) (opening (plainBy h)) .count)) (ran (disc image) (opening (plainBy h)) .outcome)
+      ap openedOf (run ∙ ran-known (disc image) (opening (plainBy h maps)) (λ v. answered (asChecked v)))
+      ∙ opened-as (reported (ran (disc image) (opening (plainBy h maps)) .count)) (ran (disc image) (opening (plainBy h maps)) .outcome)
     where
-      run : ran (disc image) (opening (checkedBy h)) ≡ ran (disc image) (then (opening (plainBy h)) (λ v. done (asChecked v)))
-      run = same-run (opening-guards h) image (sym (open-10 _ (outcome (disc image) (opening (checkedBy h)))) ∙ ne-eqb _ 10 n)
+      run : ran (disc image) (opening (checkedBy h maps)) ≡ ran (disc image) (then (opening (plainBy h maps)) (λ v. done (asChecked v)))
+      run = same-run (opening-guards h maps) image (sym (open-10 _ (outcome (disc image) (opening (checkedBy h maps)))) ∙ ne-eqb _ 10 n)
 
-  pub label-10 : (out : List ℕ) → eqb (labels image (checkedBy h) out .reply .answer) 10 ≡ wrongOn (labelling-guards h) image
+  pub label-10 : (out : List ℕ) → eqb (labels image (checkedBy h maps) out .reply .answer) 10 ≡ wrongOn (labelling-guards h maps) image
   unfolding ran
-  label-10 out = reply-10 NoRoom (λ e. omega arith) (length out) _ (outcome (disc image) (labelling (checkedBy h))) ∙ guards-bad (labelling-guards h) (disc image)
+  label-10 out = reply-10 NoRoom (λ e. omega arith) (length out) _ (outcome (disc image) (labelling (checkedBy h maps))) ∙ guards-bad (labelling-guards h maps) (disc image)
 
-  pub label-checked : (out : List ℕ) → (labels image (checkedBy h) out .reply .answer ≡ 10 → ⊥) → labels image (checkedBy h) out ≡ labels image (plainBy h) out
+  pub label-checked : (out : List ℕ) → (labels image (checkedBy h maps) out .reply .answer ≡ 10 → ⊥) → labels image (checkedBy h maps) out ≡ labels image (plainBy h maps) out
   unfolding ran
   label-checked out n =
       ap (written out)
-      (same-run (labelling-guards h) image
-      (sym (reply-10 NoRoom (λ e. omega arith) (length out) _ (outcome (disc image) (labelling (checkedBy h)))) ∙ ne-eqb _ 10 n))
+      (same-run (labelling-guards h maps) image
+      (sym (reply-10 NoRoom (λ e. omega arith) (length out) _ (outcome (disc image) (labelling (checkedBy h maps)))) ∙ ne-eqb _ 10 n))
 
   -- the label asks for a front of the same list
-  pub label-front : Front (asked (disc image) (labelling (checkedBy h))) (asked (disc image) (labelling (plainBy h)))
-  label-front = guards-front (labelling-guards h) (disc image)
+  pub label-front : Front (asked (disc image) (labelling (checkedBy h maps))) (asked (disc image) (labelling (plainBy h maps)))
+  label-front = guards-front (labelling-guards h maps) (disc image)

@@ -1,6 +1,6 @@
 -- Which refusals the tree of each call says by itself: 2, 3 and 4, 6 where a directory is read into the work space, 9 where a component is to match
 -- one entry alone, and 10 where bodies are checked. So 1 is given exactly when a sector is missing, and 5 and 7 exactly when memory is short. Assumes nothing.
-use mathlib.Core.Path.{_≡_, refl, sym, subst}
+use mathlib.Core.Path.{_≡_, refl, sym, subst, _∙_}
 use mathlib.Core.Bool.{Bool, true, false}
 use mathlib.Core.List.{List, [], _∷_}
 use mathlib.Core.Option.{Option, none, some}
@@ -18,6 +18,7 @@ use Rattle.disc.specs.Images.{sectors, sectorsFor}
 use Rattle.disc.specs.declared.refusals.Refusal.{Refusal}
 use Rattle.disc.specs.declared.refusals.Refusal.the-variants.{Malformed, NotBluray, Unsupported, NoWork, Ambiguous, BadCrc}
 use Rattle.disc.proofs.OnlyLaws.{Refuses, done-only, refuse-only, ask-only, pick-only, then-only, Any}
+use Rattle.disc.proofs.PlaceLaws.{entry-checked}
 use Rattle.records.specs.Bytes.{u16at}
 use Rattle.records.specs.declared.allocations.LongAd.{LongAd}
 use Rattle.names.proofs.Promises.{field-refused}
@@ -48,13 +49,14 @@ use Rattle.entries.proofs.EntryLaws.{read-entry-refused}
 use Rattle.volumes.specs.declared.openings.How.{How}
 use Rattle.volumes.specs.declared.openings.VolumeRecord.{VolumeRecord}
 use Rattle.volumes.specs.declared.sequences.Kept.{Kept}
-use Rattle.volumes.specs.Sequences.{nothing, Parsed, orderOf, keptOf, Says, primaryIn, partitionIn, logicalIn, saysIn, goOn, scan}
+use Rattle.volumes.specs.Sequences.{nothing, Parsed, orderOf, keptOf, Says, primaryIn, partitionIn, logicalIn, saysIn, goOn, scan, anyPartition}
 use Rattle.volumes.specs.Sequences.Says.{found, passed, over, fails}
-use Rattle.volumes.specs.Openings.{fileSetIn, volumeIn, mounting, anchored, opening}
+use Rattle.volumes.specs.Openings.{mountOf, fileSetIn, volumeIn, mountingOf, anchored, opening}
+use Rattle.volumes.proofs.MapLaws.{mount-refuses}
 use Rattle.volumes.specs.Labels.{labelOf, labelling}
 use Rattle.chains.specs.Chains.{areaIn, nextArea, continued, areaFrom}
 use Rattle.files.specs.Reads.{joining, extentBytes, extentsBytes}
-use Rattle.files.specs.Files.{Located, located, entryAt, isEmbedded, chainOf, fileBytes, filePart, fileExtents, File, resolved, fileAt, contentOf}
+use Rattle.files.specs.Files.{Located, located, entryAt, entryMount, isEmbedded, chainOf, fileBytes, filePart, fileExtents, File, resolved, fileAt, contentOf}
 use Rattle.listings.specs.Entries.{Entry, entries}
 use Rattle.listings.specs.Listings.{records, listing, foldIn, allNamed, chosen, findIn}
 use Rattle.listings.specs.declared.matchings.Matching.{Matching}
@@ -146,11 +148,13 @@ module _ (P : Refusal → Type 0) (malformed : P Malformed) (unsupported : P Uns
 
   entry-only : (m : Mount) → (isChecked m ≡ true → P BadCrc) → (icb : LongAd) → Refuses P Any (entryAt m icb)
   unfolding entryAt
-  entry-only m crc icb = pick-only (eqb (icb .length) 0) (refuse-only malformed) (ask-only (λ s. by s (readEntry (isChecked m) s) refl))
+  entry-only m crc icb =
+      pick-only (eqb (icb .length) 0) (refuse-only malformed)
+      (standing-only (icbPlaced m (icb .location .«partition_ref») (icb .location .block)) (λ at. ask-only (λ s. by at s (readEntry (isChecked m) s) refl)))
     where
-      by : (s : List ℕ) (x : EntryRead) → x ≡ readEntry (isChecked m) s → Refuses P Any (located (icbPlaced m (icb .location .block)) s x)
-      by s (Read e) h = done-only tt
-      by s (NoEntry r) h = refuse-only (read-entry-refused (isChecked m) s P malformed crc h refl)
+      by : (at : ℕ) (s : List ℕ) (x : EntryRead) → x ≡ readEntry (isChecked m) s → Refuses P Any (located at s x)
+      by at s (Read e) h = done-only tt
+      by at s (NoEntry r) h = refuse-only (read-entry-refused (isChecked m) s P malformed crc h refl)
 
   chain-only : (m : Mount) → (isChecked m ≡ true → P BadCrc) → (x : Located) → Refuses P Any (chainOf m x)
   chain-only m crc x =
@@ -158,15 +162,17 @@ module _ (P : Refusal → Type 0) (malformed : P Malformed) (unsupported : P Uns
 
   file-only : (m : Mount) → (isChecked m ≡ true → P BadCrc) → (icb : LongAd) → Refuses P Any (fileAt m icb)
   unfolding fileAt
-  file-only m crc icb = then-only (entry-only m crc icb) (λ x q. pick-only (isEmbedded x) (done-only tt) (then-only (chain-only m crc x) (λ es u. done-only tt)))
+  file-only m crc icb =
+      let own : isChecked (entryMount m icb) ≡ true → P BadCrc = λ c. crc (sym (entry-checked m (icb .location .«partition_ref»)) ∙ c) in
+      then-only (entry-only m crc icb) (λ x q. pick-only (isEmbedded x) (done-only tt) (then-only (chain-only (entryMount m icb) own x) (λ es u. done-only tt)))
 
   pub bytes-only : (m : Mount) → (isChecked m ≡ true → P BadCrc) → (icb : LongAd) → Refuses P Any (fileBytes m icb)
   unfolding fileBytes
   bytes-only m crc icb = then-only (file-only m crc icb) (λ f q. by f)
     where
-      by : (f : File) → Refuses P Any (contentOf m f)
+      by : (f : File) → Refuses P Any (contentOf (entryMount m icb) f)
       by (embedded x) = done-only tt
-      by (chained x es) = extents-only m es (x .entry .«information_length»)
+      by (chained x es) = extents-only (entryMount m icb) es (x .entry .«information_length»)
 
   pub part-only : (m : Mount) → (isChecked m ≡ true → P BadCrc) → (icb : LongAd) → Refuses P Any (filePart m icb)
   unfolding filePart
@@ -216,22 +222,29 @@ module _ (P : Refusal → Type 0) (malformed : P Malformed) (missing : P NotBlur
   scan-only check crc zero at = done-only tt
   scan-only check crc (suc n) at = ask-only (λ b. found-only (saysIn check b) _ (scan-only check crc n (at + 1)) (says-only check crc b))
 
-  mounting-only : (check : Bool) → (check ≡ true → P BadCrc) → (k : Kept) → Refuses P Any (mounting check k)
-  unfolding mounting
-  mounting-only check crc k =
+  mount-only : (how : How) (ps : List Parsed) (k : Kept) → Refuses P Any (ended (mountOf how ps k))
+  mount-only how ps k = by (mountOf how ps k) refl
+    where
+      by : (x : Outcome Mount) → mountOf how ps k ≡ x → Refuses P Any (ended x)
+      by (answered m) e = done-only tt
+      by (refused r) e = refuse-only (mount-refuses P malformed unsupported how ps k e)
+
+  mounting-only : (how : How) → (how .checked ≡ true → P BadCrc) → (ps : List Parsed) (k : Kept) → Refuses P Any (mountingOf how ps k)
+  unfolding mountingOf
+  mounting-only how crc ps k =
       pick-only (k .«has_primary»)
       (pick-only (k .«has_partition»)
       (pick-only (k .«has_logical»)
       (pick-only (eqb (k .«block_size») 2048)
-      (standing-only P malformed unsupported (fileSetIn check k) (λ s. ask-only (λ b. by b (readFileSet check b) refl)))
+      (then-only (mount-only how ps k) (λ m q. standing-only P malformed unsupported (fileSetIn m k) (λ s. ask-only (λ b. by m b (readFileSet (how .checked) b) refl))))
       (refuse-only unsupported))
       (refuse-only missing))
       (refuse-only missing))
       (refuse-only missing)
     where
-      by : (b : List ℕ) (x : Outcome FileSetDescriptor) → readFileSet check b ≡ x → Refuses P Any (ended (volumeIn check k x))
-      by b (answered d) e = done-only tt
-      by b (refused r) e = refuse-only (file-set-refused check b P malformed crc e)
+      by : (m : Mount) (b : List ℕ) (x : Outcome FileSetDescriptor) → readFileSet (how .checked) b ≡ x → Refuses P Any (ended (volumeIn m k x))
+      by m b (answered d) e = done-only tt
+      by m b (refused r) e = refuse-only (file-set-refused (how .checked) b P malformed crc e)
 
   pub opening-only : (how : How) → (how .checked ≡ true → P BadCrc) → Refuses P Any (opening how)
   unfolding opening
@@ -239,7 +252,7 @@ module _ (P : Refusal → Type 0) (malformed : P Malformed) (missing : P NotBlur
     where
       by : (b : List ℕ) (x : AnchorRead) → x ≡ readAnchor (how .checked) b → Refuses P Any (anchored how x)
       by b (NoAnchor r) e = refuse-only (anchor-refused (how .checked) b P malformed crc e refl)
-      by b (AnAnchor a) e = then-only (scan-only (how .checked) crc _ _) (λ ps q. mounting-only (how .checked) crc (keptOf (orderOf how) nothing ps))
+      by b (AnAnchor a) e = then-only (scan-only (how .checked) crc _ _) (λ ps q. mounting-only how crc ps (keptOf (orderOf how) anyPartition nothing ps))
 
   pub label-only : (how : How) → (how .checked ≡ true → P BadCrc) → Refuses P Any (labelling how)
   unfolding labelling

@@ -7,7 +7,7 @@ use mathlib.Core.List.{List, []}
 use mathlib.Core.Logic.{inl}
 use native.Mathlib.Omega.{arith}
 use lib.Dec.{eqb}
-use borrow.Author.Tests.{eqb-true, eqb-false, ne-eqb}
+use borrow.Author.Tests.{ne-eqb}
 use Rattle.disc.specs.declared.replies.Reply.{Reply}
 use Rattle.records.specs.Allocations.{noLong}
 use Rattle.volumes.specs.Openings.{usual, noVolume}
@@ -26,11 +26,8 @@ module _ (n : ℕ) {r : Choice} where
   pub choice-high : (n / 8 ≡ 0 → ⊥) → r ≡ Unknown → r ≡ choiceOf (howOf n)
   choice-high h e = rw (ne-eqb (n / 8) 0 h) e
 
-  pub choice-low : n / 8 ≡ 0 → (n / 2 % 2 ≡ 0 → ⊥) → r ≡ Unknown → r ≡ choiceOf (howOf n)
-  choice-low h l e = rw (h, ne-eqb (n / 2 % 2) 0 l) e
-
-  pub choice-known : n / 8 ≡ 0 → n / 2 % 2 ≡ 0 → r ≡ Known (record { highest = eqb (n / 4) 1; checked = eqb (n % 2) 1 }) → r ≡ choiceOf (howOf n)
-  choice-known h l e = rw (h, l) e
+  pub choice-known : n / 8 ≡ 0 → r ≡ Known (record { highest = eqb (n / 4) 1; checked = eqb (n % 2) 1; maps = eqb (n / 2 % 2) 1 }) → r ≡ choiceOf (howOf n)
+  choice-known h e = rw h e
 
 -- ---- the calls
 
@@ -64,57 +61,34 @@ module _ (image : List ℕ) (n : ℕ) {c : Choice} (q : c ≡ choiceOf (howOf n)
         by (some other) p = let s : how ≡ other = cc in rw (← s) e
         by none p = absurd (let z : _≡_ {A = ℕ} 0 1 = cc in omega arith)
 
--- ---- what a number comes to: 0 is the default, 1 that bodies are checked, 4 the highest number, 5 both, and every other one is refused
+-- ---- what a number comes to: 0 is the default, 1 that bodies are checked, 2 that references go through the maps, 4 the highest number, their sums all that
+-- are in it, and every number from 8 on is refused
 
 pub none-chosen : howOf 0 ≡ some usual
 none-chosen = refl
 
-pub checked-chosen : howOf 1 ≡ some (record { highest = false; checked = true })
+pub checked-chosen : howOf 1 ≡ some (record { highest = false; checked = true; maps = false })
 checked-chosen = refl
 
-pub highest-chosen : howOf 4 ≡ some (record { highest = true; checked = false })
+pub maps-chosen : howOf 2 ≡ some (record { highest = false; checked = false; maps = true })
+maps-chosen = refl
+
+pub highest-chosen : howOf 4 ≡ some (record { highest = true; checked = false; maps = false })
 highest-chosen = refl
 
-pub both-chosen : howOf 5 ≡ some (record { highest = true; checked = true })
-both-chosen = refl
+pub all-chosen : howOf 7 ≡ some (record { highest = true; checked = true; maps = true })
+all-chosen = refl
 
--- a number below 8 whose middle bit is clear, by its other two
-module _ (n : ℕ) (h : n / 8 ≡ 0) (l : n / 2 % 2 ≡ 0) where
-  is-0 : n / 4 ≡ 0 → n % 2 ≡ 0 → n ≡ 0
-  is-0 a b = omega arith
-
-  is-1 : n / 4 ≡ 0 → (n % 2 ≡ 0 → ⊥) → n ≡ 1
-  is-1 a b = omega arith
-
-  is-4 : (n / 4 ≡ 0 → ⊥) → n % 2 ≡ 0 → n ≡ 4
-  is-4 a b = omega arith
-
-  is-5 : (n / 4 ≡ 0 → ⊥) → (n % 2 ≡ 0 → ⊥) → n ≡ 5
-  is-5 a b = omega arith
-
-pub no-other : (n : ℕ) → (n ≡ 0 → ⊥) → (n ≡ 1 → ⊥) → (n ≡ 4 → ⊥) → (n ≡ 5 → ⊥) → howOf n ≡ none
-no-other n p q f g = by (eqb (n / 8) 0) refl
-  where
-    among : n / 8 ≡ 0 → n / 2 % 2 ≡ 0 → ⊥
-    among h l = bits (eqb (n / 4) 0) (eqb (n % 2) 0) refl refl
-      where
-        bits : (a b : Bool) → eqb (n / 4) 0 ≡ a → eqb (n % 2) 0 ≡ b → ⊥
-        bits true true i j = p (is-0 n h l (eqb-true (n / 4) 0 i) (eqb-true (n % 2) 0 j))
-        bits true false i j = q (is-1 n h l (eqb-true (n / 4) 0 i) (eqb-false (n % 2) 0 j))
-        bits false true i j = f (is-4 n h l (eqb-false (n / 4) 0 i) (eqb-true (n % 2) 0 j))
-        bits false false i j = g (is-5 n h l (eqb-false (n / 4) 0 i) (eqb-false (n % 2) 0 j))
-
-    by : (t : Bool) → eqb (n / 8) 0 ≡ t → howOf n ≡ none
-    by true e = let h = eqb-true (n / 8) 0 e in rw (h, ne-eqb (n / 2 % 2) 0 (among h))
-    by false e = rw e
+pub no-other : (n : ℕ) → 8 ≤ n → howOf n ≡ none
+no-other n h = rw (ne-eqb (n / 8) 0 (λ e. omega arith))
 
 -- so with every other number nothing is asked for, and every value and every byte is as a refusal has it
-module _ (image : List ℕ) (n : ℕ) (p : n ≡ 0 → ⊥) (q : n ≡ 1 → ⊥) (f : n ≡ 4 → ⊥) (g : n ≡ 5 → ⊥) where
+module _ (image : List ℕ) (n : ℕ) (h : 8 ≤ n) where
   pub open-other : opensAs image n ≡ record { answer = 4; count = 0; volume = noVolume }
-  open-other = ap (opensBy image) (no-other n p q f g)
+  open-other = ap (opensBy image) (no-other n h)
 
   pub label-other : (out : List ℕ) → labelsAs image n out ≡ record { reply = record { answer = 4; count = 0; length = 0 }; out = out }
-  label-other out = ap (λ o. labelsBy image o out) (no-other n p q f g)
+  label-other out = ap (λ o. labelsBy image o out) (no-other n h)
 
 -- ---- whatever number is handed in, the answer is of the table, and a refusal has zeros and leaves the output as it came
 

@@ -12,14 +12,9 @@ use Rattle.vault.specs.Calls.{opens, Written, labels}
 use Rattle.vault_c.specs.declared.choices.Choice.{Choice}
 use Rattle.vault_c.specs.declared.choices.Choice.the-variants.{Known, Unknown}
 
--- 1 chooses that bodies are checked, 4 the highest number; the bit 2, and those from 8 on, are of no choice
+-- 1 chooses that bodies are checked, 2 that references go through the maps, 4 the highest number; the bits from 8 on are of no choice
 abbrev pub howOf : ℕ → Option How
-howOf n =
-    pick (eqb (n / 8) 0)
-    (pick (eqb (n / 2 % 2) 0)
-    (some (record { highest = eqb (n / 4) 1; checked = eqb (n % 2) 1 }))
-    none)
-    none
+howOf n = pick (eqb (n / 8) 0) (some (record { highest = eqb (n / 4) 1; checked = eqb (n % 2) 1; maps = eqb (n / 2 % 2) 1 })) none
 
 -- ---- the calls: a number with a bit of no choice is refused by 4, and nothing is asked for
 

@@ -7,6 +7,10 @@ use volumes::openings::How;
 // says, or the call is refused by VAULT_BAD_CRC.
 pub const CHECKED: u32 = 1;
 
+// A choice for `how`: the partition references of descriptors and ICBs are indices into the logical volume's partition maps, of which there may be four,
+// all of type 1. Without it they are compared with the partition's number, and those of ICBs aren't looked at.
+pub const MAPS: u32 = 2;
+
 // A choice for `how`: of several primary volume, partition or logical volume descriptors the one with the highest volume descriptor
 // sequence number counts, the later of equals. Without it the last one does.
 pub const HIGHEST: u32 = 4;
@@ -23,11 +27,9 @@ pub(crate) fn chosen(how: u32) -> Choice
     if how / 8 != 0 {
         return Choice::Unknown;
     }
-    if how / 2 % 2 != 0 {
-        return Choice::Unknown;
-    }
     Choice::Known(How {
         highest: how / HIGHEST == 1,
         checked: how % 2 == CHECKED,
+        maps: how / 2 % 2 == 1,
     })
 }

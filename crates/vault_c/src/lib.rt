@@ -48,12 +48,12 @@ pub const VAULT_AS_WRITTEN: u32 = AS_WRITTEN;
 pub const VAULT_UNAMBIGUOUS: u32 = UNAMBIGUOUS;
 
 // Goes up whenever a struct or a call changes.
-pub const VAULT_VERSION: u32 = 5;
+pub const VAULT_VERSION: u32 = 6;
 
 // The VAULT_VERSION of the archive, which is to be that of the header.
 #[no_mangle]
 pub extern "C" fn vault_version() -> u32
-    ensures { λ r. ⌜ r ≡ 5 ⌝ }
+    ensures { λ r. ⌜ r ≡ 6 ⌝ }
 {
     VAULT_VERSION
 }
@@ -67,7 +67,7 @@ pub extern "C" fn vault_probe(image: &[u8]) -> bool
 }
 
 // Opens the volume of an image. `how` is the sum of the choices, 0 for none of them; any other bit is VAULT_UNSUPPORTED with a count of 0.
-// A volume that is opened with VAULT_CHECKED says so in its mount, and every call on it checks; of the others it holds no trace.
+// A volume that is opened with VAULT_CHECKED or VAULT_MAPS says so in its mount, and every call on it goes by that; of VAULT_HIGHEST it holds no trace.
 #[no_mangle]
 pub extern "C" fn vault_open(image: &[u8], how: u32) -> Opened
     ensures { λ r. ⌜ r ≡ opensAs (now (image .entry)) how ⌝ }
@@ -161,7 +161,9 @@ pub extern "C" fn vault_part(
     volume.part_at(image, icb, part_at)
 }
 
-// The extents of a file, in the order in which they are read, one to a slot of `row`; `length` is how many. An embedded file has none.
+// The extents of a file, in the order in which they are read, one to a slot of `row`; `length` is how many. An embedded file has none. An extent's partition
+// is the reference as it is recorded. Its first sector is its block and the partition's start, added: where the mount has no maps that is `start`; where it
+// has, it is the reference's in `starts`, and for 65,536, none, that of the ICB's reference.
 #[no_mangle]
 pub extern "C" fn vault_extents(
     volume: Volume,

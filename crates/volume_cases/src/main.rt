@@ -121,6 +121,7 @@ fn by_highest() -> How {
     How {
         highest: true,
         checked: false,
+        maps: false,
     }
 }
 

@@ -4,15 +4,16 @@ use mathlib.Core.Path.{_≡_, refl, ap, _∙_, fun-ext}
 use mathlib.Core.Bool.{Bool, true, false, not}
 use mathlib.Core.List.{List, _∷_}
 use mathlib.Core.Option.{Option, none, some}
-use Prim.Native.Nat.{ℕ, zero, suc, _+_}
+use Prim.Native.Nat.{ℕ, zero, suc, _+_, _*_}
 use native.Mathlib.Omega.{arith}
-use lib.Dec.{eqb}
+use lib.ListN.{getD}
+use lib.Dec.{eqb, ltb}
 use Rattle.disc.specs.Choice.{pick}
 use Rattle.disc.specs.Refusals.{number}
 use Rattle.disc.specs.Ask.{Disc, Ask, Outcome, outcome, then, ended}
 use Rattle.disc.specs.Ask.Ask.{done, refuse, ask}
 use Rattle.disc.specs.Ask.Outcome.{answered, refused}
-use Rattle.disc.specs.Places.{placed, standing, isChecked}
+use Rattle.disc.specs.Places.{mappedStart, startFor, placed, standing, isChecked}
 use Rattle.disc.specs.declared.places.Mount.{Mount}
 use Rattle.disc.specs.declared.refusals.Refusal.{Refusal}
 use Rattle.disc.specs.declared.refusals.Refusal.the-variants.{Malformed, NotBluray, Unsupported}
@@ -31,10 +32,11 @@ use Rattle.descriptors.proofs.AnswerLaws.{primary-behind-refused, logical-behin
 use Rattle.volumes.specs.declared.sequences.Kept.{Kept}
 use Rattle.volumes.specs.declared.openings.VolumeRecord.{VolumeRecord}
 use Rattle.volumes.specs.declared.openings.How.{How}
-use Rattle.volumes.specs.Sequences.{nothing, Parsed, orderOf, keptOf, Says, primaryIn, partitionIn, logicalIn, saysIn, goOn, scan}
+use Rattle.volumes.specs.Sequences.{nothing, Parsed, orderOf, anyPartition, keptOf, Says, primaryIn, partitionIn, logicalIn, saysIn, goOn, scan}
 use Rattle.volumes.specs.Sequences.Says.{found, passed, over, fails}
-use Rattle.volumes.specs.Openings.{fileSetIn, volumeIn, mounting, anchored, opening}
+use Rattle.volumes.specs.Openings.{mountIn, startOfNumber, mapStarts, eachOf, fileSetRef, mountBy, mountedBy, mappedMount, mountOf, fileSetIn, volumeIn, fileSetOn, mountingOf, mounting, anchored, opening}
 use Rattle.volumes.specs.Labels.{labelOf, labelling}
+use Rattle.volumes.proofs.MapLaws.{starts-same, mount-refuses, mount-says}
 use Rattle.volumes.proofs.Promises.{opened-made}
 
 -- what is malformed has no wrong body
@@ -100,64 +102,113 @@ scan-guards (suc n) at = ask-guards at (λ b. turn-guards b (scan-guards n (at +
 
 -- ---- opening
 
--- the volume, with bodies checked in every call on it
+-- a mount, and a volume, with bodies checked in every call
+abbrev pub checkedMount : Mount → Mount
+checkedMount m = record {
+  start = m .start;
+  partition = m .partition;
+  checked = 1;
+  maps = m .maps;
+  volumes = m .volumes;
+  numbers = m .numbers;
+  starts = m .starts;
+}
+
 abbrev pub asChecked : VolumeRecord → VolumeRecord
-asChecked v = record { mount = record { start = v .mount .start; partition = v .mount .partition; checked = 1 }; root = v .root; label = v .label }
+asChecked v = record { mount = checkedMount (v .mount); root = v .root; label = v .label }
 
 -- a call that opens without the check, and says that bodies are checked
 abbrev marked : Ask VolumeRecord → Ask VolumeRecord
 marked m = then m (λ v. done (asChecked v))
 
+-- the choice with bodies checked, or not
+abbrev choice : Bool → Bool → Bool → How
+choice h maps check = record { highest = h; checked = check; maps = maps }
+
+-- how the volume is read is the same, but that it says so
+abbrev mountChecked : Outcome Mount → Outcome Mount
+mountChecked (answered m) = answered (checkedMount m)
+mountChecked (refused r) = refused r
+
+module _ (h maps : Bool) (ps : List Parsed) (k : Kept) where
+  starts-checked : mapStarts (choice h maps true) ps k (k .«map_count») ≡ mapStarts (choice h maps false) ps k (k .«map_count»)
+  unfolding startOfNumber
+  starts-checked = starts-same (choice h maps true) (choice h maps false) ps (λ number. refl) (k .maps) 0 (k .«map_count»)
+
+  mounted-checked : (o : Option (List ℕ)) → mountedBy true k o ≡ mountChecked (mountedBy false k o)
+  mounted-checked none = refl
+  mounted-checked (some l) = by (ltb (fileSetRef k) (k .«map_count»))
+    where
+      by : (t : Bool) → pick t (answered (mountBy true k (eachOf (k .«map_count») (λ i. getD l i 0)))) (refused Unsupported)
+          ≡ mountChecked (pick t (answered (mountBy false k (eachOf (k .«map_count») (λ i. getD l i 0)))) (refused Unsupported))
+      by true = refl
+      by false = refl
+
+  mount-checked : mountOf (choice h maps true) ps k ≡ mountChecked (mountOf (choice h maps false) ps k)
+  unfolding mountOf mappedMount
+  mount-checked = rw (starts-checked, mounted-checked (mapStarts (choice h maps false) ps k (k .«map_count»)))
+      (by maps (ltb 4 (k .«map_count»)) (ltb (k .«map_table_length») (6 * k .«map_count»)) (ltb 2048 (440 + k .«map_table_length»)) (mountedBy false k (mapStarts (choice h maps false) ps k (k .«map_count»))))
+    where
+      by : (t a b c : Bool) (x : Outcome Mount)
+          → pick t (pick a (refused Unsupported) (pick b (refused Malformed) (pick c (refused Malformed) (mountChecked x)))) (answered (mountIn true k))
+          ≡ mountChecked (pick t (pick a (refused Unsupported) (pick b (refused Malformed) (pick c (refused Malformed) x))) (answered (mountIn false k)))
+      by false a b c x = refl
+      by true true b c x = refl
+      by true false true c x = refl
+      by true false false true x = refl
+      by true false false false x = refl
+
 -- what was kept, by its tests, and then m
 abbrev tests : Bool → Bool → Bool → Bool → Ask VolumeRecord → Ask VolumeRecord
 tests t u v w m = pick t (pick u (pick v (pick w m (refuse Unsupported)) (refuse NotBluray)) (refuse NotBluray)) (refuse NotBluray)
 
-mounting-guards : (k : Kept) → Guards rightAt (mounting true k) (marked (mounting false k))
-unfolding mounting then placed readFileSet
-mounting-guards k = by (k .«has_primary») (k .«has_partition») (k .«has_logical») (eqb (k .«block_size») 2048)
+mounting-guards : (h maps : Bool) (ps : List Parsed) (k : Kept) → Guards rightAt (mountingOf (choice h maps true) ps k) (marked (mountingOf (choice h maps false) ps k))
+unfolding mountingOf then placed startFor mappedStart readFileSet
+mounting-guards h maps ps k =
+    rw (mount-checked h maps ps k) (by (k .«has_primary») (k .«has_partition») (k .«has_logical») (eqb (k .«block_size») 2048))
   where
-    set : (b : List ℕ) → Guards rightAt (ended (volumeIn true k (readFileSet true b))) (marked (ended (volumeIn false k (readFileSet false b))))
-    set b =
-        gate-guards b 256 416 (λ r. ended (volumeIn true k (gated r (λ t. answered (fileSetOf b t)))))
-        (λ r. marked (ended (volumeIn false k (gated r (λ t. answered (fileSetOf b t)))))) (λ r. refl) (λ r. refl) (λ t. done-guards _)
+    set : (m : Mount) (b : List ℕ) → Guards rightAt (ended (volumeIn (checkedMount m) k (readFileSet true b))) (marked (ended (volumeIn m k (readFileSet false b))))
+    set m b =
+        gate-guards b 256 416 (λ r. ended (volumeIn (checkedMount m) k (gated r (λ t. answered (fileSetOf b t)))))
+        (λ r. marked (ended (volumeIn m k (gated r (λ t. answered (fileSetOf b t)))))) (λ r. refl) (λ r. refl) (λ t. done-guards _)
 
-    stands : (o : Option ℕ)
-        → Guards rightAt (standing o (λ s. ask s (λ b. ended (volumeIn true k (readFileSet true b)))))
-        (marked (standing o (λ s. ask s (λ b. ended (volumeIn false k (readFileSet false b))))))
-    stands none = refuse-guards Unsupported (λ e. omega arith)
-    stands (some s) = ask-guards s set
+    stands : (m : Mount) (o : Option ℕ)
+        → Guards rightAt (standing o (λ s. ask s (λ b. ended (volumeIn (checkedMount m) k (readFileSet true b)))))
+        (marked (standing o (λ s. ask s (λ b. ended (volumeIn m k (readFileSet false b))))))
+    stands m none = refuse-guards Unsupported (λ e. omega arith)
+    stands m (some s) = ask-guards s (set m)
+
+    mounted : (x : Outcome Mount) → ((r : Refusal) → x ≡ refused r → ButBad r) → Guards rightAt (then (ended (mountChecked x)) (fileSetOn true k)) (marked (then (ended x) (fileSetOn false k)))
+    mounted (answered m) f = stands m (fileSetIn m k)
+    mounted (refused r) f = refuse-guards r (f r refl)
 
     by : (t u v w : Bool)
-        → Guards rightAt (tests t u v w (standing (fileSetIn true k) (λ s. ask s (λ b. ended (volumeIn true k (readFileSet true b))))))
-        (marked (tests t u v w (standing (fileSetIn false k) (λ s. ask s (λ b. ended (volumeIn false k (readFileSet false b)))))))
-    by true true true true = stands (fileSetIn true k)
+        → Guards rightAt (tests t u v w (then (ended (mountChecked (mountOf (choice h maps false) ps k))) (fileSetOn true k)))
+        (marked (tests t u v w (then (ended (mountOf (choice h maps false) ps k)) (fileSetOn false k))))
+    by true true true true = mounted (mountOf (choice h maps false) ps k) (λ r. mount-refuses ButBad (λ e. omega arith) (λ e. omega arith) (choice h maps false) ps k)
     by true true true false = refuse-guards Unsupported (λ e. omega arith)
     by true true false w = refuse-guards NotBluray (λ e. omega arith)
     by true false v w = refuse-guards NotBluray (λ e. omega arith)
     by false u v w = refuse-guards NotBluray (λ e. omega arith)
 
--- the choice with bodies checked, or not
-abbrev choice : Bool → Bool → How
-choice h check = record { highest = h; checked = check }
-
-pub opening-guards : (h : Bool)
-    → Guards rightAt (opening (record { highest = h; checked = true })) (then (opening (record { highest = h; checked = false })) (λ v. done (asChecked v)))
+pub opening-guards : (h maps : Bool)
+    → Guards rightAt (opening (record { highest = h; checked = true; maps = maps })) (then (opening (record { highest = h; checked = false; maps = maps })) (λ v. done (asChecked v)))
 unfolding opening readAnchor then
-opening-guards h = ask-guards 256 (λ b. by b)
+opening-guards h maps = ask-guards 256 (λ b. by b)
   where
-    led : (n at : ℕ) → Guards rightAt (then (scan true n at) (λ ps. mounting true (keptOf (orderOf (choice h true)) nothing ps)))
-        (marked (then (scan false n at) (λ ps. mounting false (keptOf (orderOf (choice h false)) nothing ps))))
+    led : (n at : ℕ) → Guards rightAt (then (scan true n at) (mounting (choice h maps true))) (marked (then (scan false n at) (mounting (choice h maps false))))
     led n at =
-        rw (then-then (scan false n at) (λ ps. mounting false (keptOf (orderOf (choice h false)) nothing ps)) (λ v. done (asChecked v)))
-        (then-guards (scan-guards n at) (λ ps. mounting-guards (keptOf (orderOf (choice h false)) nothing ps)))
+        rw (then-then (scan false n at) (mounting (choice h maps false)) (λ v. done (asChecked v)))
+        (then-guards (scan-guards n at) (λ ps. mounting-guards h maps ps (keptOf (orderOf (choice h maps false)) anyPartition nothing ps)))
 
-    by : (b : List ℕ) → Guards rightAt (anchored (choice h true) (readAnchor true b)) (marked (anchored (choice h false) (readAnchor false b)))
-    by b = gate-guards b 2 32 (λ r. anchored (choice h true) (anchorAfter b r)) (λ r. marked (anchored (choice h false) (anchorAfter b r))) (λ r. refl) (λ r. refl) (λ t. led _ _)
+    by : (b : List ℕ) → Guards rightAt (anchored (choice h maps true) (readAnchor true b)) (marked (anchored (choice h maps false) (readAnchor false b)))
+    by b =
+        gate-guards b 2 32 (λ r. anchored (choice h maps true) (anchorAfter b r)) (λ r. marked (anchored (choice h maps false) (anchorAfter b r))) (λ r. refl) (λ r. refl) (λ t. led _ _)
 
 -- an opened volume says whether bodies are checked, as was chosen: every call on it goes by that
 module _ (d : Disc) (how : How) {v : VolumeRecord} (e : outcome d (opening how) ≡ answered v) where
   pub opened-checked : v .mount .checked ≡ pick (how .checked) 1 0
-  opened-checked = ap (λ (m : Mount). m .checked) (opened-made d how e .made .mounted)
+  opened-checked = let m = opened-made d how e .made .mounted in mount-says how _ _ m
 
   pub opened-is-checked : isChecked (v .mount) ≡ how .checked
   opened-is-checked = ap (λ n. not (eqb n 0)) opened-checked ∙ by (how .checked)
@@ -168,11 +219,12 @@ module _ (d : Disc) (how : How) {v : VolumeRecord} (e : outcome d (opening how) 
 
 -- ---- the label
 
-pub labelling-guards : (h : Bool) → Guards rightAt (labelling (record { highest = h; checked = true })) (labelling (record { highest = h; checked = false }))
+pub labelling-guards : (h maps : Bool)
+    → Guards rightAt (labelling (record { highest = h; checked = true; maps = maps })) (labelling (record { highest = h; checked = false; maps = maps }))
 unfolding labelling then
-labelling-guards h =
-    let g = then-guards (opening-guards h) (λ v. named v (labelOf v) refl) in
-    rw (then-then (opening (choice h false)) (λ v. done (asChecked v)) (λ v. ended (labelOf v))) at g
+labelling-guards h maps =
+    let g = then-guards (opening-guards h maps) (λ v. named v (labelOf v) refl) in
+    rw (then-then (opening (choice h maps false)) (λ v. done (asChecked v)) (λ v. ended (labelOf v))) at g
   where
     named : (v : VolumeRecord) (x : Outcome (List ℕ)) → labelOf v ≡ x → Guards rightAt (ended x) (ended x)
     named v (answered name) e = done-guards name

@@ -1,6 +1,7 @@
 -- Laws of the calls on an image, and what is promised of them.
 pub mod TurnLaws
 pub mod SequenceLaws
+pub mod MapLaws
 pub mod OpeningLaws
 pub mod LabelLaws
 pub mod NamedLaws

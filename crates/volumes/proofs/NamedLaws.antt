@@ -12,6 +12,7 @@ use Rattle.disc.specs.Ask.Held.{holds, lacks}
 use Rattle.disc.specs.Ask.Ask.{done, refuse, ask}
 use Rattle.disc.specs.Ask.Outcome.{answered, refused}
 use Rattle.disc.specs.Places.{standing}
+use Rattle.disc.specs.declared.places.Mount.{Mount}
 use Rattle.disc.specs.declared.refusals.Refusal.{Refusal}
 use Rattle.disc.specs.declared.refusals.Refusal.the-variants.{Io, NotBluray, Unsupported}
 use Rattle.disc.proofs.OnlyLaws.{Only, only-then}
@@ -31,10 +32,10 @@ use Rattle.descriptors.proofs.AnswerLaws.{primary-good}
 use Rattle.volumes.specs.declared.sequences.Kept.{Kept}
 use Rattle.volumes.specs.declared.openings.VolumeRecord.{VolumeRecord}
 use Rattle.volumes.specs.declared.openings.How.{How}
-use Rattle.volumes.specs.Sequences.{nothing, Parsed, Order, orderOf, counts, replacing, prevailing, keptOf, Says, primaryIn, partitionIn, logicalIn, saysIn, goOn, scan}
+use Rattle.volumes.specs.Sequences.{nothing, Parsed, Order, orderOf, anyPartition, counts, replacing, prevailing, keptOf, Says, primaryIn, partitionIn, logicalIn, saysIn, goOn, scan}
 use Rattle.volumes.specs.Sequences.Parsed.{primary, partition, logical}
 use Rattle.volumes.specs.Sequences.Says.{found, passed, over, fails}
-use Rattle.volumes.specs.Openings.{fileSetIn, volumeIn, mounting, anchored, opening}
+use Rattle.volumes.specs.Openings.{mountOf, fileSetIn, volumeIn, fileSetOn, mountingOf, mounting, anchored, opening}
 
 -- ---- a tree that answers with nothing but what is Q
 
@@ -81,13 +82,13 @@ replacing-named k (primary d) h l = l
 replacing-named k (partition d) h l = h
 replacing-named k (logical d) h l = h
 
-prevailing-named : (o : Order) (k : Kept) (p : Parsed) → Named (k .label) → Labelled p → Named (prevailing o k p .label)
-prevailing-named o k p h l = pick-both (λ (x : Kept). Named (x .label)) (counts o k p) (replacing-named k p h l) h
+prevailing-named : (o : Order) (w : ℕ → Bool) (k : Kept) (p : Parsed) → Named (k .label) → Labelled p → Named (prevailing o w k p .label)
+prevailing-named o w k p h l = pick-both (λ (x : Kept). Named (x .label)) (counts o w k p) (replacing-named k p h l) h
 
-kept-named : (o : Order) (k : Kept) (ps : List Parsed) → Named (k .label) → AllLabelled ps → Named (keptOf o k ps .label)
+kept-named : (o : Order) (w : ℕ → Bool) (k : Kept) (ps : List Parsed) → Named (k .label) → AllLabelled ps → Named (keptOf o w k ps .label)
 unfolding keptOf AllLabelled
-kept-named o k [] h l = h
-kept-named o k (p ∷ ps) h l = kept-named o (prevailing o k p) ps (prevailing-named o k p h (l .0)) (l .1)
+kept-named o w k [] h l = h
+kept-named o w k (p ∷ ps) h l = kept-named o w (prevailing o w k p) ps (prevailing-named o w k p h (l .0)) (l .1)
 
 -- ---- the sequence
 
@@ -133,20 +134,24 @@ scan-labelled check (suc n) at = λ b. by b (saysIn check b) refl (scan-labelled
 abbrev pub Titled : VolumeRecord → Type 0
 Titled v = Named (v .label)
 
-mounting-named : (check : Bool) (k : Kept) → Named (k .label) → Answers Titled (mounting check k)
-unfolding Only mounting
-mounting-named check k h = by (k .«has_primary») (k .«has_partition») (k .«has_logical») (eqb (k .«block_size») 2048)
+mounting-named : (how : How) (ps : List Parsed) (k : Kept) → Named (k .label) → Answers Titled (mountingOf how ps k)
+unfolding Only mountingOf then
+mounting-named how ps k h = by (k .«has_primary») (k .«has_partition») (k .«has_logical») (eqb (k .«block_size») 2048)
   where
-    set : (x : Outcome FileSetDescriptor) → Answers Titled (ended (volumeIn check k x))
-    set (answered d) = h
-    set (refused r) = tt
+    set : (m : Mount) (x : Outcome FileSetDescriptor) → Answers Titled (ended (volumeIn m k x))
+    set m (answered d) = h
+    set m (refused r) = tt
 
-    stands : (o : Option ℕ) → Answers Titled (standing o (λ s. ask s (λ b. ended (volumeIn check k (readFileSet check b)))))
-    stands none = tt
-    stands (some s) = λ b. set (readFileSet check b)
+    stands : (m : Mount) (o : Option ℕ) → Answers Titled (standing o (λ s. ask s (λ b. ended (volumeIn m k (readFileSet (how .checked) b)))))
+    stands m none = tt
+    stands m (some s) = λ b. set m (readFileSet (how .checked) b)
 
-    by : (t u v w : Bool) → Answers Titled (pick t (pick u (pick v (pick w (standing (fileSetIn check k) (λ s. ask s (λ b. ended (volumeIn check k (readFileSet check b))))) (refuse Unsupported)) (refuse NotBluray)) (refuse NotBluray)) (refuse NotBluray))
-    by true true true true = stands (fileSetIn check k)
+    mounted : (x : Outcome Mount) → Answers Titled (then (ended x) (fileSetOn (how .checked) k))
+    mounted (answered m) = stands m (fileSetIn m k)
+    mounted (refused r) = tt
+
+    by : (t u v w : Bool) → Answers Titled (pick t (pick u (pick v (pick w (then (ended (mountOf how ps k)) (fileSetOn (how .checked) k)) (refuse Unsupported)) (refuse NotBluray)) (refuse NotBluray)) (refuse NotBluray))
+    by true true true true = mounted (mountOf how ps k)
     by true true true false = tt
     by true true false w = tt
     by true false v w = tt
@@ -159,5 +164,5 @@ opening-named how = λ b. by (readAnchor (how .checked) b)
     by : (x : AnchorRead) → Answers Titled (anchored how x)
     by (NoAnchor r) = tt
     by (AnAnchor a) =
-        only-then (λ why. Unit {0}) AllLabelled Titled (scan (how .checked) _ _) (λ ps. mounting (how .checked) (keptOf (orderOf how) nothing ps)) (scan-labelled (how .checked) _ _)
-        (λ ps l. mounting-named (how .checked) (keptOf (orderOf how) nothing ps) (kept-named (orderOf how) nothing ps nothing-named l))
+        only-then (λ why. Unit {0}) AllLabelled Titled (scan (how .checked) _ _) (mounting how) (scan-labelled (how .checked) _ _)
+        (λ ps l. mounting-named how ps (keptOf (orderOf how) anyPartition nothing ps) (kept-named (orderOf how) anyPartition nothing ps nothing-named l))

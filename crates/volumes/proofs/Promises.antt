@@ -1,6 +1,6 @@
 -- What is promised of the calls on an image, beside their contracts: a contract leaves one result, how many sectors are asked for, and
 -- that nothing but those decides. Assumes nothing.
-use mathlib.Core.Path.{_≡_, refl, ap, sym, _∙_}
+use mathlib.Core.Path.{_≡_, refl, ap, sym, _∙_, fun-ext}
 use mathlib.Core.Bool.{Bool, true, false}
 use mathlib.Core.Option.{Option, none, some}
 use mathlib.Core.List.{List, [], _∷_, _++_, append-nil}
@@ -8,6 +8,7 @@ use Prim.Native.Nat.{ℕ, _+_, _/_, _<_, _≤_}
 use native.Mathlib.Omega.{arith}
 use lib.ListN.{length}
 use lib.Dec.{eqb}
+use borrow.Author.Tests.{eqb-true}
 use Rattle.disc.specs.Choice.{pick}
 use Rattle.disc.specs.Counts.{reported}
 use Rattle.disc.specs.Ask.{Held, Disc, Ask, Outcome, outcome, asked, then, given, ended, Agree}
@@ -16,21 +17,25 @@ use Rattle.disc.specs.Ask.Held.{holds, lacks}
 use Rattle.disc.specs.Ask.Outcome.{answered, refused}
 use Rattle.disc.specs.Images.{disc}
 use Rattle.disc.specs.Ran.{Ran, ran, onward, followed}
-use Rattle.disc.specs.Places.{standing}
+use Rattle.disc.specs.Places.{startFor, crossing, placed, standing}
 use Rattle.disc.specs.Replies.{Replied}
+use Rattle.disc.specs.declared.places.Mount.{Mount}
 use Rattle.disc.specs.declared.refusals.Refusal.{Refusal}
 use Rattle.disc.specs.declared.refusals.Refusal.the-variants.{Io, NotBluray, Unsupported, NoRoom}
 use Rattle.disc.specs.declared.replies.Reply.{Reply}
+use Rattle.disc.proofs.PickLaws.{not-both, picked}
 use Rattle.disc.proofs.AskLaws.{askedBehind, asked-then}
-use Rattle.disc.proofs.RanLaws.{ran-missing, ran-then, same-ran}
+use Rattle.disc.proofs.RanLaws.{ran-missing, ran-then, same-ran, never}
 use Rattle.disc.proofs.ReplyLaws.{replied-one, same-replied}
 use Rattle.descriptors.specs.Volumes.{readAnchor}
 use Rattle.descriptors.specs.FileSets.{readFileSet}
 use Rattle.descriptors.specs.declared.file_sets.FileSetDescriptor.{FileSetDescriptor}
+use Rattle.descriptors.specs.declared.partitions.PartitionDescriptor.{PartitionDescriptor}
 use Rattle.descriptors.specs.declared.anchors.AnchorRead.{AnchorRead}
 use Rattle.descriptors.specs.declared.anchors.AnchorRead.the-variants.{Read as AnAnchor, Refused as NoAnchor}
-use Rattle.volumes.specs.Sequences.{nothing, Parsed, highest, orderOf, keptOf, scan}
-use Rattle.volumes.specs.Openings.{noVolume, mountIn, fileSetIn, volumeIn, mounting, anchored, opening, openedBy, openedOf}
+use Rattle.volumes.specs.Sequences.{nothing, Parsed, Order, latest, highest, orderOf, anyPartition, keptOf, scan}
+use Rattle.volumes.specs.Sequences.Parsed.{primary, partition, logical}
+use Rattle.volumes.specs.Openings.{noVolume, mountIn, startIn, startOfNumber, fileSetRef, mappedMount, mountOf, fileSetIn, volumeIn, fileSetOn, mountingOf, mounting, anchored, opening, openedBy, openedOf}
 use Rattle.volumes.specs.Labels.{labelOf, labelling}
 use Rattle.volumes.specs.inner.Steps.{fileSetAt}
 use Rattle.volumes.specs.declared.sequences.Kept.{Kept}
@@ -38,8 +43,9 @@ use Rattle.volumes.specs.declared.openings.VolumeRecord.{VolumeRecord}
 use Rattle.volumes.specs.declared.openings.Opened.{Opened}
 use Rattle.volumes.specs.declared.openings.How.{How}
 use Rattle.volumes.proofs.OpeningLaws.{ask-count, mainLengthIn, anchored-count}
+use Rattle.volumes.proofs.MapLaws.{starts-same, unmapped-mount, Mapped, mapped-mount}
 use Rattle.volumes.proofs.NamedLaws.{refused-before, opening-named}
-use Rattle.volumes.proofs.Prevailing.{Kind, hasOf, Prevails, highest-prevails, Rising, rising-order}
+use Rattle.volumes.proofs.Prevailing.{Kind, kindOf, numberOf, hasOf, Keeps, Every, Prevails, highest-prevails, Rising, wantedIn, highest-wanted, latest-wanted, kept-number, rising-order}
 use Rattle.volumes.proofs.Prevailing.Kind.{primaries, partitions, logicals}
 
 -- ---- a contract leaves one result
@@ -137,7 +143,7 @@ sequence check = ask 256 (λ b. sequenceIn check (readAnchor check b))
 
 -- what a choice makes of the list of descriptors
 abbrev pub chosen : How → List Parsed → Ask VolumeRecord
-chosen how ps = mounting (how .checked) (keptOf (orderOf how) nothing ps)
+chosen how ps = mounting how ps
 
 pub opening-is : (how : How) → opening how ≡ then (sequence (how .checked)) (chosen how)
 unfolding opening sequence then
@@ -166,14 +172,38 @@ scan-same d how = record {
     lists : asked d (opening how) ≡ asked d (sequence (how .checked)) ++ askedBehind d (outcome d (sequence (how .checked))) (chosen how)
     lists = ap (asked d) (opening-is how) ∙ asked-then d (sequence (how .checked)) (chosen how)
 
--- where each kind's numbers never fall along the sequence, two choices that check bodies alike open the same volume, ask for the same sectors, or
--- refuse the same
-module _ (d : Disc) (how how′ : How) (alike : how .checked ≡ how′ .checked) {ps : List Parsed} (e : outcome d (sequence (how .checked)) ≡ answered ps) (r : Rising ps) where
+-- what two choices make of it that keep the same of every list of wanted descriptors, check bodies alike and go through the maps alike
+module _ (how how′ : How) (ps : List Parsed) (k : Kept) (alike : how .checked ≡ how′ .checked) (mapped : how .maps ≡ how′ .maps)
+    (same : (number : ℕ) → startOfNumber how ps number ≡ startOfNumber how′ ps number) where
+  mapped-same : mappedMount how ps k ≡ mappedMount how′ ps k
+  unfolding mappedMount
+  mapped-same = rw (starts-same how how′ ps same (k .maps) 0 (k .«map_count»), alike)
+
+  mount-same : mountOf how ps k ≡ mountOf how′ ps k
+  unfolding mountOf
+  mount-same = λ i. pick (mapped i) (mapped-same i) (answered (mountIn (alike i) k))
+
+  mounting-same : mountingOf how ps k ≡ mountingOf how′ ps k
+  unfolding mountingOf
+  mounting-same =
+      ap (λ (m : Ask VolumeRecord). pick (k .«has_primary») (pick (k .«has_partition») (pick (k .«has_logical») (pick (eqb (k .«block_size») 2048) m (refuse Unsupported)) (refuse NotBluray)) (refuse NotBluray)) (refuse NotBluray))
+      (λ i. then (ended (mount-same i)) (fileSetOn (alike i) k))
+
+-- where each kind's numbers never fall along the sequence, two choices that check bodies alike and go through the maps alike open the same volume,
+-- ask for the same sectors, or refuse the same
+module _ (d : Disc) (how how′ : How) (alike : how .checked ≡ how′ .checked) (mapped : how .maps ≡ how′ .maps) {ps : List Parsed} (e : outcome d (sequence (how .checked)) ≡ answered ps)
+    (r : Rising ps) where
   abbrev here : Ask (List Parsed)
   here = sequence (how .checked)
 
+  rising-starts : (number : ℕ) → startOfNumber how ps number ≡ startOfNumber how′ ps number
+  unfolding startOfNumber
+  rising-starts number = ap startIn (rising-order how (eqb number) ps r ∙ sym (rising-order how′ (eqb number) ps r))
+
   rising-chosen : chosen how ps ≡ chosen how′ ps
-  rising-chosen = λ i. mounting (alike i) ((rising-order how ps r ∙ sym (rising-order how′ ps r)) i)
+  rising-chosen =
+      ap (mountingOf how ps) (rising-order how anyPartition ps r ∙ sym (rising-order how′ anyPartition ps r))
+      ∙ mounting-same how how′ ps (keptOf (orderOf how′) anyPartition nothing ps) alike mapped rising-starts
 
   rising-behind : askedBehind d (outcome d here) (chosen how) ≡ askedBehind d (outcome d here) (chosen how′)
   rising-behind = rw (e, rising-chosen)
@@ -198,32 +228,37 @@ module _ (d : Disc) (how how′ : How) (alike : how .checked ≡ how′ .checked
 -- ---- what an opened volume is made of
 
 -- of what was kept, there being one of each kind
-pub record Mounted (check : Bool) (k : Kept) (v : VolumeRecord) : Type 0 where
+pub record Mounted (how : How) (ps : List Parsed) (k : Kept) (v : VolumeRecord) : Type 0 where
   pub has : (kind : Kind) → hasOf kind k ≡ true
-  pub mounted : v .mount ≡ mountIn check k
+  pub mounted : mountOf how ps k ≡ answered (v .mount)
   pub labelled : v .label ≡ k .label
 
--- behind the checks of what was kept: where the file set descriptor stands, its sector, and its parse
-module _ (check : Bool) (d : Disc) (k : Kept) {v : VolumeRecord} (all : (kind : Kind) → hasOf kind k ≡ true) where
-  made-of : (x : Outcome FileSetDescriptor) → outcome d (ended (volumeIn check k x)) ≡ answered v → Mounted check k v
+-- behind the checks of what was kept: how the volume is read, where the file set descriptor stands, its sector, and its parse
+module _ (how : How) (ps : List Parsed) (d : Disc) (k : Kept) {v : VolumeRecord} (all : (kind : Kind) → hasOf kind k ≡ true) where
+  made-of : (m : Mount) → mountOf how ps k ≡ answered m → (x : Outcome FileSetDescriptor) → outcome d (ended (volumeIn m k x)) ≡ answered v → Mounted how ps k v
   unfolding outcome
-  made-of (answered f) e =
-      let w : record { mount = mountIn check k; root = f .«root_directory_icb»; label = k .label } ≡ v = cc in
-      record { has = all; mounted = sym (ap (λ (x : VolumeRecord). x .mount) w); labelled = sym (ap (λ (x : VolumeRecord). x .label) w) }
-  made-of (refused why) e = absurd (let z : _≡_ {A = ℕ} 0 1 = cc in omega arith)
+  made-of m q (answered f) e =
+      let w : record { mount = m; root = f .«root_directory_icb»; label = k .label } ≡ v = cc in
+      record { has = all; mounted = q ∙ ap (λ (x : VolumeRecord). answered (x .mount)) w; labelled = sym (ap (λ (x : VolumeRecord). x .label) w) }
+  made-of m q (refused why) e = never e
 
-  made-in : (x : Held) → given x (λ b. outcome d (ended (volumeIn check k (readFileSet check b)))) (refused Io) ≡ answered v → Mounted check k v
-  made-in (holds b) e = made-of (readFileSet check b) e
-  made-in lacks e = absurd (let z : _≡_ {A = ℕ} 0 1 = cc in omega arith)
+  made-in : (m : Mount) → mountOf how ps k ≡ answered m → (x : Held) → given x (λ b. outcome d (ended (volumeIn m k (readFileSet (how .checked) b)))) (refused Io) ≡ answered v → Mounted how ps k v
+  made-in m q (holds b) e = made-of m q (readFileSet (how .checked) b) e
+  made-in m q lacks e = never e
 
-  made-at : (o : Option ℕ) → outcome d (standing o (fileSetAt check k)) ≡ answered v → Mounted check k v
+  made-at : (m : Mount) → mountOf how ps k ≡ answered m → (o : Option ℕ) → outcome d (standing o (fileSetAt (how .checked) k m)) ≡ answered v → Mounted how ps k v
   unfolding outcome
-  made-at none e = absurd (let z : _≡_ {A = ℕ} 0 1 = cc in omega arith)
-  made-at (some s) e = made-in (d s) e
+  made-at m q none e = never e
+  made-at m q (some s) e = made-in m q (d s) e
 
-mounting-made : (check : Bool) (d : Disc) (k : Kept) {v : VolumeRecord} → outcome d (mounting check k) ≡ answered v → Mounted check k v
-unfolding mounting outcome
-mounting-made check d k {v} = by (k .«has_primary») (k .«has_partition») (k .«has_logical») (eqb (k .«block_size») 2048) refl refl refl
+  made-by : (x : Outcome Mount) → mountOf how ps k ≡ x → outcome d (then (ended x) (fileSetOn (how .checked) k)) ≡ answered v → Mounted how ps k v
+  unfolding outcome then
+  made-by (answered m) q e = made-at m q (fileSetIn m k) e
+  made-by (refused r) q e = never e
+
+mounting-made : (how : How) (ps : List Parsed) (d : Disc) (k : Kept) {v : VolumeRecord} → outcome d (mountingOf how ps k) ≡ answered v → Mounted how ps k v
+unfolding mountingOf outcome
+mounting-made how ps d k {v} = by (k .«has_primary») (k .«has_partition») (k .«has_logical») (eqb (k .«block_size») 2048) refl refl refl
   where
     all : k .«has_primary» ≡ true → k .«has_partition» ≡ true → k .«has_logical» ≡ true → (kind : Kind) → hasOf kind k ≡ true
     all p q r primaries = p
@@ -231,29 +266,136 @@ mounting-made check d k {v} = by (k .«has_primary») (k .«has_partition») (k 
     all p q r logicals = r
 
     by : (t u w x : Bool) → k .«has_primary» ≡ t → k .«has_partition» ≡ u → k .«has_logical» ≡ w
-        → outcome d (pick t (pick u (pick w (pick x (standing (fileSetIn check k) (fileSetAt check k)) (refuse Unsupported)) (refuse NotBluray)) (refuse NotBluray)) (refuse NotBluray)) ≡ answered v
-        → Mounted check k v
-    by true true true true p q r e = made-at check d k (all p q r) (fileSetIn check k) e
-    by true true true false p q r e = absurd (let z : _≡_ {A = ℕ} 0 1 = cc in omega arith)
-    by true true false x p q r e = absurd (let z : _≡_ {A = ℕ} 0 1 = cc in omega arith)
-    by true false w x p q r e = absurd (let z : _≡_ {A = ℕ} 0 1 = cc in omega arith)
-    by false u w x p q r e = absurd (let z : _≡_ {A = ℕ} 0 1 = cc in omega arith)
+        → outcome d (pick t (pick u (pick w (pick x (then (ended (mountOf how ps k)) (fileSetOn (how .checked) k)) (refuse Unsupported)) (refuse NotBluray)) (refuse NotBluray)) (refuse NotBluray)) ≡ answered v
+        → Mounted how ps k v
+    by true true true true p q r e = made-by how ps d k (all p q r) (mountOf how ps k) refl e
+    by true true true false p q r e = never e
+    by true true false x p q r e = never e
+    by true false w x p q r e = never e
+    by false u w x p q r e = never e
 
 -- of a list of descriptors, by the order that was chosen
 pub record Made (d : Disc) (how : How) (v : VolumeRecord) : Type 0 where
   pub parsed : List Parsed
   pub scanned : outcome d (sequence (how .checked)) ≡ answered parsed
-  pub made : Mounted (how .checked) (keptOf (orderOf how) nothing parsed) v
+  pub made : Mounted how parsed (keptOf (orderOf how) anyPartition nothing parsed) v
 
 pub opened-made : (d : Disc) (how : How) {v : VolumeRecord} → outcome d (opening how) ≡ answered v → Made d how v
 unfolding ran
 opened-made d how {v} e = by (outcome d (sequence (how .checked))) refl (sym (ap (λ (r : Ran VolumeRecord). r .outcome) (opening-runs d how)) ∙ e)
   where
     by : (x : Outcome (List Parsed)) → outcome d (sequence (how .checked)) ≡ x → onward x (length (asked d (sequence (how .checked)))) (λ ps. ran d (chosen how ps)) .outcome ≡ answered v → Made d how v
-    by (answered ps) s h = record { parsed = ps; scanned = s; made = mounting-made (how .checked) d (keptOf (orderOf how) nothing ps) h }
-    by (refused why) s h = absurd (let z : _≡_ {A = ℕ} 0 1 = cc in omega arith)
+    by (answered ps) s h = record { parsed = ps; scanned = s; made = mounting-made how ps d (keptOf (orderOf how) anyPartition nothing ps) h }
+    by (refused why) s h = never h
 
 -- so the volume that is opened by the highest numbers has its label and its partition of the descriptors that prevail by them
-pub highest-opened : (check : Bool) (d : Disc) {v : VolumeRecord} (m : Made d (record { highest = true; checked = check }) v) (kind : Kind)
-    → Prevails (λ n o. n ≤ o) (λ n o. n < o) kind (m .parsed) (keptOf highest nothing (m .parsed))
-highest-opened check d m kind = highest-prevails kind (m .parsed) (m .made .has kind)
+pub highest-opened : (check maps : Bool) (d : Disc) {v : VolumeRecord} (m : Made d (record { highest = true; checked = check; maps = maps }) v) (kind : Kind)
+    → Prevails (λ n o. n ≤ o) (λ n o. n < o) kind (m .parsed) (keptOf highest anyPartition nothing (m .parsed))
+highest-opened check maps d m kind = highest-prevails kind (m .parsed) (m .made .has kind)
+
+-- ---- without maps nothing is changed
+
+-- the original's opening behind the sequence: the file set descriptor's reference is compared with the number of the partition that was kept
+abbrev pub ownMounting : Bool → Kept → Ask VolumeRecord
+ownMounting check k =
+    pick (k .«has_primary»)
+    (pick (k .«has_partition»)
+    (pick (k .«has_logical»)
+    (pick (eqb (k .«block_size») 2048)
+    (pick (eqb (fileSetRef k) (k .«partition_number»))
+    (ask (k .«partition_start» + k .«file_set» .location .block) (λ b. ended (volumeIn (mountIn check k) k (readFileSet check b))))
+    (refuse Unsupported))
+    (refuse Unsupported))
+    (refuse NotBluray))
+    (refuse NotBluray))
+    (refuse NotBluray)
+
+module _ (how : How) (h : how .maps ≡ false) where
+  own-file-set : (k : Kept) → fileSetOn (how .checked) k (mountIn (how .checked) k)
+      ≡ pick (eqb (fileSetRef k) (k .«partition_number»)) (ask (k .«partition_start» + k .«file_set» .location .block) (λ b. ended (volumeIn (mountIn (how .checked) k) k (readFileSet (how .checked) b)))) (refuse Unsupported)
+  unfolding placed startFor
+  own-file-set k = by (eqb (fileSetRef k) (k .«partition_number»))
+    where
+      by : (t : Bool) → standing (crossing (k .«file_set» .location .block) (pick t (some (k .«partition_start»)) none)) (fileSetAt (how .checked) k (mountIn (how .checked) k))
+          ≡ pick t (ask (k .«partition_start» + k .«file_set» .location .block) (λ b. ended (volumeIn (mountIn (how .checked) k) k (readFileSet (how .checked) b)))) (refuse Unsupported)
+      by true = refl
+      by false = refl
+
+  own-mounting : (ps : List Parsed) (k : Kept) → mountingOf how ps k ≡ ownMounting (how .checked) k
+  unfolding mountingOf then
+  own-mounting ps k = rw (unmapped-mount how ps k h, own-file-set k)
+
+  pub opening-unmapped : opening how ≡ then (sequence (how .checked)) (λ ps. ownMounting (how .checked) (keptOf (orderOf how) anyPartition nothing ps))
+  opening-unmapped = opening-is how ∙ ap (then (sequence (how .checked))) (fun-ext (λ ps. own-mounting ps (keptOf (orderOf how) anyPartition nothing ps)))
+
+  -- the volume's record has no maps
+  pub opened-unmapped : (d : Disc) {v : VolumeRecord} (m : Made d how v) → v .mount ≡ mountIn (how .checked) (keptOf (orderOf how) anyPartition nothing (m .parsed))
+  opened-unmapped d {v} m =
+      let k = keptOf (orderOf how) anyPartition nothing (m .parsed) in
+      let e : answered (v .mount) ≡ answered (mountIn (how .checked) k) = sym (m .made .mounted) ∙ unmapped-mount how (m .parsed) k h in
+      cc
+
+-- ---- through the maps
+
+-- the volume's record has the maps of the logical volume descriptor that prevails, each with the start of its number's partition (`Mapped`)
+pub opened-mapped : (how : How) → how .maps ≡ true → (d : Disc) {v : VolumeRecord} (m : Made d how v) → Mapped how (m .parsed) (keptOf (orderOf how) anyPartition nothing (m .parsed)) (v .mount)
+opened-mapped how h d m = mapped-mount how (m .parsed) (keptOf (orderOf how) anyPartition nothing (m .parsed)) h (m .made .mounted)
+
+-- where the partition of a number starts is said by one of the descriptors of that number: those before it, without the descriptors of other partitions,
+-- have numbers Before its own, and those behind it Behind it
+pub record Started (Before Behind : ℕ → ℕ → Type 0) (ps : List Parsed) (number start : ℕ) : Type 0 where
+  pub before : List Parsed
+  pub descriptor : PartitionDescriptor
+  pub behind : List Parsed
+  pub stands : wantedIn (eqb number) ps ≡ before ++ (partition descriptor ∷ behind)
+  pub numbered : descriptor .«partition_number» ≡ number
+  pub starts : descriptor .«partition_starting_location» ≡ start
+  pub over-before : Every partitions (λ n. Before n (descriptor .«volume_descriptor_sequence_number»)) before
+  pub over-behind : Every partitions (λ n. Behind n (descriptor .«volume_descriptor_sequence_number»)) behind
+
+module _ (Before Behind : ℕ → ℕ → Type 0) (ps : List Parsed) (number : ℕ) {start : ℕ} where
+  started-by : (k : Kept) → Prevails Before Behind partitions (wantedIn (eqb number) ps) k → eqb number (k .«partition_number») ≡ true → k .«partition_start» ≡ start → Started Before Behind ps number start
+  started-by k w n e = by (w .one) (w .stands) (w .of-kind) (w .keeps) (w .over-before) (w .over-behind)
+    where
+      by : (p : Parsed) → wantedIn (eqb number) ps ≡ w .before ++ (p ∷ w .behind) → kindOf p ≡ partitions → Keeps k p
+          → Every partitions (λ n. Before n (numberOf p)) (w .before) → Every partitions (λ n. Behind n (numberOf p)) (w .behind) → Started Before Behind ps number start
+      by (primary d) s q h x y = absurd (let z : _≡_ {A = ℕ} 0 1 = cc in omega arith)
+      by (partition d) s q h x y =
+          record {
+            before = w .before;
+            descriptor = d;
+            behind = w .behind;
+            stands = s;
+            numbered = sym (h .2) ∙ sym (eqb-true number (k .«partition_number») n);
+            starts = sym (h .3) ∙ e;
+            over-before = x;
+            over-behind = y;
+          }
+      by (logical d) s q h x y = absurd (let z : _≡_ {A = ℕ} 0 1 = cc in omega arith)
+
+  -- what was kept of a number, by an order
+  started-of : (o : Order) → ((e : keptOf o (eqb number) nothing ps .«has_partition» ≡ true) → Prevails Before Behind partitions (wantedIn (eqb number) ps) (keptOf o (eqb number) nothing ps))
+      → startIn (keptOf o (eqb number) nothing ps) ≡ some start → Started Before Behind ps number start
+  started-of o f e =
+      let k = keptOf o (eqb number) nothing ps in
+      let p = picked (λ (x : Option ℕ). x ≡ some start) (k .«has_partition») (some (k .«partition_start»)) none e (λ z. let w : _≡_ {A = ℕ} 0 1 = cc in omega arith) in
+      let s : k .«partition_start» ≡ start = let q = p .1 in cc in
+      started-by k (f (p .0)) (kept-number o (eqb number) ps (p .0)) s
+
+-- by the highest number among them, and of equal ones the later; by the default the last one
+module _ (how : How) (ps : List Parsed) (number : ℕ) {start : ℕ} (e : startOfNumber how ps number ≡ some start) where
+  pub highest-started : how .highest ≡ true → Started (λ n m. n ≤ m) (λ n m. n < m) ps number start
+  unfolding startOfNumber
+  highest-started h = by (how .highest) h e
+    where
+      by : (t : Bool) → t ≡ true → startIn (keptOf (λ a b. pick t (highest a b) (latest a b)) (eqb number) nothing ps) ≡ some start → Started (λ n m. n ≤ m) (λ n m. n < m) ps number start
+      by true q f = started-of (λ n m. n ≤ m) (λ n m. n < m) ps number highest (highest-wanted (eqb number) partitions ps) f
+      by false q f = not-both q
+
+  pub latest-started : how .highest ≡ false → Started (λ n m. Unit {0}) (λ n m. ⊥) ps number start
+  unfolding startOfNumber
+  latest-started h = by (how .highest) h e
+    where
+      by : (t : Bool) → t ≡ false → startIn (keptOf (λ a b. pick t (highest a b) (latest a b)) (eqb number) nothing ps) ≡ some start → Started (λ n m. Unit {0}) (λ n m. ⊥) ps number start
+      by true q f = not-both (sym q)
+      by false q f = started-of (λ n m. Unit {0}) (λ n m. ⊥) ps number latest (latest-wanted (eqb number) partitions ps) f

@@ -20,6 +20,8 @@ use Rattle.descriptors.specs.declared.partitions.PartitionRead.{PartitionRead}
 use Rattle.descriptors.specs.declared.partitions.PartitionRead.the-variants.{Read as APartition, Refused as NoPartition}
 use Rattle.descriptors.specs.declared.logicals.LogicalVolumeDescriptor.{LogicalVolumeDescriptor}
 use Rattle.volumes.specs.declared.sequences.Kept.{Kept}
+use Rattle.volumes.specs.declared.sequences.Wanted.{Wanted}
+use Rattle.volumes.specs.declared.sequences.Wanted.the-variants.{Any, Numbered}
 use Rattle.volumes.specs.declared.sequences.SectorTurn.{SectorTurn}
 use Rattle.volumes.specs.declared.sequences.Scanned.{Scanned}
 use Rattle.volumes.specs.declared.openings.How.{How}
@@ -39,6 +41,9 @@ nothing = record {
   «logical_sequence» = 0;
   «block_size» = 0;
   «file_set» = noLong;
+  «map_table_length» = 0;
+  «map_count» = 0;
+  maps = replicate 24 0;
 }
 
 -- a descriptor of the sequence that is parsed
@@ -64,11 +69,24 @@ highest earlier later = leb earlier later
 abbrev pub orderOf : How → Order
 orderOf how earlier later = pick (how .highest) (highest earlier later) (latest earlier later)
 
--- a descriptor counts where none of its kind was kept before, or where it prevails over the one that was
-abbrev pub counts : Order → Kept → Parsed → Bool
-counts prevails k (primary d) = pick (k .«has_primary») (prevails (k .«primary_sequence») (d .«volume_descriptor_sequence_number»)) true
-counts prevails k (partition d) = pick (k .«has_partition») (prevails (k .«partition_sequence») (d .«volume_descriptor_sequence_number»)) true
-counts prevails k (logical d) = pick (k .«has_logical») (prevails (k .«logical_sequence») (d .«volume_descriptor_sequence_number»)) true
+-- which partition descriptors are looked for, by their partition numbers (3/10.5.4): any, or those of one number
+abbrev pub anyPartition : ℕ → Bool
+anyPartition number = true
+
+-- as the code says it
+abbrev pub wantedOf : Wanted → ℕ → Bool
+wantedOf Any number = anyPartition number
+wantedOf (Numbered n) number = eqb n number
+
+-- a descriptor counts where none of its kind was kept before, or where it prevails over the one that was; a partition descriptor only where its
+-- number is wanted
+abbrev pub counts : Order → (ℕ → Bool) → Kept → Parsed → Bool
+counts prevails wanted k (primary d) = pick (k .«has_primary») (prevails (k .«primary_sequence») (d .«volume_descriptor_sequence_number»)) true
+counts prevails wanted k (partition d) =
+    pick (wanted (d .«partition_number»))
+    (pick (k .«has_partition») (prevails (k .«partition_sequence») (d .«volume_descriptor_sequence_number»)) true)
+    false
+counts prevails wanted k (logical d) = pick (k .«has_logical») (prevails (k .«logical_sequence») (d .«volume_descriptor_sequence_number»)) true
 
 -- it takes the place of the one that was kept of its kind
 abbrev pub replacing : Kept → Parsed → Kept
@@ -84,6 +102,9 @@ replacing k (primary d) = record {
   «logical_sequence» = k .«logical_sequence»;
   «block_size» = k .«block_size»;
   «file_set» = k .«file_set»;
+  «map_table_length» = k .«map_table_length»;
+  «map_count» = k .«map_count»;
+  maps = k .maps;
 }
 replacing k (partition d) = record {
   «has_primary» = k .«has_primary»;
@@ -97,6 +118,9 @@ replacing k (partition d) = record {
   «logical_sequence» = k .«logical_sequence»;
   «block_size» = k .«block_size»;
   «file_set» = k .«file_set»;
+  «map_table_length» = k .«map_table_length»;
+  «map_count» = k .«map_count»;
+  maps = k .maps;
 }
 replacing k (logical d) = record {
   «has_primary» = k .«has_primary»;
@@ -110,16 +134,19 @@ replacing k (logical d) = record {
   «logical_sequence» = d .«volume_descriptor_sequence_number»;
   «block_size» = d .«logical_block_size»;
   «file_set» = d .«file_set_descriptor_location»;
+  «map_table_length» = d .«map_table_length»;
+  «map_count» = d .«number_of_partition_maps»;
+  maps = d .«partition_maps»;
 }
 
 -- what is kept once it has been met
-abbrev pub prevailing : Order → Kept → Parsed → Kept
-prevailing prevails k p = pick (counts prevails k p) (replacing k p) k
+abbrev pub prevailing : Order → (ℕ → Bool) → Kept → Parsed → Kept
+prevailing prevails wanted k p = pick (counts prevails wanted k p) (replacing k p) k
 
 -- what is kept of the descriptors of a sequence, in their order
-unfoldable pub keptOf : Order → Kept → List Parsed → Kept
-keptOf prevails k [] = k
-keptOf prevails k (p ∷ ps) = keptOf prevails (prevailing prevails k p) ps
+unfoldable pub keptOf : Order → (ℕ → Bool) → Kept → List Parsed → Kept
+keptOf prevails wanted k [] = k
+keptOf prevails wanted k (p ∷ ps) = keptOf prevails wanted (prevailing prevails wanted k p) ps
 
 -- ---- one sector
 
@@ -167,15 +194,15 @@ scan check (suc n) at = ask at (λ b. goOn (saysIn check b) (scan check n (at + 
 
 -- ---- as the code reports it, where k was kept before
 
-abbrev pub turnOf : Order → Kept → Says → SectorTurn
-turnOf prevails k (found p) = record { going = true; answer = 0; kept = prevailing prevails k p }
-turnOf prevails k passed = record { going = true; answer = 0; kept = k }
-turnOf prevails k over = record { going = false; answer = 0; kept = k }
-turnOf prevails k (fails r) = record { going = false; answer = number r; kept = nothing }
+abbrev pub turnOf : Order → (ℕ → Bool) → Kept → Says → SectorTurn
+turnOf prevails wanted k (found p) = record { going = true; answer = 0; kept = prevailing prevails wanted k p }
+turnOf prevails wanted k passed = record { going = true; answer = 0; kept = k }
+turnOf prevails wanted k over = record { going = false; answer = 0; kept = k }
+turnOf prevails wanted k (fails r) = record { going = false; answer = number r; kept = nothing }
 
-abbrev pub scannedBy : Order → Kept → Outcome (List Parsed) → ℕ → Scanned
-scannedBy prevails k (answered ps) n = record { answer = 0; count = n; kept = keptOf prevails k ps }
-scannedBy prevails k (refused r) n = record { answer = number r; count = n; kept = nothing }
+abbrev pub scannedBy : Order → (ℕ → Bool) → Kept → Outcome (List Parsed) → ℕ → Scanned
+scannedBy prevails wanted k (answered ps) n = record { answer = 0; count = n; kept = keptOf prevails wanted k ps }
+scannedBy prevails wanted k (refused r) n = record { answer = number r; count = n; kept = nothing }
 
-abbrev pub scannedOf : Order → Kept → Ran (List Parsed) → Scanned
-scannedOf prevails k r = scannedBy prevails k (r .outcome) (r .count)
+abbrev pub scannedOf : Order → (ℕ → Bool) → Kept → Ran (List Parsed) → Scanned
+scannedOf prevails wanted k r = scannedBy prevails wanted k (r .outcome) (r .count)

@@ -1,13 +1,15 @@
 // Opening a volume.
 ghost use mathlib.Core.Path.{_≡_};
 ghost use Prim.Native.Nat.{_<_, _^_};
-ghost use Rattle.disc.specs.Choice.{pick};
 ghost use Rattle.disc.specs.Ran.{ran, after};
 ghost use Rattle.disc.specs.Images.{disc};
 ghost use Rattle.descriptors.specs.FileSets.{readFileSet};
-ghost use Rattle.volumes.specs.Openings.{usual, noVolume, mountIn, volumeIn, mounting, anchored, opening, openedBy, openedOf};
-ghost use Rattle.volumes.specs.inner.Steps.{mountable, fileSetAt};
+ghost use Rattle.volumes.specs.Openings.{usual, noVolume, volumeIn, fileSetOn, mountingOf, anchored, opening, openedBy, openedOf};
+ghost use Rattle.volumes.specs.inner.Steps.{mountable, fileSetAt, scannedIn};
+use crate::mounts::mount_for;
+use crate::mounts::no_mount;
 use crate::sequences::Kept;
+use crate::sequences::Wanted;
 use crate::sequences::scan_sequence;
 use descriptors::anchors::AnchorRead;
 use descriptors::anchors::AnchorVolumeDescriptorPointer;
@@ -27,12 +29,14 @@ use records::allocations::LongAd;
 use records::allocations::no_long;
 
 // The choices that are made on opening. Which descriptors count leaves no trace in the volume's record, which is what came out; that bodies are
-// checked stays in the record's mount.
+// checked and the maps stay in the record's mount.
 pub struct How {
     // Of several descriptors of one kind the one with the highest sequence number counts, the later of equals; else the last one does.
     pub highest: bool,
     // The bodies of descriptors are checked, on opening and in every call on the volume.
     pub checked: bool,
+    // References are resolved through the logical volume's partition maps.
+    pub maps: bool,
 }
 
 impl How {
@@ -43,6 +47,7 @@ impl How {
         How {
             highest: false,
             checked: false,
+            maps: false,
         }
     }
 }
@@ -73,11 +78,7 @@ fn no_volume() -> VolumeRecord
     ensures { λ r. ⌜ r ≡ noVolume ⌝ }
 {
     VolumeRecord {
-        mount: Mount {
-            start: 0,
-            partition: 0,
-            checked: 0,
-        },
+        mount: no_mount(),
         root: no_long(),
         label: [0; 32],
     }
@@ -94,30 +95,9 @@ pub fn refused(answer: u64, count: u64) -> Opened
     }
 }
 
-// The number of a choice in the volume's record.
-fn number_of(check: bool) -> u32
-    ensures { λ r. ⌜ r ≡ pick check 1 0 ⌝ }
-{
-    if check {
-        return 1;
-    }
-    0
-}
-
-// How the volume is read, by the partition that was kept, and with bodies checked or not.
-fn mount_in(check: bool, kept: Kept) -> Mount
-    ensures { λ r. ⌜ r ≡ mountIn check kept ⌝ }
-{
-    Mount {
-        start: kept.partition_start,
-        partition: kept.partition_number,
-        checked: number_of(check),
-    }
-}
-
 // The volume whose file set descriptor stands in the sector b.
-fn volume_in(check: bool, kept: Kept, b: &[u8], count: u64) -> Opened
-    ensures { λ r. ⌜ r ≡ openedBy count (volumeIn check kept (readFileSet check (now (b .entry)))) ⌝ }
+fn volume_in(check: bool, kept: Kept, mount: Mount, b: &[u8], count: u64) -> Opened
+    ensures { λ r. ⌜ r ≡ openedBy count (volumeIn mount kept (readFileSet check (now (b .entry)))) ⌝ }
 {
     let r = FileSetDescriptor::parse(check, b);
     if r.answer != DONE {
@@ -129,11 +109,7 @@ fn volume_in(check: bool, kept: Kept, b: &[u8], count: u64) -> Opened
     Opened {
         answer: DONE,
         count,
-        volume: VolumeRecord {
-            mount: mount_in(check, kept),
-            root,
-            label,
-        },
+        volume: VolumeRecord { mount, root, label },
     }
 }
 
@@ -157,31 +133,50 @@ fn kept_answer(kept: Kept) -> u64
 }
 
 // The file set descriptor in a sector, `count` sectors having been asked for.
-fn mount_at(check: bool, image: &[u8], kept: Kept, sector: Sector, count: u64) -> Opened
+fn mount_at(
+    check: bool,
+    image: &[u8],
+    kept: Kept,
+    mount: Mount,
+    sector: Sector,
+    count: u64,
+) -> Opened
     requires { ⌜ count < 2 ^ 32 ⌝ }
-    ensures { λ r. ⌜ r ≡ openedOf (after count (ran (disc (now (image .entry))) (fileSetAt check kept (sector .0)))) ⌝ }
+    ensures { λ r. ⌜ r ≡ openedOf (after count (ran (disc (now (image .entry))) (fileSetAt check kept mount (sector .0)))) ⌝ }
 {
     if held_from(image, sector) == 0 {
         return refused(IO, count + 1);
     }
-    volume_in(check, kept, sector_at(image, sector), count + 1)
+    volume_in(check, kept, mount, sector_at(image, sector), count + 1)
 }
 
-// What the descriptors that were kept lead to, `count` sectors having been asked for.
-fn mount(check: bool, image: &[u8], kept: Kept, count: u64) -> Opened
+// Where the file set descriptor stands, the volume being read so.
+fn mount_on(check: bool, image: &[u8], kept: Kept, mount: Mount, count: u64) -> Opened
     requires { ⌜ count < 2 ^ 32 ⌝ }
-    ensures { λ r. ⌜ r ≡ openedOf (after count (ran (disc (now (image .entry))) (mounting check kept))) ⌝ }
+    ensures { λ r. ⌜ r ≡ openedOf (after count (ran (disc (now (image .entry))) (fileSetOn check kept mount))) ⌝ }
+{
+    let place = kept.file_set.location;
+    match mount.placed(PartitionRef::Named(place.partition_ref), Block(place.block)) {
+        Placed::Nowhere => refused(UNSUPPORTED, count),
+        Placed::At(sector) => mount_at(check, image, kept, mount, sector, count),
+    }
+}
+
+// What the descriptors that were kept lead to, of n sectors from `first` on, `count` sectors having been asked for.
+fn mount(image: &[u8], how: How, kept: Kept, first: u32, n: u32, count: u64) -> Opened
+    requires { ⌜ count < 2 ^ 32 ⌝ }
+    ensures { λ r. ⌜ r ≡ openedOf (after count (ran (disc (now (image .entry))) (mountingOf how (scannedIn (now (image .entry)) how first n) kept))) ⌝ }
 {
     let answer = kept_answer(kept);
     if answer != DONE {
         return refused(answer, count);
     }
-    let place = kept.file_set.location;
-    let m = mount_in(check, kept);
-    match m.placed(PartitionRef::Named(place.partition_ref), Block(place.block)) {
-        Placed::Nowhere => refused(UNSUPPORTED, count),
-        Placed::At(sector) => mount_at(check, image, kept, sector, count),
+    let read = mount_for(image, how, kept, first, n);
+    if read.answer != DONE {
+        return refused(read.answer, count);
     }
+    let m = read.mount;
+    mount_on(how.checked, image, kept, m, count)
 }
 
 // What the anchor leads to.
@@ -192,11 +187,19 @@ fn open_from(image: &[u8], how: How, anchor: AnchorRead) -> Opened
         AnchorRead::Refused(why) => refused(why.number(), 1),
         AnchorRead::Read(a) => {
             let main = a.main_volume_descriptor_sequence;
-            let scanned = scan_sequence(image, how, main.location, main.length / 2048);
+            let n = main.length / 2048;
+            let scanned = scan_sequence(image, how, Wanted::Any, main.location, n);
             if scanned.answer != DONE {
                 return refused(scanned.answer, scanned.count + 1);
             }
-            mount(how.checked, image, scanned.kept, scanned.count + 1)
+            mount(
+                image,
+                how,
+                scanned.kept,
+                main.location,
+                n,
+                scanned.count + 1,
+            )
         }
     }
 }

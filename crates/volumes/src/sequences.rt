@@ -5,7 +5,7 @@ ghost use Rattle.disc.specs.Choice.{pick};
 ghost use Rattle.disc.specs.Ran.{ran};
 ghost use Rattle.disc.specs.Images.{disc};
 ghost use Rattle.descriptors.specs.Volumes.{readPrimary, readLogical};
-ghost use Rattle.volumes.specs.Sequences.{nothing, orderOf, primaryIn, partitionIn, logicalIn, saysIn, turnOf, scan, scannedOf};
+ghost use Rattle.volumes.specs.Sequences.{nothing, orderOf, anyPartition, wantedOf, primaryIn, partitionIn, logicalIn, saysIn, turnOf, scan, scannedOf};
 use crate::openings::How;
 use descriptors::logicals::LogicalVolumeDescriptor;
 use descriptors::partitions::PartitionDescriptor;
@@ -33,6 +33,17 @@ pub struct Kept {
     pub logical_sequence: u32,
     pub block_size: u32,
     pub file_set: LongAd,
+    // The front of the map table as recorded, its length in bytes, and how many maps it has.
+    pub map_table_length: u32,
+    pub map_count: u32,
+    pub maps: [u8; 24],
+}
+
+// Which partition descriptors count.
+pub enum Wanted {
+    Any,
+    // Those of one partition number.
+    Numbered(u16),
 }
 
 // What one sector of the sequence comes to: the scan goes on or is over, or is refused.
@@ -65,6 +76,9 @@ pub fn nothing_kept() -> Kept
         logical_sequence: 0,
         block_size: 0,
         file_set: no_long(),
+        map_table_length: 0,
+        map_count: 0,
+        maps: [0; 24],
     }
 }
 
@@ -108,8 +122,18 @@ fn is_taken(how: How, kept: bool, earlier: u32, later: u32) -> bool
     true
 }
 
+// Whether partition descriptors of a number count.
+fn is_wanted(wanted: Wanted, number: u16) -> bool
+    ensures { λ r. ⌜ r ≡ wantedOf wanted number ⌝ }
+{
+    match wanted {
+        Wanted::Any => true,
+        Wanted::Numbered(n) => n == number,
+    }
+}
+
 fn take_primary(how: How, k: Kept, b: &[u8]) -> SectorTurn
-    ensures { λ t. ⌜ t ≡ turnOf (orderOf how) k (primaryIn (readPrimary (how .checked) (now (b .entry)))) ⌝ }
+    ensures { λ t. ⌜ t ≡ turnOf (orderOf how) anyPartition k (primaryIn (readPrimary (how .checked) (now (b .entry)))) ⌝ }
 {
     let r = PrimaryVolumeDescriptor::parse(how.checked, b);
     if r.answer != DONE {
@@ -122,6 +146,7 @@ fn take_primary(how: How, k: Kept, b: &[u8]) -> SectorTurn
     }
     let label = d.volume_identifier;
     let file_set = k.file_set;
+    let maps = k.maps;
     goes_on(Kept {
         has_primary: true,
         primary_sequence: number,
@@ -134,15 +159,21 @@ fn take_primary(how: How, k: Kept, b: &[u8]) -> SectorTurn
         logical_sequence: k.logical_sequence,
         block_size: k.block_size,
         file_set,
+        map_table_length: k.map_table_length,
+        map_count: k.map_count,
+        maps,
     })
 }
 
-fn take_partition(how: How, k: Kept, r: PartitionRead) -> SectorTurn
-    ensures { λ t. ⌜ t ≡ turnOf (orderOf how) k (partitionIn r) ⌝ }
+fn take_partition(how: How, wanted: Wanted, k: Kept, r: PartitionRead) -> SectorTurn
+    ensures { λ t. ⌜ t ≡ turnOf (orderOf how) (wantedOf wanted) k (partitionIn r) ⌝ }
 {
     match r {
         PartitionRead::Refused(why) => fails(why.number()),
         PartitionRead::Read(d) => {
+            if !is_wanted(wanted, d.partition_number) {
+                return goes_on(k);
+            }
             let number = d.volume_descriptor_sequence_number;
             if !is_taken(how, k.has_partition, k.partition_sequence, number) {
                 return goes_on(k);
@@ -158,7 +189,7 @@ fn take_partition(how: How, k: Kept, r: PartitionRead) -> SectorTurn
 }
 
 fn take_logical(how: How, k: Kept, b: &[u8]) -> SectorTurn
-    ensures { λ t. ⌜ t ≡ turnOf (orderOf how) k (logicalIn (readLogical (how .checked) (now (b .entry)))) ⌝ }
+    ensures { λ t. ⌜ t ≡ turnOf (orderOf how) anyPartition k (logicalIn (readLogical (how .checked) (now (b .entry)))) ⌝ }
 {
     let r = LogicalVolumeDescriptor::parse(how.checked, b);
     if r.answer != DONE {
@@ -171,6 +202,7 @@ fn take_logical(how: How, k: Kept, b: &[u8]) -> SectorTurn
     }
     let label = k.label;
     let file_set = d.file_set_descriptor_location;
+    let maps = d.partition_maps;
     goes_on(Kept {
         has_primary: k.has_primary,
         primary_sequence: k.primary_sequence,
@@ -183,19 +215,22 @@ fn take_logical(how: How, k: Kept, b: &[u8]) -> SectorTurn
         logical_sequence: number,
         block_size: d.logical_block_size,
         file_set,
+        map_table_length: d.map_table_length,
+        map_count: d.number_of_partition_maps,
+        maps,
     })
 }
 
 // One sector of the sequence, by its id.
-fn take_sector(how: How, k: Kept, b: &[u8]) -> SectorTurn
-    ensures { λ t. ⌜ t ≡ turnOf (orderOf how) k (saysIn (how .checked) (now (b .entry))) ⌝ }
+fn take_sector(how: How, wanted: Wanted, k: Kept, b: &[u8]) -> SectorTurn
+    ensures { λ t. ⌜ t ≡ turnOf (orderOf how) (wantedOf wanted) k (saysIn (how .checked) (now (b .entry))) ⌝ }
 {
     let id = le16(b, 0);
     if id == 1 {
         return take_primary(how, k, b);
     }
     if id == 5 {
-        return take_partition(how, k, PartitionDescriptor::parse(how.checked, b));
+        return take_partition(how, wanted, k, PartitionDescriptor::parse(how.checked, b));
     }
     if id == 6 {
         return take_logical(how, k, b);
@@ -221,8 +256,8 @@ fn scan_refused(answer: u64, count: u64) -> Scanned
 }
 
 // n sectors of the sequence, from `first` on.
-pub fn scan_sequence(image: &[u8], how: How, first: u32, n: u32) -> Scanned
-    ensures { λ r. ⌜ r ≡ scannedOf (orderOf how) nothing (ran (disc (now (image .entry))) (scan (how .checked) n first)) ⌝ }
+pub fn scan_sequence(image: &[u8], how: How, wanted: Wanted, first: u32, n: u32) -> Scanned
+    ensures { λ r. ⌜ r ≡ scannedOf (orderOf how) (wantedOf wanted) nothing (ran (disc (now (image .entry))) (scan (how .checked) n first)) ⌝ }
 {
     let mut kept = nothing_kept();
     let mut i: u32 = 0;
@@ -231,7 +266,7 @@ pub fn scan_sequence(image: &[u8], how: How, first: u32, n: u32) -> Scanned
         if held_from(image, Sector(at)) == 0 {
             return scan_refused(IO, i as u64 + 1);
         }
-        let turn = take_sector(how, kept, sector_at(image, Sector(at)));
+        let turn = take_sector(how, wanted, kept, sector_at(image, Sector(at)));
         let next = turn.kept;
         if !turn.going {
             return Scanned {

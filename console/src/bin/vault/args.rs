@@ -14,7 +14,7 @@ vault: look into a UDF disc. An image is a file or a drive; it is only read.
   vault ls IMAGE [PATH]        what a directory holds, in the disc's order
   vault cat IMAGE PATH         a file's bytes; PATH is names between slashes
   vault get IMAGE PATH FILE    a file's bytes, to FILE, which is replaced
-  vault stat IMAGE [PATH]      ICB, kind, extents; or the volume's descriptors
+  vault stat IMAGE [PATH]      ICB, kind, extents; or volume descriptors, maps
   vault probe IMAGE            whether it has a recognition sequence: yes or no
   vault check IMAGE            descriptors out of place, or with a ruined body
   vault sample FILE            writes the sample show's image, to try these on
@@ -22,12 +22,12 @@ vault: look into a UDF disc. An image is a file or a drive; it is only read.
   --as-written    take a name on PATH byte for byte; else ASCII case is ignored
   --unambiguous   refuse a name that several entries match; else take the first
   --highest       of several volume descriptors the highest number counts
+  --maps          find partitions through the volume's maps; else by number
   --checked       refuse a descriptor whose body is ruined: it has another CRC
-  --copy          read the whole image into memory first, and look at that
+  --copy          read it into memory first: a mapped image must stand still
   --sectors       print on standard error how many sectors each call asked for
   --help, --      print this; what follows is no option
 
-Nobody may write to an image while it is mapped: where one may, use --copy.
 Status: 0 done, 1 to 7, 9, 10 refused by that number, 64 wrong usage, 65 check
 found one wrong, 66 no image, 67 not all read, 70 unknown answer, 74 no output.
 ";
@@ -89,6 +89,7 @@ pub fn parse(given: impl IntoIterator<Item = OsString>) -> Result<Args, Failure>
             b"--unambiguous" => unambiguous = true,
             b"--highest" => how.highest = true,
             b"--checked" => how.checked = true,
+            b"--maps" => how.maps = true,
             b"--help" | b"-h" => help = true,
             [b'-', _, ..] => return Err(Failure::usage(format!("there is no option {}", shown(word.as_bytes())))),
             _ => words.push(word),
@@ -183,9 +184,11 @@ mod tests {
         assert_eq!(parsed("label --copy a").unwrap(), asked(false, true));
         assert_eq!(parsed("--copy label a --sectors").unwrap(), asked(true, true));
         for (words, how) in [
-            ("label --highest a", How { highest: true, checked: false }),
-            ("label a --checked", How { highest: false, checked: true }),
-            ("--checked label --highest a", How { highest: true, checked: true }),
+            ("label --highest a", How { highest: true, ..How::default() }),
+            ("label a --checked", How { checked: true, ..How::default() }),
+            ("label --maps a", How { maps: true, ..How::default() }),
+            ("--checked label --highest a", How { highest: true, checked: true, maps: false }),
+            ("--maps label --checked a --highest", How { highest: true, checked: true, maps: true }),
         ] {
             assert_eq!(parsed(words).unwrap(), Args { how, ..asked(false, false) });
         }
@@ -229,6 +232,7 @@ mod tests {
             "--sector",
             "--copies",
             "--check ls a",
+            "--map ls a",
             "label a -v",
             "--as-writen ls a",
             "--as-written --unambiguous ls a",

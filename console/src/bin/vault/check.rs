@@ -7,7 +7,7 @@ use crate::records;
 use crate::report::{Place, Report};
 use crate::walk::{Walk, sector};
 use std::io::Write;
-use strandlodge::{How, Kind, Matching, volume_descriptors};
+use strandlodge::{How, Kind, LbAddr, Matching, volume_descriptors};
 
 const ANCHOR: u64 = 256;
 const SECTOR: u32 = 2048;
@@ -48,9 +48,10 @@ fn volume<W: Write>(image: &[u8], report: &mut Report<W>) -> Result<(), Failure>
     Ok(())
 }
 
-/// The block of the file set that the prevailing logical volume descriptor names.
-fn file_set(image: &[u8], how: How) -> Option<u32> {
+/// The place of the file set that the prevailing logical volume descriptor names.
+fn file_set(image: &[u8], how: How) -> Option<LbAddr> {
     let descriptors = volume_descriptors(image, how);
     let prevails = descriptors.iter().find(|one| one.kind == Kind::LogicalVolume && one.prevails)?;
-    records::file_set(sector(image, prevails.sector)?)
+    let (block, partition_ref) = records::file_set(sector(image, prevails.sector)?)?;
+    Some(LbAddr { block, partition_ref })
 }

@@ -7,11 +7,13 @@ use crate::disc::{Disc, Found};
 use crate::failure::Failure;
 use crate::file;
 use crate::log::Log;
+use crate::maps;
 use crate::names::shown;
 use std::ffi::OsStr;
 use std::io::{self, Write};
 use std::os::unix::ffi::OsStrExt;
-use strandlodge::{AllocExtent, DirEntry, How, Matching, VolumeDescriptor, probe_vrs, read_volume_label_as, volume_descriptors};
+use strandlodge::{AllocExtent, DirEntry, How, LongAd, Matching, Vault, VolumeDescriptor};
+use strandlodge::{map_table, probe_vrs, read_volume_label_as, volume_descriptors};
 
 /// Answers a question on an image, which goes by `name` and is opened as it is chosen.
 pub fn ask(
@@ -27,7 +29,7 @@ pub fn ask(
     match question {
         Question::Probe => line(out, if probe_vrs(image) { "yes" } else { "no" }),
         Question::Label => {
-            let label = log.count("label", read_volume_label_as(image, how)).map_err(|refused| Failure::refused(name, refused))?;
+            let label = log.count("label", read_volume_label_as(image, how)).map_err(|refused| maps::refused(image, how, name, refused))?;
             line(out, &shown(label.as_bytes()))
         }
         Question::Ls { path } => ls(&mut Disc::open(image, how, name, matching, log)?, path, out),
@@ -35,6 +37,7 @@ pub fn ask(
         Question::Descriptors => {
             // Before opening: where it is refused, what it was refused for may be seen in them.
             volume_descriptors(image, how).iter().try_for_each(|one| line(out, &standing(one)))?;
+            map_table(image, how).iter().flat_map(maps::lines).try_for_each(|text| line(out, &text))?;
             volume(&mut Disc::open(image, how, name, matching, log)?, out)
         }
         Question::Check => check::check(image, how, name, out, log),
@@ -102,7 +105,7 @@ fn stat(disc: &mut Disc, path: &[u8], out: &mut impl Write) -> Result<(), Failur
     let part = disc.count(path, "part", disc.vault.part(found.icb))?;
     let extents = disc.count(path, "extents", disc.vault.extents(found.icb))?;
     say_found(&found, path, out)
-        .and_then(|()| say_extents(part.len(), &extents, out))
+        .and_then(|()| say_extents(disc.vault, found.icb, part.len(), &extents, out))
         .and_then(|()| writeln!(out, "sectors  {}", disc.log.sectors()))
         .map_err(Failure::output)
 }
@@ -116,8 +119,9 @@ fn say_found(found: &Found, path: &[u8], out: &mut impl Write) -> io::Result<()>
     writeln!(out, "icb      block {}, partition {}, {} bytes, type {}", place.block, place.partition_ref, icb.length, icb.extent_type)
 }
 
-/// How the bytes are stored: in the entry itself, which has then no extents, or in extents.
-fn say_extents(embedded: usize, extents: &[AllocExtent], out: &mut impl Write) -> io::Result<()> {
+/// How the bytes are stored: in the entry itself, which has then no extents, or in extents. Where each begins is said of a volume with maps: else
+/// that is the block and the start that `stat` says without a path.
+fn say_extents(vault: Vault, icb: LongAd, embedded: usize, extents: &[AllocExtent], out: &mut impl Write) -> io::Result<()> {
     if extents.is_empty() {
         let storage = if embedded > 0 { format!("embedded, {embedded} bytes") } else { "no bytes, no extents".to_string() };
         return writeln!(out, "storage  {storage}");
@@ -128,6 +132,8 @@ fn say_extents(embedded: usize, extents: &[AllocExtent], out: &mut impl Write) -
         let kind = ["recorded", "not recorded", "not allocated"].get(usize::from(extent.extent_type)).unwrap_or(&"a continuation");
         let partition = extent.partition_ref.map_or("none".to_string(), |number| number.to_string());
         let (length, number, block) = (extent.length, extent.extent_type, extent.block);
-        writeln!(out, "extent   {length} bytes, type {number} ({kind}), block {block}, partition {partition}")
+        let sector =
+            vault.how().maps.then(|| vault.extent_sector(icb, extent).map_or(", in no partition".to_string(), |n| format!(", sector {n}")));
+        writeln!(out, "extent   {length} bytes, type {number} ({kind}), block {block}, partition {partition}{}", sector.unwrap_or_default())
     })
 }

@@ -2,6 +2,7 @@
 
 use crate::failure::{Failure, NO_IMAGE, USAGE};
 use crate::log::Log;
+use crate::maps;
 use crate::names::shown;
 use crate::steps::{Step, names, quoted};
 use strandlodge::{DirEntry, How, LongAd, Matching, Refusal, Refused, Vault};
@@ -29,7 +30,7 @@ impl Found {
 
 impl<'a, 'l> Disc<'a, 'l> {
     pub fn open(image: &'a [u8], how: How, name: &'l str, matching: Matching, log: &'l mut Log) -> Result<Disc<'a, 'l>, Failure> {
-        let vault = log.count("open", Vault::open_as(image, how)).map_err(|refused| Failure::refused(name, refused))?;
+        let vault = log.count("open", Vault::open_as(image, how)).map_err(|refused| maps::refused(image, how, name, refused))?;
         Ok(Disc { vault, log, name, matching })
     }
 

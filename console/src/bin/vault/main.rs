@@ -10,6 +10,7 @@ mod file;
 mod image;
 mod log;
 mod map;
+mod maps;
 mod names;
 mod records;
 mod report;

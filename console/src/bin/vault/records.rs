@@ -36,9 +36,10 @@ pub fn anchor(bytes: &[u8]) -> Option<(Tag, u32, u32)> {
     Some((anchor.tag, main.location, main.length))
 }
 
-/// The block of the file set that a logical volume descriptor names.
-pub fn file_set(bytes: &[u8]) -> Option<u32> {
-    parsed(records_parse_logical_volume, bytes).map(|volume| volume.file_set_descriptor_location.location.block)
+/// The place of the file set that a logical volume descriptor names: its block, and the reference to its partition.
+pub fn file_set(bytes: &[u8]) -> Option<(u32, u16)> {
+    let place = parsed(records_parse_logical_volume, bytes)?.file_set_descriptor_location.location;
+    Some((place.block, place.partition_ref))
 }
 
 pub fn file_entry(bytes: &[u8]) -> Option<FileEntry> {

@@ -11,7 +11,7 @@ use strandlodge::Refusal;
 const TAG: usize = 16;
 
 /// Where the first byte of a descriptor stands.
-#[derive(Clone, Copy)]
+#[derive(Clone, Copy, PartialEq, Eq, Hash, Debug)]
 pub struct Place {
     pub sector: u64,
     /// Counted from the partition's start; the volume structure stands in no partition.
@@ -19,6 +19,16 @@ pub struct Place {
 }
 
 impl Place {
+    /// A block that stands in a sector.
+    pub fn of(block: u32, sector: u64) -> Place {
+        Place { sector, block: Some(block.into()) }
+    }
+
+    /// The one so many sectors behind it.
+    pub fn behind(self, n: u64) -> Place {
+        Place { sector: self.sector.saturating_add(n), block: self.block.map(|block| block.saturating_add(n)) }
+    }
+
     /// Of the volume structure.
     pub fn in_volume(sector: u64) -> Place {
         Place { sector, block: None }

@@ -1,7 +1,8 @@
 //! The walk over what a partition holds: every entry once, with its continuations, and the identifiers of every directory.
 //!
-//! It ends on any disc: an ICB's block is taken once as a file and once as a directory, however many identifiers name it, and only where it
-//! stands in the image; a continuation's block is taken once. So what is kept is bounded by the image's sectors: a name for each such block, and one directory's bytes at a time.
+//! It goes as the calls do: through the volume's maps where it was opened so. It ends on any disc: an ICB's block is taken once as a file and once
+//! as a directory, however many identifiers name it, and only where it stands in the image; a continuation's block is taken once. So what is kept is
+//! bounded by the image's sectors, four times over where there are four partitions: a name for each such block, and one directory's bytes at a time.
 
 use crate::failure::Failure;
 use crate::names::shown;
@@ -28,6 +29,9 @@ const EMBEDDED: u8 = 3;
 /// So many names of a path are printed, the last ones: what a disc makes deeper is a trick.
 const DEEPEST: usize = 64;
 
+/// Where nothing stands.
+const NOWHERE: Place = Place { sector: u64::MAX, block: Some(u64::MAX) };
+
 /// A sector's bytes, where it stands in the image.
 pub fn sector(image: &[u8], number: u64) -> Option<&[u8]> {
     run(image, number, 1)
@@ -43,6 +47,8 @@ fn run(image: &[u8], first: u64, count: u64) -> Option<&[u8]> {
 /// An entry to be looked at.
 struct Visit {
     icb: LongAd,
+    /// Where the entry stands.
+    place: Place,
     is_directory: bool,
     /// Its place among the names; none is the root.
     name: Option<usize>,
@@ -60,10 +66,10 @@ pub struct Walk<'a, 'r, 'o, W> {
     report: &'r mut Report<'o, W>,
     names: Vec<Name>,
     /// Blocks to be looked at or looked at already, each with whether it is as a directory's.
-    taken: HashSet<(u32, bool)>,
+    taken: HashSet<(Place, bool)>,
     /// Blocks whose entry was looked at, and those whose continuation was.
-    entries: HashSet<u32>,
-    continuations: HashSet<u32>,
+    entries: HashSet<Place>,
+    continuations: HashSet<Place>,
     pending: Vec<Visit>,
     /// What the calls asked for, added up for each.
     pub sectors: [(&'static str, u64); 3],
@@ -76,11 +82,6 @@ impl<'a, 'r, 'o, W: Write> Walk<'a, 'r, 'o, W> {
         Walk { image, vault, report, names: Vec::new(), taken, entries, continuations, pending: Vec::new(), sectors }
     }
 
-    /// Where a block stands.
-    fn place(&self, block: u64) -> Place {
-        Place { sector: self.vault.partition_start_sector().saturating_add(block), block: Some(block) }
-    }
-
     /// Notes a call's count, refused or not.
     fn count<T>(&mut self, call: usize, answer: strandlodge::Result<T>) -> Result<T, Refusal> {
         let sectors = answer.as_ref().map_or_else(|refused| refused.sectors, |answer| answer.sectors);
@@ -88,9 +89,9 @@ impl<'a, 'r, 'o, W: Write> Walk<'a, 'r, 'o, W> {
         answer.map(|answer| answer.value).map_err(|refused| refused.why)
     }
 
-    /// The file set descriptor, in this block.
-    pub fn file_set(&mut self, block: Option<u32>) -> Result<(), Failure> {
-        let Some(place) = block.map(|block| self.place(block.into())) else {
+    /// The file set descriptor, in this place.
+    pub fn file_set(&mut self, at: Option<LbAddr>) -> Result<(), Failure> {
+        let Some(place) = at.and_then(|at| Some(Place::of(at.block, self.vault.sector_of(at)?))) else {
             return Ok(());
         };
         let bytes = sector(self.image, place.sector).unwrap_or_default();
@@ -108,34 +109,37 @@ impl<'a, 'r, 'o, W: Write> Walk<'a, 'r, 'o, W> {
 
     /// An ICB that something names: to be looked at, unless it is taken already. The root has no name.
     fn meet(&mut self, icb: LongAd, is_directory: bool, above: Option<usize>, name: Option<Vec<u8>>) -> Result<(), Failure> {
-        let block = icb.location.block;
-        let refused = match sector(self.image, self.place(block.into()).sector) {
-            // It names nothing (docs/RULES.md, 6.1).
-            _ if icb.length == 0 => Some(Refusal::Malformed),
-            None => Some(Refusal::Io),
-            Some(_) => None,
+        let place = match self.standing(icb) {
+            Ok(place) => place,
+            Err(why) => return self.report.unread(&path(&self.names, above, name.as_deref()), why),
         };
-        if let Some(why) = refused {
-            return self.report.unread(&path(&self.names, above, name.as_deref()), why);
-        }
-        if self.taken.insert((block, is_directory)) {
+        if self.taken.insert((place, is_directory)) {
             let name = name.map(|name| {
                 self.names.push(Name { above, name });
                 self.names.len() - 1
             });
-            self.pending.push(Visit { icb, is_directory, name });
+            self.pending.push(Visit { icb, place, is_directory, name });
         }
         Ok(())
     }
 
+    /// Where the entry of an ICB stands, in the image; or why it can't be read.
+    fn standing(&self, icb: LongAd) -> Result<Place, Refusal> {
+        if icb.length == 0 {
+            // It names nothing (docs/RULES.md, 6.1).
+            return Err(Refusal::Malformed);
+        }
+        let at = self.vault.icb_sector(icb).ok_or(Refusal::Unsupported)?;
+        sector(self.image, at).map(|_| Place::of(icb.location.block, at)).ok_or(Refusal::Io)
+    }
+
     fn visit(&mut self, visit: &Visit) -> Result<(), Failure> {
-        let block = visit.icb.location.block;
-        let place = self.place(block.into());
+        let place = visit.place;
         // This call is refused exactly where the entry or its chain is.
         let read = self.count(0, self.vault.part(visit.icb));
         let bytes = sector(self.image, place.sector).unwrap_or_default();
         if let Some(entry) = records::file_entry(bytes) {
-            if self.entries.insert(block) {
+            if self.entries.insert(place) {
                 self.report.descriptor(|| path(&self.names, visit.name, None), entry.tag, place, bytes)?;
                 self.chain(visit, &entry, bytes)?;
             }
@@ -153,24 +157,28 @@ impl<'a, 'r, 'o, W: Write> Walk<'a, 'r, 'o, W> {
             let Some(next) = continuation(entry.kind, area) else {
                 break;
             };
-            let sectors = self.stands(&next).unwrap_or_default();
-            let bytes = sectors.get(..next.length as usize).unwrap_or_default();
-            let Some((tag, length)) = records::header(bytes).filter(|_| self.continuations.insert(next.block)) else {
+            let Some((place, sectors)) = self.stands(visit.icb, &next) else {
                 break;
             };
-            self.report.descriptor(|| path(&self.names, visit.name, None), tag, self.place(next.block.into()), sectors)?;
+            let bytes = sectors.get(..next.length as usize).unwrap_or_default();
+            let Some((tag, length)) = records::header(bytes).filter(|_| self.continuations.insert(place)) else {
+                break;
+            };
+            self.report.descriptor(|| path(&self.names, visit.name, None), tag, place, sectors)?;
             area = bytes.get(HEADER..).and_then(|rest| rest.get(..length)).unwrap_or_default();
         }
         Ok(())
     }
 
-    /// The sectors of a continuation, where it is one that is read.
-    fn stands(&self, next: &Descriptor) -> Option<&'a [u8]> {
-        if next.partition.is_some_and(|number| number != self.vault.partition_number()) || next.length > LONGEST {
+    /// The place and the sectors of a continuation of the entry that an ICB names, where it is one that is read.
+    fn stands(&self, icb: LongAd, next: &Descriptor) -> Option<(Place, &'a [u8])> {
+        if next.length > LONGEST {
             return None;
         }
-        let first = self.place(next.block.into()).sector;
-        run(self.image, first, u64::from(next.length).div_ceil(SECTOR_SIZE))
+        let extent = AllocExtent { length: next.length, extent_type: next.extent_type, block: next.block, partition_ref: next.partition };
+        let first = self.vault.extent_sector(icb, &extent)?;
+        let sectors = run(self.image, first, u64::from(next.length).div_ceil(SECTOR_SIZE))?;
+        Some((Place::of(next.block, first), sectors))
     }
 
     /// The identifiers of a directory, and what they name.
@@ -181,8 +189,9 @@ impl<'a, 'r, 'o, W: Write> Walk<'a, 'r, 'o, W> {
             Ok(both) => both,
             Err(why) => return self.report.unread(&path(&self.names, visit.name, None), why),
         };
-        let embedded = (entry.kind == EMBEDDED).then_some(visit.icb.location.block);
-        let mut blocks = Blocks { embedded, extents: &extents, before: 0 };
+        let embedded = (entry.kind == EMBEDDED).then_some(visit.place);
+        let places: Vec<_> = extents.iter().map(|extent| (self.begins(visit.icb, extent), extent.length.into())).collect();
+        let mut blocks = Blocks { embedded, extents: &places, before: 0 };
         let (first, mut at) = (self.pending.len(), 0);
         while let Some(rest) = bytes.get(at..).filter(|rest| rest.len() >= IDENTIFIER) {
             let Some(found) = records::file_identifier(rest) else {
@@ -190,12 +199,17 @@ impl<'a, 'r, 'o, W: Write> Walk<'a, 'r, 'o, W> {
                 self.report.unread(&what, Refusal::Malformed)?;
                 break;
             };
-            self.identifier(visit, &found, rest, self.place(blocks.at(at as u64)))?;
+            self.identifier(visit, &found, rest, blocks.at(at as u64))?;
             at += found.total_size;
         }
         // The last one pushed is the next one looked at.
         self.pending[first..].reverse();
         Ok(())
+    }
+
+    /// Where an extent of the file that an ICB names begins. One that is in no partition has no byte that was read.
+    fn begins(&self, icb: LongAd, extent: &AllocExtent) -> Place {
+        self.vault.extent_sector(icb, extent).map_or(NOWHERE, |sector| Place::of(extent.block, sector))
     }
 
     /// An identifier, and what it names; `bytes` are the directory's from it on.
@@ -233,29 +247,28 @@ fn continuation(kind: u8, area: &[u8]) -> Option<Descriptor> {
 /// The blocks that a directory's bytes stand in.
 struct Blocks<'e> {
     /// The entry's, where the directory is embedded.
-    embedded: Option<u32>,
-    /// From the one on that was come to.
-    extents: &'e [AllocExtent],
+    embedded: Option<Place>,
+    /// Where each begins, and its length, from the one on that was come to.
+    extents: &'e [(Place, u64)],
     /// The bytes of those before.
     before: u64,
 }
 
 impl Blocks<'_> {
     /// The block that holds the byte at this place, which is never before the one asked for last. An extent may end inside a block.
-    fn at(&mut self, at: u64) -> u64 {
-        if let Some(block) = self.embedded {
-            return block.into();
+    fn at(&mut self, at: u64) -> Place {
+        if let Some(place) = self.embedded {
+            return place;
         }
-        while let [front, rest @ ..] = self.extents {
-            let length = u64::from(front.length);
-            if at - self.before < length {
-                return u64::from(front.block) + (at - self.before) / SECTOR_SIZE;
+        while let [(begins, length), rest @ ..] = self.extents {
+            if at - self.before < *length {
+                return begins.behind((at - self.before) / SECTOR_SIZE);
             }
             self.before += length;
             self.extents = rest;
         }
         // A directory has no bytes behind its extents.
-        u64::MAX
+        NOWHERE
     }
 }
 
@@ -273,19 +286,25 @@ fn path(names: &[Name], of: Option<usize>, last: Option<&[u8]>) -> String {
 mod tests {
     use super::*;
 
-    fn extent(length: u32, block: u32) -> AllocExtent {
-        AllocExtent { length, extent_type: 0, block, partition_ref: None }
+    /// An extent of a partition that starts in sector 288 or, from block 20 on, in 400.
+    fn extent(length: u64, block: u32) -> (Place, u64) {
+        (place(block), length)
+    }
+
+    fn place(block: u32) -> Place {
+        Place::of(block, if block < 20 { 288 } else { 400 } + u64::from(block))
     }
 
     #[test]
     fn a_byte_is_in_the_block_of_its_extent() {
         let extents = [extent(100, 7), extent(0, 90), extent(5000, 20), extent(2048, 9)];
         let mut blocks = Blocks { embedded: None, extents: &extents, before: 0 };
-        let asked = [(0, 7), (99, 7), (100, 20), (2147, 20), (2148, 21), (5099, 22), (5100, 9), (7147, 9), (7148, u64::MAX)];
+        let asked = [(0, 7), (99, 7), (100, 20), (2147, 20), (2148, 21), (5099, 22), (5100, 9), (7147, 9)];
         for (at, block) in asked {
-            assert_eq!(blocks.at(at), block, "{at}");
+            assert_eq!(blocks.at(at), place(block), "{at}");
         }
-        assert_eq!(Blocks { embedded: Some(3), extents: &[], before: 0 }.at(5000), 3);
+        assert_eq!(blocks.at(7148), NOWHERE);
+        assert_eq!(Blocks { embedded: Some(place(3)), extents: &[], before: 0 }.at(5000), place(3));
     }
 
     #[test]

@@ -4,6 +4,7 @@ use mathlib.Core.Path.{_≡_}
 use mathlib.Core.Bool.{Bool}
 use mathlib.Core.List.{List}
 use lib.ListN.{length, take, drop}
+use Rattle.disc.specs.Ask.{Ask}
 use Rattle.disc.specs.Ask.Outcome.{answered, refused}
 use Rattle.disc.specs.Ran.{Ran, ran}
 use Rattle.disc.specs.Images.{disc}
@@ -17,7 +18,7 @@ use Rattle.entries.specs.declared.«file_entries».EntryRead.the-variants.{Read
 use Rattle.chains.specs.Chains.{mostContinuations}
 use Rattle.chains.specs.inner.Walks.{left}
 use Rattle.chains.specs.declared.cursors.ChainCursor.{ChainCursor}
-use Rattle.files.specs.Files.{Located, entryAt, embeddedBytes, fileAt}
+use Rattle.files.specs.Files.{Located, entryAt, entryMount, embeddedBytes, fileAt}
 use Rattle.files.specs.Files.File.{embedded, chained}
 use Rattle.files.specs.inner.Places.{placeAt}
 use Rattle.files.specs.declared.icbs.Place.{Place}
@@ -45,21 +46,24 @@ embeddedRun image p = record { outcome = answered (embeddedIn image p); count = 
 abbrev pub frontOf : Place → ChainCursor
 frontOf p = record { at = p .at; left = p .size; hops = mostContinuations }
 
--- an entry that was read, and where what stands in its sector stands in the image
-pub record FoundPlace (image : List ℕ) (m : Mount) (icb : LongAd) (p : Place) : Type 0 where
+-- an entry that a tree found, and where what stands in its sector stands in the image
+pub record FoundPlace (image : List ℕ) (t : Ask Located) (p : Place) : Type 0 where
   pub entry : Located
-  pub runs : ran (disc image) (entryAt m icb) ≡ record { outcome = answered entry; count = 1 }
+  pub runs : ran (disc image) t ≡ record { outcome = answered entry; count = 1 }
   pub is : p ≡ placeAt (2048 * entry .at) (entry .entry)
   pub bytes : embeddedBytes entry ≡ embeddedIn image p
   pub area : areaAt (p .kind) (entry .sector) (entry .entry .«area_at») (p .size) ≡ areaAt (p .kind) image (p .at) (p .size)
   pub inside : p .at + p .size ≤ length image
   pub small : p .size ≤ 2048
 
-abbrev pub Locates : List ℕ → Mount → LongAd → PlaceRead → Type 0
-Locates image m icb (Found p) = FoundPlace image m icb p
-Locates image m icb (Refused r n) = ran (disc image) (entryAt m icb) ≡ record { outcome = refused r; count = n }
+abbrev pub Finds : List ℕ → Ask Located → PlaceRead → Type 0
+Finds image t (Found p) = FoundPlace image t p
+Finds image t (Refused r n) = ran (disc image) t ≡ record { outcome = refused r; count = n }
 
--- a file whose entry and chain were read
+abbrev pub Locates : List ℕ → Mount → LongAd → PlaceRead → Type 0
+Locates image m icb r = Finds image (entryAt m icb) r
+
+-- a file whose entry and chain were read: the chain as the entry's own descriptors are
 pub record EmbeddedFile (image : List ℕ) (m : Mount) (icb : LongAd) (p : Place) : Type 0 where
   pub entry : Located
   pub runs : ran (disc image) (fileAt m icb) ≡ record { outcome = answered (embedded entry); count = 1 }
@@ -69,7 +73,7 @@ pub record EmbeddedFile (image : List ℕ) (m : Mount) (icb : LongAd) (p : Place
 
 pub record ChainedFile (image : List ℕ) (m : Mount) (icb : LongAd) (p : Place) (n : ℕ) : Type 0 where
   pub entry : Located
-  pub runs : ran (disc image) (fileAt m icb) ≡ record { outcome = answered (chained entry (left image m (p .kind) (frontOf p))); count = n }
+  pub runs : ran (disc image) (fileAt m icb) ≡ record { outcome = answered (chained entry (left image (entryMount m icb) (p .kind) (frontOf p))); count = n }
   pub is : p ≡ placeAt (2048 * entry .at) (entry .entry)
   pub small : p .size ≤ 2048
   pub few : n ≤ 16385

@@ -18,6 +18,7 @@ read-file-spec =
     (λ c. search reads)
     (λ c κs. search reads)
     (λ c κs. search reads)
+    (λ c κs. search reads)
     (λ c. search reads)
     (λ c. search reads)
     (λ c. search reads)

@@ -15,6 +15,7 @@ resolve-spec =
     (λ c. search resolves)
     (λ c κs. search resolves)
     (λ c κs. search resolves)
+    (λ c κs. search resolves)
     (λ c. search resolves)
     (λ c. search resolves)
     (λ c. search resolves)

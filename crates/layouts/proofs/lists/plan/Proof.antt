@@ -19,6 +19,7 @@ plan-spec =
     (λ c. search plans)
     (λ c κs. search plans)
     (λ c κs. search plans)
+    (λ c κs. search plans)
     (λ c. search plans)
     (λ c. search plans)
     (λ c. search plans))

@@ -1,14 +1,13 @@
 -- `vault_c::choices::chosen` meets its contract: each test is of some bits. Assumes nothing.
 use borrow.Author.Needs.{needs}
-use Rattle.vault_c.proofs.ChoiceLaws.{choice-high, choice-low, choice-known}
+use Rattle.vault_c.proofs.ChoiceLaws.{choice-high, choice-known}
 use Rattle.vault_c.proofs.choices.chosen.Statement.{statement}
 use Rattle.vault_c.proofs.choices.chosen.Tie as tie
 
-ruleset choices = (choice-high, choice-low, choice-known, needs)
+ruleset choices = (choice-high, choice-known, needs)
 
 pub chosen-spec : {M : Type 1} → statement M
 chosen-spec =
     tie.close (tie.spec
-    (λ c. search choices)
     (λ c. search choices)
     (λ c. search choices))

@@ -12,5 +12,4 @@ volume-in-spec =
     (λ c κs. search volumes)
     (λ c κs. search volumes)
     (λ c. search volumes)
-    (λ c κs. search volumes)
     (λ c. search volumes))

@@ -9,10 +9,10 @@ use Rattle.volumes.proofs.sequences.scan_sequence.Tie as tie
 ruleset scans = (scan-starts, scan-next, scan-stops, scan-gone, scan-ends, not-true, not-false, needs)
 
 abbrev Inv-loop : tie.InvT-loop
-Inv-loop image how first n kept₀ i₀ kept i = Scanning image how first n kept i
+Inv-loop image how wanted first n kept₀ i₀ kept i = Scanning image how wanted first n kept i
 
 abbrev μ-loop : tie.MeasureT-loop
-μ-loop image how first n kept₀ i₀ kept i = n - i
+μ-loop image how wanted first n kept₀ i₀ kept i = n - i
 
 pub scan-sequence-spec : {M : Type 1} → statement M
 scan-sequence-spec =

@@ -1,11 +1,11 @@
 -- `volumes::sequences::take_partition` meets its contract: the answer and what was kept before say which case of the definition holds. Assumes nothing.
 use borrow.Author.Needs.{needs}
 use borrow.Author.Tests.{not-true, not-false}
-use Rattle.volumes.proofs.TurnLaws.{partition-fails, partition-taken, partition-passed}
+use Rattle.volumes.proofs.TurnLaws.{partition-fails, partition-unwanted, partition-taken, partition-passed}
 use Rattle.volumes.proofs.sequences.take_partition.Statement.{statement}
 use Rattle.volumes.proofs.sequences.take_partition.Tie as tie
 
-ruleset turns = (partition-fails, partition-taken, partition-passed, not-true, not-false, needs)
+ruleset turns = (partition-fails, partition-unwanted, partition-taken, partition-passed, not-true, not-false, needs)
 
 pub take-partition-spec : {M : Type 1} → statement M
 take-partition-spec =
@@ -14,6 +14,9 @@ take-partition-spec =
     (λ c κs. search needs)
     (λ c κs. search needs)
     (λ c. search needs)
+    (λ c κs. search needs)
+    (λ c κs. search needs)
+    (λ c. search turns)
     (λ c κs. search needs)
     (λ c κs. search needs)
     (λ c. search turns)

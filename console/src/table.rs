@@ -1,0 +1,102 @@
+//! The partition maps of the logical volume descriptor, for a person to look at: those of every form. What is opened doesn't come from here.
+
+use crate::calls;
+use crate::how::How;
+use crate::sequence::{Kind, SECTOR, number, partition, partition_start, volume_descriptors};
+
+/// Where in a logical volume descriptor the length of the table, the number of maps and the table itself stand (ECMA-167 3/10.6).
+const LENGTH: usize = 264;
+const MAPS: usize = 268;
+const TABLE: usize = 440;
+
+/// A map of type 1 begins with these.
+const PLAIN: [u8; 2] = [1, 6];
+
+/// The map table of the logical volume descriptor that prevails.
+#[derive(Debug, Clone, PartialEq, Eq)]
+pub struct MapTable {
+    /// How many maps it says that it has.
+    pub maps: u32,
+    /// The length in bytes that it says.
+    pub length: u32,
+    /// The maps, as far as they stand wholly in the table and in its sector. A reference is a place among them.
+    pub found: Vec<MapForm>,
+}
+
+impl MapTable {
+    /// So many maps are read at most.
+    pub const MOST: u32 = 4;
+
+    /// Whether the table, and six bytes for each of its maps, stand where they are to.
+    pub fn is_whole(&self) -> bool {
+        u64::from(self.maps) * 6 <= self.length.into() && TABLE as u64 + u64::from(self.length) <= SECTOR as u64
+    }
+}
+
+/// A partition map.
+#[derive(Debug, Clone, PartialEq, Eq)]
+pub enum MapForm {
+    /// Of type 1, which is read.
+    Plain {
+        /// The sequence number of the volume that holds the partition.
+        volume: u16,
+        /// The partition's number.
+        number: u16,
+        /// Where the partition starts, by the partition descriptor of that number that prevails. Without one the map isn't read.
+        start: Option<u64>,
+    },
+    /// Of another form, which isn't read.
+    Other {
+        /// Its type.
+        kind: u8,
+        /// Its length in bytes.
+        length: u8,
+        /// The partition type that it is identified by, where it is of type 2: as recorded, up to the first zero.
+        identifier: Vec<u8>,
+    },
+}
+
+/// The map table of the logical volume descriptor that prevails, if one does. The sectors are looked at again, and aren't counted.
+pub fn map_table(image: &[u8], how: How) -> Option<MapTable> {
+    let descriptors = volume_descriptors(image, How { maps: true, ..how });
+    let prevailing = |kind| descriptors.iter().filter(move |one| one.prevails && one.kind == kind);
+    let logical = prevailing(Kind::LogicalVolume).next()?.sector as usize;
+    let partitions: Vec<_> = prevailing(Kind::Partition).map(|one| (partition(image, one), partition_start(image, one))).collect();
+    let (length, maps) = (number(image, logical, LENGTH), number(image, logical, MAPS));
+    let (mut found, mut at) = (Vec::new(), TABLE);
+    let end = TABLE.saturating_add(length as usize).min(SECTOR);
+    while found.len() < maps as usize
+        && let Some(map) = map_at(image, logical * SECTOR, at, end)
+    {
+        at += map.len();
+        found.push(form(&map, &partitions));
+    }
+    Some(MapTable { maps, length, found })
+}
+
+/// The bytes of the map at a place of a sector, where it ends in front of `end`. Each is looked at once.
+fn map_at(image: &[u8], sector: usize, at: usize, end: usize) -> Option<Vec<u8>> {
+    let [kind, length] = calls::peek(image, sector + at).filter(|_| at + PLAIN.len() <= end)?;
+    if usize::from(length) < PLAIN.len() || at + usize::from(length) > end {
+        return None;
+    }
+    let rest = (PLAIN.len()..length.into()).map(|i| calls::peek::<1>(image, sector + at + i).map_or(0, |[byte]| byte));
+    Some([kind, length].into_iter().chain(rest).collect())
+}
+
+/// A map by its bytes; `partitions` are the numbers of those that there are, each with its start.
+fn form(map: &[u8], partitions: &[(u16, u32)]) -> MapForm {
+    match *map {
+        [kind, length, v, w, n, m] if [kind, length] == PLAIN => {
+            let number = u16::from_le_bytes([n, m]);
+            let start = partitions.iter().find(|(of, _)| *of == number).map(|(_, start)| (*start).into());
+            MapForm::Plain { volume: u16::from_le_bytes([v, w]), number, start }
+        }
+        _ => {
+            // Two bytes are reserved, and flags stand in front of the identifier (OSTA UDF 2.2.8).
+            let identifier = map.get(5..28).filter(|_| map[0] == 2).unwrap_or_default();
+            let identifier = identifier.split(|byte| *byte == 0).next().unwrap_or_default().to_vec();
+            MapForm::Other { kind: map[0], length: map[1], identifier }
+        }
+    }
+}
