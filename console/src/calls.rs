@@ -3,7 +3,7 @@
 //!
 //! Why the calls are sound. The header asks two things of a caller: that the lent pieces don't overlap, and that their pointers aren't
 //! null. A shared slice and the spare room of a vector that is borrowed mutably can't overlap, nor can the rooms of two vectors; the image and
-//! the path are only read, so that it harms nothing if one is a part of the other. No slice's or vector's pointer is null, also at length
+//! the paths are only read, so that it harms nothing if one is a part of the other. No slice's or vector's pointer is null, also at length
 //! 0. In return it promises, and that is proved, that a call reads and writes within the lengths it is given, keeps no
 //! pointer, and asks nothing of the values: a volume or an ICB may be any. The proofs take the image as standing still, which a `&[u8]`
 //! says of itself; lib.rs has what a map of a file has to see to.
@@ -134,4 +134,42 @@ pub fn read_path(volume: Volume, image: &[u8], path: &[u8], matching: Matching, 
     let ((work, w), m) = (space(work), matching.number());
     // SAFETY: the head of this module; `room` bytes from `to` on are `out`'s own, and `w` from `work` on are the other vector's.
     filled(out, |to, room| unsafe { vault_read_path(volume, image.as_ptr(), image.len(), path.as_ptr(), path.len(), m, to, room, work, w) })
+}
+
+/// The rows of a list of paths: a length and an answer for each.
+#[derive(Default)]
+pub struct Rows {
+    pub lengths: Vec<u64>,
+    pub answers: Vec<u32>,
+}
+
+/// `paths` has a zero byte between each two. What was read stands in `out`, one behind the other, and of each a length and an answer in the rows.
+pub fn read_all(
+    volume: Volume,
+    image: &[u8],
+    paths: &[u8],
+    matching: Matching,
+    out: &mut Vec<u8>,
+    rows: &mut Rows,
+    work: &mut Vec<u8>,
+) -> Result<()> {
+    let ((work, w), m) = (space(work), matching.number());
+    let Rows { lengths, answers } = rows;
+    lengths.clear();
+    answers.clear();
+    let (l, a) = (lengths.spare_capacity_mut(), answers.spare_capacity_mut());
+    let ((l_at, l), (a_at, a)) = ((l.as_mut_ptr().cast(), l.len()), (a.as_mut_ptr().cast(), a.len()));
+    let (from, length) = (paths.as_ptr(), paths.len());
+    // SAFETY: the head of this module; `room` bytes from `to` on are `out`'s own, `l` and `a` places those of the rows, and `w` bytes from `work`
+    // on those of the other vector.
+    let call =
+        |to, room| unsafe { vault_read_all(volume, image.as_ptr(), image.len(), from, length, m, to, room, l_at, l, a_at, a, work, w) };
+    let answer = filled(out, call)?;
+    let items = paths.iter().filter(|byte| **byte == 0).count() + 1;
+    // SAFETY: a call that is done has written a place of each row for every path, and there are as many places: else it is refused.
+    unsafe {
+        lengths.set_len(items);
+        answers.set_len(items);
+    }
+    Ok(answer)
 }

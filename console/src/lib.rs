@@ -15,8 +15,8 @@
 //! # Names of the same letters
 //!
 //! Cues 10.1A and 10.1a may stand side by side. [`Vault::lookup`] ignores ASCII case and takes the first entry that matches, as the
-//! original does: it gives one of the two for either name. [`Vault::lookup_as`], [`Vault::read_path_as`] and [`Vault::failed_as`] take a
-//! choice, [`Matching`]: the name as it is written, or a refusal where more than one entry matches.
+//! original does: it gives one of the two for either name. [`Vault::lookup_as`], [`Vault::read_path_as`], [`Vault::read_all_as`] and
+//! [`Vault::failed_as`] take a choice, [`Matching`]: the name as it is written, or a refusal where more than one entry matches.
 //!
 //! # Scratched discs
 //!
@@ -31,6 +31,11 @@
 //! instead, and so does [`Vault::open`], which refuses by 4 a disc whose one partition has another number than 0, and one with two. With
 //! [`How::maps`](How) references go through the maps, [`Vault::maps`] has them, and [`Vault::extent_sector`] says where an extent's bytes are.
 //! [`map_table`] shows the maps of any disc, also those of a form that isn't read.
+//!
+//! # Many cues
+//!
+//! [`Vault::read_all`] reads a list of paths, by one call of the archive for each 1,024 of them, and gives for each its bytes or why there are
+//! none: a cue that isn't there keeps none of the others back.
 //!
 //! # The image stands still
 //!
@@ -60,6 +65,7 @@ mod matching;
 mod records;
 mod room;
 mod sequence;
+mod stack;
 mod table;
 mod vault;
 
@@ -75,6 +81,7 @@ pub use maps::PartitionMap;
 pub use matching::Matching;
 pub use records::{AllocExtent, DirEntry, LbAddr, LongAd};
 pub use sequence::{Kind, VolumeDescriptor, volume_descriptors};
+pub use stack::Item;
 pub use table::{MapForm, MapTable, map_table};
 pub use vault::{SECTOR_SIZE, Vault, probe_vrs, read_volume_label, read_volume_label_as};
 

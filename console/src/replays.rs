@@ -1,11 +1,12 @@
 //! The raw calls on stored images, with memory of exactly the size that each query lends: refusals 5, 6 and 7 are among the answers. What
 //! is expected are the original's answers, stored with the programs `replay` and `file_cases`, whose sources say the form of the files; and
-//! what models say of the choices of matching and of checked bodies, stored with `matching_cases` and `checked_cases`.
+//! what models say of the choices of matching, of checked bodies and of lists of paths, stored with `matching_cases`, `checked_cases` and
+//! `stack_cases`.
 //!
 //! What a call leaves in memory that it doesn't answer with is seen by those programs and by `compare`, and not here.
 
 use crate::answer::{Answer, Result};
-use crate::calls;
+use crate::calls::{self, Rows};
 use crate::input::Input;
 use crate::matching::Matching;
 use crate::records::{LbAddr, LongAd};
@@ -211,6 +212,14 @@ fn matching_case(v: Volume, image: &[u8], path: &[u8], matching: Matching, lent:
     [lookup, failed, failed_at, read]
 }
 
+fn matching_of(number: usize) -> Matching {
+    match number {
+        0 => Matching::CaseIgnored,
+        1 => Matching::AsWritten,
+        _ => Matching::Unambiguous,
+    }
+}
+
 #[test]
 fn the_choices_of_the_gate() {
     let mut all = Input(include_bytes!("../../crates/matching_cases/data/images"));
@@ -223,11 +232,7 @@ fn the_choices_of_the_gate() {
         assert_eq!(expected.next().unwrap(), format!("open 0 count {}", opened.sectors));
         let mut queries = Input(all.sized(4));
         while !queries.0.is_empty() {
-            let matching = match queries.number(4) {
-                0 => Matching::CaseIgnored,
-                1 => Matching::AsWritten,
-                _ => Matching::Unambiguous,
-            };
+            let matching = matching_of(queries.number(4));
             let (lent, space) = (queries.number(4), queries.number(4));
             let what = expected.next().unwrap();
             let path = queries.sized(2);
@@ -251,7 +256,11 @@ fn head<T>(call: &str, answer: &Result<T>) -> String {
 /// The two lines of `checked_cases` on opening by a choice.
 fn opening_case(image: &[u8], how: u32) -> [String; 2] {
     let opened = calls::open(image, how);
-    let none = Volume { mount: Mount { start: 0, partition: 0, checked: 0 }, root: LongAd::recorded(&[0; 16]).to_c(), label: [0; 32] };
+    let none = Volume {
+        mount: Mount { start: 0, partition: 0, checked: 0, maps: 0, volumes: [0; 4], numbers: [0; 4], starts: [0; 4] },
+        root: LongAd::recorded(&[0; 16]).to_c(),
+        label: [0; 32],
+    };
     let Volume { mount, root, .. } = opened.as_ref().map_or(none, |a| a.value);
     let says = format!(" start {} partition {} checked {}", mount.start, mount.partition, mount.checked);
     let mut out = room(32);
@@ -332,4 +341,46 @@ fn the_checks_of_the_gate() {
         }
     }
     assert_eq!((expected.next(), asked, refused), (None, 553, 733));
+}
+
+/// A row, with what its places behind the items came full of.
+fn row<T: Copy + Into<u64>>(name: &str, row: &[T], places: usize, came: u64) -> String {
+    let numbers = row.iter().map(|n| (*n).into()).chain(std::iter::repeat_n(came, places - row.len()));
+    name.to_string() + &numbers.map(|n| format!(" {n}")).collect::<String>()
+}
+
+/// The three lines of a query of `stack_cases`.
+fn stack_case(v: Volume, image: &[u8], paths: &[u8], matching: Matching, [lent, space, lengths, answers]: [usize; 4]) -> [String; 3] {
+    let (mut out, mut work) = (room(lent), room(space));
+    let mut rows = Rows { lengths: room(lengths), answers: room(answers) };
+    let reply = match calls::read_all(v, image, paths, matching, &mut out, &mut rows, &mut work) {
+        Ok(a) => format!("read_all 0 count {} length {}", a.sectors, out.len()),
+        Err(r) => format!("read_all {} count {} length 0", r.number(), r.sectors),
+    } + &format!(" sum {} zero", sum_lent(&out, lent));
+    let (a5, a5s) = (0xa5a5_a5a5_a5a5_a5a5, 0xa5a5_a5a5);
+    [reply, row("lengths", &rows.lengths, lengths, a5), row("answers", &rows.answers, answers, a5s)]
+}
+
+#[test]
+fn the_lists_of_the_gate() {
+    let mut all = Input(include_bytes!("../../crates/stack_cases/data/images"));
+    let mut expected = include_str!("../../crates/stack_cases/stdout").lines();
+    let mut asked = 0;
+    while !all.0.is_empty() {
+        assert_eq!(expected.next().unwrap().as_bytes(), [b"image ", all.sized(2)].concat());
+        let image = all.image();
+        let opened = calls::open(&image, 0).unwrap();
+        assert_eq!(expected.next().unwrap(), format!("open 0 count {}", opened.sectors));
+        let mut queries = Input(all.sized(4));
+        while !queries.0.is_empty() {
+            let matching = matching_of(queries.number(4));
+            let lent = [(); 4].map(|()| queries.number(4));
+            let what = expected.next().unwrap();
+            for given in stack_case(opened.value, &image, queries.sized(4), matching, lent) {
+                assert_eq!(given, expected.next().unwrap(), "{what}");
+            }
+            asked += 1;
+        }
+    }
+    assert_eq!((expected.next(), asked), (None, 115));
 }

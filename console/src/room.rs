@@ -8,6 +8,10 @@ pub const FIRST: usize = 64 << 10;
 /// The most work space for a directory: some five million entries. It is all cleared by each call, so a bad disc must not ask for more.
 pub const MOST_DIRECTORY: usize = 256 << 20;
 
+/// So many paths are read by one call, with `FIRST` bytes of output lent for each: a list of any length takes no more than 64 MiB beside what it
+/// gives.
+pub const AT_ONCE: usize = 1024;
+
 /// What may be lent for a file of any image.
 const SOME_FILE: usize = 256 << 20;
 
@@ -36,7 +40,7 @@ impl<T> Room<T> {
     }
 
     /// Twice the room; false if that is more than the most, or can't be had.
-    fn double(&mut self) -> bool {
+    pub fn double(&mut self) -> bool {
         let now = self.lent.capacity();
         self.reach(now.saturating_mul(2))
     }

@@ -6,7 +6,8 @@ use crate::how::How;
 use crate::maps::{PartitionMap, maps, place_of, started};
 use crate::matching::Matching;
 use crate::records::{AllocExtent, DirEntry, LbAddr, LongAd, entries, text};
-use crate::room::{FIRST, MOST_DIRECTORY, Room, most_file, retry};
+use crate::room::{AT_ONCE, FIRST, MOST_DIRECTORY, Room, most_file, retry};
+use crate::stack::{Item, List, Stack, copied, too_many};
 use std::fmt;
 use strandlodge_sys::vault::{Extent, Volume};
 
@@ -184,6 +185,63 @@ impl<'a> Vault<'a> {
             let call = |_: &mut Vec<u8>, work: &mut Vec<u8>| calls::read_path(self.volume, self.image, path, matching, out, work);
             retry(&mut Room::none(), &mut work_space(), call)
         })
+    }
+
+    /// Reads what each of many paths names: for each, in their order, its bytes or why there are none, as [`Vault::read_path`] gives them. One that
+    /// is refused keeps none of the others back. The count is that of all together, each path's sectors once.
+    ///
+    /// Up to 1,024 paths are read by one call of the archive; a file that doesn't fit the room that is left of what is lent to it is read by
+    /// itself. A path with a zero byte in it, which the archive's list can't have, is read by itself too. (No name has that byte, so that such a
+    /// path is refused, by 3 where nothing in front of it is.) The call itself is refused, by 12, only where there is no memory for the list.
+    ///
+    /// ```no_run
+    /// # fn main() -> std::result::Result<(), Box<dyn std::error::Error>> {
+    /// let image = std::fs::read("show.img")?;
+    /// let vault = strandlodge::Vault::open(&image)?;
+    /// let cues = ["SHOW/9", "SHOW/10.1A", "SHOW/11"];
+    /// for (cue, look) in cues.iter().zip(vault.read_all(&cues)?) {
+    ///     match look {
+    ///         Ok(bytes) => println!("{cue}: {} bytes", bytes.len()),
+    ///         Err(why) => println!("{cue}: {why}"),
+    ///     }
+    /// }
+    /// # Ok(())
+    /// # }
+    /// ```
+    pub fn read_all(&self, paths: &[impl AsRef<[u8]>]) -> Result<Vec<Item>> {
+        self.read_all_as(paths, Matching::CaseIgnored)
+    }
+
+    /// The same, with the components of every path matched as is said.
+    pub fn read_all_as(&self, paths: &[impl AsRef<[u8]>], matching: Matching) -> Result<Vec<Item>> {
+        let (mut all, mut work) = (Answer { value: Vec::new(), sectors: 0 }, work_space());
+        all.value.try_reserve_exact(paths.len()).map_err(|_| too_many())?;
+        for paths in paths.chunks(AT_ONCE) {
+            let list = List::of(paths).ok_or_else(too_many)?;
+            let mut stack = Stack::read(self.volume, self.image, &list, matching, &mut work)?;
+            all.sectors = all.sectors.saturating_add(stack.sectors);
+            for path in paths.iter().map(AsRef::as_ref) {
+                let came = if List::can_have(path) { stack.next() } else { None };
+                let (item, sectors) = match came {
+                    Some(Ok(bytes)) => (copied(bytes), 0),
+                    // Its sectors are counted already: 5 comes behind all of them.
+                    Some(Err(Refusal::NoRoom)) => (self.alone(path, matching).0, 0),
+                    Some(Err(why)) => (Err(why), 0),
+                    None => self.alone(path, matching),
+                };
+                all.value.push(item);
+                all.sectors = all.sectors.saturating_add(sectors);
+            }
+        }
+        Ok(all)
+    }
+
+    /// A path of a list that is read by itself, and its sectors.
+    fn alone(&self, path: &[u8], matching: Matching) -> (Item, u64) {
+        match self.read_path_as(path, matching) {
+            Ok(answer) => (Ok(answer.value), answer.sectors),
+            Err(refused) => (Err(refused.why), refused.sectors),
+        }
     }
 
     /// A read, and again with room for all that the file's extents hold where there was too little: that is exact, and doubling isn't.

@@ -73,6 +73,7 @@ fn every_command_answers() {
                 storage  embedded, 84 bytes\nsectors  open 6, lookup 0, part 1, extents 1\n";
     answers(&folder.vault(&["stat", "show.img", ""]), stat);
     assert!(folder.vault(&["--help"]).out.contains("vault get IMAGE PATH FILE"));
+    assert!(folder.vault(&["--help"]).out.contains("vault get IMAGE -o TO PATH.."));
 }
 
 #[test]
@@ -307,6 +308,10 @@ fn wrong_usage_is_said() {
     refuses(&folder, &["label"], 64, "label needs IMAGE");
     refuses(&folder, &["cat", "show.img"], 64, "cat needs PATH");
     refuses(&folder, &["get", "show.img", "SHOW/9"], 64, "get needs FILE");
+    refuses(&folder, &["get", "show.img", "-o", "."], 64, "get needs PATH");
+    refuses(&folder, &["get", "show.img", "SHOW/9", "-o"], 64, "-o needs TO");
+    refuses(&folder, &["get", "show.img", "SHOW/9", "SHOW/11", "cue"], 64, "cue follows");
+    refuses(&folder, &["cat", "show.img", "SHOW/9", "-o", "."], 64, "-o is for get");
     refuses(&folder, &["stat"], 64, "stat needs IMAGE");
     refuses(&folder, &["sample"], 64, "sample needs FILE");
     refuses(&folder, &["ls", "show.img", "SHOW", "more"], 64, "more follows");
@@ -335,6 +340,106 @@ fn get_writes_the_file_whole_or_not_at_all() {
     refuses(&folder, &["get", "show.img", "SHOW/9", "./show.img"], 64, "this is the image itself");
     assert_eq!(folder.names(), ["folder", "link", "old", "show.img"]);
     assert!(std::fs::read(folder.at("show.img")).unwrap() == show());
+}
+
+/// The show, and a folder `to`.
+fn with_folder() -> Folder {
+    let folder = with_show();
+    std::fs::create_dir(folder.at("to")).unwrap();
+    folder
+}
+
+/// The names in `to`.
+fn taken(folder: &Folder) -> Vec<String> {
+    let names = std::fs::read_dir(folder.at("to")).unwrap().map(|entry| entry.unwrap().file_name().into_string().unwrap());
+    let mut names: Vec<String> = names.collect();
+    names.sort();
+    names
+}
+
+#[test]
+fn many_files_are_written_to_a_folder() {
+    let folder = with_folder();
+    let said = folder.vault(&["get", "show.img", "-o", "to", "SHOW/9", "SHOW/11", "--as-written", "/SHOW//10.1a"]);
+    let nine = folder.vault(&["cat", "show.img", "SHOW/9"]).bytes;
+    let out = format!("SHOW/9: {} bytes, to to/9\nSHOW/11: 16 bytes, to to/11\n/SHOW//10.1a: 54 bytes, to to/10.1a\n", nine.len());
+    answers(&said, &out);
+    assert_eq!(taken(&folder), ["10.1a", "11", "9"]);
+    assert_eq!(std::fs::read(folder.at("to/9")).unwrap(), nine);
+    assert_eq!(std::fs::read_to_string(folder.at("to/11")).unwrap(), BLACKOUT);
+    assert!(std::fs::read_to_string(folder.at("to/10.1a")).unwrap().starts_with("cue 10.1a\n"));
+    // One path will do, and what is there is replaced.
+    folder.write("to/11", b"an older cue that is longer than the new one");
+    answers(&folder.vault(&["get", "show.img", "SHOW/11", "-o", "to"]), "SHOW/11: 16 bytes, to to/11\n");
+    assert_eq!(std::fs::read_to_string(folder.at("to/11")).unwrap(), BLACKOUT);
+    let said = folder.vault(&["--sectors", "get", "show.img", "SHOW/11", "SHOW/9", "-o", "to/"]);
+    let calls = "open 6, lookup 2, read_directory 1, read_directory 1, extents 1, lookup 2, read_directory 1, read_directory 1, extents 1, read_all 8";
+    assert_eq!((said.status, said.error), (0, format!("vault: sectors asked for: {calls}\n")));
+}
+
+/// What can't be had is told of, with a line each, and the rest is written; the status says so.
+#[test]
+fn many_files_go_on_past_a_refused_one() {
+    let folder = with_folder();
+    let said = folder.vault(&["get", "show.img", "-o", "to", "SHOW/12", "SHOW/11", "SHOW", "no/9", "SHOW/9"]);
+    assert_eq!(said.status, 67, "{said:?}");
+    assert!(said.out.starts_with("SHOW/11: 16 bytes, to to/11\nSHOW/9: ") && said.out.lines().count() == 2, "{said:?}");
+    let errors: Vec<&str> = said.error.lines().collect();
+    assert_eq!(errors[0], "vault: show.img: there is nothing named \"12\" under \"SHOW\" (refusal 3)");
+    assert!(errors[1].contains("\"SHOW\" is a directory") && errors[2].contains("\"no\" under the root"), "{said:?}");
+    assert_eq!(errors[3..], ["vault: show.img: 3 of 5 files not written"]);
+    assert_eq!(taken(&folder), ["11", "9"]);
+    // A cue whose bytes can't be read: its entry leads beyond the image.
+    let mut image = show();
+    image[299 * SECTOR + 176 + 6] = 0x7f;
+    folder.write("bad.img", &image);
+    let said = folder.vault(&["get", "bad.img", "-o", "to", "SHOW/11", "SHOW/10.1A", "--as-written"]);
+    assert_eq!((said.status, said.out.as_str()), (67, "SHOW/10.1A: 57 bytes, to to/10.1A\n"));
+    assert!(
+        said.error.starts_with("vault: bad.img: \"SHOW/11\": a sector that was asked for isn't") && said.error.contains("(refusal 1)"),
+        "{said:?}"
+    );
+    assert_eq!(std::fs::read_to_string(folder.at("to/11")).unwrap(), BLACKOUT);
+    // A ruined body.
+    folder.write("bad.img", &scratched(293, 40));
+    let said = folder.vault(&["get", "--checked", "bad.img", "-o", "to", "SHOW/9", "SHOW/11"]);
+    assert_eq!((said.status, said.error.contains("(refusal 10); `vault check`"), said.out.lines().count()), (67, true, 1), "{said:?}");
+    // All of them, and what isn't an image at all.
+    assert_eq!(folder.vault(&["get", "show.img", "-o", "to", "x", "y"]).status, 67);
+    refuses(&folder, &["get", "none", "-o", "to", "SHOW/9"], 66, "there is no such file");
+    folder.write("random", &noise(1 << 20));
+    refuses(&folder, &["get", "random", "-o", "to", "SHOW/9"], 2, "is not what it must be");
+}
+
+/// A file has the name that the disc has, is written once, and isn't the image.
+#[test]
+fn many_files_have_their_own_names() {
+    let folder = with_folder();
+    let said = folder.vault(&["get", "show.img", "-o", "to", "show/10.1a", "SHOW/10.1A"]);
+    assert_eq!((said.status, said.out.as_str()), (67, "show/10.1a: 57 bytes, to to/10.1A\n"));
+    assert!(said.error.contains("\"10.1a\" under \"show\" gives \"10.1A\" in block 7, the first of 2"), "{said:?}");
+    assert!(said.error.contains("\"SHOW/10.1A\" would be written over \"show/10.1a\", to to/10.1A"), "{said:?}");
+    assert_eq!(taken(&folder), ["10.1A"]);
+    let said = folder.vault(&["get", "--unambiguous", "show.img", "-o", "to", "SHOW/10.1a", "SHOW/9"]);
+    assert_eq!((said.status, said.error.contains("is ambiguous, 2 entries match")), (67, true), "{said:?}");
+    assert_eq!(taken(&folder), ["10.1A", "9"]);
+    std::fs::rename(folder.at("show.img"), folder.at("to/11")).unwrap();
+    let said = folder.vault(&["get", "to/11", "-o", "to", "SHOW/11", "SHOW/9"]);
+    assert_eq!((said.status, said.error.contains("to/11: this is the image itself"), said.out.lines().count()), (67, true, 1), "{said:?}");
+    assert!(std::fs::read(folder.at("to/11")).unwrap() == show());
+}
+
+#[test]
+fn many_files_need_a_folder() {
+    let folder = with_folder();
+    refuses(&folder, &["get", "show.img", "-o", "none", "SHOW/9"], 74, "the folder can't be written to");
+    refuses(&folder, &["get", "show.img", "-o", "show.img", "SHOW/9"], 74, "this is no folder");
+    // One that can't be written: the others are.
+    std::fs::create_dir(folder.at("to/9")).unwrap();
+    let said = folder.vault(&["get", "show.img", "-o", "to", "SHOW/9", "SHOW/12", "SHOW/11"]);
+    assert_eq!((said.status, said.out.as_str()), (74, "SHOW/11: 16 bytes, to to/11\n"), "{said:?}");
+    assert!(said.error.contains("to/9: this is a directory") && said.error.ends_with("2 of 3 files not written\n"), "{said:?}");
+    assert_eq!(taken(&folder), ["11", "9"]);
 }
 
 /// A disc with a file of 40 MB, `big`, in a folder of its own.

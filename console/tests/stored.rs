@@ -1,4 +1,4 @@
-//! `Vault` on the volumes stored with the programs `volume_cases` and `vault_cases`, whose sources say the form of their files. What is
+//! `Vault` on the volumes stored with the programs `volume_cases`, `vault_cases` and `stack_cases`, whose sources say the form of their files. What is
 //! expected is their stored output. `Vault` lends what is needed, so that where a query there lends too little, and is refused by 5 or 6,
 //! it must not be refused so here.
 
@@ -190,4 +190,41 @@ fn volumes_answer_every_query() {
         }
     }
     assert_eq!((asked, short, expected.0.next()), (989, 293, None));
+}
+
+/// The lists of paths: each item is what the path gives by itself, and where nothing was lent too little the stored answers.
+#[test]
+fn volumes_answer_every_list() {
+    let mut all = Input(include_bytes!("../../crates/stack_cases/data/images"));
+    let mut expected = Expected(include_str!("../../crates/stack_cases/stdout").lines());
+    let (mut asked, mut stored) = (0, 0);
+    while !all.0.is_empty() {
+        all.sized(2);
+        let image = expand(all.sized(4)).unwrap();
+        let vault = Vault::open(&image).unwrap();
+        (expected.next(), expected.next());
+        let mut queries = Input(all.sized(4));
+        while !queries.0.is_empty() {
+            let matching = [Matching::CaseIgnored, Matching::AsWritten, Matching::Unambiguous][queries.number(4).min(2)];
+            // The room, the work space and the places: here there is enough.
+            queries.take(16);
+            let paths: Vec<&[u8]> = queries.sized(4).split(|byte| *byte == 0).collect();
+            let given = vault.read_all_as(&paths, matching).unwrap();
+            let alone: Vec<_> = paths.iter().map(|path| vault.read_path_as(path, matching)).collect();
+            assert_eq!(given.sectors, alone.iter().map(|one| answer(one).1).sum::<u64>());
+            for (item, one) in given.iter().zip(&alone) {
+                assert_eq!(item.as_ref().map_err(|why| why.number()), one.as_ref().map(|one| &one.value).map_err(|one| one.number()));
+            }
+            let (what, reply, _, row) = (expected.next(), expected.next(), expected.next(), expected.next());
+            if numbers(reply)[0] == 0 && !numbers(row).iter().any(|number| [5, 6].contains(number)) {
+                let numbered: Vec<u64> = given.iter().map(|item| item.as_ref().map_or_else(|why| why.number(), |_| 0)).collect();
+                assert_eq!(numbers(row)[..numbered.len()], numbered, "{what}");
+                assert_eq!(numbers(reply)[1], given.sectors, "{what}");
+                stored += 1;
+            }
+            asked += 1;
+        }
+    }
+    assert_eq!((asked, expected.0.next()), (115, None));
+    assert!(stored > 50, "{stored}");
 }

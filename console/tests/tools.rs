@@ -4,7 +4,7 @@
 mod common;
 
 use common::command::{Folder, left_out, tool};
-use common::noise;
+use common::{SECTOR, noise, seal};
 use std::path::Path;
 use std::process::Command;
 
@@ -46,6 +46,7 @@ fn hold(folder: &Folder, image: &str, path: &str, original: &Path) -> usize {
     let listed = folder.vault(&["ls", image, path]);
     assert_eq!((listed.status, listed.error.as_str()), (0, ""), "{path}");
     assert_eq!(folder.vault(&["ls", "--checked", image, path]).out, listed.out, "{path}");
+    assert_eq!(folder.vault(&["ls", "--maps", image, path]).out, listed.out, "{path}");
     let mut listed: Vec<&str> = listed.out.lines().collect();
     let mut names: Vec<String> = expected.iter().map(|(name, at)| name.clone() + if at.is_dir() { "/" } else { "" }).collect();
     listed.sort();
@@ -58,7 +59,7 @@ fn hold(folder: &Folder, image: &str, path: &str, original: &Path) -> usize {
             read += hold(folder, image, &path, &at);
             continue;
         }
-        for how in [&[][..], &["--checked"]] {
+        for how in [&[][..], &["--checked"], &["--maps"]] {
             let said = folder.vault(&[how, &["cat", image, &path]].concat());
             assert!(said.status == 0 && said.error.is_empty() && said.bytes == std::fs::read(&at).unwrap(), "{path} {}", said.error);
         }
@@ -69,11 +70,33 @@ fn hold(folder: &Folder, image: &str, path: &str, original: &Path) -> usize {
 
 /// Every descriptor of the image is where its tag says, and has the body that its tag has the CRC of.
 fn in_place(folder: &Folder, image: &str) {
-    let said = folder.vault(&["check", image]);
+    all_right(folder, &["check", image]);
+}
+
+fn all_right(folder: &Folder, words: &[&str]) -> String {
+    let said = folder.vault(words);
     assert!(
         said.status == 0 && said.out.ends_with(" descriptors, each in place and with a right body\n") && said.error.is_empty(),
         "{said:?}"
     );
+    said.out
+}
+
+/// The image with its one partition under another number, as its map has it: every reference is still 0.
+fn renumbered(mut image: Vec<u8>) -> Vec<u8> {
+    let number = |b: &[u8], at: usize| u32::from_le_bytes(b[at..at + 4].try_into().unwrap()) as usize;
+    let (length, first) = (number(&image, 256 * SECTOR + 16), number(&image, 256 * SECTOR + 20));
+    for whole in image[first * SECTOR..][..length].chunks_mut(SECTOR) {
+        let at = match whole[0] {
+            5 => 22,
+            6 => 444,
+            _ => continue,
+        };
+        whole[at..at + 2].copy_from_slice(&7u16.to_le_bytes());
+        let summed = u16::from_le_bytes([whole[10], whole[11]]).into();
+        seal(whole, summed);
+    }
+    image
 }
 
 #[test]
@@ -88,6 +111,13 @@ fn genisoimage() {
     assert_eq!(folder.vault(&["label", "disc.iso"]).out, "A SHOW\n");
     assert_eq!(hold(&folder, "disc.iso", "", &folder.at("from")), 10 + 2 * names().len() + 600);
     in_place(&folder, "disc.iso");
+    // By its number the partition isn't found any more, and by its map it is.
+    folder.write("other.iso", &renumbered(std::fs::read(folder.at("disc.iso")).unwrap()));
+    let lost = folder.vault(&["ls", "other.iso"]);
+    assert!(lost.status == 4 && lost.error.ends_with("with --maps\n"), "{lost:?}");
+    assert_eq!(folder.vault(&["ls", "--maps", "other.iso", "wide"]).out, folder.vault(&["ls", "disc.iso", "wide"]).out);
+    assert_eq!(all_right(&folder, &["check", "--maps", "--checked", "other.iso"]), all_right(&folder, &["check", "disc.iso"]));
+    assert!(folder.vault(&["cat", "--maps", "other.iso", "of 3000000"]).bytes == noise(3_000_000));
     let large = folder.vault(&["get", "disc.iso", "of 3000000", "copy"]);
     assert_eq!((large.status, large.error.as_str()), (0, ""));
     assert!(std::fs::read(folder.at("copy")).unwrap() == noise(3_000_000));
@@ -127,6 +157,10 @@ fn mkudffs(tool: &Path, words: &[&str]) -> (Folder, i32, i32) {
         assert!(folder.vault(&["stat", "disc.img", ""]).out.contains("kind     directory"));
         in_place(&folder, "disc.img");
     }
+    // A map of type 2 isn't read, whether or not the disc is without maps.
+    let (maps, plain) = (folder.vault(&["ls", "--maps", "disc.img"]), folder.vault(&["stat", "disc.img"]));
+    let other = plain.out.lines().any(|line| line.starts_with("map ") && line.ends_with("a form that isn't read"));
+    assert_eq!(maps.status, if other { 4 } else { root.status }, "{words:?} {plain:?}");
     (folder, label.status, root.status)
 }
 
@@ -144,6 +178,20 @@ fn mkudffs_makes_empty_volumes() {
     for kind in ["--ad=inicb", "--ad=short", "--ad=long", "--noefe"] {
         let (_folder, label, root) = mkudffs(&tool, &["-b", "2048", kind]);
         assert_eq!((label, root), (0, 0), "{kind}");
+    }
+}
+
+/// Sparable partitions, which are read as if nothing had been spared, and aren't through their map (docs/DIFFERENCES.md).
+#[test]
+fn mkudffs_for_rewritable_discs() {
+    let Some(tool) = tool("mkudffs") else {
+        return left_out("images of mkudffs for rewritable discs", "mkudffs");
+    };
+    for (media, revision) in [("cdrw", "2.01"), ("dvdrw", "2.01")] {
+        let (folder, label, root) = mkudffs(&tool, &["-b", "2048", "-m", media, "-r", revision]);
+        assert_eq!((label, root), (0, 0), "{media} {revision}");
+        assert!(folder.vault(&["stat", "disc.img"]).out.contains("type 2 (*UDF Sparable Partition), 64 bytes: a form that isn't read\n"));
+        assert_eq!(folder.vault(&["ls", "disc.img", "--maps"]).status, 4);
     }
 }
 
@@ -200,7 +248,7 @@ fn fill_by(client: &Path, folder: &Folder, volume: &str) {
     assert!(said.status.success(), "{}", String::from_utf8_lossy(&said.stdout));
     assert_eq!(folder.vault(&["ls", "disc.img", "SHOW"]).out, "11\nDEEP/\n");
     for (path, bytes) in &files {
-        for how in [&[][..], &["--checked"]] {
+        for how in [&[][..], &["--checked"], &["--maps"]] {
             let said = folder.vault(&[how, &["cat", "disc.img", path]].concat());
             assert!(said.status == 0 && said.error.is_empty() && said.bytes == *bytes, "{volume} {path} {}", said.error);
         }

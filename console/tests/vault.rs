@@ -357,3 +357,76 @@ fn an_answer_stands_for_its_value() {
     cues.reverse();
     assert_eq!((cues[0].name.as_str(), show.map(|icb| icb.location.block).value), ("11", 4));
 }
+
+/// What each path of a list gives, in its order; a list is counted as its paths are.
+#[test]
+fn many_paths_in_one_call() {
+    let image = show();
+    let vault = Vault::open(&image).unwrap();
+    let paths = ["SHOW/10.1a", "SHOW/12", "show/11", "", "SHOW/9\0", "SHOW", "SHOW/10.1A"];
+    for matching in [Matching::CaseIgnored, Matching::AsWritten, Matching::Unambiguous] {
+        let all = vault.read_all_as(&paths, matching).unwrap();
+        let alone = paths.map(|path| vault.read_path_as(path, matching));
+        let sectors = alone.iter().map(|one| one.as_ref().map_or_else(|refused| refused.sectors, |one| one.sectors));
+        assert_eq!(all.sectors, sectors.sum::<u64>());
+        assert_eq!(all.value, alone.map(|one| one.map(|one| one.value).map_err(Refusal::from)));
+    }
+    let all = vault.read_all(&paths).unwrap();
+    assert_eq!((all[0].as_deref(), all[6].as_deref()), (Ok(UPPER), Ok(UPPER)));
+    // A zero byte is in no name, and cuts no path in two.
+    assert_eq!((all.len(), all[1].clone(), all[4].clone()), (7, Err(Refusal::NotBluray), Err(Refusal::NotBluray)));
+    let all = vault.read_all_as(&["SHOW/10.1a", "SHOW/9"], Matching::Unambiguous).unwrap();
+    assert_eq!((&all[0], all[1].is_ok()), (&Err(Refusal::Ambiguous), true));
+}
+
+/// No paths are no list, and an empty path is the root's own bytes.
+#[test]
+fn lists_of_nothing() {
+    let image = show();
+    let vault = Vault::open(&image).unwrap();
+    assert_eq!(vault.read_all(&[] as &[&str]).unwrap(), Answer { value: Vec::new(), sectors: 0 });
+    let root = vault.read_file(vault.root_directory_icb()).unwrap();
+    assert_eq!(vault.read_all(&[""]).unwrap(), Answer { value: vec![Ok(root.value.clone())], sectors: root.sectors });
+    assert_eq!(vault.read_all(&["", ""]).unwrap().value, [Ok(root.value.clone()), Ok(root.value)]);
+    assert_eq!(vault.read_all(&["\0"]).unwrap(), Answer { value: vec![Err(Refusal::NotBluray)], sectors: 1 });
+}
+
+/// More than is lent at first: files that don't fit what is left, a directory that doesn't fit the work space, and more paths than one call takes.
+#[test]
+fn lists_of_much() {
+    let (mut disc, sizes) = (Disc::new(), [0, 4096, 300_000, 65_536, 1, 2_000_000]);
+    let files = sizes.map(|n| disc.file(&noise(n)));
+    let entries: Vec<Vec<u8>> = (0..5000).map(|i| named(&format!("cue {i:05}"), files[i % 6], false)).collect();
+    let listing = disc.directory(&entries);
+    disc.root(listing);
+    let vault = Vault::open(&disc.0).unwrap();
+    let of = |i: usize| (format!("CUE {i:05}"), sizes[i % 6]);
+    for (step, n) in [(1, 40), (6, 40), (37, 1), (1, 1024 + 3)] {
+        let wanted: Vec<(String, usize)> = (0..n).map(|i| of(4999 - i * step)).collect();
+        let paths: Vec<&str> = wanted.iter().map(|(path, _)| path.as_str()).collect();
+        // The large ones would take 400 MB.
+        let paths =
+            if n > 1000 { paths.iter().copied().filter(|path| vault.read_path(path).unwrap().len() < 5000).collect() } else { paths };
+        let all = vault.read_all(&paths).unwrap();
+        assert_eq!(all.len(), paths.len());
+        let mut sectors = 0;
+        for (path, item) in paths.iter().zip(&all.value) {
+            let alone = vault.read_path(path).unwrap();
+            sectors += alone.sectors;
+            assert!(item.as_ref() == Ok(&alone.value), "{path}");
+        }
+        assert_eq!(all.sectors, sectors);
+    }
+    let many = vec!["cue 00004"; 3000];
+    assert!(vault.read_all(&many).unwrap().iter().all(|item| item.as_ref().map(Vec::len) == Ok(1)));
+}
+
+/// A wrong body refuses the paths that come to its descriptor, and no other.
+#[test]
+fn a_list_goes_on_past_a_wrong_body() {
+    let mut image = show();
+    image[293 * SECTOR + 40] ^= 1;
+    let vault = Vault::open_as(&image, CHECKED).unwrap();
+    let all = vault.read_all(&["SHOW/9", "SHOW/10.1A", "SHOW/9"]).unwrap();
+    assert_eq!(all.value, [Err(Refusal::BadCrc), Ok(UPPER.to_vec()), Err(Refusal::BadCrc)]);
+}

@@ -9,15 +9,15 @@ use strandlodge::{How, Matching};
 pub const HELP: &str = "\
 vault: look into a UDF disc. An image is a file or a drive; it is only read.
 
-  vault                        a short tour of a sample show
   vault label IMAGE            the volume's name
   vault ls IMAGE [PATH]        what a directory holds, in the disc's order
   vault cat IMAGE PATH         a file's bytes; PATH is names between slashes
   vault get IMAGE PATH FILE    a file's bytes, to FILE, which is replaced
+  vault get IMAGE -o TO PATH.. many files, each to its own name in folder TO
   vault stat IMAGE [PATH]      ICB, kind, extents; or volume descriptors, maps
   vault probe IMAGE            whether it has a recognition sequence: yes or no
   vault check IMAGE            descriptors out of place, or with a ruined body
-  vault sample FILE            writes the sample show's image, to try these on
+  vault sample FILE            writes a sample show; vault alone gives a tour
 
   --as-written    take a name on PATH byte for byte; else ASCII case is ignored
   --unambiguous   refuse a name that several entries match; else take the first
@@ -28,8 +28,8 @@ vault: look into a UDF disc. An image is a file or a drive; it is only read.
   --sectors       print on standard error how many sectors each call asked for
   --help, --      print this; what follows is no option
 
-Status: 0 done, 1 to 7, 9, 10 refused by that number, 64 wrong usage, 65 check
-found one wrong, 66 no image, 67 not all read, 70 unknown answer, 74 no output.
+Status: 0 done, 1 to 12 refused by that number, 64 wrong usage, 65 check found
+one wrong, 66 no image, 67 not all read, 70 unknown answer, 74 no output.
 ";
 
 /// A path on the disc, in bytes: names there need not be this system's.
@@ -57,6 +57,7 @@ pub enum Question {
     Ls { path: DiscPath },
     Cat { path: DiscPath },
     Get { path: DiscPath, file: OsString },
+    GetAll { paths: Vec<DiscPath>, folder: OsString },
     Stat { path: DiscPath },
     Descriptors,
     Probe,
@@ -78,7 +79,7 @@ pub struct Args {
 pub fn parse(given: impl IntoIterator<Item = OsString>) -> Result<Args, Failure> {
     let (mut sectors, mut copy, mut help, mut words) = (false, false, false, Vec::new());
     let (mut as_written, mut unambiguous) = (false, false);
-    let mut how = How::default();
+    let (mut how, mut folder) = (How::default(), None);
     let mut given = given.into_iter();
     while let Some(word) = given.next() {
         match word.as_bytes() {
@@ -90,6 +91,7 @@ pub fn parse(given: impl IntoIterator<Item = OsString>) -> Result<Args, Failure>
             b"--highest" => how.highest = true,
             b"--checked" => how.checked = true,
             b"--maps" => how.maps = true,
+            b"-o" => folder = Some(given.next().ok_or_else(|| Failure::usage("-o needs TO, a folder"))?),
             b"--help" | b"-h" => help = true,
             [b'-', _, ..] => return Err(Failure::usage(format!("there is no option {}", shown(word.as_bytes())))),
             _ => words.push(word),
@@ -98,7 +100,7 @@ pub fn parse(given: impl IntoIterator<Item = OsString>) -> Result<Args, Failure>
     if help {
         return Ok(Args { command: Command::Help, sectors, copy, how, matching: Matching::default() });
     }
-    let (command, matching) = (command(words)?, matching(as_written, unambiguous)?);
+    let (command, matching) = (command(words, folder)?, matching(as_written, unambiguous)?);
     if matching != Matching::default() && !command.has_path() {
         return Err(Failure::usage("--as-written and --unambiguous are for a PATH: that of ls, cat, get or stat"));
     }
@@ -114,16 +116,20 @@ fn matching(as_written: bool, unambiguous: bool) -> Result<Matching, Failure> {
     }
 }
 
-fn command(words: Vec<OsString>) -> Result<Command, Failure> {
+fn command(words: Vec<OsString>, folder: Option<OsString>) -> Result<Command, Failure> {
     let mut words = words.into_iter();
-    let Some(name) = words.next() else {
+    let name = words.next();
+    if folder.is_some() && name.as_deref() != Some(OsStr::new("get")) {
+        return Err(Failure::usage("-o is for get"));
+    }
+    let Some(name) = name else {
         return Ok(Command::Tour);
     };
     let command = match name.as_bytes() {
         b"sample" => Command::Sample { file: take(&mut words, &name, "FILE")? },
         b"label" | b"ls" | b"cat" | b"get" | b"stat" | b"probe" | b"check" => {
             let image = take(&mut words, &name, "IMAGE")?;
-            Command::Ask { image, question: question(&name, &mut words)? }
+            Command::Ask { image, question: question(&name, &mut words, folder)? }
         }
         other => return Err(Failure::usage(format!("there is no command {}", shown(other)))),
     };
@@ -133,7 +139,7 @@ fn command(words: Vec<OsString>) -> Result<Command, Failure> {
     }
 }
 
-fn question(name: &OsStr, words: &mut impl Iterator<Item = OsString>) -> Result<Question, Failure> {
+fn question(name: &OsStr, words: &mut impl Iterator<Item = OsString>, folder: Option<OsString>) -> Result<Question, Failure> {
     if name == "label" {
         return Ok(Question::Label);
     }
@@ -150,6 +156,9 @@ fn question(name: &OsStr, words: &mut impl Iterator<Item = OsString>) -> Result<
         return Ok(words.next().map_or(Question::Descriptors, |path| Question::Stat { path: path.into_vec() }));
     }
     let path = take(words, name, "PATH")?.into_vec();
+    if let Some(folder) = folder {
+        return Ok(Question::GetAll { paths: [path].into_iter().chain(words.map(OsString::into_vec)).collect(), folder });
+    }
     Ok(match name.as_bytes() {
         b"get" => Question::Get { path, file: take(words, name, "FILE")? },
         _ => Question::Cat { path },
@@ -198,6 +207,16 @@ mod tests {
     }
 
     #[test]
+    fn a_folder_takes_many_paths() {
+        for (line, paths) in
+            [("get a -o d b", &["b"][..]), ("-o d get a b c", &["b", "c"]), ("get a b c d e -o d -- -o", &["b", "c", "d", "e", "-o"])]
+        {
+            let question = Question::GetAll { paths: paths.iter().map(|path| path.as_bytes().to_vec()).collect(), folder: "d".into() };
+            assert_eq!(parsed(line).unwrap().command, Command::Ask { image: "a".into(), question }, "{line}");
+        }
+    }
+
+    #[test]
     fn matching_is_for_paths() {
         for (line, matching) in [
             ("ls a", Matching::CaseIgnored),
@@ -222,6 +241,12 @@ mod tests {
             "ls a b c",
             "cat a",
             "get a b",
+            "get a b c d",
+            "get a -o",
+            "get a -o d",
+            "get -o d",
+            "cat a b -o d",
+            "-o d",
             "stat",
             "stat a b c",
             "probe",

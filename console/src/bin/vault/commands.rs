@@ -5,13 +5,15 @@ use crate::bar::Word;
 use crate::check;
 use crate::disc::{Disc, Found};
 use crate::failure::Failure;
-use crate::file;
+use crate::file::Target;
 use crate::log::Log;
+use crate::many;
 use crate::maps;
 use crate::names::shown;
 use std::ffi::OsStr;
 use std::io::{self, Write};
 use std::os::unix::ffi::OsStrExt;
+use std::path::Path;
 use strandlodge::{AllocExtent, DirEntry, How, LongAd, Matching, Vault, VolumeDescriptor};
 use strandlodge::{map_table, probe_vrs, read_volume_label_as, volume_descriptors};
 
@@ -25,7 +27,7 @@ pub fn ask(
     out: &mut impl Write,
     log: &mut Log,
 ) -> Result<(), Failure> {
-    let name = &shown(name.as_bytes());
+    let (file, name) = (name, &shown(name.as_bytes()));
     match question {
         Question::Probe => line(out, if probe_vrs(image) { "yes" } else { "no" }),
         Question::Label => {
@@ -46,16 +48,19 @@ pub fn ask(
             out.write_all(&bytes).map_err(Failure::output)
         }
         Question::Get { path, file } => {
-            let target = file::Target::at(file)?;
+            let target = Target::at(file)?;
             let word = Word::new("reading");
             let bytes = cat(&mut Disc::open(image, how, name, matching, log)?, path)?;
             drop(word);
             target.write(&bytes)
         }
+        Question::GetAll { paths, folder } => {
+            many::get(&mut Disc::open(image, how, name, matching, log)?, paths, Path::new(folder), file, out)
+        }
     }
 }
 
-fn line(out: &mut impl Write, text: &str) -> Result<(), Failure> {
+pub fn line(out: &mut impl Write, text: &str) -> Result<(), Failure> {
     writeln!(out, "{text}").map_err(Failure::output)
 }
 

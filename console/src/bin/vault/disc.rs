@@ -11,8 +11,8 @@ use strandlodge::{DirEntry, How, LongAd, Matching, Refusal, Refused, Vault};
 pub struct Disc<'a, 'l> {
     pub vault: Vault<'a>,
     pub log: &'l mut Log,
-    name: &'l str,
-    matching: Matching,
+    pub name: &'l str,
+    pub matching: Matching,
 }
 
 /// What a path gives.
@@ -39,7 +39,7 @@ impl<'a, 'l> Disc<'a, 'l> {
         self.log.count(call, answer).map_err(|refused| self.refused(path, refused))
     }
 
-    fn refused(&self, path: &[u8], refused: Refused) -> Failure {
+    pub fn refused(&self, path: &[u8], refused: impl Into<Refusal>) -> Failure {
         Failure::refused(format!("{}: {}", self.name, quoted(path)), refused)
     }
 

@@ -4,7 +4,7 @@ use crate::names::shown;
 use std::ffi::OsStr;
 use std::io;
 use std::os::unix::ffi::OsStrExt;
-use strandlodge::{Refusal, Refused};
+use strandlodge::Refusal;
 
 /// Wrong usage.
 pub const USAGE: u8 = 64;
@@ -12,7 +12,7 @@ pub const USAGE: u8 = 64;
 pub const WRONG: u8 = 65;
 /// An image that can't be opened, mapped or copied.
 pub const NO_IMAGE: u8 = 66;
-/// Something that `check` couldn't read.
+/// Something that `check` couldn't read, or files that `get` couldn't have.
 pub const UNREAD: u8 = 67;
 /// An answer number that isn't known.
 pub const UNKNOWN: u8 = 70;
@@ -39,13 +39,14 @@ impl Failure {
     }
 
     /// `about` is what was asked for.
-    pub fn refused(about: impl AsRef<str>, refused: Refused) -> Failure {
-        Failure::with_number(refused, format!("{}: {refused}", about.as_ref()))
+    pub fn refused(about: impl AsRef<str>, refused: impl Into<Refusal>) -> Failure {
+        let why = refused.into();
+        Failure::with_number(why, format!("{}: {why}", about.as_ref()))
     }
 
     /// A refusal with its number behind the sentence, and what to try. The number is the status, where it is one of the table.
-    pub fn with_number(refused: Refused, says: String) -> Failure {
-        match refused.why {
+    pub fn with_number(refused: impl Into<Refusal>, says: String) -> Failure {
+        match refused.into() {
             Refusal::Unknown(_) => Failure::new(UNKNOWN, says),
             why @ Refusal::BadCrc => Failure::new(why.number() as u8, format!("{says} (refusal {}); {TO_TRY}", why.number())),
             why => Failure::new(why.number() as u8, format!("{says} (refusal {})", why.number())),
@@ -68,6 +69,7 @@ impl Failure {
 #[cfg(test)]
 mod tests {
     use super::*;
+    use strandlodge::Refused;
 
     #[test]
     fn the_number_is_the_status() {

@@ -1,7 +1,7 @@
-//! The file that `get` writes: whole, or not at all.
+//! A file that `get` writes: whole, or not at all.
 
 use crate::bar::Bar;
-use crate::failure::{Failure, NO_OUTPUT};
+use crate::failure::{Failure, NO_OUTPUT, USAGE};
 use std::ffi::OsStr;
 use std::fs::{self, File};
 use std::io::{self, Write};
@@ -12,9 +12,26 @@ use std::path::PathBuf;
 const PIECE: usize = 1 << 20;
 
 /// Whether both names are of one file that is there.
-pub fn is_same(one: &OsStr, other: &OsStr) -> bool {
+fn is_same(one: &OsStr, other: &OsStr) -> bool {
     let which = |name| fs::metadata(name).map(|file| (file.dev(), file.ino()));
     matches!((which(one), which(other)), (Ok(one), Ok(other)) if one == other)
+}
+
+/// The image must not be what is written.
+pub fn apart(image: &OsStr, file: &OsStr) -> Result<(), Failure> {
+    if is_same(image, file) {
+        return Err(Failure::file(USAGE, file, "this is the image itself"));
+    }
+    Ok(())
+}
+
+/// What files are written to must be a folder that is there.
+pub fn see_folder(name: &OsStr) -> Result<(), Failure> {
+    match fs::metadata(name) {
+        Ok(there) if there.is_dir() => Ok(()),
+        Ok(_) => Err(Failure::file(NO_OUTPUT, name, "this is no folder: with -o name the one that the files are written to")),
+        Err(error) => Err(Failure::file(NO_OUTPUT, name, format!("the folder can't be written to: {error}"))),
+    }
 }
 
 /// A file to be made or replaced.

@@ -9,6 +9,7 @@ mod failure;
 mod file;
 mod image;
 mod log;
+mod many;
 mod map;
 mod maps;
 mod names;
@@ -19,10 +20,9 @@ mod tour;
 mod walk;
 
 use args::{Args, Command, HELP, Question};
-use failure::{Failure, USAGE};
+use failure::Failure;
 use image::Image;
 use log::{Log, say};
-use std::ffi::OsStr;
 use std::io::{self, BufWriter, Write};
 use std::process::ExitCode;
 
@@ -54,17 +54,12 @@ fn answer(args: &Args, out: &mut impl Write, log: &mut Log) -> Result<(), Failur
         Command::Sample { file } => file::Target::at(file)?.write(&tour::sample()?),
         Command::Ask { image, question } => {
             if let Question::Get { file, .. } = question {
-                apart(image, file)?;
+                file::apart(image, file)?;
+            }
+            if let Question::GetAll { folder, .. } = question {
+                file::see_folder(folder)?;
             }
             commands::ask(question, args.how, args.matching, &Image::open(image, args.copy)?, image, out, log)
         }
     }
-}
-
-/// The image must not be what is written.
-fn apart(image: &OsStr, file: &OsStr) -> Result<(), Failure> {
-    if file::is_same(image, file) {
-        return Err(Failure::file(USAGE, file, "this is the image itself"));
-    }
-    Ok(())
 }
