@@ -131,6 +131,13 @@ pub mod within {
         disc.read_file_entry(icb)
     }
 
+    /// An area of descriptors, put behind those that an entry has; and whether it goes on elsewhere.
+    pub fn area(entry: &mut FileEntry, area: &[u8]) -> Result<()> {
+        entry.continuation =
+            parse_ad_area(entry.ad_type, area, &mut entry.short_ads, &mut entry.long_ads, &mut entry.ext_ads)?;
+        Ok(())
+    }
+
     pub fn reader<R: Read + Seek>(disc: &mut UdfDisc<R>) -> &mut R {
         &mut disc.reader
     }

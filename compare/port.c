@@ -6,23 +6,26 @@
  *   'I' noise kind (1 byte), noise seed (4), packed length (4), packed image    the image that is asked about from now on, as
  *                                                                               docs/COMPARING.md packs it
  *   'Q' call (1), in noise (1), salt (1),                                       a query; with `in noise`, on an image that holds
- *       volume (59), ICB (17), room (4), work (4), how (4), matching (4),       the kept sectors alone, and noise in all others
+ *       volume (95), ICB (17), room (4), work (4), how (4), matching (4),       the kept sectors alone, and noise in all others
+ *       places of the lengths (4) and of the answers (4),
  *       path length (4), path, kept sectors (4), each sector's number (4)
  *   'T' times (4), and a query as behind 'Q'                                    the query so many times over: the answer is the
- *                                                                               nanoseconds (8); call 10 copies `room` bytes
+ *                                                                               nanoseconds (8); call 11 copies `room` bytes,
+ *                                                                               and 12 reads each path of a list by itself
  *   'R' call (1), salt (1), room (4), length (4), bytes                         a call on a raw record
  *   'F'                                                                         the answers to all queries so far are written
  *
- *   an answer: answer (8), count (8), length (8), place (8), volume (59), ICB (17), state (1), written length (4), written bytes
+ *   an answer: answer (8), count (8), length (8), place (8), volume (95), ICB (17), state (1), written length (4), written bytes,
+ *       paths of a list (4), the length (8) and the answer (4) of each
  *   an answer to 'R': state (1), length (4), bytes
  *
- * An ICB is length (4), type (1), block (4), partition (2), implementation use (6); a volume is start (4), partition (2), checked (4),
- * root (17), label (32). Room counts bytes, and slots for the extent list. Answers are held back until 'F', so neither side waits for the other
- * while both write.
+ * An ICB is length (4), type (1), block (4), partition (2), implementation use (6); a volume is start (4), partition (2), checked (4), maps (4),
+ * volumes, numbers (four of 2 each), starts (four of 4), root (17), label (32). Room counts bytes, and slots for the extent list. Answers are
+ * held back until 'F', so neither side waits for the other while both write.
  *
  * A lent buffer comes full of a pattern that tells where each byte stands, with GUARD bytes of it in front and behind. The state has a
  * bit for each thing that held: 1 the guards of the output, 2 its bytes behind the answer (all of them, if refused), 4 the guards of the
- * work space, 8 the work space all zero. The written bytes are the front of the output, as many as the reply's length says.
+ * work space, 8 the work space all zero, 16 the guards of the rows, 32 their places behind the answer. The written bytes are the front of the output, as many as the reply's length says.
  *
  * A raw record is every field of it in order. What is parsed comes as bytes, and the answer is the number (8) and the record; what is
  * encoded comes as the record, and the answer is bytes; a name comes as bytes, and the answer is the number (8), the length (8) and the
@@ -45,7 +48,7 @@ struct timespec {
 extern int clock_gettime(int clock, struct timespec *now);
 
 enum { GUARD = 64, SECTOR = 2048 };
-enum { PROBE, OPEN, LABEL, LOOKUP, FAILED, LIST, READ, PART, EXTENTS, READ_PATH, COPY };
+enum { PROBE, OPEN, LABEL, LOOKUP, FAILED, LIST, READ, PART, EXTENTS, READ_PATH, READ_ALL, COPY, EACH };
 
 typedef struct {
     uint8_t *at;
@@ -63,10 +66,10 @@ typedef struct {
     uint8_t call, in_noise, salt;
     vault_volume volume;
     vault_long_ad icb;
-    uint32_t room, work, how, matching, path_length, kept;
+    uint32_t room, work, how, matching, lengths, answers, path_length, kept;
 } query;
 
-static buffer image, noise, replies, lent_out, lent_work, path, kept;
+static buffer image, noise, replies, lent_out, lent_work, lent_lengths, lent_answers, path, kept;
 static uint8_t noise_kind;
 static uint32_t noise_seed;
 
@@ -160,6 +163,10 @@ static vault_volume take_volume(void) {
     v.mount.start = (uint32_t)take_number(4);
     v.mount.partition = (uint16_t)take_number(2);
     v.mount.checked = (uint32_t)take_number(4);
+    v.mount.maps = (uint32_t)take_number(4);
+    for (size_t i = 0; i < 4; i++) v.mount.volumes[i] = (uint16_t)take_number(2);
+    for (size_t i = 0; i < 4; i++) v.mount.numbers[i] = (uint16_t)take_number(2);
+    for (size_t i = 0; i < 4; i++) v.mount.starts[i] = (uint32_t)take_number(4);
     v.root = take_icb();
     if (!take(v.label, 32)) exit(5);
     return v;
@@ -169,6 +176,10 @@ static void give_volume(vault_volume v) {
     give_number(v.mount.start, 4);
     give_number(v.mount.partition, 2);
     give_number(v.mount.checked, 4);
+    give_number(v.mount.maps, 4);
+    for (size_t i = 0; i < 4; i++) give_number(v.mount.volumes[i], 2);
+    for (size_t i = 0; i < 4; i++) give_number(v.mount.numbers[i], 2);
+    for (size_t i = 0; i < 4; i++) give_number(v.mount.starts[i], 4);
     give_icb(v.root);
     give(v.label, 32);
 }
@@ -249,7 +260,23 @@ static bool as_it_came(const buffer *b, size_t from, size_t end, uint8_t salt) {
     return true;
 }
 
-static uint8_t state(const query *q, size_t written) {
+/* How many paths a list has. */
+static size_t items(const query *q) {
+    size_t n = 1;
+    for (size_t i = 0; i < q->path_length; i++) n += path.at[i] == 0;
+    return n;
+}
+
+/* Of a row, from so many of its places on: the state's bits. */
+static uint8_t row_state(const buffer *row, size_t front, uint8_t salt) {
+    size_t end = GUARD + row->length;
+    uint8_t held = 0;
+    if (as_it_came(row, 0, GUARD, salt) && as_it_came(row, end, end + GUARD, salt)) held |= 16;
+    if (as_it_came(row, GUARD + (front < row->length ? front : row->length), end, salt)) held |= 32;
+    return held;
+}
+
+static uint8_t state(const query *q, size_t written, size_t rows) {
     const buffer *o = &lent_out, *w = &lent_work;
     size_t end = GUARD + o->length;
     uint8_t held = 0;
@@ -259,7 +286,8 @@ static uint8_t state(const query *q, size_t written) {
     if (as_it_came(w, 0, GUARD, q->salt) && as_it_came(w, end, end + GUARD, q->salt)) held |= 4;
     bool zero = true;
     for (size_t i = GUARD; i < end; i++) zero &= w->at[i] == 0;
-    return zero ? held | 8 : held;
+    if (zero) held |= 8;
+    return held | (row_state(&lent_lengths, rows * 8, q->salt) & row_state(&lent_answers, rows * 4, q->salt));
 }
 
 /* ---- the calls */
@@ -268,6 +296,14 @@ static void from_reply(outcome *o, vault_reply r) {
     o->answer = r.answer;
     o->count = r.count;
     o->length = r.length;
+}
+
+/* Each path of a list by itself, in turn. */
+static void each(const query *q, const uint8_t *disc, size_t n, uint8_t *out, uint8_t *work) {
+    for (size_t from = 0, end; from <= q->path_length; from = end + 1) {
+        for (end = from; end < q->path_length && path.at[end]; end++) {}
+        vault_read_path(q->volume, disc, n, path.at + from, end - from, q->matching, out, q->room, work, q->work);
+    }
 }
 
 static outcome call(const query *q, const uint8_t *disc, size_t n, uint8_t *out, uint8_t *work) {
@@ -300,6 +336,14 @@ static outcome call(const query *q, const uint8_t *disc, size_t n, uint8_t *out,
     case READ_PATH:
         from_reply(&o, vault_read_path(q->volume, disc, n, p, length, q->matching, out, q->room, work, q->work));
         break;
+    case READ_ALL: {
+        uint64_t *lengths = (uint64_t *)(void *)(lent_lengths.at + GUARD);
+        uint32_t *answers = (uint32_t *)(void *)(lent_answers.at + GUARD);
+        from_reply(&o, vault_read_all(q->volume, disc, n, p, length, q->matching, out, q->room, lengths, q->lengths, answers, q->answers,
+                                      work, q->work));
+        break;
+    }
+    case EACH: each(q, disc, n, out, work); break;
     case COPY: memcpy(out, disc, q->room); break;
     default: exit(6);
     }
@@ -324,6 +368,8 @@ static query take_query(void) {
     q.work = (uint32_t)take_number(4);
     q.how = (uint32_t)take_number(4);
     q.matching = (uint32_t)take_number(4);
+    q.lengths = (uint32_t)take_number(4);
+    q.answers = (uint32_t)take_number(4);
     q.path_length = (uint32_t)take_number(4);
     grow(&path, q.path_length + 1);
     take_all(&path, q.path_length);
@@ -332,14 +378,20 @@ static query take_query(void) {
     return q;
 }
 
+static void lend_rows(const query *q) {
+    lend(&lent_lengths, (size_t)q->lengths * 8, q->salt);
+    lend(&lent_answers, (size_t)q->answers * 4, q->salt);
+}
+
 static void answer(void) {
     query q = take_query();
     uint8_t *out = lend(&lent_out, q.call == EXTENTS ? q.room * sizeof(vault_extent) : q.room, q.salt);
     uint8_t *work = lend(&lent_work, q.work, q.salt);
+    lend_rows(&q);
     if (q.in_noise) keep(true);
     outcome o = call(&q, q.in_noise ? noise.at : image.at, image.length, out, work);
     if (q.in_noise) keep(false);
-    size_t n = written(&q, &o);
+    size_t n = written(&q, &o), rows = q.call == READ_ALL && !o.answer ? items(&q) : 0;
 
     give_number(o.answer, 8);
     give_number(o.count, 8);
@@ -347,9 +399,16 @@ static void answer(void) {
     give_number(o.place, 8);
     give_volume(o.volume);
     give_icb(o.icb);
-    give_number(state(&q, n), 1);
+    give_number(state(&q, n, rows), 1);
     give_number(n, 4);
     give(out, n);
+    if (rows > q.lengths) rows = q.lengths;
+    if (rows > q.answers) rows = q.answers;
+    give_number(rows, 4);
+    for (size_t i = 0; i < rows; i++) {
+        give(lent_lengths.at + GUARD + i * 8, 8);
+        give(lent_answers.at + GUARD + i * 4, 4);
+    }
 }
 
 /* ---- the raw records */
@@ -532,6 +591,7 @@ static void time_query(void) {
     query q = take_query();
     uint8_t *out = lend(&lent_out, q.call == EXTENTS ? q.room * sizeof(vault_extent) : q.room, q.salt);
     uint8_t *work = lend(&lent_work, q.work, q.salt);
+    lend_rows(&q);
     call(&q, image.at, image.length, out, work);
     uint64_t began = now();
     for (uint32_t i = 0; i < times; i++) call(&q, image.at, image.length, out, work);

@@ -1,6 +1,6 @@
 //! The calls of include/vault.h: what is asked, and what was answered.
 
-use strandlodge_sys::vault::{AS_WRITTEN, CASE_IGNORED, CHECKED};
+use strandlodge_sys::vault::{AS_WRITTEN, CASE_IGNORED, CHECKED, MAPS};
 
 #[derive(Clone, Copy, PartialEq, Eq, Debug, PartialOrd, Ord)]
 #[repr(u8)]
@@ -15,10 +15,11 @@ pub enum Call {
     Part,
     Extents,
     ReadPath,
+    ReadAll,
 }
 
 impl Call {
-    pub const ALL: [Call; 10] = [
+    pub const ALL: [Call; 11] = [
         Call::Probe,
         Call::Open,
         Call::Label,
@@ -29,18 +30,19 @@ impl Call {
         Call::Part,
         Call::Extents,
         Call::ReadPath,
+        Call::ReadAll,
     ];
 
     pub fn name(self) -> &'static str {
-        ["probe", "open", "label", "lookup", "failed", "list", "read", "part", "extents", "read_path"][self as usize]
+        ["probe", "open", "label", "lookup", "failed", "list", "read", "part", "extents", "read_path", "read_all"][self as usize]
     }
 
     pub fn has_work(self) -> bool {
-        matches!(self, Call::Lookup | Call::Failed | Call::List | Call::ReadPath)
+        matches!(self, Call::Lookup | Call::Failed | Call::List | Call::ReadPath | Call::ReadAll)
     }
 
     pub fn has_room(self) -> bool {
-        matches!(self, Call::Label | Call::List | Call::Read | Call::Extents | Call::ReadPath)
+        matches!(self, Call::Label | Call::List | Call::Read | Call::Extents | Call::ReadPath | Call::ReadAll)
     }
 
     /// It says where in the image, or in the path, its answer stands.
@@ -48,9 +50,9 @@ impl Call {
         matches!(self, Call::Failed | Call::Part)
     }
 
-    /// It goes along a path.
+    /// It goes along a path, or a list of them.
     pub fn has_path(self) -> bool {
-        matches!(self, Call::Lookup | Call::Failed | Call::ReadPath)
+        matches!(self, Call::Lookup | Call::Failed | Call::ReadPath | Call::ReadAll)
     }
 }
 
@@ -87,6 +89,11 @@ pub struct Volume {
     pub partition: u16,
     /// Any number but 0: bodies are checked.
     pub checked: u32,
+    /// Any number but 0: so many partition maps, of which there are four at most.
+    pub maps: u32,
+    pub volumes: [u16; 4],
+    pub numbers: [u16; 4],
+    pub starts: [u32; 4],
     pub root: Icb,
     pub label: [u8; 32],
 }
@@ -120,11 +127,14 @@ pub struct Query {
     pub call: Call,
     pub volume: Volume,
     pub icb: Icb,
+    /// A path, or a list of them with a zero byte between each two.
     pub path: Vec<u8>,
     /// How names on the path are matched, as the interface has it: any number.
     pub matching: u32,
     pub room: usize,
     pub work: usize,
+    /// The places of the rows of a list of paths: of the lengths, and of the answers.
+    pub places: [usize; 2],
     /// The choices, for the calls that open.
     pub how: u32,
 }
@@ -134,7 +144,8 @@ pub const PLENTY: usize = usize::MAX;
 
 impl Query {
     pub fn of(call: Call, volume: Volume) -> Query {
-        Query { call, volume, icb: Icb::default(), path: Vec::new(), how: 0, matching: CASE_IGNORED, room: PLENTY, work: PLENTY }
+        let (icb, path, matching) = (Icb::default(), Vec::new(), CASE_IGNORED);
+        Query { call, volume, icb, path, how: 0, matching, room: PLENTY, work: PLENTY, places: [0; 2] }
     }
 
     pub fn on(call: Call, volume: Volume, icb: Icb) -> Query {
@@ -143,6 +154,24 @@ impl Query {
 
     pub fn along(call: Call, volume: Volume, path: &[u8]) -> Query {
         Query { path: path.to_vec(), ..Query::of(call, volume) }
+    }
+
+    /// A list of paths, with a place in each row for every one.
+    pub fn list(volume: Volume, paths: &[impl AsRef<[u8]>]) -> Query {
+        let parts: Vec<&[u8]> = paths.iter().map(AsRef::as_ref).collect();
+        let q = Query::along(Call::ReadAll, volume, &parts.join(&0));
+        let n = q.items().count();
+        Query { places: [n, n], ..q }
+    }
+
+    /// The paths of a list.
+    pub fn items(&self) -> impl Iterator<Item = &[u8]> {
+        self.path.split(|byte| *byte == 0)
+    }
+
+    /// A path of a list by itself, with the room that is left to it.
+    pub fn item(&self, path: &[u8], room: usize) -> Query {
+        Query { call: Call::ReadPath, path: path.to_vec(), room, places: [0; 2], ..self.clone() }
     }
 
     pub fn matched(self, matching: u32) -> Query {
@@ -160,6 +189,15 @@ impl Query {
             Call::Probe => false,
             Call::Open | Call::Label => self.how & CHECKED != 0,
             _ => self.volume.checked != 0,
+        }
+    }
+
+    /// Whether references are resolved through maps: in the same way.
+    pub fn is_mapped(&self) -> bool {
+        match self.call {
+            Call::Probe => false,
+            Call::Open | Call::Label => self.how & MAPS != 0,
+            _ => self.volume.maps != 0,
         }
     }
 
@@ -188,11 +226,13 @@ pub struct Values {
     pub icb: Icb,
     /// The front of the lent output.
     pub written: Vec<u8>,
+    /// The length and the answer of each path of a list.
+    pub rows: Vec<(u64, u32)>,
 }
 
 /// What held of the lent memory: the guards of the output, its bytes behind the answer, the guards of the work space, the work space
-/// all zero (or as it came, where the call has none).
-pub const HELD: u8 = 15;
+/// all zero (or as it came, where the call has none), the guards of the rows, their places behind the answer.
+pub const HELD: u8 = 63;
 
 #[derive(Clone, Debug, Default)]
 pub struct Given {

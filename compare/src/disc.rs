@@ -20,6 +20,9 @@ pub struct Disc {
     pub icbs: Vec<Icb>,
     next: u32,
     taken: Vec<Range<u64>>,
+    /// Where the partitions start, by reference, where there is more than one to put things into; and by what they are chosen.
+    pub partitions: Vec<u32>,
+    pub wandering: Option<Random>,
 }
 
 pub const ANCHOR: u64 = 256;
@@ -97,6 +100,25 @@ impl Disc {
             icbs: Vec::new(),
             next: 0,
             taken: vec![16..40, ANCHOR..ANCHOR + 1],
+            partitions: Vec::new(),
+            wandering: None,
+        }
+    }
+
+    /// Goes on in another partition, with sectors that nobody has: whatever is put onto the disc stands there, under this reference.
+    pub fn stand_in(&mut self, start: u32, reference: u16) {
+        let sector = self.sector_of(self.next).max(start.into());
+        (self.volume.start, self.volume.partition) = (start, reference);
+        self.next = (sector - u64::from(start)) as u32;
+    }
+
+    /// Now and then goes on in another partition, on a disc that has several.
+    fn wander(&mut self) {
+        if let Some(random) = self.wandering.as_mut()
+            && random.once_in(3)
+        {
+            let reference = random.below(self.partitions.len());
+            self.stand_in(self.partitions[reference], reference as u16);
         }
     }
 
@@ -153,6 +175,9 @@ impl Disc {
             if n == 0 {
                 continue;
             }
+            if layout.kind != 0 {
+                self.wander();
+            }
             let block = self.take(n.div_ceil(2048) as u32);
             let sector = self.sector_of(block);
             self.put(sector, &bytes[from..from + n]);
@@ -181,6 +206,9 @@ impl Disc {
         for group in groups.into_iter().rev() {
             let bytes = allocation_extent(&area);
             let length = bytes.len() as u32 + layout.slack;
+            if layout.kind != 0 {
+                self.wander();
+            }
             let block = self.take(length.div_ceil(2048));
             self.put_noted(self.sector_of(block), &bytes, length as usize);
             area = group.concat();
@@ -196,7 +224,9 @@ impl Disc {
         if layout.kind == 3 && prefix + bytes.len() > 2048 {
             layout.kind = 0;
         }
+        self.wander();
         let block = self.take(1);
+        let (start, reference) = (self.volume.start, self.volume.partition);
         let (area, places) = if layout.kind == 3 {
             (bytes.to_vec(), vec![Piece { from: 0, length: bytes.len(), at: self.sector_of(block) as usize * 2048 + prefix }])
         } else {
@@ -211,8 +241,9 @@ impl Disc {
             attributes: layout.attributes,
             area: &area,
         };
+        self.stand_in(start, reference);
         self.put_block(block, &entry.bytes());
-        let icb = Icb::at(block, self.volume.partition);
+        let icb = Icb::at(block, reference);
         self.icbs.push(icb);
         (icb, places)
     }

@@ -23,8 +23,8 @@ fn given(l: LongAd) -> Icb {
     }
 }
 
-/// What is lent for a call; the query says how long the path, the output and the work space are. The row of an extent list is the output,
-/// aligned to four bytes.
+/// What is lent for a call; the query says how long the path, the output, the rows and the work space are. The row of an extent list is the
+/// output, aligned to four bytes.
 #[derive(Clone, Copy)]
 pub struct Lends {
     pub image: *const u8,
@@ -32,6 +32,8 @@ pub struct Lends {
     pub path: *const u8,
     pub out: *mut u8,
     pub work: *mut u8,
+    pub lengths: *mut u64,
+    pub answers: *mut u32,
     /// Where a part or a component stands.
     pub place: *mut usize,
 }
@@ -42,10 +44,10 @@ pub struct Lends {
 ///
 /// The header's word: lent pieces are as long as said, and don't overlap.
 pub unsafe fn make(q: &Query, lends: Lends) -> Values {
-    let (start, partition, checked) = (q.volume.start, q.volume.partition, q.volume.checked);
-    let mount = Mount { start, partition, checked, maps: 0, volumes: [0; 4], numbers: [0; 4], starts: [0; 4] };
-    let v = face::Volume { mount, root: lent(q.volume.root), label: q.volume.label };
-    let Lends { image: d, image_length: n, path: p, out, work, place } = lends;
+    let Volume { start, partition, checked, maps, volumes, numbers, starts, root, label } = q.volume;
+    let v = face::Volume { mount: Mount { start, partition, checked, maps, volumes, numbers, starts }, root: lent(root), label };
+    let Lends { image: d, image_length: n, path: p, out, work, lengths, answers, place } = lends;
+    let [l, a] = q.places;
     let (icb, m, matching, mut values) = (lent(q.icb), q.path.len(), q.matching, Values::default());
     // SAFETY: the caller's word; and a place is a number that was lent.
     let reply = unsafe {
@@ -53,8 +55,8 @@ pub unsafe fn make(q: &Query, lends: Lends) -> Values {
             Call::Probe => Reply { answer: vault_probe(d, n) as u64, count: 0, length: 0 },
             Call::Open => {
                 let o = vault_open(d, n, q.how);
-                let face::Volume { mount: Mount { start, partition, checked, .. }, root, label } = o.volume;
-                values.volume = Volume { start, partition, checked, root: given(root), label };
+                let face::Volume { mount: Mount { start, partition, checked, maps, volumes, numbers, starts }, root, label } = o.volume;
+                values.volume = Volume { start, partition, checked, maps, volumes, numbers, starts, root: given(root), label };
                 Reply { answer: o.answer, count: o.count, length: 0 }
             }
             Call::Label => vault_label(d, n, q.how, out, q.room),
@@ -69,6 +71,7 @@ pub unsafe fn make(q: &Query, lends: Lends) -> Values {
             Call::Part => vault_part(v, d, n, icb, place),
             Call::Extents => vault_extents(v, d, n, icb, out.cast(), q.room),
             Call::ReadPath => vault_read_path(v, d, n, p, m, matching, out, q.room, work, q.work),
+            Call::ReadAll => vault_read_all(v, d, n, p, m, matching, out, q.room, lengths, l, answers, a, work, q.work),
         }
     };
     if q.call.has_place() {

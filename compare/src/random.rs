@@ -1,5 +1,6 @@
 //! Numbers at random, the same for the same seed on every machine.
 
+#[derive(Clone)]
 pub struct Random(u64);
 
 impl Random {

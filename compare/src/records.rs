@@ -108,6 +108,20 @@ pub fn logical(label: &[u8], block_size: u32, file_set: Icb) -> Vec<u8> {
     b
 }
 
+/// A partition map of type 1: volume sequence number and partition number.
+pub fn map(volume: u16, number: u16) -> Vec<u8> {
+    [&[1, 6][..], &volume.to_le_bytes(), &number.to_le_bytes()].concat()
+}
+
+/// A logical volume descriptor with so many maps, and a table of them.
+pub fn mapped(mut logical: Vec<u8>, maps: u32, table: &[u8]) -> Vec<u8> {
+    logical.resize(logical.len().max(440 + table.len()), 0);
+    put32(&mut logical, 264, table.len() as u32);
+    put32(&mut logical, 268, maps);
+    logical[440..440 + table.len()].copy_from_slice(table);
+    logical
+}
+
 pub fn file_set(root: Icb) -> Vec<u8> {
     let mut b = tagged(256, 512);
     b[400..416].copy_from_slice(&root.recorded());

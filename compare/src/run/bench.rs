@@ -27,6 +27,14 @@ struct Row {
     directories: Vec<Icb>,
     /// Bytes that a copy would move.
     copy: Option<usize>,
+    /// The paths of a list are read each by a call of its own, and not by one.
+    each: bool,
+}
+
+impl Row {
+    fn timed(&self) -> Timed<'_> {
+        if self.each { Timed::Each(&self.query) } else { Timed::Query(&self.query) }
+    }
 }
 
 /// A directory of n entries, the last of which is asked for. Their names are numbers of so many digits, recorded as `record` has it.
@@ -38,7 +46,7 @@ fn entries_of(name: &str, n: usize, digits: usize, record: fn(&[u8]) -> Vec<u8>,
     d.finish(root, &name8(b"BENCH"));
     let last = format!("{:0digits$}", n - 1);
     let query = Query { icb: root, ..Query::along(call, d.volume, last.as_bytes()).with(PLENTY, work) };
-    Row { name: name.to_string(), disc: d, query, directories: vec![root], copy: None }
+    Row { name: name.to_string(), disc: d, query, directories: vec![root], copy: None, each: false }
 }
 
 /// The same with names of eight letters, in bytes.
@@ -85,7 +93,7 @@ fn nested(depth: usize) -> Row {
     }
     d.finish(inner, &name8(b"BENCH"));
     let query = Query::along(Call::Lookup, d.volume, path.as_bytes()).with(PLENTY, 4096);
-    Row { name: format!("lookup, depth {depth}"), disc: d, query, directories, copy: None }
+    Row { name: format!("lookup, depth {depth}"), disc: d, query, directories, copy: None, each: false }
 }
 
 /// An area that goes on elsewhere at once.
@@ -114,7 +122,55 @@ fn extents(name: &str, bytes: usize, n: usize) -> Row {
     let root = d.store_directory(&[Item::new(name8(b"file"), file, 0)], &[], &Layout::of(0));
     d.finish(root, &name8(b"BENCH"));
     let query = Query { icb: file, ..Query::along(Call::Read, d.volume, b"file").with(bytes, 0) };
-    Row { name: name.to_string(), disc: d, query, directories: vec![root], copy: Some(bytes) }
+    Row { name: name.to_string(), disc: d, query, directories: vec![root], copy: Some(bytes), each: false }
+}
+
+/// The cues of a list, and the bytes of each.
+const FORTY: usize = 40;
+const CUE: usize = 4096;
+
+/// A directory of n entries, of which forty, evenly among the others, are cues.
+fn cues(d: &mut Disc, n: usize) -> (Vec<Item>, Vec<String>) {
+    let (other, _) = d.store(b"one of many", &Layout::of(3));
+    let (mut items, mut names) = (Vec::new(), Vec::new());
+    for i in 0..n {
+        let name = format!("{i:08}");
+        let is_cue = i % (n / FORTY) == 0 && names.len() < FORTY;
+        let file = if is_cue { d.store(&vec![i as u8; CUE], &Layout::of(0)).0 } else { other };
+        items.push(Item::new(name8(name.as_bytes()), file, 0));
+        names.extend(is_cue.then_some(name));
+    }
+    (items, names)
+}
+
+/// Forty cues of a directory so deep with so many entries, by one call, or by a call for each.
+fn forty(name: &str, depth: usize, n: usize, work: usize, each: bool) -> Row {
+    let mut d = Disc::new(300, 0);
+    let (items, mut paths) = cues(&mut d, n);
+    let mut directories = vec![d.store_directory(&items, &[], &Layout::of(0))];
+    for _ in 1..depth {
+        let mut items: Vec<Item> = (0..9).map(|i| Item::new(name8(format!("other {i}").as_bytes()), directories[0], DIRECTORY)).collect();
+        items.push(Item::new(name8(b"directory"), directories[directories.len() - 1], DIRECTORY));
+        directories.push(d.store_directory(&items, &[], &Layout::of(0)));
+        paths.iter_mut().for_each(|path| path.insert_str(0, "directory/"));
+    }
+    d.finish(directories[depth - 1], &name8(b"BENCH"));
+    let call = if each { "forty calls of read_path" } else { "read_all" };
+    let query = Query::list(d.volume, &paths).with(PLENTY, work);
+    Row { name: format!("{call}, 40 cues of 4 KiB {name}"), disc: d, query, directories, copy: Some(FORTY * CUE), each }
+}
+
+fn among(each: bool) -> Row {
+    forty("among 5,000", 1, 5000, MIB / 4, each)
+}
+
+fn deep(each: bool) -> Row {
+    forty("at depth 8", 8, FORTY, 4096, each)
+}
+
+/// The same with more work space than the directories need, all of which each call clears.
+fn deep_in_a_mebibyte(each: bool) -> Row {
+    forty("at depth 8, work space of 1 MiB", 8, FORTY, MIB, each)
 }
 
 fn open() -> Row {
@@ -154,6 +210,12 @@ fn rows() -> Vec<Box<dyn FnOnce() -> Row>> {
         Box::new(|| extents("read, 4 KiB", 4096, 1)),
         Box::new(|| extents("read, 256 MiB in one extent", 256 * MIB, 1)),
         Box::new(|| extents("read, 256 MiB in 4,096 extents", 256 * MIB, 4096)),
+        Box::new(|| among(false)),
+        Box::new(|| among(true)),
+        Box::new(|| deep(false)),
+        Box::new(|| deep(true)),
+        Box::new(|| deep_in_a_mebibyte(false)),
+        Box::new(|| deep_in_a_mebibyte(true)),
     ];
     for n in [10, 100, 1000, 10_000, 100_000] {
         all.push(Box::new(move || entries(&format!("list, {n} entries"), n, Call::List, n * 64)));
@@ -183,6 +245,7 @@ fn original(image: &[u8], q: &Query, times: u32) -> u64 {
             }
             Call::Lookup => drop(black_box(disc.lookup(path))),
             Call::List => drop(black_box(disc.read_directory(long(q.icb)))),
+            Call::ReadAll => path.split('\0').for_each(|path| drop(black_box(disc.read_path(path)))),
             _ => drop(black_box(disc.read_file(long(q.icb)))),
         }
     }
@@ -206,6 +269,9 @@ impl std::fmt::Display for Spread {
 /// libudfread's time, where it is installed.
 #[cfg(udfread)]
 fn other(r: &Row, bytes: &[u8], times: u32) -> Option<u64> {
+    if r.query.call == Call::ReadAll {
+        return None;
+    }
     udfread::time(&r.disc.image, &r.query, bytes, times)
 }
 
@@ -237,13 +303,13 @@ fn row(ours: &mut dyn Ours, mut r: Row) -> std::io::Result<String> {
     // What is timed is right.
     let given = ours.answers(&[Ask { query: &r.query, kept: None, salt: 1 }])?;
     assert!(given[0].values == e.values && [DONE, NOT_BLURAY].contains(&e.values.answer), "{}: another answer than the original's", r.name);
-    let once = ours.time(Timed::Query(&r.query), 1)?.max(original(&r.disc.image, &r.query, 1)).max(1);
+    let once = ours.time(r.timed(), 1)?.max(original(&r.disc.image, &r.query, 1)).max(1);
     // About a tenth of a second for each side in each round.
     let times = (100_000_000 / once).clamp(1, 20_000) as u32;
     let (mut mine, mut theirs, mut others, mut copies) = (Vec::new(), Vec::new(), Vec::new(), Vec::new());
     let each = |nanoseconds: u64| nanoseconds as f64 / times as f64 / 1000.0;
     for _ in 0..ROUNDS {
-        mine.push(each(ours.time(Timed::Query(&r.query), times)?));
+        mine.push(each(ours.time(r.timed(), times)?));
         theirs.push(each(original(&r.disc.image, &r.query, times)));
         if e.values.answer == DONE {
             others.extend(other(&r, &e.values.written, times).map(each));

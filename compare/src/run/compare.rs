@@ -6,17 +6,19 @@ use super::damage::damage;
 use super::disc::Disc;
 use super::expect::Expected;
 use super::ours::{Ask, Noise, Ours};
-use super::queries::{Case, Depth, cases, checked, chosen, matched};
+use super::queries::{Case, Depth, cases, checked, chosen, mapped, matched, stacked};
 use super::random::Random;
 use super::raw::{RAW_HELD, RawAsk, RawCall, RawGiven, shown};
 use super::raw_cases::{RawCase, batch};
 use super::tally::{PARSED, Row, Tally};
 use super::volumes::Sort;
-use super::{shapes_bodies, shapes_deleted, shapes_directories, shapes_files, shapes_matching, shapes_opening, shapes_prevailing};
-use super::{sparse, volumes};
+use super::{
+    shapes_bodies, shapes_deleted, shapes_directories, shapes_files, shapes_mapped, shapes_matching, shapes_opening, shapes_prevailing,
+};
+use super::{sparse, volumes, volumes_mapped};
 use std::panic::{AssertUnwindSafe, catch_unwind};
 use std::path::{Path, PathBuf};
-use strandlodge_sys::vault::{AMBIGUOUS, BAD_CRC};
+use strandlodge_sys::vault::{AMBIGUOUS, BAD_CRC, TOO_MANY};
 
 /// So many absurd information lengths are tried on the original: a process each.
 const CHILDREN: u64 = 60;
@@ -31,11 +33,13 @@ pub fn shapes() -> Vec<(String, Disc)> {
 
 /// What is asked of an image.
 #[derive(Clone, Copy, PartialEq)]
-enum Asked {
+pub enum Asked {
     /// Every call, by each choice, without bodies checked.
     Unchecked,
     /// Every call with bodies checked, and some without.
     Checked,
+    /// Every call through maps, with bodies checked or not, and some without maps.
+    Mapped,
 }
 
 pub struct Comparison {
@@ -50,6 +54,10 @@ pub struct Comparison {
     matchings: Random,
     /// The same for the images whose bodies are checked.
     bodies: Random,
+    /// And for those that are read through maps.
+    maps: Random,
+    /// And for lists of paths.
+    stacks: Random,
 }
 
 impl Comparison {
@@ -57,7 +65,9 @@ impl Comparison {
         let random = Random::new(seed ^ 0x7261_7773);
         let matchings = Random::new(seed ^ 0x6d61_7463);
         let bodies = Random::new(seed ^ 0x626f_6469);
-        Comparison { ours, seed, enough, tally: Tally::new(), random, matchings, bodies }
+        let maps = Random::new(seed ^ 0x6d61_7073);
+        let stacks = Random::new(seed ^ 0x7374_6163);
+        Comparison { ours, seed, enough, tally: Tally::new(), random, matchings, bodies, maps, stacks }
     }
 
     /// Every shape first, and then volumes at random, whole and damaged, until the time is over.
@@ -78,6 +88,7 @@ impl Comparison {
             }
         }
         self.sealed_shapes(seconds);
+        self.mapped_shapes(seconds);
         let mut number = 0u64;
         while self.tally.seconds() < seconds && !self.is_over() {
             number += 1;
@@ -97,6 +108,47 @@ impl Comparison {
             }
             self.meeting(number);
             self.sealed(number);
+            self.mapped(number);
+        }
+    }
+
+    /// The shapes of maps; and those of opening and of files, through maps that most of them don't have.
+    fn mapped_shapes(&mut self, seconds: u64) {
+        for (name, disc) in shapes_mapped::shapes() {
+            self.through_maps(&name, &disc, Depth::All);
+        }
+        for (name, disc) in shapes_opening::shapes().into_iter().chain(shapes_files::shapes()).chain(shapes_prevailing::shapes()) {
+            if self.tally.seconds() * 8 > seconds * 7 {
+                return;
+            }
+            self.through_maps(&format!("{name}, through maps"), &disc, Depth::Some);
+        }
+    }
+
+    /// A volume with maps: whole, damaged, and with right CRCs, of which some are ruined.
+    fn mapped(&mut self, number: u64) {
+        let mut random = Random::new(self.maps.next());
+        let whole = volumes_mapped::volume(&mut random);
+        for part in ["mapped", "mapped, damaged", "mapped, damaged again", "mapped, sealed", "mapped, ruined"] {
+            let mut disc = whole.clone();
+            if part.contains("damaged") {
+                damage(&mut random, &mut disc);
+            }
+            if !part.contains("damaged") && part != "mapped" {
+                disc.seal_oddly(&mut random);
+            }
+            if part.contains("ruined") {
+                disc.ruin_any(&mut random);
+            }
+            self.through_maps(&format!("random {number}, {part}"), &disc, Depth::Some);
+        }
+    }
+
+    /// Asks an image through maps.
+    fn through_maps(&mut self, name: &str, disc: &Disc, depth: Depth) {
+        if !self.is_over() {
+            let random = Random::new(self.maps.next());
+            self.image(name, disc, Asked::Mapped, depth, random);
         }
     }
 
@@ -168,17 +220,19 @@ impl Comparison {
 
     fn image(&mut self, name: &str, disc: &Disc, asked: Asked, depth: Depth, mut random: Random) {
         // A panic here is the original's, or a walk that isn't the original's own: either is worth a look.
-        let matchings = &mut self.matchings;
+        let (matchings, stacks) = (&mut self.matchings, &mut self.stacks);
         let made = catch_unwind(AssertUnwindSafe(|| {
             let mut all = match asked {
                 Asked::Unchecked => cases(&mut random, disc, depth),
                 Asked::Checked => checked(&mut random, disc, depth),
+                Asked::Mapped => mapped(&mut random, disc, depth),
             };
             match asked {
                 Asked::Unchecked => all.extend(matched(matchings, disc, depth)),
-                Asked::Checked => all.extend(cases(&mut random, disc, Depth::Some)),
+                Asked::Checked | Asked::Mapped => all.extend(cases(&mut random, disc, Depth::Some)),
             }
             all.extend(chosen(&mut random, disc));
+            all.extend(stacked(stacks, disc, asked, depth));
             all
         }));
         let Ok(cases) = made else {
@@ -221,6 +275,7 @@ impl Comparison {
             self.tally.in_noise += 1;
         } else {
             *self.tally.asked.entry((row, case.query.call, e.values.answer)).or_insert(0) += 1;
+            e.values.rows.iter().for_each(|(_, answer)| *self.tally.items.entry((row, u64::from(*answer))).or_insert(0) += 1);
         }
         self.tally.by_the_rule[0] += u64::from(e.by_the_rule);
         e.ruined.iter().for_each(|ruined| *self.tally.ruined.entry(*ruined).or_insert(0) += 1);
@@ -230,7 +285,7 @@ impl Comparison {
             self.keep(name, Some(disc), &format!("{what}\n{text}"));
         }
         // The process of its own has the original as it is.
-        if e.absurd && !e.by_the_rule && row == Row::Matched(Choice::CaseIgnored) {
+        if e.absurd && !e.by_the_rule && row == Row::Matched(Choice::CaseIgnored) && case.query.call != Call::ReadAll {
             self.absurd(name, disc, case);
         }
     }
@@ -312,8 +367,15 @@ fn difference(e: &Expected, given: &Given) -> Option<String> {
     if want != got {
         return Some("other values".to_string());
     }
-    let names = ["a byte beside the output", "a byte behind the answer", "a byte beside the work space", "work space not zero"];
-    let broken: Vec<&str> = (0..4).filter(|i| given.held >> i & 1 == 0).map(|i| names[i]).collect();
+    let names = [
+        "a byte beside the output",
+        "a byte behind the answer",
+        "a byte beside the work space",
+        "work space not zero",
+        "a byte beside a row",
+        "a place behind the answer",
+    ];
+    let broken: Vec<&str> = (0..names.len()).filter(|i| given.held >> i & 1 == 0).map(|i| names[i]).collect();
     (given.held != HELD).then(|| broken.join(", "))
 }
 
@@ -370,10 +432,11 @@ fn numbers(row: Row, call: Call) -> Vec<u64> {
         Call::Part => vec![0, 1, 2, 4],
         Call::Extents => vec![0, 1, 2, 4, 7],
         Call::ReadPath => vec![0, 1, 2, 3, 4, 5, 6],
+        Call::ReadAll => return vec![0, TOO_MANY],
     };
-    let is_ambiguous = call.has_path() && matches!(row, Row::Matched(Choice::Unambiguous) | Row::Checked);
+    let is_ambiguous = call.has_path() && matches!(row, Row::Matched(Choice::Unambiguous) | Row::Checked | Row::Mapped);
     all.extend(is_ambiguous.then_some(AMBIGUOUS));
-    all.extend((row == Row::Checked).then_some(BAD_CRC));
+    all.extend(matches!(row, Row::Checked | Row::Mapped).then_some(BAD_CRC));
     all
 }
 
@@ -383,6 +446,10 @@ pub fn unreached(tally: &Tally) -> Vec<String> {
     for (row, call) in Row::all() {
         let never = numbers(row, call).into_iter().filter(|n| !tally.asked.contains_key(&(row, call, *n)));
         all.extend(never.map(|n| format!("{} {n}", row.name(call))));
+        if call == Call::ReadAll {
+            let never = numbers(row, Call::ReadPath).into_iter().filter(|n| !tally.items.contains_key(&(row, *n)));
+            all.extend(never.map(|n| format!("{} {n}", row.items())));
+        }
     }
     for (id, past) in PARSED.into_iter().flat_map(|id| [(id, false), (id, true)]) {
         if !tally.ruined.contains_key(&(id, past)) {
@@ -393,6 +460,9 @@ pub fn unreached(tally: &Tally) -> Vec<String> {
     for call in RawCall::ALL {
         let never = call.numbers().iter().filter(|n| !tally.raw.contains_key(&(*call, **n)));
         all.extend(never.map(|n| format!("{} {n}", call.name())));
+    }
+    if tally.mapped.contains(&0) {
+        all.push("an opening through maps, and one that has another answer without".to_string());
     }
     if tally.chosen.contains(&0) {
         all.push("a choice on opening, and one that opens another volume".to_string());

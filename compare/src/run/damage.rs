@@ -20,6 +20,10 @@ fn fields(id: u16) -> &'static [(usize, usize)] {
     }
 }
 
+/// Of a logical volume descriptor: the table's length, the number of maps, and fields of the first three.
+const MAPS: [(usize, usize); 11] =
+    [(264, 4), (264, 1), (268, 4), (268, 1), (440, 1), (441, 1), (442, 2), (444, 2), (446, 1), (450, 2), (456, 2)];
+
 /// A field of a descriptor changed, with the tag's checksum mended, so that the change is reached.
 fn field(random: &mut Random, disc: &mut Disc) {
     if disc.tags.is_empty() {
@@ -34,6 +38,8 @@ fn field(random: &mut Random, disc: &mut Disc) {
         // Any field of the tag, and any byte.
         0 => *random.pick(&[(0, 2), (2, 2), (5, 1), (6, 2), (8, 4), (12, 4)]),
         1 => (random.below(512), 1),
+        // The maps, of a disc that is to be read through them.
+        n if n % 2 == 0 && id == 6 && disc.wandering.is_some() => *random.pick(&MAPS),
         _ => *random.pick(fields(id)),
     };
     let now = &mut disc.image[at + offset..at + offset + size];

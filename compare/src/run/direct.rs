@@ -79,12 +79,19 @@ impl Ours for Direct {
 
     fn time(&mut self, timed: Timed, times: u32) -> std::io::Result<u64> {
         let (room, work) = match timed {
-            Timed::Query(q) => (q.room_bytes(), q.work),
+            Timed::Query(q) | Timed::Each(q) => (q.room_bytes(), q.work),
             Timed::Copy(n) => (n, 0),
         };
-        let (mut out, mut work) = (Lending::new(room, 0), Lending::new(work, 0));
+        let (mut out, mut work, mut rows) = (Lending::new(room, 0), Lending::new(work, 0), Rows::new([0; 2], 0));
+        let mut each = Vec::new();
+        match timed {
+            Timed::Query(q) => rows = Rows::new(q.places, 0),
+            Timed::Each(q) => each.extend(q.items().map(|path| q.item(path, q.room))),
+            Timed::Copy(_) => {}
+        }
         let mut once = || match timed {
-            Timed::Query(q) => black_box(make(q, &self.image, out.lent(), work.lent())).answer,
+            Timed::Query(q) => black_box(make(q, &self.image, out.lent(), work.lent(), &mut rows)).answer,
+            Timed::Each(_) => each.iter().map(|q| black_box(make(q, &self.image, out.lent(), work.lent(), &mut rows)).answer).sum(),
             Timed::Copy(n) => {
                 black_box(&mut out.bytes()[..n]).copy_from_slice(&self.image[..n]);
                 0
@@ -103,7 +110,8 @@ impl Ours for Direct {
 fn call(q: &Query, disc: &[u8], salt: u8) -> Given {
     let mut out = Lending::new(q.room_bytes(), salt);
     let mut work = Lending::new(if q.call.has_work() { q.work } else { 0 }, salt);
-    let mut values = make(q, disc, out.lent(), work.lent());
+    let mut rows = Rows::new(q.places, salt);
+    let mut values = make(q, disc, out.lent(), work.lent(), &mut rows);
     let gives = q.call.has_room() && values.answer == 0;
     let said = if q.call == Call::Extents { values.length.saturating_mul(16) } else { values.length };
     let n = if gives { (said as usize).min(out.length) } else { 0 };
@@ -114,12 +122,46 @@ fn call(q: &Query, disc: &[u8], salt: u8) -> Given {
     held |= (work.guarded() as u8) << 2;
     let end = GUARD + work.length;
     held |= (work.bytes()[GUARD..end].iter().all(|b| *b == 0) as u8) << 3;
+    let items = if q.call == Call::ReadAll && values.answer == 0 { q.items().count() } else { 0 };
+    values.rows = rows.front(items);
+    held |= (rows.guarded() as u8) << 4 | (rows.as_they_came(items) as u8) << 5;
     Given { values, held }
 }
 
-fn make(q: &Query, disc: &[u8], out: *mut u8, work: *mut u8) -> Values {
+/// The rows that are lent for a list of paths.
+struct Rows {
+    lengths: Lending,
+    answers: Lending,
+}
+
+impl Rows {
+    fn new([lengths, answers]: [usize; 2], salt: u8) -> Rows {
+        Rows { lengths: Lending::new(lengths * 8, salt), answers: Lending::new(answers * 4, salt) }
+    }
+
+    /// The lengths and the answers of so many paths, as far as there are places.
+    fn front(&mut self, items: usize) -> Vec<(u64, u32)> {
+        let items = items.min(self.lengths.length / 8).min(self.answers.length / 4);
+        let lengths = self.lengths.bytes()[GUARD..].chunks_exact(8).map(|b| u64::from_le_bytes(b.try_into().unwrap()));
+        let answers = self.answers.bytes()[GUARD..].chunks_exact(4).map(|b| u32::from_le_bytes(b.try_into().unwrap()));
+        lengths.zip(answers).take(items).collect()
+    }
+
+    fn guarded(&mut self) -> bool {
+        self.lengths.guarded() && self.answers.guarded()
+    }
+
+    fn as_they_came(&mut self, items: usize) -> bool {
+        let behind = |row: &mut Lending, width: usize| row.as_it_came(GUARD + (items * width).min(row.length), GUARD + row.length);
+        behind(&mut self.lengths, 8) && behind(&mut self.answers, 4)
+    }
+}
+
+fn make(q: &Query, disc: &[u8], out: *mut u8, work: *mut u8, rows: &mut Rows) -> Values {
     let mut place = 0;
-    let lends = Lends { image: disc.as_ptr(), image_length: disc.len(), path: q.path.as_ptr(), out, work, place: &mut place };
+    let (lengths, answers) = (rows.lengths.lent().cast(), rows.answers.lent().cast());
+    let (image, image_length, path) = (disc.as_ptr(), disc.len(), q.path.as_ptr());
+    let lends = Lends { image, image_length, path, out, work, lengths, answers, place: &mut place };
     // SAFETY: lent pieces are as long as said, and don't overlap.
     unsafe { linked::make(q, lends) }
 }

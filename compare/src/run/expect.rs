@@ -4,7 +4,7 @@ use super::calls::{Call, Choice, Icb, Query, Values, Volume, slot};
 use super::original::{self, Came, Original, icb};
 use super::prevailing;
 use crate::udf::{DirEntry, within};
-use strandlodge_sys::vault::{AMBIGUOUS, BAD_CRC, CHECKED, HIGHEST};
+use strandlodge_sys::vault::{AMBIGUOUS, BAD_CRC, CHECKED, HIGHEST, MAPS, TOO_MANY};
 
 /// The answer, and what it took.
 pub struct Expected {
@@ -54,6 +54,7 @@ fn answered(image: &[u8], q: &Query) -> Expected {
         Call::Label => labelling(image, q),
         Call::Lookup | Call::Failed => looking_up(image, q),
         Call::ReadPath => reading_path(image, q),
+        Call::ReadAll => reading_all(image, q),
         Call::List => listing(image, q),
         Call::Read => reading(image, q),
         Call::Part => parting(image, q),
@@ -61,12 +62,13 @@ fn answered(image: &[u8], q: &Query) -> Expected {
     }
 }
 
-/// Opened as the query chooses: by the original, or by a model of the highest numbers; with bodies checked the volume says so. Other choices
-/// there are none of.
+/// Opened as the query chooses: by the original, or by a model of the highest numbers, or of the maps; with bodies checked the volume says so.
+/// Other choices there are none of.
 fn opened(image: &[u8], q: &Query) -> Came<(Volume, String)> {
     let came = match q.how & !CHECKED {
         0 => original::open(image),
         HIGHEST => prevailing::open(image),
+        how if how & !HIGHEST == MAPS => prevailing::open_mapped(image, how & HIGHEST != 0),
         _ => Came { value: Err(4), asked: Vec::new() },
     };
     let says = |(volume, name)| (Volume { checked: q.how & CHECKED, ..volume }, name);
@@ -249,9 +251,9 @@ fn spoken_path(path: &[u8]) -> String {
     parts.join("/")
 }
 
-/// Whether the original has the choice of a query: it ignores case, and takes the first entry.
+/// Whether the original has the choice of a query: it ignores case, takes the first entry, and has no maps.
 fn is_own(q: &Query) -> bool {
-    Choice::of(q.matching) == Choice::CaseIgnored
+    Choice::of(q.matching) == Choice::CaseIgnored && !q.is_mapped()
 }
 
 /// The walk has to be the original's own lookup, where there is work space enough and nothing absurd.
@@ -307,4 +309,24 @@ fn reading_path(image: &[u8], q: &Query) -> Expected {
     e.directories = w.directories;
     e.absurd = absurd;
     e
+}
+
+/// A list of paths: each in turn by itself, with the room that those before it leave.
+fn reading_all(image: &[u8], q: &Query) -> Expected {
+    if q.items().count() > q.places[0].min(q.places[1]) {
+        return Expected::new(TOO_MANY, Vec::new());
+    }
+    let (mut asked, mut all) = (Vec::new(), Expected::new(0, Vec::new()));
+    for path in q.items() {
+        let one = reading_path(image, &q.item(path, q.room - all.values.written.len()));
+        all.values.rows.push((one.values.length, one.values.answer as u32));
+        all.values.written.extend(one.values.written);
+        all.full += one.full;
+        all.directories.extend(one.directories);
+        all.absurd |= one.absurd;
+        asked.extend(one.sectors);
+    }
+    all.values.count = asked.len() as u64;
+    all.values.length = all.values.written.len() as u64;
+    Expected { sectors: asked, ..all }
 }

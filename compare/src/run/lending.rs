@@ -6,24 +6,24 @@ fn pattern(i: usize, salt: u8) -> u8 {
     ((i * 131 + (i >> 8)) as u8).wrapping_add(salt) | 1
 }
 
-/// A buffer to be lent, full of the pattern, with guards in front and behind. Numbers of 32 bits may be stored in it.
+/// A buffer to be lent, full of the pattern, with guards in front and behind. Numbers of 64 bits may be stored in it.
 pub struct Lending {
-    store: Vec<u32>,
+    store: Vec<u64>,
     pub length: usize,
     salt: u8,
 }
 
 impl Lending {
     pub fn new(length: usize, salt: u8) -> Lending {
-        let mut l = Lending { store: vec![0; (length + 2 * GUARD).div_ceil(4)], length, salt };
+        let mut l = Lending { store: vec![0; (length + 2 * GUARD).div_ceil(8)], length, salt };
         let n = length + 2 * GUARD;
         l.bytes()[..n].iter_mut().enumerate().for_each(|(i, b)| *b = pattern(i, salt));
         l
     }
 
     pub fn bytes(&mut self) -> &mut [u8] {
-        let n = self.store.len() * 4;
-        // A number is four bytes, and bytes need no alignment.
+        let n = self.store.len() * 8;
+        // A number is eight bytes, and bytes need no alignment.
         unsafe { std::slice::from_raw_parts_mut(self.store.as_mut_ptr().cast(), n) }
     }
 

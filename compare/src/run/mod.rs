@@ -10,6 +10,7 @@ mod expect;
 #[cfg(linked)]
 mod lending;
 mod list;
+mod mapped;
 mod original;
 mod ours;
 mod port;
@@ -25,6 +26,7 @@ mod shapes_bodies;
 mod shapes_deleted;
 mod shapes_directories;
 mod shapes_files;
+mod shapes_mapped;
 mod shapes_matching;
 mod shapes_opening;
 mod shapes_prevailing;
@@ -33,6 +35,7 @@ mod tally;
 #[cfg(udfread)]
 mod udfread;
 mod volumes;
+mod volumes_mapped;
 mod ways;
 mod wire;
 

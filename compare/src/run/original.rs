@@ -1,6 +1,7 @@
 //! The original, on an image in memory, with a list of the sectors that it asks for.
 
 use super::calls::{Icb, Volume};
+use super::mapped::Mapped;
 use super::records::seal;
 use crate::error::BlurayError;
 use crate::udf::{AdType, AllocExtent, DirEntry, FileEntry, LbAddr, LongAd, UdfDisc, probe_vrs, within};
@@ -134,13 +135,16 @@ fn label_of(image: &[u8], asked: &[u64]) -> [u8; 32] {
 /// An opened volume of the original, whoever made it.
 pub struct Original<'a> {
     disc: UdfDisc<Logged<'a>>,
+    /// The model that answers in its place where the volume has maps.
+    mapped: Option<Mapped<'a>>,
     /// An information length was beyond what the original can be asked for.
     pub absurd: bool,
 }
 
 impl<'a> Original<'a> {
     pub fn new(image: &'a [u8], v: Volume) -> Self {
-        Original { disc: within::disc(Logged::new(image), v.start, v.partition, long(v.root)), absurd: false }
+        let mapped = (v.maps != 0).then(|| Mapped::new(image, v));
+        Original { disc: within::disc(Logged::new(image), v.start, v.partition, long(v.root)), mapped, absurd: false }
     }
 
     fn came<T>(&mut self, value: std::result::Result<T, BlurayError>) -> Came<T> {
@@ -148,6 +152,9 @@ impl<'a> Original<'a> {
     }
 
     pub fn entry(&mut self, at: Icb) -> Came<FileEntry> {
+        if let Some(mapped) = &self.mapped {
+            return mapped.entry(at);
+        }
         let value = within::entry(&mut self.disc, long(at));
         self.came(value)
     }
@@ -163,6 +170,9 @@ impl<'a> Original<'a> {
     }
 
     pub fn read(&mut self, at: Icb) -> Came<Vec<u8>> {
+        if let Some(mapped) = &self.mapped {
+            return mapped.read(at);
+        }
         self.tame(at);
         let value = self.disc.read_file(long(at));
         if let Ok(bytes) = &value {
@@ -172,6 +182,9 @@ impl<'a> Original<'a> {
     }
 
     pub fn list(&mut self, at: Icb) -> Came<Vec<DirEntry>> {
+        if let Some(mapped) = &self.mapped {
+            return mapped.list(at);
+        }
         self.tame(at);
         let value = self.disc.read_directory(long(at));
         self.came(value)

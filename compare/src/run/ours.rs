@@ -23,6 +23,8 @@ pub struct Ask<'q> {
 #[derive(Clone, Copy)]
 pub enum Timed<'q> {
     Query(&'q Query),
+    /// The paths of a list, each by a call of its own.
+    Each(&'q Query),
     Copy(usize),
 }
 

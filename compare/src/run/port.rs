@@ -8,8 +8,9 @@ use std::io::{BufReader, Result, Write};
 use std::path::Path;
 use std::process::{Child, ChildStdin, ChildStdout, Command, Stdio};
 
-/// The call of port.c that is none of the reader's: a copy.
-const COPY: u8 = 10;
+/// The calls of port.c that are none of the reader's: a copy, and the paths of a list each by itself.
+const COPY: u8 = 11;
+const EACH: u8 = 12;
 
 pub struct Port {
     child: Child,
@@ -49,10 +50,14 @@ impl Port {
             volume: wire::volume(from)?,
             icb: wire::icb(from)?,
             written: Vec::new(),
+            rows: Vec::new(),
         };
         let held = wire::number(from, 1)? as u8;
         let n = wire::number(from, 4)? as usize;
         values.written = wire::bytes(from, n)?;
+        for _ in 0..wire::number(from, 4)? {
+            values.rows.push((wire::number(from, 8)?, wire::number(from, 4)? as u32));
+        }
         Ok(Given { values, held })
     }
 
@@ -127,6 +132,7 @@ impl Ours for Port {
         wire::put(&mut self.requests, times as u64, 4);
         match timed {
             Timed::Query(query) => self.put_query(query.call as u8, &Ask { query, kept: None, salt: 0 }),
+            Timed::Each(query) => self.put_query(EACH, &Ask { query, kept: None, salt: 0 }),
             Timed::Copy(n) => {
                 let query = Query::of(Call::Read, Volume::default()).with(n, 0);
                 self.put_query(COPY, &Ask { query: &query, kept: None, salt: 0 });

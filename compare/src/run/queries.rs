@@ -1,12 +1,14 @@
 //! What is asked of an image: every call, on many paths and ICBs, with memory enough, exactly enough and too little.
 
 use super::calls::{Call, Icb, PLENTY, Query, Volume};
+use super::compare::Asked;
 use super::disc::Disc;
 use super::expect::{Expected, expected};
 use super::original;
+use super::prevailing;
 use super::random::Random;
 use crate::udf::within;
-use strandlodge_sys::vault::{AS_WRITTEN, CASE_IGNORED, CHECKED, HIGHEST, UNAMBIGUOUS};
+use strandlodge_sys::vault::{AS_WRITTEN, CASE_IGNORED, CHECKED, HIGHEST, MAPS, UNAMBIGUOUS};
 
 pub struct Case {
     pub query: Query,
@@ -145,7 +147,7 @@ fn sizes(random: &mut Random, q: &Query, e: &Expected, depth: Depth) -> Vec<(usi
 /// Opening and the label by the highest numbers, and once in a while by a number with a bit that is of no choice.
 pub fn chosen(random: &mut Random, disc: &Disc) -> Vec<Case> {
     let mut all = Vec::new();
-    let odd = *random.pick(&[8, 10, 12, HIGHEST | 1 << 31, u32::MAX]);
+    let odd = *random.pick(&[8, 10, 15, 16, HIGHEST | 1 << 31, u32::MAX]);
     let hows = [Some(HIGHEST), random.once_in(4).then_some(odd)];
     for (how, call) in hows.into_iter().flatten().flat_map(|how| [(how, Call::Open), (how, Call::Label)]) {
         let q = Query { how, ..Query::of(call, Volume::default()) };
@@ -200,6 +202,59 @@ pub fn checked(random: &mut Random, disc: &Disc, depth: Depth) -> Vec<Case> {
     queries.iter().flat_map(|q| sized(random, disc, q, depth)).collect()
 }
 
+/// The volume that calls through maps are made on: the opened one, the one that was meant, or once in a while one made by hand.
+fn mapped_volume(random: &mut Random, disc: &Disc, depth: Depth) -> Volume {
+    let by_number = random.once_in(2);
+    let mut v = match within::asked(|| prevailing::open_mapped(&disc.image, by_number)).0.value {
+        Ok((v, _)) => v,
+        Err(_) if disc.volume.maps == 0 => Volume { maps: 1, starts: [disc.volume.start; 4], ..disc.volume },
+        Err(_) => disc.volume,
+    };
+    if depth == Depth::Some && random.once_in(6) {
+        match random.below(8) {
+            // As many as there are, more than there are, and none: then they aren't looked at.
+            0 => v.maps = *random.pick(&[4, 5, 256, 1 << 31, u32::MAX]),
+            1 => v.maps = random.below(5) as u32,
+            2 => v.starts[random.below(4)] = random.odd() as u32,
+            3 => v.starts = std::array::from_fn(|_| *random.pick(&v.starts)),
+            // Nothing of these counts beside the maps.
+            4 => v.start = random.odd() as u32,
+            5 => v.partition = random.next() as u16,
+            6 => {
+                (v.volumes, v.numbers) =
+                    (random.next().to_le_bytes().chunks(2).map(|b| b[0].into()).collect::<Vec<_>>().try_into().unwrap(), [7; 4])
+            }
+            _ => v.root = mapped_icb(random, disc),
+        }
+    }
+    v
+}
+
+/// An ICB of the disc, or an odd one, under another reference once in a while.
+fn mapped_icb(random: &mut Random, disc: &Disc) -> Icb {
+    Icb { partition: random.below(6) as u16, ..odd_icb(random, disc) }
+}
+
+/// The cases through maps: opening and the label by every choice beside, and every other call on a volume that has maps.
+pub fn mapped(random: &mut Random, disc: &Disc, depth: Depth) -> Vec<Case> {
+    let checked = if random.once_in(3) { *random.pick(&SAYS) } else { 0 };
+    let v = Volume { checked, ..mapped_volume(random, disc, depth) };
+    let mut queries = Vec::new();
+    for how in [0, HIGHEST, CHECKED, CHECKED | HIGHEST].map(|how| how | MAPS) {
+        queries.extend([Call::Open, Call::Label].map(|call| Query { how, ..Query::of(call, Volume::default()) }));
+    }
+    for path in paths(random, disc, depth) {
+        let matching = *random.pick(&[CASE_IGNORED, CASE_IGNORED, AS_WRITTEN, UNAMBIGUOUS]);
+        queries.extend([Call::Lookup, Call::Failed, Call::ReadPath].map(|call| Query::along(call, v, &path).matched(matching)));
+    }
+    let mut all = icbs(random, disc, v, depth);
+    all.push(mapped_icb(random, disc));
+    for icb in all {
+        queries.extend([Call::List, Call::Read, Call::Part, Call::Extents].map(|call| Query::on(call, v, icb)));
+    }
+    queries.iter().flat_map(|q| sized(random, disc, q, depth)).collect()
+}
+
 /// A path with some of its letters in the other case.
 fn recased(random: &mut Random, path: &[u8]) -> Vec<u8> {
     let seldom = *random.pick(&[1, 2, 8]);
@@ -221,6 +276,74 @@ pub fn matched(random: &mut Random, disc: &Disc, depth: Depth) -> Vec<Case> {
         for matching in [AS_WRITTEN, other] {
             let call = *random.pick(&[Call::Lookup, Call::Failed, Call::ReadPath]);
             all.extend(sized(random, disc, &Query::along(call, v, &path).matched(matching), depth));
+        }
+    }
+    all
+}
+
+/// Lists of paths, some 10 at most: that are there, that nearly are, and empty ones.
+fn lists(random: &mut Random, disc: &Disc, v: Volume, depth: Depth) -> Vec<Query> {
+    let known = paths(random, disc, depth);
+    let lists = if depth == Depth::All { 3 } else { 1 };
+    let mut all = Vec::new();
+    for _ in 0..lists {
+        let n = *random.pick(&[1, 1, 2, 3, 4, 5, 6, 7, 10]);
+        let empty = *random.pick(&[1, 6, 6, 6, 100]);
+        let list: Vec<Vec<u8>> = (0..n).map(|_| if random.once_in(empty) { Vec::new() } else { random.pick(&known).clone() }).collect();
+        let other = if random.once_in(8) { 3 + random.odd() as u32 % (u32::MAX - 2) } else { UNAMBIGUOUS };
+        let matching = *random.pick(&[CASE_IGNORED, CASE_IGNORED, AS_WRITTEN, other]);
+        all.push(Query::list(v, &list).matched(matching));
+    }
+    all
+}
+
+/// A list with memory to spare, exactly enough and short: the output for the last path, for one in front of it and for any; the work space for a
+/// directory on the way; and the rows.
+fn stacks(random: &mut Random, q: &Query, e: &Expected, depth: Depth) -> Vec<Query> {
+    let (most, n) = (e.directories.iter().copied().max().unwrap_or(0), q.places[0]);
+    let spare = Query { places: [n + random.below(4), n + random.below(4)], ..q.with(e.full + random.below(80), most + random.below(80)) };
+    // The end of a path's bytes, where each one's follow those before it.
+    let front = random.between(0, n + 1);
+    let ends: usize = e.values.rows.iter().take(front).map(|(length, _)| *length as usize).sum();
+    let short = if e.directories.is_empty() { 0 } else { random.pick(&e.directories).saturating_sub(1) };
+    let any = [random.below(n), n + random.below(3)];
+    let rows = *random.pick(&[[n - 1, n], [n, n - 1], [n - 1, n - 1], [0, n + 1], [n + 1, 0], [0, 0], any]);
+    let room = random.below(e.full + 1);
+    let mut all = vec![
+        q.with(e.full, most),
+        q.with(e.full.saturating_sub(1), most),
+        q.with(ends, most),
+        q.with(ends.saturating_sub(1), most),
+        q.with(room, most),
+        q.with(e.full, short),
+        q.with(ends, short),
+        q.with(0, 0),
+        Query { places: rows, ..spare.clone() },
+    ];
+    if depth == Depth::Some {
+        all.retain(|_| random.once_in(3));
+    }
+    all.insert(0, spare);
+    all
+}
+
+/// The cases of lists of paths, on a volume that says whether bodies are checked and which maps there are. The first of each list is asked in noise
+/// too, and others once in a while.
+pub fn stacked(random: &mut Random, disc: &Disc, asked: Asked, depth: Depth) -> Vec<Case> {
+    let v = match asked {
+        Asked::Unchecked => volume(random, disc, depth),
+        Asked::Checked => Volume { checked: *random.pick(&SAYS), ..volume(random, disc, depth) },
+        Asked::Mapped => Volume { checked: u32::from(random.once_in(2)), ..mapped_volume(random, disc, depth) },
+    };
+    let mut all = Vec::new();
+    for q in lists(random, disc, v, depth) {
+        let spare = expected(&disc.image, &q.with(PLENTY, PLENTY));
+        for (i, query) in stacks(random, &q, &spare, depth).into_iter().enumerate() {
+            let in_noise = i == 0 || random.once_in(4);
+            all.push(Case { expected: expected(&disc.image, &query), query: query.clone(), in_noise: false });
+            if in_noise {
+                all.push(Case { expected: expected(&disc.image, &query), query, in_noise: true });
+            }
         }
     }
     all

@@ -99,6 +99,10 @@ fn partition(d: udf::PartitionDescriptor) -> Partition {
     }
 }
 
+fn number_at(bytes: &[u8], at: usize) -> u32 {
+    u32::from_le_bytes(bytes[at..at + 4].try_into().unwrap())
+}
+
 fn logical(bytes: &[u8], d: udf::LogicalVolumeDescriptor) -> LogicalVolume {
     LogicalVolume {
         tag: tag(d.tag),
@@ -106,15 +110,11 @@ fn logical(bytes: &[u8], d: udf::LogicalVolumeDescriptor) -> LogicalVolume {
         logical_volume_identifier: recorded(bytes, 84, &d.logical_volume_identifier),
         logical_block_size: d.logical_block_size,
         file_set_descriptor_location: long(d.file_set_descriptor_location),
-        // The original doesn't read the map table.
-        map_table_length: word(bytes, 264),
-        number_of_partition_maps: word(bytes, 268),
+        // The original doesn't read the rest.
+        map_table_length: number_at(bytes, 264),
+        number_of_partition_maps: number_at(bytes, 268),
         partition_maps: std::array::from_fn(|i| bytes.get(440 + i).copied().unwrap_or(0)),
     }
-}
-
-fn word(bytes: &[u8], at: usize) -> u32 {
-    u32::from_le_bytes(bytes[at..at + 4].try_into().unwrap())
 }
 
 fn icb_tag(t: udf::IcbTag) -> IcbTag {

@@ -78,8 +78,8 @@ records! {
     PrimaryVolume { tag, volume_descriptor_sequence_number, primary_volume_descriptor_number, volume_identifier }
     Partition { tag, volume_descriptor_sequence_number, partition_flags, partition_number, partition_starting_location, partition_length }
     LogicalVolume {
-        tag, volume_descriptor_sequence_number, logical_volume_identifier, logical_block_size, file_set_descriptor_location, map_table_length,
-        number_of_partition_maps, partition_maps,
+        tag, volume_descriptor_sequence_number, logical_volume_identifier, logical_block_size, file_set_descriptor_location,
+        map_table_length, number_of_partition_maps, partition_maps,
     }
     FileSet { tag, root_directory_icb }
     IcbTag { prior_recorded_entries, strategy_type, strategy_parameter, max_entries, file_type, parent_icb, flags }

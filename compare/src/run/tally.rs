@@ -2,40 +2,55 @@
 
 use super::calls::{Call, Choice, Query};
 use super::expect::expected;
+use super::mapped::{ACROSS, HELD};
 use super::queries::Case;
 use super::raw::RawCall;
 use crate::udf::within::{RIGHT, Ruined};
 use std::collections::BTreeMap;
 use std::fmt;
 use std::time::Instant;
-use strandlodge_sys::vault::{CHECKED, HIGHEST};
+use strandlodge_sys::vault::{CHECKED, HIGHEST, MAPS};
 
 /// The answer numbers.
-const NUMBERS: [u64; 10] = [0, 1, 2, 3, 4, 5, 6, 7, 9, 10];
+const NUMBERS: [u64; 11] = [0, 1, 2, 3, 4, 5, 6, 7, 9, 10, 12];
 
 /// A row of a table: a name, and how many of each number.
 fn row(f: &mut fmt::Formatter, name: &str, of: impl Fn(u64) -> u64) -> fmt::Result {
     let numbers: String = NUMBERS.iter().map(|n| format!("{:>10}", of(*n))).collect();
-    writeln!(f, "{name:22}{numbers}")
+    writeln!(f, "{name:26}{numbers}")
 }
 
-/// Which row a query counts in: with bodies checked, or without by its choice of matching.
+/// Which row a query counts in: through maps, or with bodies checked, or without both by its choice of matching.
 #[derive(Clone, Copy, PartialEq, Eq, PartialOrd, Ord)]
 pub enum Row {
     Matched(Choice),
     Checked,
+    Mapped,
 }
 
 impl Row {
     pub fn of(q: &Query) -> Row {
+        if q.is_mapped() {
+            return Row::Mapped;
+        }
         if q.is_checked() { Row::Checked } else { Row::Matched(Choice::of(q.matching)) }
     }
 
     pub fn name(self, call: Call) -> String {
+        self.named(call.name())
+    }
+
+    /// The row of the paths of lists.
+    pub fn items(self) -> String {
+        self.named("its items")
+    }
+
+    fn named(self, what: &str) -> String {
         match self {
-            Row::Matched(Choice::CaseIgnored) => call.name().to_string(),
-            Row::Matched(choice) => format!("{}, {}", call.name(), choice.name()),
-            Row::Checked => format!("{}, checked", call.name()),
+            Row::Matched(Choice::CaseIgnored) => what.to_string(),
+            Row::Matched(choice) => format!("{what}, {}", choice.name()),
+            Row::Checked => format!("{what}, checked"),
+            Row::Mapped => format!("{what}, through maps"),
         }
     }
 
@@ -44,8 +59,8 @@ impl Row {
         use Choice::{AsWritten, CaseIgnored, Unambiguous};
         let along = |choice| Call::ALL.into_iter().filter(|call| call.has_path()).map(move |call| (Row::Matched(choice), call));
         let first = Call::ALL.into_iter().map(|call| (Row::Matched(CaseIgnored), call));
-        let checked = Call::ALL.into_iter().filter(|call| *call != Call::Probe).map(|call| (Row::Checked, call));
-        first.chain(along(AsWritten)).chain(along(Unambiguous)).chain(checked).collect()
+        let all_of = |row| Call::ALL.into_iter().filter(|call| *call != Call::Probe).map(move |call| (row, call));
+        first.chain(along(AsWritten)).chain(along(Unambiguous)).chain(all_of(Row::Checked)).chain(all_of(Row::Mapped)).collect()
     }
 }
 
@@ -57,6 +72,8 @@ pub struct Tally {
     said: u64,
     pub images: u64,
     pub asked: BTreeMap<(Row, Call, u64), u64>,
+    /// The paths of lists, by their answers.
+    pub items: BTreeMap<(Row, u64), u64>,
     pub raw: BTreeMap<(RawCall, u64), u64>,
     pub in_noise: u64,
     pub mismatches: u64,
@@ -67,6 +84,8 @@ pub struct Tally {
     pub by_the_rule: [u64; 2],
     /// Queries by a choice on opening; and of those, on how many the volume or the refusal is another than without.
     pub chosen: [u64; 2],
+    /// The same for the maps.
+    pub mapped: [u64; 2],
     /// Queries that were refused for a body, by what is wrong with it.
     pub ruined: BTreeMap<Ruined, u64>,
     /// What became of the original where it was asked for absurd memory, in a process of its own.
@@ -80,6 +99,7 @@ impl Tally {
             said: 0,
             images: 0,
             asked: BTreeMap::new(),
+            items: BTreeMap::new(),
             raw: BTreeMap::new(),
             in_noise: 0,
             mismatches: 0,
@@ -87,6 +107,7 @@ impl Tally {
             absurd: 0,
             by_the_rule: [0; 2],
             chosen: [0; 2],
+            mapped: [0; 2],
             ruined: BTreeMap::new(),
             ends: BTreeMap::new(),
         }
@@ -110,6 +131,11 @@ impl Tally {
             let plain = expected(image, &Query { how: case.query.how & CHECKED, ..case.query.clone() });
             self.chosen[0] += 1;
             self.chosen[1] += u64::from(plain.values != case.expected.values);
+        }
+        if matches!(case.query.call, Call::Open | Call::Label) && case.query.is_mapped() {
+            let plain = expected(image, &Query { how: case.query.how & !MAPS, ..case.query.clone() });
+            self.mapped[0] += 1;
+            self.mapped[1] += u64::from(plain.values.answer != case.expected.values.answer);
         }
     }
 
@@ -135,6 +161,9 @@ impl fmt::Display for Tally {
         row(f, "call", |n| n)?;
         for (kind, call) in Row::all() {
             row(f, &kind.name(call), |n| self.asked.get(&(kind, call, n)).copied().unwrap_or(0))?;
+            if call == Call::ReadAll {
+                row(f, &kind.items(), |n| self.items.get(&(kind, n)).copied().unwrap_or(0))?;
+            }
         }
         for call in RawCall::ALL {
             row(f, call.name(), |n| self.raw.get(&(*call, n)).copied().unwrap_or(0))?;
@@ -149,6 +178,12 @@ impl fmt::Display for Tally {
         writeln!(
             f,
             "by the highest sequence numbers: {all} queries, with those in noise; on {others} of them the last ones give another answer"
+        )?;
+        let ([all, others], held, across) = (self.mapped, HELD.get(), ACROSS.get());
+        writeln!(f, "opened through maps: {all} queries, with those in noise; on {others} of them the answer is another without")?;
+        writeln!(
+            f,
+            "files that the model read through maps: {held} in one partition, {across} across several, or refused for a reference"
         )?;
         let ruined = |id: u16| [false, true].map(|past| self.ruined.get(&(id, past)).copied().unwrap_or(0));
         let by_id: Vec<String> =

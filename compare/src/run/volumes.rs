@@ -107,7 +107,7 @@ fn file(random: &mut Random, disc: &mut Disc, sort: Sort) -> Icb {
     disc.store(&bytes, &layout).0
 }
 
-fn directory(random: &mut Random, disc: &mut Disc, path: &str, depth: usize, sort: Sort) -> Icb {
+pub fn directory(random: &mut Random, disc: &mut Disc, path: &str, depth: usize, sort: Sort) -> Icb {
     let many = if random.once_in(4) || sort == Sort::Meeting { 12 } else { 5 };
     let mut items = Vec::new();
     if random.once_in(2) {

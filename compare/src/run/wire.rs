@@ -19,11 +19,14 @@ pub fn put_volume(to: &mut Vec<u8>, v: &Volume) {
     put(to, v.start as u64, 4);
     put(to, v.partition as u64, 2);
     put(to, v.checked as u64, 4);
+    put(to, v.maps as u64, 4);
+    v.volumes.iter().chain(&v.numbers).for_each(|n| put(to, *n as u64, 2));
+    v.starts.iter().for_each(|n| put(to, *n as u64, 4));
     put_icb(to, &v.root);
     to.extend(v.label);
 }
 
-/// Volume, ICB, room, work, the choices and path.
+/// Volume, ICB, room, work, the choices, the places of the rows and path.
 pub fn put_query(to: &mut Vec<u8>, q: &Query) {
     put_volume(to, &q.volume);
     put_icb(to, &q.icb);
@@ -31,6 +34,7 @@ pub fn put_query(to: &mut Vec<u8>, q: &Query) {
     put(to, q.work as u64, 4);
     put(to, q.how as u64, 4);
     put(to, q.matching as u64, 4);
+    q.places.iter().for_each(|places| put(to, *places as u64, 4));
     put(to, q.path.len() as u64, 4);
     to.extend(&q.path);
 }
@@ -57,11 +61,20 @@ pub fn icb(from: &mut impl Read) -> Result<Icb> {
     })
 }
 
+/// Four numbers of so many bytes.
+fn four(from: &mut impl Read, n: usize) -> Result<[u64; 4]> {
+    Ok([number(from, n)?, number(from, n)?, number(from, n)?, number(from, n)?])
+}
+
 pub fn volume(from: &mut impl Read) -> Result<Volume> {
     Ok(Volume {
         start: number(from, 4)? as u32,
         partition: number(from, 2)? as u16,
         checked: number(from, 4)? as u32,
+        maps: number(from, 4)? as u32,
+        volumes: four(from, 2)?.map(|n| n as u16),
+        numbers: four(from, 2)?.map(|n| n as u16),
+        starts: four(from, 4)?.map(|n| n as u32),
         root: icb(from)?,
         label: bytes(from, 32)?.try_into().unwrap(),
     })

@@ -5,9 +5,9 @@ use crate::memory::{Piece, Side, Store};
 use crate::stage::Raced;
 use common::calls::{Call, Choice, Query, Values};
 use common::linked::{self, Lends};
-use strandlodge_sys::vault::{AMBIGUOUS, AS_WRITTEN, BAD_CRC, CASE_IGNORED, NO_SLOT, UNAMBIGUOUS};
+use strandlodge_sys::vault::{AMBIGUOUS, AS_WRITTEN, BAD_CRC, CASE_IGNORED, NO_SLOT, TOO_MANY, UNAMBIGUOUS};
 
-/// The table's numbers: up to this one, and two more, each by a choice.
+/// The table's numbers: up to this one, two more, each by a choice, and one of a list of paths.
 const LAST_ANSWER: u64 = NO_SLOT;
 
 /// The choices of matching, by turns along the paths.
@@ -41,7 +41,19 @@ pub struct Lender {
     path: Store,
     out: Store,
     work: Store,
+    lengths: Store,
+    answers: Store,
     place: Store,
+}
+
+/// The pieces that a call may write to, and its path.
+struct Lent<'s> {
+    path: Piece<'s>,
+    out: Piece<'s>,
+    work: Piece<'s>,
+    lengths: Piece<'s>,
+    answers: Piece<'s>,
+    place: Piece<'s>,
 }
 
 impl Lender {
@@ -53,29 +65,77 @@ impl Lender {
         let mut out = self.out.piece(q.room_bytes(), side(1));
         let mut work = self.work.piece(if q.call.has_work() { q.work } else { 0 }, side(2));
         let mut place = self.place.piece(size_of::<usize>(), side(3));
+        let mut lengths = self.lengths.piece(q.places[0] * size_of::<u64>(), side(4));
+        let mut answers = self.answers.piece(q.places[1] * size_of::<u32>(), side(5));
         path.bytes().copy_from_slice(&q.path);
         let (image_at, image_length) = image;
-        let lends = Lends { image: image_at, image_length, path: path.at(), out: out.at(), work: work.at(), place: place.at().cast() };
+        let lends = Lends {
+            image: image_at,
+            image_length,
+            path: path.at(),
+            out: out.at(),
+            work: work.at(),
+            lengths: lengths.at().cast(),
+            answers: answers.at().cast(),
+            place: place.at().cast(),
+        };
         faults::lend([
             (lends.image.addr(), image_length),
             (lends.path.addr(), path.length),
             (lends.out.addr(), out.length),
             (lends.work.addr(), work.length),
+            (lends.lengths.addr(), lengths.length),
+            (lends.answers.addr(), answers.length),
             (lends.place.addr(), place.length),
         ]);
-        // SAFETY: the pieces are of four stores, and the image of another: none overlap, and each is as long as said.
-        let values = unsafe { linked::make(q, lends) };
+        // SAFETY: the pieces are of six stores, and the image of another: none overlap, and each is as long as said.
+        let mut values = unsafe { linked::make(q, lends) };
         in_range(q, &values, image_length)?;
-        held(q, &values, [&mut path, &mut out, &mut work, &mut place])?;
+        if q.call == Call::ReadAll && values.answer == 0 {
+            values.rows = rows(q.items().count(), lengths.bytes(), answers.bytes());
+            in_rows(q, &values)?;
+        }
+        held(q, &values, Lent { path, out, work, lengths, answers, place })?;
         Ok(values)
     }
 }
 
-/// The numbers of an answer.
+/// The lengths and the answers of so many paths.
+fn rows(items: usize, lengths: &[u8], answers: &[u8]) -> Vec<(u64, u32)> {
+    let lengths = lengths.chunks_exact(8).map(|b| u64::from_le_bytes(b.try_into().unwrap()));
+    let answers = answers.chunks_exact(4).map(|b| u32::from_le_bytes(b.try_into().unwrap()));
+    lengths.zip(answers).take(items).collect()
+}
+
+/// Whether a number of the table can be the answer to a call on an image, by its choices.
+fn is_listed(q: &Query, answer: u64) -> bool {
+    answer <= LAST_ANSWER || answer == AMBIGUOUS && q.call.has_path() && q.matching == UNAMBIGUOUS || answer == BAD_CRC && q.is_checked()
+}
+
+/// The rows of a list: a place for each path, each with an answer of a read by path, no length where it is refused, and all lengths together.
+fn in_rows(q: &Query, v: &Values) -> Result<(), String> {
+    if v.rows.len() != q.items().count() {
+        return Err(format!("done with {} places, and {} paths", v.rows.len(), q.items().count()));
+    }
+    for (i, (length, answer)) in v.rows.iter().enumerate() {
+        if !is_listed(q, u64::from(*answer)) || *answer != 0 && *length != 0 {
+            return Err(format!("path {i} of the list has answer {answer} and length {length}"));
+        }
+    }
+    let sum = v.rows.iter().try_fold(0u64, |sum, (length, _)| sum.checked_add(*length));
+    if sum != Some(v.length) {
+        return Err(format!("the lengths of the list are {sum:?} together, and the call's is {}", v.length));
+    }
+    Ok(())
+}
+
+/// The numbers of an answer. A list of paths is refused exactly where a row is too short.
 fn in_range(q: &Query, v: &Values, image_length: usize) -> Result<(), String> {
-    let ambiguous = v.answer == AMBIGUOUS && q.call.has_path() && q.matching == UNAMBIGUOUS;
-    let bad_crc = v.answer == BAD_CRC && q.is_checked();
-    if v.answer > LAST_ANSWER && !ambiguous && !bad_crc {
+    let is_right = match q.call {
+        Call::ReadAll => v.answer == if q.items().count() > q.places[0].min(q.places[1]) { TOO_MANY } else { 0 },
+        _ => is_listed(q, v.answer),
+    };
+    if !is_right {
         return Err(format!("the answer is {}, which isn't in the table", v.answer));
     }
     if v.answer == 0 && q.call.has_room() && v.length > q.room as u64 {
@@ -92,13 +152,20 @@ fn in_range(q: &Query, v: &Values, image_length: usize) -> Result<(), String> {
 }
 
 /// The lent memory. All of it is left as it came, full of the pattern.
-fn held(q: &Query, v: &Values, [path, out, work, place]: [&mut Piece; 4]) -> Result<(), String> {
+fn held(q: &Query, v: &Values, lent: Lent) -> Result<(), String> {
+    let Lent { mut path, mut out, mut work, mut lengths, mut answers, mut place } = lent;
     let slot = if q.call == Call::Extents { 16 } else { 1 };
     let front = if v.answer == 0 && q.call.has_room() { v.length as usize * slot } else { 0 };
     let (path_length, work_length, place_length) = (path.length, work.length, place.length);
-    for (name, piece, front) in
-        [("path", &path, path_length), ("output", &out, front), ("work space", &work, work_length), ("place", &place, place_length)]
-    {
+    let (lengths_front, answers_front) = (v.rows.len() * size_of::<u64>(), v.rows.len() * size_of::<u32>());
+    for (name, piece, front) in [
+        ("path", &path, path_length),
+        ("output", &out, front),
+        ("work space", &work, work_length),
+        ("row of lengths", &lengths, lengths_front),
+        ("row of answers", &answers, answers_front),
+        ("place", &place, place_length),
+    ] {
         if let Some(at) = piece.touched(front) {
             return Err(format!("answer {}, length {}: byte {at} of the {name} was written to", v.answer, v.length));
         }
@@ -112,6 +179,8 @@ fn held(q: &Query, v: &Values, [path, out, work, place]: [&mut Piece; 4]) -> Res
     path.restore(path_length);
     out.restore(front);
     work.restore(work_length);
+    lengths.restore(lengths_front);
+    answers.restore(answers_front);
     place.restore(place_length);
     Ok(())
 }
@@ -160,6 +229,12 @@ fn asked(raced: &Raced, call: Call) -> Vec<Query> {
     let v = raced.volume;
     match call {
         Call::Probe | Call::Open | Call::Label => vec![Query::of(call, v)],
+        // All of them, twice, in rows that are exact and too short.
+        Call::ReadAll => {
+            let q = Query::list(v, &[&raced.paths[..], &raced.paths].concat());
+            let [n, _] = q.places;
+            vec![Query { places: [n + 1, n], ..q.clone() }, Query { places: [n, n - 1], ..q }]
+        }
         _ if call.has_path() => raced.paths.iter().map(|path| Query::along(call, v, path)).collect(),
         _ => raced.icbs.iter().map(|icb| Query::on(call, v, *icb)).collect(),
     }

@@ -35,11 +35,11 @@ unsafe extern "C" {
 }
 
 /// The pieces that a call is lent, in this order.
-pub const NAMES: [&str; 5] = ["image", "path", "output", "work space", "place"];
+pub const NAMES: [&str; 7] = ["image", "path", "output", "work space", "lengths", "answers", "place"];
 
 /// The words for what is asked, and the pieces that are lent for it: start and length of each.
 static ABOUT: (AtomicPtr<u8>, AtomicUsize) = (AtomicPtr::new(std::ptr::dangling_mut()), AtomicUsize::new(0));
-static PIECES: [(AtomicUsize, AtomicUsize); 5] = [const { (AtomicUsize::new(0), AtomicUsize::new(0)) }; 5];
+static PIECES: [(AtomicUsize, AtomicUsize); 7] = [const { (AtomicUsize::new(0), AtomicUsize::new(0)) }; 7];
 
 /// When the race began, and how many calls were begun since.
 static BEGAN: OnceLock<Instant> = OnceLock::new();
@@ -71,7 +71,7 @@ pub fn about(words: &'static str) {
 }
 
 /// Says what is lent from now on.
-pub fn lend(pieces: [(usize, usize); 5]) {
+pub fn lend(pieces: [(usize, usize); 7]) {
     for (to, (at, length)) in PIECES.iter().zip(pieces) {
         to.0.store(at, Relaxed);
         to.1.store(length, Relaxed);
