@@ -48,15 +48,15 @@ FAULTS = (
 )
 
 TO_COME = """
-// References go through the map.
-pub const MAPPED: u32 = 2;
+// Areas are told apart.
+pub const APART: u32 = 2;
 
 // A far bit.
-pub const FAR: u64 = MAPPED << 40;
+pub const FAR: u64 = APART << 40;
 
 // Reads many.
 #[no_mangle]
-pub extern "C" fn vault_read_all<'a>(
+pub extern "C" fn vault_ask_many<'a>(
     volume: Volume, paths: &'a [u8], matching: u32, wide: u64, narrow: u16, lengths: &mut [u64], answers: &mut [u32], at: &mut u32, only: &[u16],
     pairs: &mut [[u64; 2]],
 )
@@ -66,18 +66,18 @@ pub extern "C" fn vault_read_all<'a>(
 """
 
 IN_THE_MOUNT = """    pub checked: u32,
-    // The maps.
-    pub numbers: [u16; MOST],
-    pub starts: [u32; 4],
+    // The areas.
+    pub kinds: [u16; FEW],
+    pub sizes: [u32; 4],
 """
 
 EXPECTED = (
-    "VAULT_MAPPED = 2, /* References go through the map. */",
+    "VAULT_APART = 2, /* Areas are told apart. */",
     "#define VAULT_FAR UINT64_C(2199023255552)",
-    "void vault_read_all(vault_volume volume, const uint8_t *paths, size_t paths_length, uint32_t matching, uint64_t wide, uint16_t narrow, "
+    "void vault_ask_many(vault_volume volume, const uint8_t *paths, size_t paths_length, uint32_t matching, uint64_t wide, uint16_t narrow, "
     "uint64_t *lengths, size_t lengths_places, uint32_t *answers, size_t answers_places, uint32_t *at, const uint16_t *only, size_t only_places, "
     "uint64_t (*pairs)[2], size_t pairs_places);",
-    "uint32_t checked; uint16_t numbers[4]; /* The maps. */ uint32_t starts[4]; } vault_mount;",
+    "uint32_t checked; uint16_t kinds[4]; /* The areas. */ uint32_t sizes[4];",
 )
 
 
@@ -121,7 +121,7 @@ def to_come(there, made):
     path = there / VAULT
     path.write_text(path.read_text(encoding="utf-8") + TO_COME, encoding="utf-8")
     planted(there / PLACES, r"    pub checked: u32,\n", IN_THE_MOUNT)
-    planted(there / PLACES, r"\npub struct Block", "\nconst MOST: usize = 2 * 2;\n\npub struct Block")
+    planted(there / PLACES, r"\npub struct Block", "\nconst FEW: usize = 2 * 2;\n\npub struct Block")
     files = made(there)
     header = re.sub(r"\s+", " ", files["include/vault.h"])
     missed = [line for line in EXPECTED if line not in header]
