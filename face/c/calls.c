@@ -1,4 +1,4 @@
-/* calls.c: every call of vault.h, on the small show of show.h, with and without the bodies of its descriptors checked.
+/* calls.c: every call of vault.h, on the small show of show.h, with and without the bodies of its descriptors checked; and opening through maps.
  *
  * What is expected is read off the show's layout. No two pieces of memory that a call is lent have the same length, so that an argument in
  * another's place is seen. Ends with 0, or says what isn't so. */
@@ -61,7 +61,7 @@ static void unopened(void) {
     is_unopened(START * SECTOR, 0, VAULT_IO, 6);
     is_unopened(START * SECTOR, VAULT_CHECKED, VAULT_IO, 6);
     for (uint32_t bit = 1; bit; bit *= 2) {
-        if (bit == VAULT_CHECKED || bit == VAULT_HIGHEST) continue;
+        if (bit == VAULT_CHECKED || bit == VAULT_MAPS || bit == VAULT_HIGHEST) continue;
         is_unopened(IMAGE, bit, VAULT_UNSUPPORTED, 0);
         is_unopened(IMAGE, bit + VAULT_CHECKED, VAULT_UNSUPPORTED, 0);
         is_unopened(IMAGE, bit + VAULT_HIGHEST + VAULT_CHECKED, VAULT_UNSUPPORTED, 0);
@@ -70,11 +70,13 @@ static void unopened(void) {
 
 static void label(void) {
     for (uint32_t how = 0; how < 8; how++) {
-        bool is_choice = !(how & 2);
+        bool is_mapped = how & VAULT_MAPS;
         lend();
-        EXPECT(is_reply(vault_label(image, IMAGE, how, out, OUT), is_choice ? VAULT_DONE : VAULT_UNSUPPORTED, is_choice ? 6 : 0, is_choice ? 6 : 0));
-        EXPECT(holds("SHOW 1", is_choice ? 6 : 0));
+        EXPECT(is_reply(vault_label(image, IMAGE, how, out, OUT), is_mapped ? VAULT_UNSUPPORTED : VAULT_DONE, is_mapped ? 5 : 6, is_mapped ? 0 : 6));
+        EXPECT(holds("SHOW 1", is_mapped ? 0 : 6));
     }
+    lend();
+    EXPECT(is_reply(vault_label(image, IMAGE, 8, out, OUT), VAULT_UNSUPPORTED, 0, 0) && holds("", 0));
     lend();
     EXPECT(is_reply(vault_label(image, IMAGE, 0, out, 5), VAULT_NO_ROOM, 6, 0) && holds("", 0));
 }
@@ -198,6 +200,31 @@ static void asked(vault_volume v) {
     extents(v, icb);
 }
 
+/* Through the maps, of which the show has none. With two it is opened by the second; the root's reference, 5, is that of no map. */
+static void mapped(void) {
+    static const uint8_t maps[12] = {1, 6, 7, 0, PARTITION, 0, 1, 6, 8, 0, PARTITION, 0};
+    static uint8_t kept[SECTOR];
+    uint8_t *logical = image + 34 * SECTOR;
+    is_unopened(IMAGE, VAULT_MAPS, VAULT_UNSUPPORTED, 5);
+    memcpy(kept, logical, SECTOR);
+    logical[256] = 1;
+    logical[264] = 12;
+    logical[268] = 2;
+    memcpy(logical + 440, maps, 12);
+    vault_opened r = vault_open(image, IMAGE, VAULT_MAPS + VAULT_HIGHEST);
+    vault_mount m = r.volume.mount;
+    EXPECT(r.answer == VAULT_DONE && r.count == 6 && m.start == START && m.partition == PARTITION && m.maps == 2);
+    EXPECT(m.volumes[0] == 7 && m.volumes[1] == 8 && m.volumes[2] == 0 && m.volumes[3] == 0);
+    EXPECT(m.numbers[0] == PARTITION && m.numbers[1] == PARTITION && m.numbers[2] == 0 && m.numbers[3] == 0);
+    EXPECT(m.starts[0] == START && m.starts[1] == START && m.starts[2] == 0 && m.starts[3] == 0);
+    refused(r.volume, "SHOW", VAULT_CASE_IGNORED, VAULT_UNSUPPORTED, 0);
+    r.volume.root.location.partition_ref = 1;
+    vault_found show = vault_lookup(r.volume, image, IMAGE, (const uint8_t *)"SHOW", 4, VAULT_CASE_IGNORED, work, WORK);
+    EXPECT(show.answer == VAULT_DONE && show.count == 1 && is_icb(show.icb, 4));
+    is_unopened(IMAGE, 0, VAULT_UNSUPPORTED, 5);
+    memcpy(logical, kept, SECTOR);
+}
+
 /* One bit of a descriptor's body, where nothing stands that is read. */
 static void flip(uint32_t sector, size_t at) { image[sector * SECTOR + at] ^= 0x10; }
 
@@ -251,6 +278,7 @@ int main(void) {
     probe();
     unopened();
     label();
+    mapped();
     vault_volume v = opened(0), checked = opened(VAULT_CHECKED);
     opened(VAULT_HIGHEST);
     asked(v);
