@@ -73,7 +73,7 @@ static vault_long_ad icb_of(const uint8_t *recorded) {
 static bool is_same(vault_reply a, vault_reply b) { return a.answer == b.answer && a.count == b.count && a.length == b.length; }
 
 static void ask(const uint8_t *query, size_t n) {
-    vault_mount mount = {number(query, 4), (uint16_t)number(query + 4, 2), 0};
+    vault_mount mount = {.start = number(query, 4), .partition = (uint16_t)number(query + 4, 2)};
     vault_long_ad icb = icb_of(query + 6);
     vault_volume volume = {mount, icb, {0}};
     size_t slots = number(query + 26, 2);
