@@ -27,7 +27,7 @@ sys.dont_write_bytecode = True
 import udf
 from directory_images import DELETED, DIRECTORY, identifier, parent
 from udf import ALLOCATED, ANCHOR, BLOCK, EMBEDDED, EXT, EXTENDED_FILE_ENTRY, LONG, MAIN, NEXT, RECORDED, SECTOR, SHORT
-from udf import aed, anchor, entry, ext_ad, file_set, filled, logical, long_ad, partition, primary, sealed, short_ad
+from udf import aed, anchor, entry, ext_ad, file_set, logical, long_ad, partition, primary, sealed, short_ad
 
 LAST = 2**32 - 1
 CHECKED, MAPS, HIGHEST, BY_HAND = 1, 2, 4, 8
@@ -443,7 +443,11 @@ def sequences(c):
     c.add("two of each of two numbers", ALL, ("root", "old both"), sequence=row + end)
     row = [p, stray(7), made(three, sequence=9), stray(8), volume, made(0, sequence=10), *others[1:]]
     c.add("three of one number", ALL, ("root",), sequence=row + end)
-    row = [p, *others, made(three), volume, lambda sector: sealed(partition(sector, 77, STRAY, sequence=99), 496)]
+
+    def unmapped(sector, sequence=2):
+        return sealed(partition(sector, 77, STRAY, sequence=sequence), 496)
+
+    row = [p, *others, made(three), volume, lambda sector: unmapped(sector, 99)]
     c.add("one of a number in no map, last and highest", ALL, ("root", "old both"), sequence=row + end)
     c.add("all before", BOTH, sequence=[p, made(three), *others, volume] + end)
     c.add("all behind", SOME, ("deep",), sequence=[p, volume, made(three), *others] + end)
@@ -452,11 +456,11 @@ def sequences(c):
     c.add("none of one number", SOME, sequence=[p, made(three), *others[:1], volume, *others[2:]] + end)
     c.add("none", SOME, sequence=[p, volume] + end)
     c.add("none, and 5 maps", BOTH, sequence=[p, lvd(shape, count=5)] + end)
-    c.add("one, of a number in no map", BOTH, sequence=[p, volume, lambda sector: sealed(partition(sector, 77, STRAY), 496)] + end)
+    c.add("one, of a number in no map", BOTH, sequence=[p, volume, unmapped] + end)
     c.add("no primary, and the table short", BOTH, sequence=[made(three), *others, lvd(shape, length=23)] + end)
     c.add("no logical volume", BOTH, sequence=[p, made(three), *others] + end)
     c.add("one with a ruined tag, of a number in no map", BOTH, sequence=[p, made(three), *others, lambda sector: partition(sector, 77, ruined=True), volume] + end)
-    c.add("one with a spoilt body, of a number in no map", ALL, sequence=[p, spoilt(lambda sector: sealed(partition(sector, 77, STRAY, sequence=1), 496)), made(three), *others, volume] + end)
+    c.add("one with a spoilt body, of a number in no map", ALL, sequence=[p, spoilt(lambda sector: unmapped(sector, 1)), made(three), *others, volume] + end)
     c.add("one with a spoilt body, lower", ALL, sequence=[p, spoilt(stray(1), 189), made(three), *others, volume] + end)
     c.add("one at the last sector", BOTH, sequence=[p, made(three, start=LAST), *others, volume] + end)
     c.add("root's at the last sector", BOTH, ("root",), sequence=[p, made(three), made(0, start=LAST), *others[1:], volume] + end)

@@ -218,7 +218,7 @@ def content(disc, volume, icb):
 
 
 def listed(disc, volume, icb):
-    kind, _, _, _, extents, _ = resolved(disc, volume, icb)
+    extents = resolved(disc, volume, icb)[4]
     if len(extents) > SLOTS:
         raise Refused(NO_SLOT)
     return extents
