@@ -183,6 +183,13 @@ impl Query {
         Query { how: self.how | CHECKED, volume: Volume { checked: 1, ..self.volume }, ..self.clone() }
     }
 
+    /// The same through four maps, each of which leads to the volume's own partition.
+    pub fn mapped(&self) -> Query {
+        let v = self.volume;
+        let volume = Volume { maps: 4, volumes: [1; 4], numbers: [v.partition; 4], starts: [v.start; 4], ..v };
+        Query { how: self.how | MAPS, volume, ..self.clone() }
+    }
+
     /// Whether bodies are checked: a call that opens is told so, and the volume tells any other.
     pub fn is_checked(&self) -> bool {
         match self.call {

@@ -1,7 +1,7 @@
 //! How long calls take: ours, the original from a Cursor, libudfread where it is installed, and where bytes are moved a copy of as many, in
 //! one run and by turns.
 
-use super::calls::{Call, Icb, PLENTY, Query};
+use super::calls::{Call, Icb, PLENTY, Query, Volume};
 use super::disc::{Disc, Layout};
 use super::expect::expected;
 use super::original::long;
@@ -13,7 +13,7 @@ use crate::udf::{UdfDisc, within};
 use std::hint::black_box;
 use std::io::Cursor;
 use std::time::Instant;
-use strandlodge_sys::vault::{AS_WRITTEN, CASE_IGNORED, DONE, HIGHEST, NOT_BLURAY, UNAMBIGUOUS};
+use strandlodge_sys::vault::{AS_WRITTEN, CASE_IGNORED, DONE, HIGHEST, MAPS, NOT_BLURAY, UNAMBIGUOUS};
 
 const ROUNDS: usize = 9;
 const MIB: usize = 1 << 20;
@@ -189,14 +189,30 @@ fn checked(r: Row) -> Row {
     Row { name: format!("{}, checked", r.name), query: r.query.checked(), ..r }
 }
 
+/// A row on the same disc with a table of one map, through it: each reference is 0 there, and so is the partition's number. The original's time is
+/// that of the same call, which looks at no map.
+fn mapped(r: Row) -> Row {
+    let mut r = Row { name: format!("{}, through a map", r.name), ..r };
+    let logical = &mut r.disc.image[33 * 2048..34 * 2048];
+    put32(logical, 264, 6);
+    put32(logical, 268, 1);
+    logical[440..446].copy_from_slice(&map(1, 0));
+    let v = r.query.volume;
+    r.query.how |= MAPS;
+    r.query.volume = Volume { maps: 1, volumes: [1, 0, 0, 0], starts: [v.start, 0, 0, 0], ..v };
+    r
+}
+
 /// The rows, each made when its turn comes: some take much memory.
 fn rows() -> Vec<Box<dyn FnOnce() -> Row>> {
     let mut all: Vec<Box<dyn FnOnce() -> Row>> = vec![
         Box::new(open),
         Box::new(open_by_the_highest),
         Box::new(|| checked(open())),
+        Box::new(|| mapped(open())),
         Box::new(|| nested(1)),
         Box::new(|| nested(8)),
+        Box::new(|| mapped(nested(8))),
         Box::new(|| entries("lookup, last of 5,000", 5000, Call::Lookup, MIB)),
         Box::new(|| last_of("in pairs of bytes", 8, pairs)),
         Box::new(|| last_of("of 100 letters", 100, name8)),
@@ -205,9 +221,12 @@ fn rows() -> Vec<Box<dyn FnOnce() -> Row>> {
         Box::new(|| last_as("as written", AS_WRITTEN)),
         Box::new(|| last_as("unambiguous", UNAMBIGUOUS)),
         Box::new(|| checked(entries("lookup, last of 5,000", 5000, Call::Lookup, MIB))),
+        Box::new(|| mapped(entries("lookup, last of 5,000", 5000, Call::Lookup, MIB))),
         Box::new(|| entries("list, 5,000 entries", 5000, Call::List, MIB)),
         Box::new(|| checked(entries("list, 5,000 entries", 5000, Call::List, MIB))),
         Box::new(|| extents("read, 4 KiB", 4096, 1)),
+        Box::new(|| mapped(extents("read, 4 KiB", 4096, 1))),
+        Box::new(|| mapped(extents("read, 100,000 bytes in 1000 extents", 100_000, 1000))),
         Box::new(|| extents("read, 256 MiB in one extent", 256 * MIB, 1)),
         Box::new(|| extents("read, 256 MiB in 4,096 extents", 256 * MIB, 4096)),
         Box::new(|| among(false)),

@@ -7,6 +7,7 @@ mod damage;
 #[cfg(linked)]
 mod direct;
 mod expect;
+mod given;
 #[cfg(linked)]
 mod lending;
 mod list;
@@ -50,7 +51,8 @@ use ways::Way;
 const USAGE: &str = "usage: compare [--seconds N] [--seed S] [--first] [--port | --port=PROGRAM]
        compare --bench [--port | --port=PROGRAM]
        compare --list FOLDER
-       compare --stored FOLDER";
+       compare --stored FOLDER
+       compare --image FILE [--port | --port=PROGRAM]";
 
 fn usage() -> ! {
     eprintln!("{USAGE}");
@@ -69,6 +71,7 @@ struct Options {
     bench: bool,
     list: Option<String>,
     stored: Option<String>,
+    image: Option<String>,
     child: bool,
 }
 
@@ -86,6 +89,7 @@ fn options() -> Options {
             "--bench" => o.bench = true,
             "--list" => o.list = Some(next()),
             "--stored" => o.stored = Some(next()),
+            "--image" => o.image = Some(next()),
             "--original-child" => o.child = true,
             _ => o.program = Some(word.strip_prefix("--port=").unwrap_or_else(|| usage()).to_string()),
         }
@@ -117,6 +121,18 @@ pub fn main() {
         None if o.port => Way::Port,
         None => Way::Best,
     };
+    if let Some(file) = &o.image {
+        let image = std::fs::read(file).expect("the image can be read");
+        return match given::held(ways::ours(way).as_mut(), &image).expect("our side answers") {
+            Ok((queries, files)) => {
+                println!("compare: {file}: {files} files and folders, {queries} queries, each answered as by the original")
+            }
+            Err(what) => {
+                eprintln!("compare: {file}: {what}");
+                exit(1);
+            }
+        };
+    }
     if o.bench {
         let emulated = std::env::consts::ARCH != "x86_64" && o.program.is_none();
         return bench::run(ways::ours(way).as_mut(), emulated).expect("our side answers");

@@ -218,9 +218,11 @@ fn queries(raced: &Raced, still: &mut impl FnMut(&Query) -> Result<[Values; 2], 
     for (i, q) in queries.iter_mut().filter(|q| q.call.has_path()).enumerate() {
         q.matching = MATCHINGS[i % MATCHINGS.len()];
     }
-    // All of it again with bodies checked, but for the call that has no such choice.
+    // All of it again with bodies checked, and through maps, but for the call that has no such choices.
     let checked: Vec<Query> = queries.iter().map(Query::checked).filter(Query::is_checked).collect();
+    let mapped: Vec<Query> = queries.iter().map(Query::mapped).filter(Query::is_mapped).collect();
     queries.extend(checked);
+    queries.extend(mapped);
     Ok(queries)
 }
 
@@ -261,5 +263,6 @@ fn words(raced: &Raced, q: &Query) -> String {
     let room = if q.call.has_room() { format!(", room {}", q.room) } else { String::new() };
     let work = if q.call.has_work() { format!(", work space {}", q.work) } else { String::new() };
     let checked = if q.is_checked() { ", checked" } else { "" };
-    format!("{}{what}{room}{work}{checked}, on the flip \"{}\"", q.call.name(), raced.name)
+    let mapped = if q.is_mapped() { ", through maps" } else { "" };
+    format!("{}{what}{room}{work}{checked}{mapped}, on the flip \"{}\"", q.call.name(), raced.name)
 }
