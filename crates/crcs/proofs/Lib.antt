@@ -5,4 +5,3 @@ pub mod TableLaws
 pub mod LoopLaws
 pub mod ChangeLaws
 pub mod Promises
-pub mod RowLaws

@@ -3,7 +3,7 @@ mod table;
 
 ghost use mathlib.Core.Path.{_≡_};
 ghost use Prim.Native.Nat.{_<_};
-ghost use Rattle.crcs.specs.Crcs.{oneByte, crcFrom, crcOf};
+ghost use Rattle.crcs.specs.Crcs.{oneByte, crcOf};
 ghost use Rattle.crcs.specs.inner.Tables.{Remainders};
 use crate::table::REMAINDERS;
 
@@ -17,12 +17,11 @@ fn take_byte(t: &[u32; 256], c: u32, b: u8) -> u32
     c % 256 * 256 ^ t[out]
 }
 
-// The register `from` after the bytes of s.
-fn take_bytes(t: &[u32; 256], from: u32, s: &[u8]) -> u16
-    requires { ⌜ Remainders (now t) ⌝ ∗ ⌜ from < 65536 ⌝ }
-    ensures { λ r. ⌜ r ≡ crcFrom from (now (s .entry)) ⌝ }
+fn take_bytes(t: &[u32; 256], s: &[u8]) -> u16
+    requires { ⌜ Remainders (now t) ⌝ }
+    ensures { λ r. ⌜ r ≡ crcOf (now (s .entry)) ⌝ }
 {
-    let mut c: u32 = from;
+    let mut c: u32 = 0;
     let mut i = 0;
     while i < s.len() {
         c = take_byte(t, c, s[i]);
@@ -31,25 +30,9 @@ fn take_bytes(t: &[u32; 256], from: u32, s: &[u8]) -> u16
     c as u16
 }
 
-// The same by the table of remainders, which is made on the stack where it is lent, once for all bytes.
-fn on_table(from: u32, s: &[u8]) -> u16
-    requires { ⌜ from < 65536 ⌝ }
-    ensures { λ r. ⌜ r ≡ crcFrom from (now (s .entry)) ⌝ }
-{
-    take_bytes(&REMAINDERS, from, s)
-}
-
-// As long as a sector.
-const ROW: usize = 2048;
-
-// The CRC of the bytes of s: a longer row in two parts. `on_table` so is called from more than one place, and the compiler keeps it, with the room for its
-// table, out of the frames of its callers: a call that checks no body doesn't take that room.
+// The CRC of the bytes of s. The table is made where it is lent, so once for all of them.
 pub fn crc(s: &[u8]) -> u16
     ensures { λ r. ⌜ r ≡ crcOf (now (s .entry)) ⌝ }
 {
-    if s.len() <= ROW {
-        return on_table(0, s);
-    }
-    let front = on_table(0, &s[0..ROW]);
-    on_table(front as u32, &s[ROW..])
+    take_bytes(&REMAINDERS, s)
 }

@@ -1,10 +1,11 @@
 -- Laws of the gate: the returns of its functions, and what its answer tells. Assumes nothing.
-use Prim.Native.Nat.{ℕ, _<_, _≤_}
+use Prim.Native.Nat.{ℕ, _-_, _<_, _≤_}
 use mathlib.Core.Path.{_≡_, refl, sym, _∙_, ap}
-use mathlib.Core.Bool.{Bool, true, false, _&&_}
+use mathlib.Core.Bool.{Bool, true, false, not, _&&_}
 use mathlib.Core.List.{List}
 use native.Mathlib.Omega.{arith}
-use lib.ListN.{length}
+use lib.ListN.{length, take, drop}
+use lib.Seq.{take-length}
 use lib.Dec.{leb, eqb}
 use borrow.Author.Tests.{eq-eqb, ne-eqb, le-leb, lt-leb, eqb-true, leb-true}
 use Rattle.disc.specs.Choice.{pick}
@@ -46,25 +47,27 @@ module _ (id : ℕ) {r : TagRead} where
     unfolding withId
     id-same h = rw (e, eq-eqb (t .id) id h)
 
--- ---- the returns of `with_body`
+-- ---- the returns of `is_ruined`, whose callees are lent all of s as a part
 
-module _ (check : Bool) (s : List ℕ) {r : TagRead} where
-  pub body-refused : {why : Refusal} → r ≡ Refused why → Refused why ≡ withBody check s r
+module _ (s : List ℕ) {r : TagRead} (e : r ≡ readTag (take (length s - 0) (drop 0 s))) where
+  whole : take (length s - 0) (drop 0 s) ≡ s
+  whole = let k : length s - 0 ≡ length s = omega arith in ap (λ (n : ℕ). take n s) k ∙ take-length s
+
+  pub ruined-not : {why : Refusal} → r ≡ Refused why → withBody true s (readTag s) ≡ readTag s
   unfolding withBody
-  body-refused e = rw e
+  ruined-not {why} h = let k : readTag s ≡ Refused why = rw whole at (sym e ∙ h) in rw k
 
-  module _ {t : DescriptorTag} (e : r ≡ Read t) where
-    pub body-unchecked : check ≡ false → Read t ≡ withBody check s r
-    unfolding withBody
-    body-unchecked h = rw (e, h)
-
-    pub body-right : check ≡ true → {b : Bool} → b ≡ bodyRight s t → b ≡ true → Read t ≡ withBody check s r
-    unfolding withBody
-    body-right h k z = rw (e, h, ← k, z)
-
-    pub body-wrong : check ≡ true → {b : Bool} → b ≡ bodyRight s t → b ≡ false → Refused BadCrc ≡ withBody check s r
-    unfolding withBody
-    body-wrong h k z = rw (e, h, ← k, z)
+  pub ruined-by : {t : DescriptorTag} → r ≡ Read t → {b : Bool} → b ≡ bodyRight (take (length s - 0) (drop 0 s)) t
+      → withBody true s (readTag s) ≡ pick (not b) (Refused BadCrc) (readTag s)
+  unfolding withBody
+  ruined-by {t} h {b} f =
+      let k : readTag s ≡ Read t = rw whole at (sym e ∙ h) in
+      let g : b ≡ bodyRight s t = rw whole at f in
+      rw (k, ← g) (told b)
+    where
+      told : (b : Bool) → pick b (Read t) (Refused BadCrc) ≡ pick (not b) (Refused BadCrc) (Read t)
+      told true = refl
+      told false = refl
 
 -- ---- the returns of `read_head`
 
@@ -73,9 +76,24 @@ module _ (check : Bool) (s : List ℕ) (id size : ℕ) where
   unfolding readHead
   head-short h = rw (lt-leb size (length s) h)
 
-  pub head-whole : size ≤ length s → {r x y : TagRead} → r ≡ readTag s → x ≡ withBody check s r → y ≡ withId id x → y ≡ readHead check s id size
-  unfolding readHead
-  head-whole h e f k = k ∙ rw (le-leb size (length s) h, f, e)
+  module _ (h : size ≤ length s) where
+    pub head-plain : check ≡ false → {r x : TagRead} → r ≡ readTag s → x ≡ withId id r → x ≡ readHead check s id size
+    unfolding readHead withBody
+    head-plain c {r} e f = f ∙ rw (le-leb size (length s) h, c, ← e) (ap (withId id) (told r))
+      where
+        told : (r : TagRead) → r ≡ withBody false s r
+        told (Read t) = refl
+        told (Refused why) = refl
+
+    -- where bodies are checked, by what `is_ruined` says
+    module _ (c : check ≡ true) {w : Bool} (k : withBody true s (readTag s) ≡ pick w (Refused BadCrc) (readTag s)) where
+      pub head-ruined : w ≡ true → Refused BadCrc ≡ readHead check s id size
+      unfolding readHead withId
+      head-ruined z = rw (le-leb size (length s) h, c, k, z)
+
+      pub head-right : w ≡ false → {r x : TagRead} → r ≡ readTag s → x ≡ withId id r → x ≡ readHead check s id size
+      unfolding readHead
+      head-right z e f = f ∙ rw (le-leb size (length s) h, c, k, z, e)
 
   -- ---- what its answer tells
 

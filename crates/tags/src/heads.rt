@@ -1,25 +1,22 @@
 // The gate that every descriptor goes through: enough bytes, a good tag, where bodies are checked a right one, and the descriptor's id.
 ghost use mathlib.Core.Path.{_≡_};
-ghost use Rattle.tags.specs.Tags.{withBody, withId, readHead};
+ghost use mathlib.Core.Bool.{true};
+ghost use Rattle.disc.specs.Choice.{pick};
+ghost use Rattle.disc.specs.declared.refusals.Refusal.the-variants.{BadCrc};
+ghost use Rattle.tags.specs.declared.TagRead.the-variants.{Refused};
+ghost use Rattle.tags.specs.Tags.{readTag, withBody, withId, readHead};
 use crate::DescriptorTag;
 use crate::TagRead;
 use disc::refusals::Refusal;
 
-// A tag that was read, unless bodies are checked and the one behind it, in `s`, isn't right.
-fn with_body(check: bool, s: &[u8], r: TagRead) -> TagRead
-    ensures { λ h. ⌜ h ≡ withBody check (now (s .entry)) r ⌝ }
+// Whether a good tag stands at the front of `s` over a body that isn't right. Each callee is lent the bytes anew, so that the compiler hands `s` over in
+// registers, and its caller needs no place for it in memory.
+fn is_ruined(s: &[u8]) -> bool
+    ensures { λ r. ⌜ withBody true (now (s .entry)) (readTag (now (s .entry))) ≡ pick r (Refused BadCrc) (readTag (now (s .entry))) ⌝ }
 {
-    match r {
-        TagRead::Refused(why) => TagRead::Refused(why),
-        TagRead::Read(t) => {
-            if !check {
-                return TagRead::Read(t);
-            }
-            if t.has_right_body(s) {
-                return TagRead::Read(t);
-            }
-            TagRead::Refused(Refusal::BadCrc)
-        }
+    match DescriptorTag::parse(&s[0..]) {
+        TagRead::Refused(_) => false,
+        TagRead::Read(t) => !t.has_right_body(&s[0..]),
     }
 }
 
@@ -39,11 +36,26 @@ fn with_id(id: u16, r: TagRead) -> TagRead
 }
 
 // The tag of the descriptor at the front of `s`, which has this id and at least this many bytes.
+//
+// `is_ruined` stands here twice, for the ids of the volume structure and for those of a partition: called from one place alone the compiler would put it,
+// with the CRC and its table, into this function, and that would be too large to be put into each reader. So it stays apart, and a reader that checks no
+// body calls nothing here. (The compiler makes one call of the two.)
 pub fn read_head(check: bool, s: &[u8], id: u16, size: usize) -> TagRead
     ensures { λ h. ⌜ h ≡ readHead check (now (s .entry)) id size ⌝ }
 {
     if s.len() < size {
         return TagRead::Refused(Refusal::Malformed);
     }
-    with_id(id, with_body(check, s, DescriptorTag::parse(s)))
+    if check {
+        if id < 256 {
+            if is_ruined(s) {
+                return TagRead::Refused(Refusal::BadCrc);
+            }
+        } else {
+            if is_ruined(s) {
+                return TagRead::Refused(Refusal::BadCrc);
+            }
+        }
+    }
+    with_id(id, DescriptorTag::parse(s))
 }

@@ -1,23 +1,14 @@
--- `crcs::crc` meets its contract: the bytes at once, or in two parts. Assumes nothing.
+-- `crcs::crc` meets its contract: its table keeps the rule. Assumes nothing.
+use mathlib.Core.Path.{refl}
 use borrow.Author.Needs.{needs}
-use Rattle.crcs.proofs.RowLaws.{row-whole, row-parts}
+use Rattle.crcs.specs.Crcs.{oneBit, eightBits, remainder}
+use Rattle.crcs.proofs.TableLaws.{table-rule}
 use Rattle.crcs.proofs.crc.Statement.{statement}
 use Rattle.crcs.proofs.crc.Tie as tie
 
-ruleset rows = (row-whole, row-parts, needs)
-
 pub crc-spec : {M : Type 1} → statement M
+unfolding oneBit eightBits remainder
 crc-spec =
     tie.close (tie.spec
-    (λ c κs. search needs)
-    (λ c. search rows)
-    (λ c. search needs)
-    (λ c. search needs)
-    (λ c. search needs)
-    (λ c κs. search needs)
-    (λ c. search needs)
-    (λ c. search needs)
-    (λ c. search needs)
-    (λ c. search needs)
-    (λ c κs. search needs)
-    (λ c. search rows))
+    (λ c κs. table-rule _ refl refl)
+    (λ c. search needs))
