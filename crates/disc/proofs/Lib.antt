@@ -8,6 +8,7 @@ pub mod RanLaws
 pub mod CountLaws
 pub mod ImageLaws
 pub mod OnlyLaws
+pub mod GrownLaws
 pub mod MarkedLaws
 pub mod GivenLaws
 pub mod MoveLaws

@@ -13,3 +13,5 @@ pub mod Agreeing
 pub mod Prevailing
 pub mod Checking
 pub mod Stacking
+pub mod Growing
+pub mod Waiting

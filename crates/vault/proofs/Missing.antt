@@ -17,7 +17,7 @@ use Rattle.disc.specs.Replies.{answerOf, replyBy}
 use Rattle.disc.specs.declared.refusals.Refusal.{Refusal}
 use Rattle.disc.specs.declared.refusals.Refusal.the-variants.{NoRoom, NoSlot}
 use Rattle.disc.specs.declared.replies.Reply.{Reply}
-use Rattle.disc.proofs.OnlyLaws.{isIo, anyMissing, ButIo, refused-missing}
+use Rattle.disc.proofs.OnlyLaws.{Refuses, Any, isIo, anyMissing, ButIo, refused-missing}
 use Rattle.records.specs.declared.allocations.LongAd.{LongAd}
 use Rattle.areas.specs.declared.AllocExtent.{AllocExtent}
 use Rattle.volumes.specs.Openings.{opening, openedBy}
@@ -35,15 +35,15 @@ lacking image call = anyMissing image (asked (disc image) call)
 
 -- ---- the number of an outcome is 1 where the outcome is `Io`
 
-answer-1 : {A : Type 0} (o : Outcome A) → eqb (answerOf o) 1 ≡ isIo o
+pub answer-1 : {A : Type 0} (o : Outcome A) → eqb (answerOf o) 1 ≡ isIo o
 answer-1 (answered a) = refl
 answer-1 (refused why) = refl
 
-open-answer-1 : (n : ℕ) (o : Outcome VolumeRecord) → eqb (openedBy n o .answer) 1 ≡ isIo o
+pub open-answer-1 : (n : ℕ) (o : Outcome VolumeRecord) → eqb (openedBy n o .answer) 1 ≡ isIo o
 open-answer-1 n (answered v) = refl
 open-answer-1 n (refused why) = refl
 
-reply-1 : {A : Type 0} (full : Refusal) → ButIo full → (room n : ℕ) (o : Outcome (List A)) → eqb (replyBy full room n o .answer) 1 ≡ isIo o
+pub reply-1 : {A : Type 0} (full : Refusal) → ButIo full → (room n : ℕ) (o : Outcome (List A)) → eqb (replyBy full room n o .answer) 1 ≡ isIo o
 reply-1 full p room n (refused why) = refl
 reply-1 full p room n (answered b) = by (leb (length b) room)
   where
@@ -51,35 +51,67 @@ reply-1 full p room n (answered b) = by (leb (length b) room)
     by true = refl
     by false = ne-eqb (number full) 1 p
 
-each-io : {A B : Type 0} (f : A → B) (o : Outcome (List A)) → isIo (eachIn f o) ≡ isIo o
+pub each-io : {A B : Type 0} (f : A → B) (o : Outcome (List A)) → isIo (eachIn f o) ≡ isIo o
 each-io f (answered l) = refl
 each-io f (refused why) = refl
+
+-- ---- no call says 1 by itself
+
+abbrev Only1 : {A : Type 0} → Ask A → Type 0
+Only1 call = Refuses ButIo Any call
+
+pub open-unsaid : (how : How) → Only1 (opening how)
+open-unsaid how = opening-only ButIo (λ e. omega arith) (λ e. omega arith) (λ e. omega arith) how (λ c e. omega arith)
+
+pub label-unsaid : (how : How) → Only1 (labelling how)
+label-unsaid how = label-only ButIo (λ e. omega arith) (λ e. omega arith) (λ e. omega arith) how (λ c e. omega arith)
+
+module _ (v : VolumeRecord) where
+  pub read-unsaid : (icb : LongAd) → Only1 (reading v icb)
+  read-unsaid icb = bytes-only ButIo (λ e. omega arith) (λ e. omega arith) (v .mount) (λ c e. omega arith) icb
+
+  pub part-unsaid : (icb : LongAd) → Only1 (parting v icb)
+  part-unsaid icb = part-only ButIo (λ e. omega arith) (λ e. omega arith) (v .mount) (λ c e. omega arith) icb
+
+  pub extents-unsaid : (icb : LongAd) → Only1 (extentListing v icb)
+  extents-unsaid icb = list-only ButIo (λ e. omega arith) (λ e. omega arith) (v .mount) (λ c e. omega arith) icb
+
+  pub list-unsaid : (work : ℕ) (icb : LongAd) → Only1 (listing v work icb)
+  list-unsaid work icb = listing-only ButIo (λ e. omega arith) (λ e. omega arith) (λ e. omega arith) (λ e. omega arith) (v .mount) (λ c e. omega arith) work icb
+
+  pub lookup-unsaid : (work : ℕ) (path : List ℕ) (matching : Matching) → Only1 (finding v work path matching)
+  lookup-unsaid work path matching =
+      lookup-only ButIo (λ e. omega arith) (λ e. omega arith) (λ e. omega arith) (λ e. omega arith) matching (λ z e. omega arith) (v .mount) (λ c e. omega arith) work (v .root) path
+
+  pub read-path-unsaid : (work : ℕ) (path : List ℕ) (matching : Matching) → Only1 (pathReading v work path matching)
+  read-path-unsaid work path matching =
+      path-only ButIo (λ e. omega arith) (λ e. omega arith) (λ e. omega arith) (λ e. omega arith) matching (λ z e. omega arith) (v .mount) (λ c e. omega arith) work (v .root) path
 
 -- ---- each call
 
 module _ (image : List ℕ) where
   pub open-1 : (how : How) → eqb (opens image how .answer) 1 ≡ lacking image (opening how)
   unfolding ran
-  open-1 how = open-answer-1 _ (outcome (disc image) (opening how)) ∙ refused-missing image (opening-only ButIo (λ e. omega arith) (λ e. omega arith) (λ e. omega arith) how (λ c e. omega arith))
+  open-1 how = open-answer-1 _ (outcome (disc image) (opening how)) ∙ refused-missing image (open-unsaid how)
 
   pub label-1 : (how : How) (out : List ℕ) → eqb (labels image how out .reply .answer) 1 ≡ lacking image (labelling how)
   unfolding ran
   label-1 how out =
       reply-1 NoRoom (λ e. omega arith) (length out) _ (outcome (disc image) (labelling how))
-      ∙ refused-missing image (label-only ButIo (λ e. omega arith) (λ e. omega arith) (λ e. omega arith) how (λ c e. omega arith))
+      ∙ refused-missing image (label-unsaid how)
 
   module _ (v : VolumeRecord) where
     pub read-1 : (icb : LongAd) (out : List ℕ) → eqb (reads image v icb out .reply .answer) 1 ≡ lacking image (reading v icb)
     unfolding ran
     read-1 icb out =
         reply-1 NoRoom (λ e. omega arith) (length out) _ (outcome (disc image) (reading v icb))
-        ∙ refused-missing image (bytes-only ButIo (λ e. omega arith) (λ e. omega arith) (v .mount) (λ c e. omega arith) icb)
+        ∙ refused-missing image (read-unsaid v icb)
 
     pub part-1 : (icb : LongAd) → eqb (parts image v icb .answer) 1 ≡ lacking image (parting v icb)
     unfolding ran
     part-1 icb =
         answer-1 (outcome (disc image) (parting v icb))
-        ∙ refused-missing image (part-only ButIo (λ e. omega arith) (λ e. omega arith) (v .mount) (λ c e. omega arith) icb)
+        ∙ refused-missing image (part-unsaid v icb)
 
     pub part-at-1 : (icb : LongAd) → eqb (partsAt image v icb .reply .answer) 1 ≡ lacking image (parting v icb)
     part-at-1 icb = part-1 icb
@@ -89,19 +121,19 @@ module _ (image : List ℕ) where
     extents-1 f icb row =
         reply-1 NoSlot (λ e. omega arith) (length row) _ (eachIn f (outcome (disc image) (extentListing v icb)))
         ∙ each-io f (outcome (disc image) (extentListing v icb))
-        ∙ refused-missing image (list-only ButIo (λ e. omega arith) (λ e. omega arith) (v .mount) (λ c e. omega arith) icb)
+        ∙ refused-missing image (extents-unsaid v icb)
 
     pub list-1 : (icb : LongAd) (out work : List ℕ) → eqb (lists image v icb out work .reply .answer) 1 ≡ lacking image (listing v (length work) icb)
     unfolding ran
     list-1 icb out work =
         reply-1 NoRoom (λ e. omega arith) (length out) _ (outcome (disc image) (listing v (length work) icb))
-        ∙ refused-missing image (listing-only ButIo (λ e. omega arith) (λ e. omega arith) (λ e. omega arith) (λ e. omega arith) (v .mount) (λ c e. omega arith) (length work) icb)
+        ∙ refused-missing image (list-unsaid v (length work) icb)
 
     pub lookup-1 : (path : List ℕ) (matching : Matching) (work : List ℕ) → eqb (finds image v path matching work .found .answer) 1 ≡ lacking image (finding v (length work) path matching)
     unfolding ran
     lookup-1 path matching work =
         answer-1 (outcome (disc image) (finding v (length work) path matching))
-        ∙ refused-missing image (lookup-only ButIo (λ e. omega arith) (λ e. omega arith) (λ e. omega arith) (λ e. omega arith) matching (λ z e. omega arith) (v .mount) (λ c e. omega arith) (length work) (v .root) path)
+        ∙ refused-missing image (lookup-unsaid v (length work) path matching)
 
     -- the component that failed and its place have the lookup's list
     pub failed-1 : (path : List ℕ) (matching : Matching) (work : List ℕ) → eqb (fails image v path matching work .answer) 1 ≡ lacking image (finding v (length work) path matching)
@@ -114,4 +146,4 @@ module _ (image : List ℕ) where
     unfolding ran
     read-path-1 path matching out work =
         reply-1 NoRoom (λ e. omega arith) (length out) _ (outcome (disc image) (pathReading v (length work) path matching))
-        ∙ refused-missing image (path-only ButIo (λ e. omega arith) (λ e. omega arith) (λ e. omega arith) (λ e. omega arith) matching (λ z e. omega arith) (v .mount) (λ c e. omega arith) (length work) (v .root) path)
+        ∙ refused-missing image (read-path-unsaid v (length work) path matching)
