@@ -13,7 +13,7 @@ import sys
 sys.dont_write_bytecode = True
 import matching_model
 from checked_model import fitted, number, record
-from mapped_model import MAPS, NOTHING, content, directory, opened, resolved
+from mapped_model import NOTHING, content, directory, opened, resolved
 from matching_model import entry_of, shown
 from model import ABSENT, GONE, SIZE, Disc, Refused, front, stored
 

@@ -54,36 +54,20 @@ fn of_reply(r: Reply, sum: u64, row: [u64; 4], zero: bool) -> Said {
     }
 }
 
-// The first four numbers of a row.
-fn four(row: &[u64]) -> [u64; 4] {
-    if row.len() < 4 {
-        return [0; 4];
-    }
-    [row[0], row[1], row[2], row[3]]
-}
-
 fn wide(n: u32) -> u64 {
     n as u64
-}
-
-fn four32(row: &[u32]) -> [u64; 4] {
-    if row.len() < 4 {
-        return [0; 4];
-    }
-    [wide(row[0]), wide(row[1]), wide(row[2]), wide(row[3])]
 }
 
 fn slot(w: [u32; 4]) -> [u64; 4] {
     [w[0] as u64, w[1] as u64, w[2] as u64, w[3] as u64]
 }
 
-fn mix(sum: u64, n: u64) -> u64 {
-    (sum % 4294967296 * 31 + n % 4294967296) % 4294967296
-}
-
 // A sum that goes on over four numbers.
 fn mixed(sum: u64, row: [u64; 4]) -> u64 {
-    mix(mix(mix(mix(sum, row[0]), row[1]), row[2]), row[3])
+    let a = (sum % 4294967296 * 31 + row[0] % 4294967296) % 4294967296;
+    let b = (a * 31 + row[1] % 4294967296) % 4294967296;
+    let c = (b * 31 + row[2] % 4294967296) % 4294967296;
+    (c * 31 + row[3] % 4294967296) % 4294967296
 }
 
 // ---- opening
@@ -133,7 +117,12 @@ fn asked_lookup(v: Volume, image: &[u8], path: &[u8], choice: u32, work: &mut [u
         count: r.count,
         length: 0,
         sum: sum(&recorded),
-        row: [icb.location.block as u64, icb.location.partition_ref as u64, 0, 0],
+        row: [
+            icb.location.block as u64,
+            icb.location.partition_ref as u64,
+            0,
+            0,
+        ],
         zero: is_zero(work),
     }
 }
@@ -182,13 +171,7 @@ fn read_all(
     )
 }
 
-// The sum goes on over the lengths.
-fn of_all(r: Reply, out: &[u8], lengths: &[u64], answers: &[u32], work: &[u8]) -> Said {
-    let total = mixed(sum(out), four(lengths));
-    of_reply(r, total, four32(answers), is_zero(work))
-}
-
-// A list has four places in each row.
+// A list has four places in each row; the sum goes on over the lengths.
 fn asked_read_all(
     v: Volume,
     image: &[u8],
@@ -209,7 +192,14 @@ fn asked_read_all(
         &mut answers,
         work,
     );
-    of_all(r, out, &lengths, &answers, work)
+    let total = mixed(sum(out), lengths);
+    let row = [
+        wide(answers[0]),
+        wide(answers[1]),
+        wide(answers[2]),
+        wide(answers[3]),
+    ];
+    of_reply(r, total, row, is_zero(work))
 }
 
 // ---- by an ICB
@@ -248,37 +238,7 @@ fn asked_extents(v: Volume, image: &[u8], icb: LongAd) -> Said {
 
 // ---- a call on every cut
 
-// What is asked for: a query, of which the program says above `queries` what stands where, and the memory that is lent for it.
-fn by_path(
-    call: u32,
-    v: Volume,
-    image: &[u8],
-    q: &[u8],
-    out: &mut [u8],
-    work: &mut [u8],
-) -> Said {
-    let path = part(q, 38, q.len());
-    let choice = le32(q, 4);
-    if call == 2 {
-        return asked_lookup(v, image, path, choice, work);
-    }
-    if call == 3 {
-        return asked_failed(v, image, path, choice, work);
-    }
-    if call == 4 {
-        return asked_read_path(v, image, path, choice, out, work);
-    }
-    asked_read_all(v, image, path, choice, out, work)
-}
-
-fn by_icb(
-    call: u32,
-    v: Volume,
-    image: &[u8],
-    q: &[u8],
-    out: &mut [u8],
-    work: &mut [u8],
-) -> Said {
+fn by_icb(call: u32, v: Volume, image: &[u8], q: &[u8], out: &mut [u8], work: &mut [u8]) -> Said {
     let icb = long_at(q, 20);
     if call == 6 {
         return asked_list(v, image, icb, out, work);
@@ -292,21 +252,29 @@ fn by_icb(
     asked_extents(v, image, icb)
 }
 
+// What stands where in a query is said above `queries`.
 fn asked(call: u32, v: Volume, image: &[u8], q: &[u8], out: &mut [u8], work: &mut [u8]) -> Said {
+    let path = part(q, 38, q.len());
+    let choice = le32(q, 4);
     if call == 0 {
         return asked_open(image, how_of(le32(q, 0)));
     }
     if call == 1 {
         return asked_label(image, how_of(le32(q, 0)), out);
     }
-    if call < 6 {
-        return by_path(call, v, image, q, out, work);
+    if call == 2 {
+        return asked_lookup(v, image, path, choice, work);
+    }
+    if call == 3 {
+        return asked_failed(v, image, path, choice, work);
+    }
+    if call == 4 {
+        return asked_read_path(v, image, path, choice, out, work);
+    }
+    if call == 5 {
+        return asked_read_all(v, image, path, choice, out, work);
     }
     by_icb(call, v, image, q, out, work)
-}
-
-fn is_same_row(a: [u64; 4], b: [u64; 4]) -> bool {
-    (a[0] == b[0]) & (a[1] == b[1]) & (a[2] == b[2]) & (a[3] == b[3])
 }
 
 fn is_same(a: Said, b: Said) -> bool {
@@ -317,7 +285,10 @@ fn is_same(a: Said, b: Said) -> bool {
         & (a.length == b.length)
         & (a.sum == b.sum)
         & (a.zero == b.zero)
-        & is_same_row(one, other)
+        & (one[0] == other[0])
+        & (one[1] == other[1])
+        & (one[2] == other[2])
+        & (one[3] == other[3])
 }
 
 fn say_said(name: &[u8], at: usize, s: Said) {
