@@ -112,6 +112,16 @@ impl Refusal {
         }
     }
 
+    /// Whether the call may be answered otherwise once more of the image is there: 1, a sector that isn't there yet.
+    ///
+    /// Any other refusal is final, and so is an answer: whatever bytes are added at the image's end, the same call gives the same again, with the
+    /// same count (docs/PROMISES.md). 5, 6, 7 and 12 are so for the memory that was lent. It is about bytes that are added behind the last one.
+    /// An image that is made at its full length first, and filled later, has zeros where nothing was copied yet, and these are read as they
+    /// stand.
+    pub fn may_pass(self) -> bool {
+        self == Refusal::Io
+    }
+
     /// The refusal that an answer number names; 0 is none.
     pub(crate) fn of(answer: u64) -> Option<Refusal> {
         if answer == vault::DONE {
@@ -158,6 +168,12 @@ impl Refused {
     pub fn number(&self) -> u64 {
         self.why.number()
     }
+
+    /// Whether the call may be answered otherwise once more of the image is there: [`Refusal::may_pass`]. [`Vault::missing_sector`](crate::Vault)
+    /// says which sector it waits for.
+    pub fn may_pass(&self) -> bool {
+        self.why.may_pass()
+    }
 }
 
 impl fmt::Display for Refused {
@@ -189,6 +205,13 @@ mod tests {
             assert_eq!((Refusal::of(number), why.number()), (Some(why), number));
         }
         assert_eq!(TABLE.map(|(_, number)| number), [1, 2, 3, 4, 5, 6, 7, 9, 10, 12]);
+    }
+
+    #[test]
+    fn a_sector_that_is_missing_may_come() {
+        let passing: Vec<u64> = TABLE.iter().filter(|(why, _)| why.may_pass()).map(|(_, number)| *number).collect();
+        assert_eq!(passing, [1]);
+        assert!(!Refusal::Unknown(1).may_pass());
     }
 
     #[test]

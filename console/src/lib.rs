@@ -37,6 +37,14 @@
 //! [`Vault::read_all`] reads a list of paths, by one call of the archive for each 1,024 of them, and gives for each its bytes or why there are
 //! none: a cue that isn't there keeps none of the others back.
 //!
+//! # An image that is still being copied
+//!
+//! A crew may begin before a disc is copied. Of an image that grows at its end every answer stands, and every refusal but 1:
+//! [`Refused::may_pass`] tells which it is, and [`Vault::missing_sector`] names the sector that a refused read waits for. So a refusal by 1 is
+//! asked again when the image is longer, over a slice of what is there by then, and anything else is final. That is proved, of bytes that are
+//! added behind the last one: a copy that goes from the front to the back. A copy that makes the file at its full length first leaves zeros where
+//! nothing was copied yet, and a sector of zeros is there.
+//!
 //! # The image stands still
 //!
 //! A `&[u8]` says that nobody writes to its bytes while it is borrowed. Memory of one's own is such a slice by itself. A map of a file is one
@@ -44,8 +52,8 @@
 //! has it, takes that duty over, and hands it on with the slice. Of an image that changes all the same an answer may be that of no image,
 //! neither as it was nor as it is, with bytes in it that were never written; and [`Vault::part`] gives bytes of the image itself, which go on
 //! changing under whoever looks at them.
-//! Where the duty can't be kept, for a disc that is still being copied or a drive that may read a sector twice, read the image into memory
-//! first, as `std::fs::read` does.
+//! Where the duty can't be kept, for an image that is written to in its midst or a drive that may read a sector twice, read the image into memory
+//! first, as `std::fs::read` does. A file that only grows at its end keeps it, for a map of the bytes that it has by then.
 //!
 //! # Memory
 //!

@@ -121,6 +121,33 @@ impl<'a> Vault<'a> {
         }
     }
 
+    /// The sector for want of which [`Vault::read_file`] or [`Vault::read_directory`] of this ICB was refused by 1: the first of the file's sectors,
+    /// in the order in which they are read, that isn't there. None where the refusal isn't by 1, and where the sector is one of the chain that
+    /// stands behind the file's entry: no call gives its place.
+    ///
+    /// The count of a refusal by 1 is the place of the missing sector among those that the call asked for. [`Vault::extents`] asks for the
+    /// entry's and the chain's alone, which come first; so the rest of the count is the place among the sectors of the extents in turn.
+    pub fn missing_sector(&self, icb: impl Into<LongAd>, refused: &Refused) -> Option<u64> {
+        let icb = icb.into();
+        if !refused.may_pass() {
+            return None;
+        }
+        if refused.sectors == 1 {
+            return self.icb_sector(icb);
+        }
+        let extents = self.extents(icb).ok()?;
+        // How many of the extents' sectors are there in front of it.
+        let mut before = refused.sectors.checked_sub(extents.sectors)?.checked_sub(1)?;
+        for extent in &extents.value {
+            let sectors = u64::from(extent.length).div_ceil(SECTOR_SIZE);
+            if before < sectors {
+                return Some(self.extent_sector(icb, extent)? + before);
+            }
+            before -= sectors;
+        }
+        None
+    }
+
     /// The root directory.
     pub fn root_directory_icb(&self) -> LongAd {
         LongAd::of_c(self.volume.root)

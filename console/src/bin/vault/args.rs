@@ -25,8 +25,8 @@ vault: look into a UDF disc. An image is a file or a drive; it is only read.
   --maps          find partitions through the volume's maps; else by number
   --checked       refuse a descriptor whose body is ruined: it has another CRC
   --copy          read it into memory first: a mapped image must stand still
-  --sectors       print on standard error how many sectors each call asked for
-  --help, --      print this; what follows is no option
+  --wait N        up to N seconds for a file of an image copied front to back
+  --sectors, --   say how many sectors each call asked for; no options follow
 
 Status: 0 done, 1 to 12 refused by that number, 64 wrong usage, 65 check found
 one wrong, 66 no image, 67 not all read, 70 unknown answer, 74 no output.
@@ -44,6 +44,11 @@ pub enum Command {
 }
 
 impl Command {
+    /// One file is asked for.
+    fn can_wait(&self) -> bool {
+        matches!(self, Command::Ask { question: Question::Cat { .. } | Question::Get { .. }, .. })
+    }
+
     /// Names on a disc are asked for.
     fn has_path(&self) -> bool {
         matches!(self, Command::Ask { question, .. } if !matches!(question, Question::Label | Question::Probe))
@@ -74,12 +79,14 @@ pub struct Args {
     pub how: How,
     /// How names on a path are matched.
     pub matching: Matching,
+    /// So many seconds are waited for what isn't there yet.
+    pub wait: Option<u32>,
 }
 
 pub fn parse(given: impl IntoIterator<Item = OsString>) -> Result<Args, Failure> {
     let (mut sectors, mut copy, mut help, mut words) = (false, false, false, Vec::new());
     let (mut as_written, mut unambiguous) = (false, false);
-    let (mut how, mut folder) = (How::default(), None);
+    let (mut how, mut folder, mut wait) = (How::default(), None, None);
     let mut given = given.into_iter();
     while let Some(word) = given.next() {
         match word.as_bytes() {
@@ -92,19 +99,28 @@ pub fn parse(given: impl IntoIterator<Item = OsString>) -> Result<Args, Failure>
             b"--checked" => how.checked = true,
             b"--maps" => how.maps = true,
             b"-o" => folder = Some(given.next().ok_or_else(|| Failure::usage("-o needs TO, a folder"))?),
+            b"--wait" => wait = Some(seconds(given.next())?),
             b"--help" | b"-h" => help = true,
             [b'-', _, ..] => return Err(Failure::usage(format!("there is no option {}", shown(word.as_bytes())))),
             _ => words.push(word),
         }
     }
     if help {
-        return Ok(Args { command: Command::Help, sectors, copy, how, matching: Matching::default() });
+        return Ok(Args { command: Command::Help, sectors, copy, how, matching: Matching::default(), wait });
     }
     let (command, matching) = (command(words, folder)?, matching(as_written, unambiguous)?);
     if matching != Matching::default() && !command.has_path() {
         return Err(Failure::usage("--as-written and --unambiguous are for a PATH: that of ls, cat, get or stat"));
     }
-    Ok(Args { command, sectors, copy, how, matching })
+    if wait.is_some() && !command.can_wait() {
+        return Err(Failure::usage("--wait is for one file: that of cat or get, without -o"));
+    }
+    Ok(Args { command, sectors, copy, how, matching, wait })
+}
+
+fn seconds(word: Option<OsString>) -> Result<u32, Failure> {
+    let number = word.as_ref().and_then(|word| word.to_str()).and_then(|word| word.parse().ok());
+    number.ok_or_else(|| Failure::usage("--wait needs N, a number of seconds"))
 }
 
 fn matching(as_written: bool, unambiguous: bool) -> Result<Matching, Failure> {
@@ -186,7 +202,8 @@ mod tests {
     #[test]
     fn options_stand_anywhere() {
         let label = |image: &str| Command::Ask { image: image.into(), question: Question::Label };
-        let asked = |sectors, copy| Args { command: label("a"), sectors, copy, how: How::default(), matching: Matching::CaseIgnored };
+        let (how, matching, wait) = (How::default(), Matching::CaseIgnored, None);
+        let asked = |sectors, copy| Args { command: label("a"), sectors, copy, how, matching, wait };
         assert_eq!(parsed("label a").unwrap(), asked(false, false));
         assert_eq!(parsed("--sectors label a").unwrap(), asked(true, false));
         assert_eq!(parsed("label a --sectors").unwrap(), asked(true, false));
@@ -213,6 +230,15 @@ mod tests {
         {
             let question = Question::GetAll { paths: paths.iter().map(|path| path.as_bytes().to_vec()).collect(), folder: "d".into() };
             assert_eq!(parsed(line).unwrap().command, Command::Ask { image: "a".into(), question }, "{line}");
+        }
+    }
+
+    #[test]
+    fn waiting_is_for_one_file() {
+        for (line, wait) in
+            [("cat a b", None), ("cat --wait 5 a b", Some(5)), ("get a b c --wait 0", Some(0)), ("--help --wait 7", Some(7))]
+        {
+            assert_eq!(parsed(line).unwrap().wait, wait, "{line}");
         }
     }
 
@@ -265,6 +291,16 @@ mod tests {
             "probe a --unambiguous",
             "sample a --as-written",
             "--unambiguous",
+            "cat a b --wait",
+            "cat a b --wait x",
+            "cat a b --wait -1",
+            "cat a b --wait 1.5",
+            "cat a b --wait 4294967296",
+            "ls a --wait 5",
+            "label a --wait 5",
+            "get a -o d b --wait 5",
+            "sample a --wait 5",
+            "--wait 5",
         ] {
             assert_eq!(parsed(line).unwrap_err().status, crate::failure::USAGE, "{line}");
         }

@@ -1,4 +1,4 @@
-//! A progress bar on standard error, and a word before it.
+//! A progress bar on standard error, a word before it, and a line while something is waited for.
 
 use std::io::{self, IsTerminal, Write};
 
@@ -59,6 +59,34 @@ impl Drop for Word {
         if self.0 {
             draw(WIPE);
         }
+    }
+}
+
+/// A line that stands on a terminal while something is waited for.
+#[derive(Default)]
+pub struct Line(String);
+
+impl Line {
+    /// Drawn anew where it is another.
+    pub fn say(&mut self, text: String) {
+        if io::stderr().is_terminal() && self.0 != text {
+            draw(&format!("{WIPE}{text}"));
+            self.0 = text;
+        }
+    }
+
+    /// Before anything else is written to the terminal.
+    pub fn wipe(&mut self) {
+        if !self.0.is_empty() {
+            draw(WIPE);
+            self.0.clear();
+        }
+    }
+}
+
+impl Drop for Line {
+    fn drop(&mut self) {
+        self.wipe();
     }
 }
 

@@ -53,6 +53,11 @@ impl Failure {
         }
     }
 
+    /// A refusal that more of the image may undo: its number is the status.
+    pub fn may_pass(&self) -> bool {
+        u64::from(self.status) == Refusal::Io.number()
+    }
+
     /// Standard output that can't be written. A reader that has had enough is no failure.
     pub fn output(error: io::Error) -> Failure {
         match error.kind() {

@@ -38,6 +38,11 @@ impl Deref for Image {
     }
 }
 
+/// The length of an image as it is now.
+pub fn length(name: &OsStr) -> Result<usize, Failure> {
+    found(name).map(|(_, length)| length).map_err(|error| unopened(name, error))
+}
+
 /// The file and its length.
 fn found(name: &OsStr) -> io::Result<(File, usize)> {
     let mut file = File::open(name)?;

@@ -17,6 +17,7 @@ mod records;
 mod report;
 mod steps;
 mod tour;
+mod wait;
 mod walk;
 
 use args::{Args, Command, HELP, Question};
@@ -59,7 +60,18 @@ fn answer(args: &Args, out: &mut impl Write, log: &mut Log) -> Result<(), Failur
             if let Question::GetAll { folder, .. } = question {
                 file::see_folder(folder)?;
             }
-            commands::ask(question, args.how, args.matching, &Image::open(image, args.copy)?, image, out, log)
+            let mut ask = |shown: &[u8], log: &mut Log| commands::ask(question, args.how, args.matching, shown, image, out, log);
+            match (args.wait, question) {
+                (Some(seconds), Question::Cat { path } | Question::Get { path, .. }) => {
+                    let missing = |shown: &[u8]| wait::missing(shown, args.how, args.matching, path);
+                    wait::until(seconds, image, args.copy, missing, |shown| {
+                        // What is told of is the last look.
+                        *log = Log::default();
+                        ask(shown, log)
+                    })
+                }
+                _ => ask(&Image::open(image, args.copy)?, log),
+            }
         }
     }
 }
