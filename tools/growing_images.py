@@ -122,8 +122,10 @@ def forms_asked(files, root, show):
     yield query(("list", *BY_PATH), files["show"], b"show/cue", room=60, work=root)
     yield query(("list", *BY_PATH), files["show"], b"show/cue", work=root - 1)
     yield query(("list",), files["show"], work=show - 1)
-    # Lists: of files that come in another order than they are asked for, of which one has no room left; of refusals; and one that has no place.
+    # Lists: of files that come in another order than they are asked for; of two of which the second is there first, and has no room left once the
+    # first is there too; of refusals; and of an item too many.
     yield query(("read_all",), path=b"\0".join((b"scattered", b"one", b"embedded", b"show/cue")), room=ROOM + 4000)
+    yield query(("read_all",), path=b"\0".join((b"scattered", b"one")), room=11000)
     yield query(("read_all",), path=b"\0".join((b"gone", b"nothing", b"unrecorded", b"chain")))
     yield query(("read_all",), path=b"\0".join((b"one", b"one", b"one", b"one", b"one")))
 

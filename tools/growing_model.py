@@ -147,8 +147,9 @@ class Query:
 
 
 def watched(image, query, call):
-    """A line for each cut at which the call says something else than at the one before. A sector is there when all its bytes are."""
-    before, sectors, line = None, None, None
+    """A line for each cut at which the call says something else than at the one before. A sector is there when all its bytes are. By the rules alone
+    that is so only behind a refusal by 1, with a count that doesn't fall; a list goes on as long as one of its items is refused so."""
+    before, sectors, line, passing, most = None, None, None, True, 0
     for whole in range(1, len(image) // SIZE + 1):
         for cut in (whole * SIZE - 1, whole * SIZE, min(whole * SIZE + 1, len(image))):
             if cut // SIZE != sectors:
@@ -157,8 +158,9 @@ def watched(image, query, call):
                 answer, length, sum, row = getattr(query, call)(disc)
                 line = f"{call} {answer} count {disc.count} length {length} sum {sum} row {' '.join(map(str, row))} zero"
             if line != before:
+                assert passing and disc.count >= most, f"{call} at {cut}: {before}; {line}"
                 yield f"at {cut} {line}"
-                before = line
+                before, passing, most = line, GONE in (row if call == "read_all" else (answer,)), disc.count
 
 
 def lines(data):

@@ -115,9 +115,11 @@ impl Refusal {
     /// Whether the call may be answered otherwise once more of the image is there: 1, a sector that isn't there yet.
     ///
     /// Any other refusal is final, and so is an answer: whatever bytes are added at the image's end, the same call gives the same again, with the
-    /// same count (docs/PROMISES.md). 5, 6, 7 and 12 are so for the memory that was lent. It is about bytes that are added behind the last one.
-    /// An image that is made at its full length first, and filled later, has zeros where nothing was copied yet, and these are read as they
-    /// stand.
+    /// same count (docs/PROMISES.md). 5, 6, 7 and 12 are so for the memory that was lent: a file of more bytes than its image, and more than 256
+    /// MiB, may have room in a longer one.
+    ///
+    /// It is about bytes that are added behind the last one. An image that is made at its full length first, and filled later, has zeros where
+    /// nothing was copied yet, and these are read as they stand.
     pub fn may_pass(self) -> bool {
         self == Refusal::Io
     }

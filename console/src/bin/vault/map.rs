@@ -7,6 +7,9 @@
 //! a drive that reads a page again may give other bytes; the system doesn't keep either from a map. So `Map` is sound in Rust's terms only
 //! if nobody writes to the image while the command runs. It is the user who knows: `--help` asks for it, and `--copy` is for where it isn't so.
 //!
+//! With `--wait` the file grows while the command runs. A map has the bytes that were there when it was made, and a copy that goes from the front
+//! to the back writes none of these again.
+//!
 //! What still holds if someone does write: the Rust of this command looks at no byte of a map but for the few numbers of the volume's
 //! descriptors that `stat` shows and `check` goes by, each once and by a load that isn't repeated. It hands the slice to the archive's calls,
 //! as a pointer and a length, and these stay inside what they are lent whatever the image holds from one look to the next (docs/PROMISES.md,
