@@ -15,8 +15,11 @@ use strandlodge_sys::sparse;
 
 // ---- the crate, on the images of `growing_cases`
 
-/// Each image with its queries: how it is opened, and an ICB.
-fn stored() -> Vec<(Vec<u8>, Vec<(How, LongAd)>)> {
+/// How an image is opened, and an ICB.
+type Query = (How, LongAd);
+
+/// Each image with its queries.
+fn stored() -> Vec<(Vec<u8>, Vec<Query>)> {
     let mut input = Input(include_bytes!("../../crates/growing_cases/data/images"));
     let mut images = Vec::new();
     while !input.0.is_empty() {
@@ -203,14 +206,19 @@ fn an_image_that_shrinks_or_goes_is_told_of() {
     let words = ["cat", "disc.img", "cue", "--wait", "600"];
     let refused = |said: Said, says: &str| assert!(said.status == 66 && said.error.contains(says), "{said:?}");
     refused(folder.vault(&words), "there is no such file");
-    let short = (needed - 2) * SECTOR;
-    for (change, says) in [(None, "disc.img: there is no such file"), (Some(short as u64 - 1), "the image shrank from")] {
-        folder.write("disc.img", &image[..short]);
-        let child = started(&folder, &words);
-        std::thread::sleep(Duration::from_millis(300));
-        match change {
-            None => std::fs::remove_file(folder.at("disc.img")).unwrap(),
-            Some(length) => File::options().write(true).open(folder.at("disc.img")).and_then(|file| file.set_len(length)).unwrap(),
+    // Whenever the command begins to wait, what comes next is a length that is less.
+    let lost: [(&dyn Fn(usize), &str); 2] = [
+        (&|_| drop(std::fs::remove_file(folder.at("disc.img"))), "disc.img: there is no such file"),
+        (&|n| File::options().write(true).open(folder.at("disc.img")).unwrap().set_len(n as u64).unwrap(), "the image shrank from"),
+    ];
+    for (lose, says) in lost {
+        let mut length = (needed - 2) * SECTOR;
+        folder.write("disc.img", &image[..length]);
+        let mut child = started(&folder, &words);
+        while child.try_wait().unwrap().is_none() {
+            std::thread::sleep(Duration::from_millis(100));
+            length -= 1;
+            lose(length);
         }
         refused(ended(child), says);
     }
