@@ -44,6 +44,8 @@ enum {
     VAULT_AMBIGUOUS = 9,
     /* A descriptor that is checked has a wrong CRC, or a CRC length that passes the bytes at hand. */
     VAULT_BAD_CRC = 10,
+    /* A directory stands below the last level that was asked for, or that number is 0 or over 16. */
+    VAULT_TOO_DEEP = 11,
     VAULT_TOO_MANY = 12, /* There are more paths than places for their lengths, or than places for their answers. */
 };
 
@@ -52,7 +54,7 @@ enum {
     VAULT_AS_WRITTEN = 1, /* A name matches byte for byte, and the first entry that matches is taken. */
     /* ASCII case is ignored, and a component that two or more entries match is refused by VAULT_AMBIGUOUS. */
     VAULT_UNAMBIGUOUS = 2,
-    VAULT_VERSION = 6, /* Goes up whenever a struct or a call changes. */
+    VAULT_VERSION = 7, /* Goes up whenever a struct or a call changes. */
 };
 
 enum {
@@ -171,6 +173,22 @@ vault_reply vault_failed(vault_volume volume, const uint8_t *image, size_t image
  *     the name's length (2 bytes, little-endian)   the name, as UTF-8
  */
 vault_reply vault_list(vault_volume volume, const uint8_t *image, size_t image_length, vault_long_ad icb, uint8_t *out,
+                       size_t out_length, uint8_t *work, size_t work_length);
+
+/* Lists the volume's whole tree, from its root, down to so many levels, 1 to 16: a record for each entry that a path
+ * of at most that many components leads to, each before what stands under it, and the entries of a directory in the
+ * order of the disc. A record is that of vault_list with the level behind the mark, which is 1 for the root's
+ * entries:
+ *
+ *     44 45   the level   1 for a directory, else 0   the ICB's 16 bytes as recorded
+ *     the name's length (2 bytes, little-endian)   the name, as UTF-8
+ *
+ * A directory at the last level, even an empty one, is VAULT_TOO_DEEP at its turn, before it is read, and so is any
+ * other number of levels at once. The directories on the way down stand in `work` together, one behind the other:
+ * VAULT_NO_WORK counts those above. A directory is shown, and read, once for each path to it, so that the cost goes
+ * with the paths. One that holds itself is found at the last level, and is VAULT_TOO_DEEP, or is VAULT_NO_WORK
+ * before. */
+vault_reply vault_show(vault_volume volume, const uint8_t *image, size_t image_length, uint32_t levels, uint8_t *out,
                        size_t out_length, uint8_t *work, size_t work_length);
 
 /* Reads a file, or a directory's own bytes, to `out`. */

@@ -29,6 +29,8 @@ def turned(call, one, other):
 # struct so large is passed on the stack, and the number in a register.
 FAULTS = (
     turned("vault_list", OUT, WORK),
+    turned("vault_show", OUT, WORK),
+    turned("vault_show", IMAGE, "levels: u32"),
     turned("vault_read_path", OUT, WORK),
     turned("vault_read_path", PATH, OUT),
     turned("vault_read_path", MATCHING, OUT),
@@ -46,9 +48,10 @@ FAULTS = (
     ("partition before block", "records/src/allocations.rt", r"(pub block: u32,)(\s+// The partition.\s+)(pub partition_ref: u16,)", r"\3\2\1"),
     ("checked before partition", "disc/src/places.rt", r"(pub partition: u16,)(.*?)(pub checked: u32,)", r"\3\2\1"),
     ("a number that is another", "disc/src/answers.rt", r"NO_ROOM: u64 = 5", "NO_ROOM: u64 = 15"),
+    ("a level more than the most", "shows/src/whole.rt", r"if MOST_LEVELS < levels", "if MOST_LEVELS + 1 < levels"),
     ("a refusal by another number", "disc/src/answers.rt", r"BAD_CRC: u64 = 10", "BAD_CRC: u64 = 2"),
     ("the bits of two choices the other way round", "vault_c/src/choices.rt", r"CHECKED: u32 = 1(.*)HIGHEST: u32 = 4", r"CHECKED: u32 = 4\1HIGHEST: u32 = 1"),
-    ("a bit of no choice that is taken", "vault_c/src/choices.rt", r"if how / 2 % 2 != 0", "if how / 2 % 2 > 1"),
+    ("a bit of no choice that is taken", "vault_c/src/choices.rt", r"if how / 8 != 0", "if how / 16 != 0"),
     ("checked by the lowest bit alone", "disc/src/places.rt", r"self\.checked != 0", "self.checked == 1"),
 )
 

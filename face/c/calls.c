@@ -137,6 +137,27 @@ static void list(vault_volume v, vault_long_ad directory) {
     EXPECT(is_reply(r, VAULT_DONE, 1, at) && is_all(out + at, OUT - at, FREE) && is_all(work, WORK, 0));
 }
 
+/* The same below a record of the directory itself, with the level of each behind its mark. A directory at the last level refuses it. */
+static void show(vault_volume v) {
+    static const char *const names[] = {"SHOW", "9", "10.1A", "10.1a", "11"};
+    size_t at = 0;
+    lend();
+    vault_reply r = vault_show(v, image, IMAGE, 2, out, OUT, work, WORK);
+    for (uint32_t i = 0; i < 5; i++) {
+        size_t n = strlen(names[i]);
+        EXPECT(out[at] == 0x44 && out[at + 1] == 0x45 && out[at + 2] == (i ? 2 : 1) && out[at + 3] == (i ? 0 : 1));
+        EXPECT(number(out + at + 4) == SECTOR && number(out + at + 8) == (i ? 3 + 2 * i : 4) && out[at + 12] == PARTITION);
+        EXPECT(out[at + 20] == n && out[at + 21] == 0 && !memcmp(out + at + 22, names[i], n));
+        at += 22 + n;
+    }
+    EXPECT(is_reply(r, VAULT_DONE, 2, at) && is_all(out + at, OUT - at, FREE) && is_all(work, WORK, 0));
+    lend();
+    EXPECT(is_reply(vault_show(v, image, IMAGE, 1, out, OUT, work, WORK), VAULT_TOO_DEEP, 1, 0) && holds("", 0) && is_all(work, WORK, 0));
+    lend();
+    EXPECT(is_reply(vault_show(v, image, IMAGE, 17, out, OUT, work, WORK), VAULT_TOO_DEEP, 0, 0) && holds("", 0) && is_all(work, WORK, 0));
+    EXPECT(is_reply(vault_show(v, image, IMAGE, 2, out, at - 1, work, WORK), VAULT_NO_ROOM, 2, 0));
+}
+
 static void read_cue(vault_volume v, vault_long_ad icb) {
     size_t n = sizeof cue - 1, m = sizeof other - 1;
     const uint8_t *path = (const uint8_t *)"/SHOW/10.1a";
@@ -194,6 +215,7 @@ static void asked(vault_volume v) {
     matched(v);
     failed(v);
     list(v, directory);
+    show(v);
     read_cue(v, icb);
     read_all(v);
     part(v, directory, icb);

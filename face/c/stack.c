@@ -36,6 +36,7 @@ CALL(vault_label, DISC, how, out, room)
 CALL(vault_lookup, volume, DISC, PATH, matching, work, WORK)
 CALL(vault_failed, volume, DISC, PATH, matching, work, WORK, &at)
 CALL(vault_list, volume, DISC, icb, out, room, work, WORK)
+CALL(vault_show, volume, DISC, matching ? 16 : 1, out, room, work, WORK)
 CALL(vault_read, volume, DISC, icb, out, room)
 CALL(vault_part, volume, DISC, icb, &at)
 CALL(vault_extents, volume, DISC, icb, row, SLOTS)
@@ -46,7 +47,7 @@ static const struct {
     const char *name;
     void (*call)(void), (*made)(void);
 } calls[] = {ROW(vault_version), ROW(vault_probe), ROW(vault_open), ROW(vault_label), ROW(vault_lookup),   ROW(vault_failed),
-             ROW(vault_list),    ROW(vault_read),  ROW(vault_part), ROW(vault_extents), ROW(vault_read_path),
+             ROW(vault_list),    ROW(vault_show),  ROW(vault_read), ROW(vault_part),  ROW(vault_extents), ROW(vault_read_path),
              ROW(vault_read_all)};
 
 /* Makes a call on the painted stack. */

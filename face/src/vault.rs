@@ -40,6 +40,8 @@ pub const NO_SLOT: u64 = 7;
 pub const AMBIGUOUS: u64 = 9;
 /// A descriptor that is checked has a wrong CRC, or a CRC length that passes the bytes at hand.
 pub const BAD_CRC: u64 = 10;
+/// A directory stands below the last level that was asked for, or that number is 0 or over 16.
+pub const TOO_DEEP: u64 = 11;
 /// There are more paths than places for their lengths, or than places for their answers.
 pub const TOO_MANY: u64 = 12;
 
@@ -50,7 +52,7 @@ pub const AS_WRITTEN: u32 = 1;
 /// ASCII case is ignored, and a component that two or more entries match is refused by VAULT_AMBIGUOUS.
 pub const UNAMBIGUOUS: u32 = 2;
 /// Goes up whenever a struct or a call changes.
-pub const VERSION: u32 = 6;
+pub const VERSION: u32 = 7;
 
 /// A choice for `how`: the body of each descriptor that is parsed, on opening and in every call on the volume, must
 /// have the CRC that its tag says, or the call is refused by VAULT_BAD_CRC.
@@ -211,6 +213,30 @@ unsafe extern "C" {
         image: *const u8,
         image_length: usize,
         icb: LongAd,
+        out: *mut u8,
+        out_length: usize,
+        work: *mut u8,
+        work_length: usize,
+    ) -> Reply;
+
+    /// Lists the volume's whole tree, from its root, down to so many levels, 1 to 16: a record for each entry that a
+    /// path of at most that many components leads to, each before what stands under it, and the entries of a directory
+    /// in the order of the disc. A record is that of vault_list with the level behind the mark, which is 1 for the
+    /// root's entries:
+    ///
+    ///     44 45   the level   1 for a directory, else 0   the ICB's 16 bytes as recorded
+    ///     the name's length (2 bytes, little-endian)   the name, as UTF-8
+    ///
+    /// A directory at the last level, even an empty one, is VAULT_TOO_DEEP at its turn, before it is read, and so is
+    /// any other number of levels at once. The directories on the way down stand in `work` together, one behind the
+    /// other: VAULT_NO_WORK counts those above. A directory is shown, and read, once for each path to it, so that the
+    /// cost goes with the paths. One that holds itself is found at the last level, and is VAULT_TOO_DEEP, or is
+    /// VAULT_NO_WORK before.
+    pub fn vault_show(
+        volume: Volume,
+        image: *const u8,
+        image_length: usize,
+        levels: u32,
         out: *mut u8,
         out_length: usize,
         work: *mut u8,

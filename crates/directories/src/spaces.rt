@@ -11,7 +11,7 @@ use files::reads::read_file;
 use records::allocations::LongAd;
 
 // Reads the directory at icb over the front of the work space, and leaves it there.
-pub(crate) fn read_directory(image: &[u8], mount: Mount, icb: LongAd, work: &mut [u8]) -> Reply
+pub fn read_directory(image: &[u8], mount: Mount, icb: LongAd, work: &mut [u8]) -> Reply
     ensures { λ r. ⌜ Reads (ran (disc (now (image .entry))) (directoryBytes mount (length (now (work .entry))) icb)) (now (work .entry)) (now (work .exit)) r ⌝ }
 {
     read_file(image, mount, icb, work, Refusal::NoWork)

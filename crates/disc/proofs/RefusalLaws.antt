@@ -4,7 +4,7 @@ use Prim.Native.Nat.{_<_, _^_}
 use native.Mathlib.Omega.{arith}
 use Rattle.disc.specs.Refusals.{number}
 use Rattle.disc.specs.declared.refusals.Refusal.{Refusal}
-use Rattle.disc.specs.declared.refusals.Refusal.the-variants.{Io, Malformed, NotBluray, Unsupported, NoRoom, NoWork, NoSlot, Ambiguous, BadCrc, TooMany}
+use Rattle.disc.specs.declared.refusals.Refusal.the-variants.{Io, Malformed, NotBluray, Unsupported, NoRoom, NoWork, NoSlot, Ambiguous, BadCrc, TooDeep, TooMany}
 
 -- each number fits in 32 bits
 pub refusal-small : (why : Refusal) → number why < 2 ^ 32
@@ -17,6 +17,7 @@ refusal-small NoWork = omega arith
 refusal-small NoSlot = omega arith
 refusal-small Ambiguous = omega arith
 refusal-small BadCrc = omega arith
+refusal-small TooDeep = omega arith
 refusal-small TooMany = omega arith
 
 -- no refusal has number 0, which is "done"
@@ -30,4 +31,5 @@ refusal-numbered NoWork e = omega arith
 refusal-numbered NoSlot e = omega arith
 refusal-numbered Ambiguous e = omega arith
 refusal-numbered BadCrc e = omega arith
+refusal-numbered TooDeep e = omega arith
 refusal-numbered TooMany e = omega arith

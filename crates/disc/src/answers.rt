@@ -30,5 +30,8 @@ pub const AMBIGUOUS: u64 = 9;
 // A descriptor that is checked has a wrong CRC, or a CRC length that passes the bytes at hand.
 pub const BAD_CRC: u64 = 10;
 
+// A directory stands below the last level that was asked for, or that number is 0 or over 16.
+pub const TOO_DEEP: u64 = 11;
+
 // There are more paths than places for their lengths, or than places for their answers.
 pub const TOO_MANY: u64 = 12;

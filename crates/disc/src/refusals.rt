@@ -9,6 +9,7 @@ use crate::answers::NO_ROOM;
 use crate::answers::NO_SLOT;
 use crate::answers::NO_WORK;
 use crate::answers::NOT_BLURAY;
+use crate::answers::TOO_DEEP;
 use crate::answers::TOO_MANY;
 use crate::answers::UNSUPPORTED;
 
@@ -28,6 +29,8 @@ pub enum Refusal {
     Ambiguous,
     // A descriptor that is checked has a wrong body.
     BadCrc,
+    // A directory stands below the last level that was asked for.
+    TooDeep,
     // There are more paths than places for what each is answered.
     TooMany,
 }
@@ -47,6 +50,7 @@ impl Refusal {
             Refusal::NoSlot => NO_SLOT,
             Refusal::Ambiguous => AMBIGUOUS,
             Refusal::BadCrc => BAD_CRC,
+            Refusal::TooDeep => TOO_DEEP,
             Refusal::TooMany => TOO_MANY,
         }
     }

@@ -72,21 +72,21 @@ front-end check (b ∷ s) h = simp (lt-ltb _ _ h)
 -- ---- the same at `at`
 
 module _ (raw : List ℕ) (at : ℕ) where
-  tail-is : tail raw at ≡ drop at raw
+  pub tail-is : tail raw at ≡ drop at raw
   tail-is = take-all (length raw - at) (drop at raw) (rw length-drop (omega arith))
 
-  tail-length : length (tail raw at) ≡ length raw - at
+  pub tail-length : length (tail raw at) ≡ length raw - at
   tail-length = rw tail-is (length-drop at raw)
 
 module _ (check : Bool) (raw : List ℕ) (at : ℕ) where
-  at-end : length raw < at + 38 → entries check (drop at raw) ≡ answered []
+  pub at-end : length raw < at + 38 → entries check (drop at raw) ≡ answered []
   at-end h = front-end check (drop at raw) (rw length-drop (omega arith))
 
   module _ (h : at + 38 ≤ length raw) where
-    at-bad : {why : Refusal} → entryRead check (tail raw at) ≡ refused why → entries check (drop at raw) ≡ refused why
+    pub at-bad : {why : Refusal} → entryRead check (tail raw at) ≡ refused why → entries check (drop at raw) ≡ refused why
     at-bad n = rw (← tail-is raw at) (front-bad check (tail raw at) (rw (tail-length raw at) (omega arith)) n)
 
-    at-next : {e : Entry} → entryRead check (tail raw at) ≡ answered e → {n : ℕ} → n ≡ nextAt (tail raw at) → entries check (drop at raw) ≡ inFront e (entries check (drop (at + n) raw))
+    pub at-next : {e : Entry} → entryRead check (tail raw at) ≡ answered e → {n : ℕ} → n ≡ nextAt (tail raw at) → entries check (drop at raw) ≡ inFront e (entries check (drop (at + n) raw))
     at-next {e} g {n} q =
         let z : drop (nextAt (tail raw at)) (tail raw at) ≡ drop (at + n) raw =
         ap (drop (nextAt (tail raw at))) (tail-is raw at) ∙ drop-drop _ at raw ∙ ap (λ k. drop (at + k) raw) (sym q) in
@@ -216,12 +216,12 @@ fill-starts raw d =
     }
 
 -- the first of the entries that are left, and the others
-record Taken (e : Entry) (o : Outcome (List Entry)) (left : List Entry) : Type 0 where
-  others : List Entry
-  are : o ≡ answered others
-  all : left ≡ e ∷ others
+pub record Taken (e : Entry) (o : Outcome (List Entry)) (left : List Entry) : Type 0 where
+  pub others : List Entry
+  pub are : o ≡ answered others
+  pub all : left ≡ e ∷ others
 
-taken : (e : Entry) (o : Outcome (List Entry)) {left : List Entry} → inFront e o ≡ answered left → Taken e o left
+pub taken : (e : Entry) (o : Outcome (List Entry)) {left : List Entry} → inFront e o ≡ answered left → Taken e o left
 taken e (answered es) q = record { others = es; are = refl; all = cc }
 taken e (refused why) q = absurd (let z : _≡_ {A = ℕ} 0 1 = cc in omega arith)
 

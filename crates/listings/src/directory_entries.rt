@@ -43,7 +43,7 @@ fn is_left_out(marks: u8) -> bool
 }
 
 // The same of an entry that was read.
-pub(crate) fn is_skipped(f: FileIdentifierDescriptor) -> bool
+pub fn is_skipped(f: FileIdentifierDescriptor) -> bool
     ensures { λ r. ⌜ r ≡ isSkipped f ⌝ }
 {
     is_left_out(f.file_characteristics)

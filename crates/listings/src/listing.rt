@@ -25,7 +25,7 @@ pub struct ListingSize {
     pub size: usize,
 }
 
-fn measure(check: bool, raw: &[u8]) -> ListingSize
+pub fn measure(check: bool, raw: &[u8]) -> ListingSize
     ensures { λ r. ⌜ r ≡ sizeOfListing (entries check (now (raw .entry))) ⌝ }
 {
     let mut n: usize = 0;

@@ -18,7 +18,7 @@ use Rattle.disc.specs.Images.{disc}
 use Rattle.disc.specs.Ran.{Ran, ran}
 use Rattle.disc.specs.Replies.{answerOf}
 use Rattle.disc.specs.declared.refusals.Refusal.{Refusal}
-use Rattle.disc.specs.declared.refusals.Refusal.the-variants.{Io, Malformed, NotBluray, Unsupported, NoRoom, NoWork, NoSlot, Ambiguous, BadCrc, TooMany}
+use Rattle.disc.specs.declared.refusals.Refusal.the-variants.{Io, Malformed, NotBluray, Unsupported, NoRoom, NoWork, NoSlot, Ambiguous, BadCrc, TooDeep, TooMany}
 use Rattle.disc.proofs.OnlyLaws.{Within, refuses-within}
 use Rattle.disc.proofs.RanLaws.{ran-then}
 use Rattle.disc.proofs.RefusalLaws.{refusal-numbered}
@@ -50,6 +50,7 @@ nine-is NoWork e = absurd (omega arith)
 nine-is NoSlot e = absurd (omega arith)
 nine-is Ambiguous e = refl
 nine-is BadCrc e = absurd (omega arith)
+nine-is TooDeep e = absurd (omega arith)
 nine-is TooMany e = absurd (omega arith)
 
 -- every refusal but 9

@@ -39,7 +39,8 @@ use Rattle.directories.specs.Lookups.{Sought, icbOf}
 use Rattle.directories.specs.Lookups.Sought.{reached, lost}
 use Rattle.directories.proofs.SpaceLaws.{ran-known}
 use Rattle.directories.proofs.GuardLaws.{listing-guards, seeking-guards, lookup-guards, path-guards}
-use Rattle.vault.specs.Calls.{reading, parting, extentListing, listing, seeking, finding, pathReading, opens, written, labels, reads, worked, lists, readsPath, looked, finds, lost as lostBy, fails, lostPlace, failsAt, parted, parts, partedPlace, partsAt, rowed, extents}
+use Rattle.shows.proofs.GuardLaws.{showing-guards}
+use Rattle.vault.specs.Calls.{reading, parting, extentListing, listing, showing, seeking, finding, pathReading, opens, written, labels, reads, worked, lists, shows, readsPath, looked, finds, lost as lostBy, fails, lostPlace, failsAt, parted, parts, partedPlace, partsAt, rowed, extents}
 
 -- ---- whether an answer is 10
 
@@ -118,6 +119,25 @@ module _ (image : List ℕ) (v : VolumeRecord) (c : isChecked (v .mount) ≡ tru
 
       pub list-front : Front (asked (disc image) (listing v (length work) icb)) (asked (disc image) (listing (plainly v) (length work) icb))
       list-front = guards-front (listing-guards (v .mount) c (length work) icb) (disc image)
+
+  -- a whole show
+  module _ (levels : ℕ) (out work : List ℕ) where
+    abbrev whole : Ask (List ℕ)
+    whole = showing v levels (length work)
+
+    pub show-10 : eqb (shows image v levels out work .reply .answer) 10 ≡ wrongOn (showing-guards (v .mount) c levels (length work) (v .root)) image
+    unfolding ran
+    show-10 = reply-10 NoRoom (λ e. omega arith) (length out) _ (outcome (disc image) whole) ∙ guards-bad (showing-guards (v .mount) c levels (length work) (v .root)) (disc image)
+
+    pub show-checked : (shows image v levels out work .reply .answer ≡ 10 → ⊥) → shows image v levels out work ≡ shows image (plainly v) levels out work
+    unfolding ran
+    show-checked h =
+        ap (worked out work)
+        (same-run (showing-guards (v .mount) c levels (length work) (v .root)) image
+        (sym (reply-10 NoRoom (λ e. omega arith) (length out) _ (outcome (disc image) whole)) ∙ ne-eqb _ 10 h))
+
+    pub show-front : Front (asked (disc image) (showing v levels (length work))) (asked (disc image) (showing (plainly v) levels (length work)))
+    show-front = guards-front (showing-guards (v .mount) c levels (length work) (v .root)) (disc image)
 
   -- the part, and its place
   module _ (icb : LongAd) where

@@ -30,13 +30,13 @@ use Rattle.volumes.specs.Labels.{labelling}
 use Rattle.listings.specs.Entries.{Entry, entries}
 use Rattle.listings.specs.Listings.{records}
 use Rattle.listings.proofs.Promises.{entries-refused}
-use Rattle.vault.specs.Calls.{reading, parting, extentListing, listing, finding, pathReading, labels, reads, lists, readsPath, extents}
+use Rattle.vault.specs.Calls.{reading, parting, extentListing, listing, showing, finding, pathReading, labels, reads, lists, shows, readsPath, extents}
 use Rattle.listings.specs.declared.matchings.Matching.{Matching}
 use Rattle.listings.specs.declared.matchings.Matching.the-variants.{Unambiguous}
 use Rattle.volumes.specs.declared.openings.How.{How}
 use Rattle.volumes.specs.declared.openings.VolumeRecord.{VolumeRecord}
 use Rattle.vault.proofs.Orders.{entriesAnswer, listingAnswer, slotted, extents-order, list-order}
-use Rattle.vault.proofs.Refusing.{bytes-only, part-only, list-only, opening-only, label-only, lookup-only, path-only, listing-only}
+use Rattle.vault.proofs.Refusing.{bytes-only, part-only, list-only, opening-only, label-only, lookup-only, path-only, listing-only, show-only}
 
 -- ---- memory aside, 1 to 4, and 10 where bodies are checked
 
@@ -120,6 +120,12 @@ module _ (image : List ℕ) (v : VolumeRecord) where
   list-5 icb out work =
       five (length out) _ (outcome (disc image) (listing v (length work) icb))
       (refuses-within ButRoom (λ e. omega arith) (disc image) (listing-only ButRoom (λ e. omega arith) (λ e. omega arith) (λ e. omega arith) (λ e. omega arith) (v .mount) (λ c e. omega arith) (length work) icb))
+
+  pub show-5 : (levels : ℕ) (out work : List ℕ) → eqb (shows image v levels out work .reply .answer) 5 ≡ overfull (length out) (ran (disc image) (showing v levels (length work)) .outcome)
+  unfolding ran
+  show-5 levels out work =
+      five (length out) _ (outcome (disc image) (showing v levels (length work)))
+      (refuses-within ButRoom (λ e. omega arith) (disc image) (show-only ButRoom (λ e. omega arith) (λ e. omega arith) (λ e. omega arith) (λ e. omega arith) (v .mount) (λ c e. omega arith) levels (length work) (v .root)))
 
   pub read-path-5 : (path : List ℕ) (matching : Matching) (out work : List ℕ) → eqb (readsPath image v path matching out work .reply .answer) 5 ≡ overfull (length out) (ran (disc image) (pathReading v (length work) path matching) .outcome)
   unfolding ran

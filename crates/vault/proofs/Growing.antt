@@ -29,7 +29,7 @@ use Rattle.directories.specs.Lookups.Sought.{reached, lost as lostAt}
 use Rattle.cue_stacks.specs.Stacks.{items, replyIn, roomLeft, onTop, stacked, Stacked, laid, readAllOf, placesFor}
 use Rattle.cue_stacks.proofs.StackLaws.{answers-many}
 use Rattle.cue_stacks.proofs.Promises.{startOf, Holds, Enough}
-use Rattle.vault.specs.Calls.{reading, parting, extentListing, listing, seeking, finding, pathReading, opens, written, labels, reads, Worked, worked, lists, readsPath, looked, finds, lost, fails, parted, parts, rowed, extents, lostPlace, failsAt, partedPlace, partsAt, allRead, readsAll}
+use Rattle.vault.specs.Calls.{reading, parting, extentListing, listing, showing, seeking, finding, pathReading, opens, written, labels, reads, Worked, worked, lists, shows, readsPath, looked, finds, lost, fails, parted, parts, rowed, extents, lostPlace, failsAt, partedPlace, partsAt, allRead, readsAll}
 use Rattle.vault.proofs.Missing.{answer-1, open-answer-1, reply-1, each-io}
 use Rattle.vault.proofs.Stacking.{left, read-all-item}
 use Rattle.disc.proofs.GrownLaws.{grown-ran}
@@ -85,6 +85,11 @@ module _ (image : List ℕ) where
     unfolding ran
     list-grown icb out work h =
         stays (worked out work) (listing v (length work) icb) image (unless-1 (reply-1 NoRoom (λ e. omega arith) (length out) _ (outcome (disc image) (listing v (length work) icb))) h)
+
+    pub show-grown : (levels : ℕ) (out work : List ℕ) → (shows image v levels out work .reply .answer ≡ 1 → ⊥) → Final (λ i. shows i v levels out work) image
+    unfolding ran
+    show-grown levels out work h =
+        stays (worked out work) (showing v levels (length work)) image (unless-1 (reply-1 NoRoom (λ e. omega arith) (length out) _ (outcome (disc image) (showing v levels (length work)))) h)
 
     module _ (path : List ℕ) (matching : Matching) (work : List ℕ) where
       pub lookup-grown : (finds image v path matching work .found .answer ≡ 1 → ⊥) → Final (λ i. finds i v path matching work) image

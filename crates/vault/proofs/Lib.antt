@@ -13,5 +13,6 @@ pub mod Agreeing
 pub mod Prevailing
 pub mod Checking
 pub mod Stacking
+pub mod Showing
 pub mod Growing
 pub mod Waiting

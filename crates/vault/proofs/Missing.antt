@@ -25,8 +25,8 @@ use Rattle.volumes.specs.Labels.{labelling}
 use Rattle.listings.specs.declared.matchings.Matching.{Matching}
 use Rattle.volumes.specs.declared.openings.How.{How}
 use Rattle.volumes.specs.declared.openings.VolumeRecord.{VolumeRecord}
-use Rattle.vault.specs.Calls.{reading, parting, extentListing, listing, finding, pathReading, opens, labels, reads, lists, readsPath, finds, fails, failsAt, parts, partsAt, extents}
-use Rattle.vault.proofs.Refusing.{bytes-only, part-only, list-only, opening-only, label-only, lookup-only, path-only, listing-only}
+use Rattle.vault.specs.Calls.{reading, parting, extentListing, listing, showing, finding, pathReading, opens, labels, reads, lists, shows, readsPath, finds, fails, failsAt, parts, partsAt, extents}
+use Rattle.vault.proofs.Refusing.{bytes-only, part-only, list-only, opening-only, label-only, lookup-only, path-only, listing-only, show-only}
 use Rattle.vault.proofs.Soundness.{failed-sound}
 
 -- some sector of the call's list has a byte behind the image's end
@@ -79,6 +79,9 @@ module _ (v : VolumeRecord) where
   pub list-unsaid : (work : ℕ) (icb : LongAd) → Only1 (listing v work icb)
   list-unsaid work icb = listing-only ButIo (λ e. omega arith) (λ e. omega arith) (λ e. omega arith) (λ e. omega arith) (v .mount) (λ c e. omega arith) work icb
 
+  pub show-unsaid : (levels work : ℕ) → Only1 (showing v levels work)
+  show-unsaid levels work = show-only ButIo (λ e. omega arith) (λ e. omega arith) (λ e. omega arith) (λ e. omega arith) (v .mount) (λ c e. omega arith) levels work (v .root)
+
   pub lookup-unsaid : (work : ℕ) (path : List ℕ) (matching : Matching) → Only1 (finding v work path matching)
   lookup-unsaid work path matching =
       lookup-only ButIo (λ e. omega arith) (λ e. omega arith) (λ e. omega arith) (λ e. omega arith) matching (λ z e. omega arith) (v .mount) (λ c e. omega arith) work (v .root) path
@@ -128,6 +131,12 @@ module _ (image : List ℕ) where
     list-1 icb out work =
         reply-1 NoRoom (λ e. omega arith) (length out) _ (outcome (disc image) (listing v (length work) icb))
         ∙ refused-missing image (list-unsaid v (length work) icb)
+
+    pub show-1 : (levels : ℕ) (out work : List ℕ) → eqb (shows image v levels out work .reply .answer) 1 ≡ lacking image (showing v levels (length work))
+    unfolding ran
+    show-1 levels out work =
+        reply-1 NoRoom (λ e. omega arith) (length out) _ (outcome (disc image) (showing v levels (length work)))
+        ∙ refused-missing image (show-unsaid v levels (length work))
 
     pub lookup-1 : (path : List ℕ) (matching : Matching) (work : List ℕ) → eqb (finds image v path matching work .found .answer) 1 ≡ lacking image (finding v (length work) path matching)
     unfolding ran

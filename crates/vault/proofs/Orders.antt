@@ -28,7 +28,7 @@ use Rattle.listings.specs.Listings.{records, listing as listingOf}
 use Rattle.directories.specs.Directories.{within, directoryBytes, listingAt}
 use Rattle.directories.specs.Lookups.{readPathOf}
 use Rattle.directories.proofs.SpaceLaws.{ran-known}
-use Rattle.vault.specs.Calls.{reading, extentListing, listing, finding, pathReading, labels, reads, lists, readsPath, extents}
+use Rattle.vault.specs.Calls.{reading, extentListing, listing, showing, finding, pathReading, labels, reads, lists, shows, readsPath, extents}
 use Rattle.listings.specs.declared.matchings.Matching.{Matching}
 use Rattle.volumes.specs.declared.openings.How.{How}
 use Rattle.volumes.specs.declared.openings.VolumeRecord.{VolumeRecord}
@@ -53,6 +53,9 @@ label-order image how out = room-last (length out) _ (ran (disc image) (labellin
 
 pub read-order : (image : List ℕ) (v : VolumeRecord) (icb : LongAd) (out : List ℕ) → reads image v icb out .reply .answer ≡ roomed (length out) (ran (disc image) (reading v icb) .outcome)
 read-order image v icb out = room-last (length out) _ (ran (disc image) (reading v icb) .outcome)
+
+pub show-order : (image : List ℕ) (v : VolumeRecord) (levels : ℕ) (out work : List ℕ) → shows image v levels out work .reply .answer ≡ roomed (length out) (ran (disc image) (showing v levels (length work)) .outcome)
+show-order image v levels out work = room-last (length out) _ (ran (disc image) (showing v levels (length work)) .outcome)
 
 -- ---- 7 comes after every other refusal
 

@@ -17,7 +17,7 @@ use Rattle.disc.specs.Images.{disc}
 use Rattle.disc.specs.Ran.{Ran, ran}
 use Rattle.disc.specs.Replies.{answerOf}
 use Rattle.disc.specs.declared.refusals.Refusal.{Refusal}
-use Rattle.disc.specs.declared.refusals.Refusal.the-variants.{Io, Malformed, NotBluray, Unsupported, NoRoom, NoWork, NoSlot, Ambiguous, BadCrc, TooMany}
+use Rattle.disc.specs.declared.refusals.Refusal.the-variants.{Io, Malformed, NotBluray, Unsupported, NoRoom, NoWork, NoSlot, Ambiguous, BadCrc, TooDeep, TooMany}
 use Rattle.disc.proofs.OnlyLaws.{Within, refuses-within}
 use Rattle.disc.proofs.RanLaws.{ran-then}
 use Rattle.records.specs.Allocations.{noLong}
@@ -50,6 +50,7 @@ six-is NoWork e = refl
 six-is NoSlot e = absurd (omega arith)
 six-is Ambiguous e = absurd (omega arith)
 six-is BadCrc e = absurd (omega arith)
+six-is TooDeep e = absurd (omega arith)
 six-is TooMany e = absurd (omega arith)
 
 -- every refusal but 6

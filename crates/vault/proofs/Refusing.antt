@@ -16,7 +16,7 @@ use Rattle.disc.specs.Ask.{Ask, Outcome, ended, andThen}
 use Rattle.disc.specs.Ask.Outcome.{answered, refused}
 use Rattle.disc.specs.Images.{sectors, sectorsFor}
 use Rattle.disc.specs.declared.refusals.Refusal.{Refusal}
-use Rattle.disc.specs.declared.refusals.Refusal.the-variants.{Malformed, NotBluray, Unsupported, NoWork, Ambiguous, BadCrc}
+use Rattle.disc.specs.declared.refusals.Refusal.the-variants.{Malformed, NotBluray, Unsupported, NoWork, Ambiguous, BadCrc, TooDeep}
 use Rattle.disc.proofs.OnlyLaws.{Refuses, done-only, refuse-only, ask-only, pick-only, then-only, Any}
 use Rattle.disc.proofs.PlaceLaws.{entry-checked}
 use Rattle.records.specs.Bytes.{u16at}
@@ -68,6 +68,8 @@ use Rattle.identifiers.specs.Identifiers.{isDirectory}
 use Rattle.directories.specs.Directories.{within, directoryBytes, listingAt}
 use Rattle.directories.specs.Lookups.{Sought, entering, orLost, seeking, seekPath, icbOf, lookupOf, readPathOf}
 use Rattle.directories.specs.Lookups.Sought.{reached, lost}
+use Rattle.shows.specs.Shows.{showing}
+use Rattle.shows.proofs.Promises.{showing-only}
 
 -- how an area ends
 unfoldable pub EndsBy : (Refusal → Type 0) → AdEnding → Type 0
@@ -319,3 +321,9 @@ module _ (P : Refusal → Type 0) (malformed : P Malformed) (missing : P NotBlur
     pub path-only : (root : LongAd) (path : List ℕ) → Refuses P Any (readPathOf matching m work root path)
     unfolding readPathOf
     path-only root path = then-only (lookup-only root path) (λ icb q. bytes-only P malformed unsupported m crc icb)
+
+-- ---- a whole show, for any P that has 2, 4, 6 and 11
+
+module _ (P : Refusal → Type 0) (malformed : P Malformed) (unsupported : P Unsupported) (full : P NoWork) (deep : P TooDeep) where
+  pub show-only : (m : Mount) → (isChecked m ≡ true → P BadCrc) → (levels work : ℕ) (root : LongAd) → Refuses P Any (showing m levels work root)
+  show-only m crc levels work root = showing-only P m (bytes-only P malformed unsupported m crc) malformed crc full deep levels work root

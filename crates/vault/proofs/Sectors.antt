@@ -30,7 +30,7 @@ use Rattle.files.specs.Files.{fileVisited, visitsIn}
 use Rattle.files.proofs.Promises.{read-bound}
 use Rattle.areas.specs.declared.AllocExtent.{AllocExtent}
 use Rattle.directories.proofs.Promises.{failed-asks}
-use Rattle.vault.specs.Calls.{reading, parting, extentListing, listing, seeking, finding, pathReading, opens, written, labels, reads, worked, lists, readsPath, looked, finds, lost, fails, parted, parts, rowed, extents, lostPlace, failsAt, partedPlace, partsAt}
+use Rattle.vault.specs.Calls.{reading, parting, extentListing, listing, showing, seeking, finding, pathReading, opens, written, labels, reads, worked, lists, shows, readsPath, looked, finds, lost, fails, parted, parts, rowed, extents, lostPlace, failsAt, partedPlace, partsAt}
 use Rattle.layouts.proofs.Promises
 
 -- ---- images that agree on a call's list
@@ -62,6 +62,9 @@ module _ (image other : List ℕ) where
 
     pub list-same : (icb : LongAd) (out work : List ℕ) → Agree (disc image) (disc other) (asked (disc image) (listing v (length work) icb)) → lists image v icb out work ≡ lists other v icb out work
     list-same icb out work h = same (worked out work) (listing v (length work) icb) image other h
+
+    pub show-same : (levels : ℕ) (out work : List ℕ) → Agree (disc image) (disc other) (asked (disc image) (showing v levels (length work))) → shows image v levels out work ≡ shows other v levels out work
+    show-same levels out work h = same (worked out work) (showing v levels (length work)) image other h
 
     pub lookup-same : (path : List ℕ) (matching : Matching) (work : List ℕ) → Agree (disc image) (disc other) (asked (disc image) (finding v (length work) path matching)) → finds image v path matching work ≡ finds other v path matching work
     lookup-same path matching work h = same (looked work) (finding v (length work) path matching) image other h
@@ -118,6 +121,9 @@ module _ (image : List ℕ) where
 
     pub list-counts : (icb : LongAd) (out work : List ℕ) → lists image v icb out work .reply .count ≡ listed image (listing v (length work) icb)
     list-counts icb out work = written-counts image out (listing v (length work) icb)
+
+    pub show-counts : (levels : ℕ) (out work : List ℕ) → shows image v levels out work .reply .count ≡ listed image (showing v levels (length work))
+    show-counts levels out work = written-counts image out (showing v levels (length work))
 
     pub lookup-counts : (path : List ℕ) (matching : Matching) (work : List ℕ) → finds image v path matching work .found .count ≡ listed image (finding v (length work) path matching)
     unfolding ran

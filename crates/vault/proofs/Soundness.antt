@@ -18,7 +18,7 @@ use Rattle.disc.specs.Images.{disc, bytesOf}
 use Rattle.disc.specs.Ran.{Ran, ran, eachIn}
 use Rattle.disc.specs.Replies.{replyBy, leftBy, answerOf}
 use Rattle.disc.specs.declared.refusals.Refusal.{Refusal}
-use Rattle.disc.specs.declared.refusals.Refusal.the-variants.{Io, Malformed, NotBluray, Unsupported, NoRoom, NoWork, NoSlot, Ambiguous, BadCrc, TooMany}
+use Rattle.disc.specs.declared.refusals.Refusal.the-variants.{Io, Malformed, NotBluray, Unsupported, NoRoom, NoWork, NoSlot, Ambiguous, BadCrc, TooDeep, TooMany}
 use Rattle.disc.specs.declared.replies.Reply.{Reply}
 use Rattle.disc.proofs.PartLaws.{PartAt}
 use Rattle.disc.proofs.OnlyLaws.{Within, refuses-within}
@@ -39,8 +39,8 @@ use Rattle.layouts.proofs.PartLaws.{part-stands, place-none}
 use Rattle.directories.specs.Lookups.Sought.{reached, lost}
 use Rattle.directories.proofs.PlaceLaws.{failed-stands}
 use Rattle.directories.proofs.LookupLaws.{look-is}
-use Rattle.vault.specs.Calls.{reading, parting, extentListing, listing, seeking, finding, pathReading, opens, written, labels, reads, lists, readsPath, finds, fails, parts, extents, failsAt, partsAt}
-use Rattle.vault.proofs.Refusing.{listing-only, lookup-only, path-only}
+use Rattle.vault.specs.Calls.{reading, parting, extentListing, listing, showing, seeking, finding, pathReading, opens, written, labels, reads, lists, shows, readsPath, finds, fails, parts, extents, failsAt, partsAt}
+use Rattle.vault.proofs.Refusing.{listing-only, show-only, lookup-only, path-only}
 use Rattle.vault.proofs.Exactly.{Original, open-original, label-original, read-original, part-original, extents-original}
 
 -- ---- a contract is an equation of what the call leaves with a function of what it was lent: two results that meet it are equal
@@ -50,7 +50,7 @@ one p q = p ∙ sym q
 
 -- ---- the table
 
-pub in-table : (why : Refusal) → (number why ≤ 7) ⊎ (number why ≡ 9) ⊎ (number why ≡ 10) ⊎ (number why ≡ 12)
+pub in-table : (why : Refusal) → (number why ≤ 7) ⊎ (number why ≡ 9) ⊎ (number why ≡ 10) ⊎ (number why ≡ 11) ⊎ (number why ≡ 12)
 in-table Io = inl (omega arith)
 in-table Malformed = inl (omega arith)
 in-table NotBluray = inl (omega arith)
@@ -60,7 +60,8 @@ in-table NoWork = inl (omega arith)
 in-table NoSlot = inl (omega arith)
 in-table Ambiguous = inr (inl refl)
 in-table BadCrc = inr (inr (inl refl))
-in-table TooMany = inr (inr (inr refl))
+in-table TooDeep = inr (inr (inr (inl refl)))
+in-table TooMany = inr (inr (inr (inr refl)))
 
 -- 0 to 7; where bodies are checked 10 too; and of a call that takes a path 9 too, under the third choice of matching alone
 abbrev pub Listed : Bool → ℕ → Type 0
@@ -68,6 +69,10 @@ Listed checked n = (n ≤ 7) ⊎ ((checked ≡ true) × (n ≡ 10))
 
 abbrev pub ListedBy : Bool → Matching → ℕ → Type 0
 ListedBy checked matching n = (n ≤ 7) ⊎ ((checked ≡ true) × (n ≡ 10)) ⊎ ((matching ≡ Unambiguous) × (n ≡ 9))
+
+-- of a show 0 to 6 but 3, where bodies are checked 10 too, and 11: never 3, 7, 9 or 12
+abbrev pub ListedOfAShow : Bool → ℕ → Type 0
+ListedOfAShow checked n = (n ≤ 6 × (n ≡ 3 → ⊥)) ⊎ ((checked ≡ true) × (n ≡ 10)) ⊎ (n ≡ 11)
 
 -- what the trees say by themselves is in it
 module _ (image : List ℕ) where
@@ -97,6 +102,12 @@ module _ (image : List ℕ) where
     list-listed icb work =
         refuses-within (λ why. on (number why)) (inl (omega arith)) (disc image)
         (listing-only (λ why. on (number why)) (inl (omega arith)) (inl (omega arith)) (inl (omega arith)) (inl (omega arith)) (v .mount) (λ c. inr (c, refl)) work icb)
+
+    show-listed : (levels work : ℕ) → Within (λ why. ListedOfAShow (isChecked (v .mount)) (number why)) (outcome (disc image) (showing v levels work))
+    show-listed levels work =
+        refuses-within (λ why. ListedOfAShow (isChecked (v .mount)) (number why)) (inl (omega arith, λ e. omega arith)) (disc image)
+        (show-only (λ why. ListedOfAShow (isChecked (v .mount)) (number why)) (inl (omega arith, λ e. omega arith)) (inl (omega arith, λ e. omega arith)) (inl (omega arith, λ e. omega arith))
+        (inr (inr refl)) (v .mount) (λ c. inr (inl (c, refl))) levels work (v .root))
 
     find-listed : (path : List ℕ) (matching : Matching) (work : ℕ) → Within (λ why. along matching (number why)) (outcome (disc image) (finding v work path matching))
     find-listed path matching work =
@@ -153,6 +164,12 @@ module _ (image : List ℕ) (v : VolumeRecord) (icb : LongAd) (path : List ℕ) 
   pub list-sound : Sound (Listed (isChecked (v .mount))) (lists image v icb out work .reply .answer) (lists image v icb out work .reply .length) out (lists image v icb out work .out)
   list-sound = written-sound checked image out (listing v (length work) icb) (list-listed image v icb (length work))
 
+  pub show-sound : (levels : ℕ) → Sound (ListedOfAShow (isChecked (v .mount))) (shows image v levels out work .reply .answer) (shows image v levels out work .reply .length) out (shows image v levels out work .out)
+  unfolding ran
+  show-sound levels =
+      sound-by (ListedOfAShow checked) (inl (omega arith, λ e. omega arith)) (inl (omega arith, λ e. omega arith)) out _ (outcome (disc image) (showing v levels (length work)))
+      (show-listed image v levels (length work))
+
   pub read-path-sound : Sound (ListedBy (isChecked (v .mount)) matching) (readsPath image v path matching out work .reply .answer) (readsPath image v path matching out work .reply .length) out (readsPath image v path matching out work .out)
   unfolding ran
   read-path-sound = sound-by (ListedBy checked matching) (inl (omega arith)) (inl (omega arith)) out _ (outcome (disc image) (pathReading v (length work) path matching)) (path-listed image v path matching (length work))
@@ -170,6 +187,9 @@ module _ (image : List ℕ) (v : VolumeRecord) (icb : LongAd) (path : List ℕ) 
       × (fails image v path matching work .work ≡ replicate (length work) 0)
       × (failsAt image v path matching work .work ≡ replicate (length work) 0)
   clears = (refl, refl, refl, refl, refl)
+
+  pub show-clears : (levels : ℕ) → shows image v levels out work .work ≡ replicate (length work) 0
+  show-clears levels = refl
 
 -- ---- calls that give a value: zeros where they are refused
 

@@ -37,9 +37,9 @@ use Rattle.volumes.specs.Labels.{labelling}
 use Rattle.volumes.specs.declared.openings.How.{How}
 use Rattle.volumes.specs.declared.openings.VolumeRecord.{VolumeRecord}
 use Rattle.listings.specs.declared.matchings.Matching.{Matching}
-use Rattle.vault.specs.Calls.{reading, parting, extentListing, listing, finding, pathReading, opens, labels, reads, lists, readsPath, finds, parts, extents}
-use Rattle.vault.proofs.Missing.{lacking, reply-1, open-1, label-1, read-1, part-1, extents-1, list-1, lookup-1, read-path-1, open-unsaid, label-unsaid, read-unsaid, part-unsaid, extents-unsaid, list-unsaid, lookup-unsaid, read-path-unsaid}
-use Rattle.vault.proofs.Sectors.{listed, open-counts, label-counts, read-counts, part-counts, extents-counts, list-counts, lookup-counts, read-path-counts}
+use Rattle.vault.specs.Calls.{reading, parting, extentListing, listing, showing, finding, pathReading, opens, labels, reads, lists, shows, readsPath, finds, parts, extents}
+use Rattle.vault.proofs.Missing.{lacking, reply-1, open-1, label-1, read-1, part-1, extents-1, list-1, show-1, lookup-1, read-path-1, open-unsaid, label-unsaid, read-unsaid, part-unsaid, extents-unsaid, list-unsaid, show-unsaid, lookup-unsaid, read-path-unsaid}
+use Rattle.vault.proofs.Sectors.{listed, open-counts, label-counts, read-counts, part-counts, extents-counts, list-counts, show-counts, lookup-counts, read-path-counts}
 use Rattle.disc.proofs.GrownLaws.{Waits, waits-first, waits-next, waits-behind, refused-waits}
 
 -- ---- the sectors of extents
@@ -295,6 +295,11 @@ module _ (image more : List ℕ) where
     pub list-waits : (icb : LongAd) (out work : List ℕ) → lists image v icb out work .reply .answer ≡ 1 → Most (lists image v icb out work .reply .count)
         → Awaits (listing v (length work) icb) (lists image v icb out work .reply .count)
     list-waits icb out work a k = awaits (listing v (length work) icb) (list-unsaid v (length work) icb) (list-1 image v icb out work) a (list-counts image v icb out work) k
+
+    pub show-waits : (levels : ℕ) (out work : List ℕ) → shows image v levels out work .reply .answer ≡ 1 → Most (shows image v levels out work .reply .count)
+        → Awaits (showing v levels (length work)) (shows image v levels out work .reply .count)
+    show-waits levels out work a k =
+        awaits (showing v levels (length work)) (show-unsaid v levels (length work)) (show-1 image v levels out work) a (show-counts image v levels out work) k
 
     module _ (path : List ℕ) (matching : Matching) (work : List ℕ) where
       pub lookup-waits : finds image v path matching work .found .answer ≡ 1 → Most (finds image v path matching work .found .count)

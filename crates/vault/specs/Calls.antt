@@ -26,6 +26,7 @@ use Rattle.directories.specs.Directories.{listingAt}
 use Rattle.directories.specs.Lookups.{Sought, seekPath, lookupOf, readPathOf, foundOf, failedOf, failedReply}
 use Rattle.directories.specs.declared.lookups.Found.{Found}
 use Rattle.cue_stacks.specs.Stacks.{Stacked, readAllOf}
+use Rattle.shows.specs.Shows.{showing as showingAt}
 
 -- ---- the tree of questions of each call; `work` is how many bytes of work space there are, `matching` the choice of matching
 
@@ -40,6 +41,9 @@ extentListing v icb = fileExtents (v .mount) icb
 
 abbrev pub listing : VolumeRecord → ℕ → LongAd → Ask (List ℕ)
 listing v work icb = listingAt (v .mount) work icb
+
+abbrev pub showing : VolumeRecord → ℕ → ℕ → Ask (List ℕ)
+showing v levels work = showingAt (v .mount) levels work (v .root)
 
 abbrev pub seeking : VolumeRecord → ℕ → List ℕ → Matching → Ask Sought
 seeking v work path matching = seekPath matching (v .mount) work (v .root) path
@@ -85,6 +89,9 @@ worked out work r = record { reply = replyOf NoRoom (length out) r; out = leftBy
 
 abbrev pub lists : List ℕ → VolumeRecord → LongAd → List ℕ → List ℕ → Worked
 lists image v icb out work = worked out work (ran (disc image) (listing v (length work) icb))
+
+abbrev pub shows : List ℕ → VolumeRecord → ℕ → List ℕ → List ℕ → Worked
+shows image v levels out work = worked out work (ran (disc image) (showing v levels (length work)))
 
 abbrev pub readsPath : List ℕ → VolumeRecord → List ℕ → Matching → List ℕ → List ℕ → Worked
 readsPath image v path matching out work = worked out work (ran (disc image) (pathReading v (length work) path matching))

@@ -2,7 +2,7 @@
 ghost use mathlib.Core.Path.{_≡_};
 ghost use Rattle.layouts.specs.Calls.{wordsOf, extentOf};
 ghost use Rattle.probes.specs.Probes.{probed};
-ghost use Rattle.vault.specs.Calls.{opens, labels, reads, lists, readsPath, readsAll, finds, fails, failsAt, parts, partsAt, extents};
+ghost use Rattle.vault.specs.Calls.{opens, labels, reads, lists, shows, readsPath, readsAll, finds, fails, failsAt, parts, partsAt, extents};
 use directories::listed::list_directory;
 use directories::lookups::Found;
 use disc::refusals::Refusal;
@@ -82,6 +82,17 @@ impl Volume {
     {
         let mount = self.0.mount;
         list_directory(image, mount, icb, out, work)
+    }
+
+    // The volume's whole tree, over the front of out: a listing's record with its level for each entry that a path of at most `levels` components
+    // leads to, each before what stands under it. The work space holds the directories on the way down, one behind the other.
+    pub fn show(self, image: &[u8], levels: u32, out: &mut [u8], work: &mut [u8]) -> Reply
+        ensures { λ r. ⌜ record { reply = r; out = now (out .exit); work = now (work .exit) } ≡ shows (now (image .entry)) (self .0) levels (now (out .entry)) (now (work .entry)) ⌝ }
+    {
+        let v = self.0;
+        let mount = v.mount;
+        let root = v.root;
+        shows::whole::show(image, mount, root, levels, out, work)
     }
 
     // The bytes of the file at icb, over the front of out.

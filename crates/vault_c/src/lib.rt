@@ -18,7 +18,7 @@ ghost use Rattle.layouts.specs.Calls.{wordsOf};
 ghost use Rattle.listings.specs.Listings.{matchingOf};
 ghost use Rattle.probes.specs.Probes.{probed};
 ghost use Rattle.vault_c.specs.Choosing.{opensAs, labelsAs};
-ghost use Rattle.vault.specs.Calls.{reads, lists, readsPath, readsAll, finds, failsAt, partsAt, extents};
+ghost use Rattle.vault.specs.Calls.{reads, lists, shows, readsPath, readsAll, finds, failsAt, partsAt, extents};
 use crate::choices::Choice;
 use crate::choices::chosen;
 use directories::lookups::Found;
@@ -48,12 +48,12 @@ pub const VAULT_AS_WRITTEN: u32 = AS_WRITTEN;
 pub const VAULT_UNAMBIGUOUS: u32 = UNAMBIGUOUS;
 
 // Goes up whenever a struct or a call changes.
-pub const VAULT_VERSION: u32 = 6;
+pub const VAULT_VERSION: u32 = 7;
 
 // The VAULT_VERSION of the archive, which is to be that of the header.
 #[no_mangle]
 pub extern "C" fn vault_version() -> u32
-    ensures { λ r. ⌜ r ≡ 6 ⌝ }
+    ensures { λ r. ⌜ r ≡ 7 ⌝ }
 {
     VAULT_VERSION
 }
@@ -137,6 +137,29 @@ pub extern "C" fn vault_list(
     ensures { λ r. ⌜ record { reply = r; out = now (out .exit); work = now (work .exit) } ≡ lists (now (image .entry)) (volume .0) icb (now (out .entry)) (now (work .entry)) ⌝ }
 {
     volume.list(image, icb, out, work)
+}
+
+// Lists the volume's whole tree, from its root, down to so many levels, 1 to 16: a record for each entry that a path of at most that many components leads
+// to, each before what stands under it, and the entries of a directory in the order of the disc. A record is that of vault_list with the level behind the
+// mark, which is 1 for the root's entries:
+//
+//     44 45   the level   1 for a directory, else 0   the ICB's 16 bytes as recorded
+//     the name's length (2 bytes, little-endian)   the name, as UTF-8
+//
+// A directory at the last level, even an empty one, is VAULT_TOO_DEEP at its turn, before it is read, and so is any other number of levels at once. The
+// directories on the way down stand in `work` together, one behind the other: VAULT_NO_WORK counts those above. A directory is shown, and read, once for
+// each path to it, so that the cost goes with the paths. One that holds itself is found at the last level, and is VAULT_TOO_DEEP, or is VAULT_NO_WORK before.
+#[no_mangle]
+pub extern "C" fn vault_show(
+    volume: Volume,
+    image: &[u8],
+    levels: u32,
+    out: &mut [u8],
+    work: &mut [u8],
+) -> Reply
+    ensures { λ r. ⌜ record { reply = r; out = now (out .exit); work = now (work .exit) } ≡ shows (now (image .entry)) (volume .0) levels (now (out .entry)) (now (work .entry)) ⌝ }
+{
+    volume.show(image, levels, out, work)
 }
 
 // Reads a file, or a directory's own bytes, to `out`.

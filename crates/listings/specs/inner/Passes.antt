@@ -4,10 +4,11 @@ use mathlib.Core.Path.{_≡_}
 use mathlib.Core.Bool.{Bool, true, false, not}
 use mathlib.Core.List.{List, [], _∷_, _++_}
 use lib.ListN.{length, take, drop}
-use lib.Dec.{eqb}
+use lib.Dec.{eqb, leb}
 use Rattle.disc.specs.Choice.{pick}
 use Rattle.disc.specs.Refusals.{number}
 use Rattle.disc.specs.Ask.{Outcome}
+use Rattle.disc.specs.Moves.{over}
 use Rattle.disc.specs.Ask.Outcome.{answered, refused}
 use Rattle.disc.specs.declared.refusals.Refusal.{Refusal}
 use Rattle.disc.specs.declared.refusals.Refusal.the-variants.{Ambiguous}
@@ -74,6 +75,11 @@ pub record Puts (s before after : List ℕ) (r : Put) : Type 0 where
   pub near : r .next ≤ length s + 3
   pub next : (e : Entry) → entryRead false s ≡ answered e → r .next ≡ nextAt s
   pub wrote : (e : Entry) → entryRead false s ≡ answered e → length (shown e) ≤ length before → Wrote (shown e) before after (r .wrote)
+
+-- what is lent to an entry, with its record over the front where it can be read and has room
+unfoldable pub listedOver : Outcome Entry → List ℕ → List ℕ
+listedOver (answered e) lent = pick (leb (length (shown e)) (length lent)) (over (shown e) lent) lent
+listedOver (refused why) lent = lent
 
 -- ---- all entries
 

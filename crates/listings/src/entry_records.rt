@@ -1,0 +1,29 @@
+// One entry of a directory, read and put into a listing: for a caller that goes over a directory's bytes an entry at a time.
+ghost use mathlib.Core.Path.{_≡_};
+ghost use mathlib.Core.Bool.{false};
+ghost use Rattle.identifiers.specs.Identifiers.{readIdentifier, identifierRead};
+ghost use Rattle.listings.specs.Entries.{entryRead};
+ghost use Rattle.listings.specs.inner.Passes.{listedOver};
+use crate::directory_entries::put_entry;
+use crate::directory_entries::record_size;
+use disc::answers::DONE;
+use identifiers::FileIdentifierDescriptor;
+use identifiers::IdentifierRead;
+
+// Reads the entry at the front of s, and writes its record over the front of out; one that has no room is left out. The body isn't checked:
+// the caller has parsed the whole directory before.
+pub fn put_listed(s: &[u8], out: &mut [u8]) -> IdentifierRead
+    ensures { λ r. ⌜ r ≡ identifierRead (readIdentifier false (now (s .entry))) ⌝ }
+    ensures { λ _. ⌜ now (out .exit) ≡ listedOver (entryRead false (now (s .entry))) (now (out .entry)) ⌝ }
+{
+    let r = FileIdentifierDescriptor::parse(false, s);
+    if r.answer != DONE {
+        return r;
+    }
+    let f = r.descriptor;
+    if out.len() < record_size(f) {
+        return r;
+    }
+    put_entry(s, out);
+    r
+}

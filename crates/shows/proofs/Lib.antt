@@ -1,0 +1,9 @@
+-- Laws of a tree's nodes and of the recursion that shows them.
+pub mod NodeLaws
+pub mod ShownLaws
+pub mod LevelLaws
+pub mod LoopLaws
+pub mod ShowLaws
+pub mod GuardLaws
+pub mod MoreLaws
+pub mod Promises

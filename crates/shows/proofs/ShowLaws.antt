@@ -1,0 +1,148 @@
+-- A whole show: measured, and then written. Assumes nothing.
+use mathlib.Core.Path.{_≡_, refl, sym, ap, _∙_}
+use mathlib.Core.Bool.{Bool, true, false, _&&_}
+use mathlib.Core.List.{List, [], _∷_}
+use Prim.Native.Nat.{ℕ, _+_, _-_, _*_, _≤_, _<_, _^_}
+use native.Mathlib.Nat.{sub-zero}
+use native.Mathlib.Omega.{arith}
+use lib.ListN.{length, length-append, length-take, length-drop}
+use lib.Dec.{leb}
+use borrow.Author.Tests.{le-leb, lt-leb}
+use borrow.Rule.Slice.PartMut.{midOf, putMid}
+use Rattle.disc.specs.Choice.{pick}
+use Rattle.disc.specs.Refusals.{number}
+use Rattle.disc.specs.Counts.{reported}
+use Rattle.disc.specs.Ask.{Disc, Outcome, outcome, andThen}
+use Rattle.disc.specs.Ask.Ask.{refuse}
+use Rattle.disc.specs.Ask.Outcome.{answered, refused}
+use Rattle.disc.specs.Ran.{Ran, ran}
+use Rattle.disc.specs.Replies.{Replied}
+use Rattle.disc.specs.declared.places.Mount.{Mount}
+use Rattle.disc.specs.declared.refusals.Refusal.the-variants.{NoRoom, TooDeep}
+use Rattle.disc.specs.declared.replies.Reply.{Reply}
+use Rattle.disc.proofs.MoveLaws.{over-fits, sets-whole}
+use Rattle.disc.proofs.RanLaws.{ran-refuse}
+use Rattle.disc.proofs.RefusalLaws.{refusal-numbered}
+use Rattle.disc.proofs.ReplyLaws.{reply-refused, reply-full, reply-done}
+use Rattle.records.specs.declared.allocations.LongAd.{LongAd}
+use Rattle.directories.proofs.SpaceLaws.{ran-known}
+use Rattle.shows.specs.Shows.{Node, nodesAt, mostLevels, tree, nodeRecords, showing}
+use Rattle.shows.specs.inner.Turns.{behindBy, Shown}
+use Rattle.shows.specs.declared.levels.ShowPlace.{ShowPlace}
+
+-- before the first entry
+abbrev pub start : ShowPlace
+start = record { answer = 0; count = 0; size = 0 }
+
+-- ---- the number of levels
+
+module _ (m : Mount) (w : ℕ) (root : LongAd) (levels : ℕ) where
+  pub tree-none : levels ≡ 0 → tree m levels w root ≡ refuse TooDeep
+  unfolding tree
+  tree-none e = rw e
+
+  pub tree-many : mostLevels < levels → tree m levels w root ≡ refuse TooDeep
+  unfolding tree
+  tree-many h = rw (lt-leb levels mostLevels h) (by (leb 1 levels))
+    where
+      by : (t : Bool) → pick (t && false) (nodesAt m levels 1 w root) (refuse TooDeep) ≡ refuse TooDeep
+      by true = refl
+      by false = refl
+
+  pub tree-within : 1 ≤ levels → levels ≤ mostLevels → tree m levels w root ≡ nodesAt m levels 1 w root
+  unfolding tree
+  tree-within h k = rw (le-leb 1 levels h, le-leb levels mostLevels k)
+
+-- ---- what a show comes to
+
+abbrev recordsIn : Outcome (List Node) → Outcome (List ℕ)
+recordsIn o = andThen o (λ ns. answered (nodeRecords ns))
+
+-- a text written over what is lent of its length
+written : (text out : List ℕ) {r : Ran (List ℕ)} {n : ℕ} → r ≡ record { outcome = answered text; count = n } → {size : ℕ} → size ≡ length text → length text ≤ length out → {c : ℕ} → c ≡ reported n
+    → {ys : List ℕ} → ys ≡ text → Replied NoRoom r out (putMid 0 (size - 0) out ys) (record { answer = 0; count = c; length = size })
+written text out {n = n} e i j {c} k y = rw (e, y, i) (reply-done text n c j k (rw (over-fits text out j, sub-zero)))
+
+module _ (d : Disc) (m : Mount) (w : ℕ) (root : LongAd) (levels : ℕ) where
+  show-is : ran d (showing m levels w root) ≡ record { outcome = recordsIn (ran d (tree m levels w root) .outcome); count = ran d (tree m levels w root) .count }
+  unfolding showing
+  show-is = ran-known d (tree m levels w root) (λ ns. answered (nodeRecords ns))
+
+  show-none : tree m levels w root ≡ refuse TooDeep → {a : ℕ} → a ≡ number TooDeep → {reply : Reply} → reply ≡ record { answer = a; count = 0; length = 0 } → (out : List ℕ)
+      → Replied NoRoom (ran d (showing m levels w root)) out out reply
+  show-none e k f out = rw (show-is, e, ran-refuse {A = List Node} d TooDeep) (reply-refused TooDeep 0 0 refl (f ∙ rw k))
+
+  pub show-zero : levels ≡ 0 → {a : ℕ} → a ≡ number TooDeep → {reply : Reply} → reply ≡ record { answer = a; count = 0; length = 0 } → (out : List ℕ)
+      → Replied NoRoom (ran d (showing m levels w root)) out out reply
+  show-zero h = show-none (tree-none m w root levels h)
+
+  pub show-over : mostLevels < levels → {a : ℕ} → a ≡ number TooDeep → {reply : Reply} → reply ≡ record { answer = a; count = 0; length = 0 } → (out : List ℕ)
+      → Replied NoRoom (ran d (showing m levels w root)) out out reply
+  show-over h = show-none (tree-many m w root levels h)
+
+  module _ (l : 1 ≤ levels) (k : levels ≤ mostLevels) where
+    abbrev R : Ran (List Node)
+    R = ran d (nodesAt m levels 1 w root)
+
+    shown-is : ran d (showing m levels w root) ≡ record { outcome = recordsIn (R .outcome); count = R .count }
+    shown-is = show-is ∙ rw (tree-within m w root levels l k)
+
+    -- ---- measured, lent no output
+
+    module _ (out ys : List ℕ) {q : ShowPlace} (s : Shown R start (midOf 0 (0 - 0) out) q ys) (z : length (putMid 0 (0 - 0) out ys) ≡ length out) where
+      -- nothing was written
+      as-came : putMid 0 (0 - 0) out ys ≡ out
+      as-came = by ys z
+        where
+          by : (ys : List ℕ) → length (putMid 0 (0 - 0) out ys) ≡ length out → putMid 0 (0 - 0) out ys ≡ out
+          by [] z = refl
+          by (y ∷ more) z = absurd (omega (arith, length-append more out))
+
+      pub show-refused : (q .answer ≡ 0 → ⊥) → {reply : Reply} → reply ≡ record { answer = q .answer; count = q .count; length = 0 } → Replied NoRoom (ran d (showing m levels w root)) out (putMid 0 (0 - 0) out ys) reply
+      show-refused n {reply} e = rw (shown-is, as-came) (by (R .outcome) (s .says))
+        where
+          by : (o : Outcome (List Node)) → q ≡ behindBy start o (R .count) → Replied NoRoom (record { outcome = recordsIn o; count = R .count }) out out reply
+          by (answered ns) f = absurd (n (ap (λ (x : ShowPlace). x .answer) f))
+          by (refused why) f = reply-refused why (R .count) (reported (0 + R .count)) (omega arith) (e ∙ rw f)
+
+      module _ (g : q .answer ≡ 0) where
+        -- the nodes that were measured
+        record Measured : Type 0 where
+          ns : List Node
+          are : R .outcome ≡ answered ns
+          count : q .count ≡ reported (R .count)
+          size : q .size ≡ reported (length (nodeRecords ns))
+
+        measured : Measured
+        measured = by (R .outcome) refl (s .says)
+          where
+            by : (o : Outcome (List Node)) → R .outcome ≡ o → q ≡ behindBy start o (R .count) → Measured
+            by (answered ns) e f = record {
+              ns = ns;
+              are = e;
+              count = ap (λ (x : ShowPlace). x .count) f ∙ omega arith;
+              size = ap (λ (x : ShowPlace). x .size) f ∙ omega arith;
+            }
+            by (refused why) e f = absurd (refusal-numbered why (sym (ap (λ (x : ShowPlace). x .answer) f) ∙ g))
+
+        pub show-full : length (putMid 0 (0 - 0) out ys) < q .size → {a : ℕ} → a ≡ number NoRoom → {reply : Reply} → reply ≡ record { answer = a; count = q .count; length = 0 }
+            → Replied NoRoom (ran d (showing m levels w root)) out (putMid 0 (0 - 0) out ys) reply
+        show-full h e f =
+            let x = measured in
+            rw (shown-is, as-came, x .are) (reply-full (nodeRecords (x .ns)) (R .count) (q .count) (omega (arith, x .size)) (x .count) (f ∙ rw e))
+
+        -- ---- written, lent what was measured
+
+        pub show-done : q .size ≤ length (putMid 0 (0 - 0) out ys) → length out * 1 < 2 ^ 63 → {w₁ : ℕ} → w₁ ≡ w → {q₂ : ShowPlace} {ys₂ : List ℕ}
+            → Shown (ran d (nodesAt m levels 1 w₁ root)) start (midOf 0 (q .size - 0) (putMid 0 (0 - 0) out ys)) q₂ ys₂
+            → Replied NoRoom (ran d (showing m levels w root)) out (putMid 0 (q .size - 0) (putMid 0 (0 - 0) out ys) ys₂) (record { answer = 0; count = q .count; length = q .size })
+        show-done h b e {q₂} {ys₂} v =
+            let x = measured in
+            let text : List ℕ = nodeRecords (x .ns) in
+            let t : Shown R start (midOf 0 (q .size - 0) out) q₂ ys₂ = rw (e, as-came) at v in
+            let i : q .size ≡ length text = omega (arith, x .size, z) in
+            let j : length text ≤ length out = omega (arith, z) in
+            let n : length (midOf 0 (q .size - 0) out) ≡ length text = simp (length-take, length-drop) (omega arith) in
+            let y : ys₂ ≡ text = t .puts (x .ns) (x .are) (omega (arith, n)) (omega (arith, n)) ∙ sets-whole text (midOf 0 (q .size - 0) out) (sym n) in
+            let r : ran d (showing m levels w root) ≡ record { outcome = answered text; count = R .count } = shown-is ∙ rw (x .are) in
+            rw as-came (written text out r i j (x .count) y)

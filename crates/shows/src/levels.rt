@@ -1,0 +1,162 @@
+// The lister of a directory and the handler of an entry, which call each other with the levels left falling.
+ghost use mathlib.Core.Path.{_≡_};
+ghost use Prim.Native.Nat.{_+_, _-_, _≤_};
+ghost use lib.ListN.{length, take};
+ghost use Rattle.disc.specs.Ran.{ran};
+ghost use Rattle.disc.specs.Images.{disc};
+ghost use Rattle.shows.specs.Shows.{nodesAt};
+ghost use Rattle.shows.specs.inner.Turns.{stoppedAt, Held, Shown, Opens, Handles};
+use crate::nodes::put_node;
+use directories::spaces::read_directory;
+use disc::answers::DONE;
+use disc::counts::add_counts;
+use disc::places::Mount;
+use disc::refusals::Refusal;
+use identifiers::LEAST_SIZE;
+use listings::listing::measure;
+use records::allocations::LongAd;
+
+// A place in a show: the answer, and of the tree before it the sectors and the bytes of its records, both held at 2^64 - 1. A place is where
+// the next record stands in the output, if it has room there: lent no output, the recursion measures.
+pub(crate) struct ShowPlace {
+    pub answer: u64,
+    pub count: u64,
+    pub size: u64,
+}
+
+// The end of a show that is refused.
+fn stopped(answer: u64, count: u64) -> ShowPlace
+    ensures { λ r. ⌜ r ≡ stoppedAt answer count ⌝ }
+{
+    ShowPlace {
+        answer,
+        count,
+        size: 0,
+    }
+}
+
+// A directory that was read and parsed: the place before its first entry, and how many bytes it has.
+struct OpenedLevel {
+    place: ShowPlace,
+    length: usize,
+}
+
+// Reads the directory at icb over the front of the work space, and parses all its entries, so that a bad one refuses the show before any
+// of them has its turn.
+fn open_level(image: &[u8], mount: Mount, icb: LongAd, p: ShowPlace, work: &mut [u8]) -> OpenedLevel
+    ensures { λ o. ⌜ Opens (disc (now (image .entry))) mount icb p (now (work .entry)) (now (work .exit)) o ⌝ }
+{
+    let read = read_directory(image, mount, icb, work);
+    let count = add_counts(p.count, read.count);
+    if read.answer != DONE {
+        return OpenedLevel {
+            place: stopped(read.answer, count),
+            length: 0,
+        };
+    }
+    let length = read.length as usize;
+    let check = mount.is_checked();
+    let parsed = measure(check, &work[0..length]);
+    if parsed.answer != DONE {
+        return OpenedLevel {
+            place: stopped(parsed.answer, count),
+            length: 0,
+        };
+    }
+    OpenedLevel {
+        place: ShowPlace {
+            answer: DONE,
+            count,
+            size: p.size,
+        },
+        length,
+    }
+}
+
+// Lists the directory at icb, whose entries have this level, and what stands under it. The bytes of the directories above it stand before
+// what is lent of the work space. What is left there is of no use to the caller.
+pub(crate) fn list_level(
+    image: &[u8],
+    mount: Mount,
+    icb: LongAd,
+    level: u8,
+    left: u8,
+    p: ShowPlace,
+    work: &mut [u8],
+    out: &mut [u8],
+) -> ShowPlace
+    requires { ⌜ (level + left ≤ 17) × Held p ⌝ }
+    ensures { λ q. ⌜ Shown (ran (disc (now (image .entry))) (nodesAt mount left level (length (now (work .entry))) icb)) p (now (out .entry)) q (now (out .exit)) ⌝ }
+{
+    if left == 0 {
+        return stopped(Refusal::TooDeep.number(), p.count);
+    }
+    let below = left - 1;
+    let opened = open_level(image, mount, icb, p, work);
+    let n = opened.length;
+    let mut q = opened.place;
+    if q.answer != DONE {
+        return q;
+    }
+    let mut at: usize = 0;
+    while at + LEAST_SIZE <= n {
+        let t = handle_entry(image, mount, n, at, level, below, q, work, out);
+        q = t.place;
+        if q.answer != DONE {
+            return q;
+        }
+        at = t.next;
+    }
+    q
+}
+
+// The place behind an entry and what stands under it, and where the next entry of its directory starts.
+struct EntryTurn {
+    place: ShowPlace,
+    next: usize,
+}
+
+// The turn of the entry at `at` in the directory whose bytes are the first n of the work space: its record, and before the next entry what
+// stands under it, read behind those bytes.
+fn handle_entry(
+    image: &[u8],
+    mount: Mount,
+    n: usize,
+    at: usize,
+    level: u8,
+    left: u8,
+    p: ShowPlace,
+    work: &mut [u8],
+    out: &mut [u8],
+) -> EntryTurn
+    requires { ⌜ (at + 38 ≤ n) × (n ≤ length (now work)) × (level + left ≤ 16) × Held p ⌝ }
+    ensures { λ t. ⌜ Handles (disc (now (image .entry))) mount left level (take n (now (work .entry))) (length (now (work .entry)) - n) at p (now (out .entry)) t (now (out .exit)) ⌝ }
+    ensures { λ _. ⌜ take n (now (work .exit)) ≡ take n (now (work .entry)) ⌝ }
+{
+    let e = put_node(level, p.size, &work[at..n], out);
+    if e.answer != DONE {
+        return EntryTurn {
+            place: stopped(e.answer, p.count),
+            next: n,
+        };
+    }
+    let next = at + e.next;
+    if e.skipped {
+        return EntryTurn { place: p, next };
+    }
+    let behind = ShowPlace {
+        answer: DONE,
+        count: p.count,
+        size: add_counts(p.size, e.size),
+    };
+    if !e.directory {
+        return EntryTurn {
+            place: behind,
+            next,
+        };
+    }
+    let icb = e.icb;
+    let deeper = level + 1;
+    let place = list_level(image, mount, icb, deeper, left, behind, &mut work[n..], out);
+    EntryTurn { place, next }
+}

@@ -1,0 +1,4 @@
+// A volume's whole tree, down to a number of levels.
+pub mod levels;
+pub mod nodes;
+pub mod whole;

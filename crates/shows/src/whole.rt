@@ -1,0 +1,102 @@
+// A whole show.
+ghost use mathlib.Core.Path.{_≡_};
+ghost use Prim.Native.Nat.{_≤_};
+ghost use lib.ListN.{length, replicate};
+ghost use Rattle.disc.specs.Ran.{ran};
+ghost use Rattle.disc.specs.Images.{disc};
+ghost use Rattle.disc.specs.Replies.{Replied};
+ghost use Rattle.disc.specs.declared.refusals.Refusal.the-variants.{NoRoom};
+ghost use Rattle.shows.specs.Shows.{showing};
+use crate::levels::ShowPlace;
+use crate::levels::list_level;
+use disc::answers::DONE;
+use disc::moves::clear;
+use disc::places::Mount;
+use disc::refusals::Refusal;
+use disc::replies::Reply;
+use disc::replies::refusal;
+use records::allocations::LongAd;
+
+// The most levels that can be asked for.
+pub const MOST_LEVELS: u32 = 16;
+
+// Goes over the tree twice, which costs no count: lent no output it sees every refusal and measures; lent what was measured it writes, and
+// nothing behind that can be written, whatever the image holds by then.
+fn show_within(
+    image: &[u8],
+    mount: Mount,
+    root: LongAd,
+    levels: u8,
+    out: &mut [u8],
+    work: &mut [u8],
+) -> Reply
+    requires { ⌜ (1 ≤ levels) × (levels ≤ 16) ⌝ }
+    ensures { λ r. ⌜ Replied NoRoom (ran (disc (now (image .entry))) (showing mount levels (length (now (work .entry))) root)) (now (out .entry)) (now (out .exit)) r ⌝ }
+{
+    let start = ShowPlace {
+        answer: DONE,
+        count: 0,
+        size: 0,
+    };
+    let measured = list_level(image, mount, root, 1, levels, start, work, &mut out[0..0]);
+    if measured.answer != DONE {
+        return refusal(measured.answer, measured.count);
+    }
+    if (out.len() as u64) < measured.size {
+        return refusal(Refusal::NoRoom.number(), measured.count);
+    }
+    let size = measured.size as usize;
+    list_level(
+        image,
+        mount,
+        root,
+        1,
+        levels,
+        start,
+        work,
+        &mut out[0..size],
+    );
+    Reply {
+        answer: DONE,
+        count: measured.count,
+        length: measured.size,
+    }
+}
+
+// The show, with what was read last left in the work space.
+fn show_tree(
+    image: &[u8],
+    mount: Mount,
+    root: LongAd,
+    levels: u32,
+    out: &mut [u8],
+    work: &mut [u8],
+) -> Reply
+    ensures { λ r. ⌜ Replied NoRoom (ran (disc (now (image .entry))) (showing mount levels (length (now (work .entry))) root)) (now (out .entry)) (now (out .exit)) r ⌝ }
+{
+    if levels == 0 {
+        return refusal(Refusal::TooDeep.number(), 0);
+    }
+    if MOST_LEVELS < levels {
+        return refusal(Refusal::TooDeep.number(), 0);
+    }
+    show_within(image, mount, root, levels as u8, out, work)
+}
+
+// The tree from the directory at root, over the front of out: a listing's record with a level for each entry that a path of at most `levels`
+// components leads to, each before what stands under it. The work space is all zero on return.
+pub fn show(
+    image: &[u8],
+    mount: Mount,
+    root: LongAd,
+    levels: u32,
+    out: &mut [u8],
+    work: &mut [u8],
+) -> Reply
+    ensures { λ r. ⌜ Replied NoRoom (ran (disc (now (image .entry))) (showing mount levels (length (now (work .entry))) root)) (now (out .entry)) (now (out .exit)) r ⌝ }
+    ensures { λ _. ⌜ now (work .exit) ≡ replicate (length (now (work .entry))) 0 ⌝ }
+{
+    let reply = show_tree(image, mount, root, levels, out, work);
+    clear(work);
+    reply
+}

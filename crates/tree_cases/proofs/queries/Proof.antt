@@ -1,0 +1,26 @@
+-- `tree_cases::queries` is safe and ends: each turn passes a query. Assumes nothing.
+use Prim.Native.Nat.{_-_}
+use mathlib.Core.Path.{_≡_}
+use lib.ListN.{length}
+use borrow.Author.Needs.{needs}
+use Rattle.tree_cases.proofs.queries.Statement.{statement}
+use Rattle.tree_cases.proofs.queries.Tie as tie
+
+abbrev Inv-loop : tie.InvT-loop
+Inv-loop v image all out₀ work₀ i₀ out work i = (length out ≡ length out₀) × (length work ≡ length work₀)
+
+abbrev μ-loop : tie.MeasureT-loop
+μ-loop v image all out₀ work₀ i₀ out work i = length all - i
+
+pub queries-spec : {M : Type 1} → statement M
+queries-spec =
+    tie.close (tie.spec Inv-loop μ-loop
+    (λ c. search needs)
+    (λ c. search needs)
+    (λ c κs. search needs)
+    (λ c κs. search needs)
+    (λ c. search needs)
+    (λ c. search needs)
+    (λ c. search needs)
+    (λ c. search needs)
+    (λ c. search needs))
