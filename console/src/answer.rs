@@ -82,6 +82,9 @@ pub enum Refusal {
     /// 10: a descriptor has a wrong CRC, or a CRC length that passes the bytes at hand. Given where [`How::checked`](crate::How) was chosen
     /// alone.
     BadCrc,
+    /// 11: a directory stands below the last level that was asked for, or that number is 0 or over 16. Given by
+    /// [`Vault::show`](crate::Vault::show) alone.
+    TooDeep,
     /// 12: there are more paths in a list than places for their answers could be lent. Given by [`Vault::read_all`](crate::Vault::read_all)
     /// alone, for the list; no path of it is answered with it.
     TooMany,
@@ -90,7 +93,7 @@ pub enum Refusal {
 }
 
 /// The refusals and their numbers.
-const TABLE: [(Refusal, u64); 10] = [
+const TABLE: [(Refusal, u64); 11] = [
     (Refusal::Io, vault::IO),
     (Refusal::Malformed, vault::MALFORMED),
     (Refusal::NotBluray, vault::NOT_BLURAY),
@@ -100,11 +103,12 @@ const TABLE: [(Refusal, u64); 10] = [
     (Refusal::NoSlot, vault::NO_SLOT),
     (Refusal::Ambiguous, vault::AMBIGUOUS),
     (Refusal::BadCrc, vault::BAD_CRC),
+    (Refusal::TooDeep, vault::TOO_DEEP),
     (Refusal::TooMany, vault::TOO_MANY),
 ];
 
 impl Refusal {
-    /// The number that the call answered with: 1 to 7, 9, 10 or 12, in the answer table.
+    /// The number that the call answered with: 1 to 7 or 9 to 12, in the answer table.
     pub fn number(self) -> u64 {
         match self {
             Refusal::Unknown(number) => number,
@@ -148,6 +152,7 @@ impl fmt::Display for Refusal {
             Refusal::NoSlot => "the file has more extents than there is memory for",
             Refusal::Ambiguous => "two or more entries of a directory match one name of the path",
             Refusal::BadCrc => "a descriptor's body isn't the one that its tag has the CRC of: it is scratched, or was written so",
+            Refusal::TooDeep => "a directory stands below the last level that was asked for, or that number isn't 1 to 16",
             Refusal::TooMany => "there are more paths than there is memory for their answers",
             Refusal::Unknown(number) => return write!(f, "the archive answered with {number}, a number that isn't known here"),
         })
@@ -166,7 +171,7 @@ pub struct Refused {
 }
 
 impl Refused {
-    /// The number that the call answered with: 1 to 7, 9, 10 or 12, in the answer table.
+    /// The number that the call answered with: 1 to 7 or 9 to 12, in the answer table.
     pub fn number(&self) -> u64 {
         self.why.number()
     }
@@ -206,7 +211,7 @@ mod tests {
         for (why, number) in TABLE {
             assert_eq!((Refusal::of(number), why.number()), (Some(why), number));
         }
-        assert_eq!(TABLE.map(|(_, number)| number), [1, 2, 3, 4, 5, 6, 7, 9, 10, 12]);
+        assert_eq!(TABLE.map(|(_, number)| number), [1, 2, 3, 4, 5, 6, 7, 9, 10, 11, 12]);
     }
 
     #[test]
@@ -218,7 +223,7 @@ mod tests {
 
     #[test]
     fn a_number_that_the_table_lacks_shows_itself() {
-        for number in [8, 11, 13, 255, 256 + 7, u64::MAX] {
+        for number in [8, 13, 14, 255, 256 + 7, u64::MAX] {
             let why = Refusal::of(number).unwrap();
             assert_eq!((why, why.number()), (Refusal::Unknown(number), number));
             assert!(why.to_string().contains(&number.to_string()), "{why}");

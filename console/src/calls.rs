@@ -113,6 +113,12 @@ pub fn list(volume: Volume, image: &[u8], icb: LongAd, out: &mut Vec<u8>, work: 
     filled(out, |to, room| unsafe { vault_list(volume, image.as_ptr(), image.len(), icb.to_c(), to, room, work, w) })
 }
 
+pub fn show(volume: Volume, image: &[u8], levels: u32, out: &mut Vec<u8>, work: &mut Vec<u8>) -> Result<()> {
+    let (work, w) = space(work);
+    // SAFETY: the head of this module; `room` bytes from `to` on are `out`'s own, and `w` from `work` on are the other vector's.
+    filled(out, |to, room| unsafe { vault_show(volume, image.as_ptr(), image.len(), levels, to, room, work, w) })
+}
+
 pub fn read(volume: Volume, image: &[u8], icb: LongAd, out: &mut Vec<u8>) -> Result<()> {
     // SAFETY: the head of this module; `room` bytes from `to` on are `out`'s own.
     filled(out, |to, room| unsafe { vault_read(volume, image.as_ptr(), image.len(), icb.to_c(), to, room) })

@@ -37,6 +37,13 @@
 //! [`Vault::read_all`] reads a list of paths, by one call of the archive for each 1,024 of them, and gives for each its bytes or why there are
 //! none: a cue that isn't there keeps none of the others back.
 //!
+//! # A whole show
+//!
+//! [`Vault::show`] lists all that stands on a volume, down to a number of levels, by one call of the archive: [`Show`] gives the entries in turn, each
+//! with its level and its path. A directory is shown once for each path to it, and one that holds itself is refused by 11. So the call takes as long as
+//! there are paths, and of a disc that was made to do harm these may be more than can be counted: who doesn't trust a disc walks it with
+//! [`Vault::read_directory`], and stops where it is too much, as the command `vault tree` does.
+//!
 //! # An image that is still being copied
 //!
 //! A crew may begin before a disc is copied. Of an image that grows at its end every answer stands, and every refusal but 1:
@@ -60,7 +67,8 @@
 //! The proved calls allocate nothing: they write to memory that is lent to them and refuse by 5, 6 or 7 where it is too little. This crate
 //! lends a little, and more when that was the only trouble, so that a caller sees these numbers only where the memory can't be had, or
 //! where an answer is longer than any sound disc can give: a file of more bytes than its image (and more than 256 MiB), a directory of more
-//! than 256 MiB. Such a disc is refused, and nothing is allocated by what it says of itself.
+//! than 256 MiB, in a show together with those above it, and a show of more than 256 MiB of records. Such a disc is refused, and nothing is
+//! allocated by what it says of itself.
 
 #[cfg(not(all(target_arch = "x86_64", target_os = "linux")))]
 compile_error!("the archive is x86-64 code for Linux");
@@ -75,6 +83,7 @@ mod room;
 mod sequence;
 mod stack;
 mod table;
+mod tree;
 mod vault;
 
 #[cfg(test)]
@@ -87,10 +96,11 @@ pub use answer::{Answer, Refusal, Refused, Result};
 pub use how::How;
 pub use maps::PartitionMap;
 pub use matching::Matching;
-pub use records::{AllocExtent, DirEntry, LbAddr, LongAd};
+pub use records::{AllocExtent, DirEntry, LbAddr, LongAd, ShowEntry};
 pub use sequence::{Kind, VolumeDescriptor, volume_descriptors};
 pub use stack::Item;
 pub use table::{MapForm, MapTable, map_table};
+pub use tree::Show;
 pub use vault::{SECTOR_SIZE, Vault, probe_vrs, read_volume_label, read_volume_label_as};
 
 /// The code in README.md is compiled with the tests.

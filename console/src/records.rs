@@ -83,6 +83,21 @@ pub struct DirEntry {
     pub is_directory: bool,
 }
 
+/// An entry of a whole show: one for each path that leads to it.
+#[derive(Debug, Clone, PartialEq, Eq)]
+pub struct ShowEntry {
+    /// How many names its path has: 1 for what stands in the root.
+    pub level: u8,
+    /// The names from the root down to its own, with a slash between each two. A name that has a slash itself, or no byte, stands in it as it is, and
+    /// such a path doesn't lead back here.
+    pub path: String,
+    /// What its directory has of it.
+    pub entry: DirEntry,
+}
+
+/// The bytes of a record's mark.
+const MARK: usize = 2;
+
 /// The entries of a listing, whose records include/vault.h says (`vault_list`); none if there isn't memory for them.
 pub(crate) fn entries(listing: &[u8]) -> Option<Vec<DirEntry>> {
     let (mut entries, mut rest) = (Vec::new(), listing);
@@ -96,7 +111,19 @@ pub(crate) fn entries(listing: &[u8]) -> Option<Vec<DirEntry>> {
 
 /// The record at the front, none in it if there isn't memory for its name, and what stands behind it.
 fn record(listing: &[u8]) -> Option<(Option<DirEntry>, &[u8])> {
-    let (&[_, _, directory], rest) = listing.split_first_chunk()?;
+    marked(listing.split_at_checked(MARK)?.1)
+}
+
+/// The record at the front of a show (`vault_show`): its level, the rest of it, and what stands behind it.
+pub(crate) fn leveled(show: &[u8]) -> Option<(u8, Option<DirEntry>, &[u8])> {
+    let (level, rest) = show.split_at_checked(MARK)?.1.split_first()?;
+    let (entry, behind) = marked(rest)?;
+    Some((*level, entry, behind))
+}
+
+/// What a record has behind its mark, and its level if it has one.
+fn marked(rest: &[u8]) -> Option<(Option<DirEntry>, &[u8])> {
+    let (&[directory], rest) = rest.split_first_chunk()?;
     let (icb, rest) = rest.split_first_chunk()?;
     let (length, rest) = rest.split_first_chunk()?;
     let (name, rest) = rest.split_at_checked(u16::from_le_bytes(*length).into())?;

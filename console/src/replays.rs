@@ -1,7 +1,7 @@
 //! The raw calls on stored images, with memory of exactly the size that each query lends: refusals 5, 6 and 7 are among the answers. What
 //! is expected are the original's answers, stored with the programs `replay` and `file_cases`, whose sources say the form of the files; and
-//! what models say of the choices of matching, of checked bodies and of lists of paths, stored with `matching_cases`, `checked_cases` and
-//! `stack_cases`.
+//! what models say of the choices of matching, of checked bodies, of lists of paths and of whole shows, stored with `matching_cases`,
+//! `checked_cases`, `stack_cases` and `tree_cases`.
 //!
 //! What a call leaves in memory that it doesn't answer with is seen by those programs and by `compare`, and not here.
 
@@ -383,4 +383,29 @@ fn the_lists_of_the_gate() {
         }
     }
     assert_eq!((expected.next(), asked), (None, 115));
+}
+
+#[test]
+fn the_shows_of_the_gate() {
+    let mut all = Input(include_bytes!("../../crates/tree_cases/data/images"));
+    let mut expected = include_str!("../../crates/tree_cases/stdout").lines();
+    let mut seen = [0; 13];
+    while !all.0.is_empty() {
+        assert_eq!(expected.next().unwrap().as_bytes(), [b"image ", all.sized(2)].concat());
+        let image = all.image();
+        let opened = calls::open(&image, 0).unwrap();
+        assert_eq!(expected.next().unwrap(), format!("open 0 count {}", opened.sectors));
+        let mut queries = Input(all.sized(4));
+        while !queries.0.is_empty() {
+            let [levels, lent, space, checked] = [(); 4].map(|()| queries.number(4));
+            let v = Volume { mount: Mount { checked: checked as u32, ..opened.value.mount }, ..opened.value };
+            let (mut out, mut work) = (room(lent), room(space));
+            let answer = calls::show(v, &image, levels as u32, &mut out, &mut work);
+            let what = expected.next().unwrap();
+            let given = head("show", &answer) + &format!(" length {} sum {} zero", out.len(), sum_lent(&out, lent));
+            assert_eq!(given, expected.next().unwrap(), "{what}");
+            seen[answer.map_or_else(|refused| refused.number(), |_| 0) as usize] += 1;
+        }
+    }
+    assert_eq!((expected.next(), seen), (None, [470, 57, 145, 0, 24, 113, 444, 0, 0, 0, 51, 456, 0]));
 }

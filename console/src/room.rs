@@ -8,6 +8,9 @@ pub const FIRST: usize = 64 << 10;
 /// The most work space for a directory: some five million entries. It is all cleared by each call, so a bad disc must not ask for more.
 pub const MOST_DIRECTORY: usize = 256 << 20;
 
+/// The most for the records of a show: some six million entries.
+pub const MOST_SHOW: usize = 256 << 20;
+
 /// So many paths are read by one call, with `FIRST` bytes of output lent for each: a list of any length takes no more than 64 MiB beside what it
 /// gives.
 pub const AT_ONCE: usize = 1024;

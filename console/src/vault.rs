@@ -6,8 +6,9 @@ use crate::how::How;
 use crate::maps::{PartitionMap, maps, place_of, started};
 use crate::matching::Matching;
 use crate::records::{AllocExtent, DirEntry, LbAddr, LongAd, entries, text};
-use crate::room::{AT_ONCE, FIRST, MOST_DIRECTORY, Room, most_file, retry};
+use crate::room::{AT_ONCE, FIRST, MOST_DIRECTORY, MOST_SHOW, Room, most_file, retry};
 use crate::stack::{Item, List, Stack, copied, too_many};
+use crate::tree::Show;
 use std::fmt;
 use strandlodge_sys::vault::{Extent, Volume};
 
@@ -191,6 +192,29 @@ impl<'a> Vault<'a> {
         let mut out = Room::new(FIRST, 2 * MOST_DIRECTORY);
         let answer = retry(&mut out, &mut work_space(), |out, work| calls::list(self.volume, self.image, icb, out, work))?;
         kept(answer, Refusal::NoRoom, |()| entries(&out.lent))
+    }
+
+    /// All that stands on the volume, down to so many levels, 1 to 16: an entry for each path, each before what stands under it, and those of a
+    /// directory in the disc's order, without those that are deleted and the parent.
+    ///
+    /// It is all or nothing. A directory at the last level, even an empty one, is refused by 11, as is any other number of levels; one that holds itself
+    /// is found there. Whatever is refused on the way refuses the show. The call takes as long as there are paths, however few directories they lead to.
+    ///
+    /// ```no_run
+    /// # fn main() -> std::result::Result<(), Box<dyn std::error::Error>> {
+    /// let image = std::fs::read("show.img")?;
+    /// let vault = strandlodge::Vault::open(&image)?;
+    /// for one in vault.show(16)? {
+    ///     println!("{}{}", one.path, if one.entry.is_directory { "/" } else { "" });
+    /// }
+    /// # Ok(())
+    /// # }
+    /// ```
+    pub fn show(&self, levels: u32) -> Result<Show> {
+        let mut out = Room::new(FIRST, MOST_SHOW);
+        let answer = retry(&mut out, &mut work_space(), |out, work| calls::show(self.volume, self.image, levels, out, work))?;
+        out.lent.shrink_to_fit();
+        Ok(answer.map(|()| Show::of(out.lent)))
     }
 
     /// A file's bytes, or a directory's own.

@@ -3,10 +3,13 @@
 mod common;
 
 use common::command::{Folder, Said, left_out, tool};
+use common::input::Input;
 use common::{Disc, SECTOR, identifier, named, noise, reclosed, show};
 use std::ffi::OsStr;
 use std::os::unix::ffi::OsStrExt;
 use std::process::{Command, Stdio};
+use strandlodge::{ShowEntry, Vault};
+use strandlodge_sys::sparse::expand;
 
 const BLACKOUT: &str = "cue 11\nblackout\n";
 
@@ -74,6 +77,113 @@ fn every_command_answers() {
     answers(&folder.vault(&["stat", "show.img", ""]), stat);
     assert!(folder.vault(&["--help"]).out.contains("vault get IMAGE PATH FILE"));
     assert!(folder.vault(&["--help"]).out.contains("vault get IMAGE -o TO PATH.."));
+}
+
+#[test]
+fn the_sample_as_a_tree() {
+    let folder = with_show();
+    let drawn = "/\n└── SHOW/\n    ├── 9\n    ├── 10.1A\n    ├── 10.1a\n    └── 11\n1 directory, 4 files\n";
+    answers(&folder.vault(&["tree", "show.img"]), drawn);
+    answers(&folder.vault(&["tree", "show.img", "--levels", "2", "--checked"]), drawn);
+    answers(&folder.vault(&["tree", "show.img", "SHOW"]), "SHOW/\n├── 9\n├── 10.1A\n├── 10.1a\n└── 11\n0 directories, 4 files\n");
+    answers(
+        &folder.vault(&["tree", "show.img", "/SHOW/", "--levels", "1"]),
+        "/SHOW/\n├── 9\n├── 10.1A\n├── 10.1a\n└── 11\n0 directories, 4 files\n",
+    );
+    answers(&folder.vault(&["tree", "show.img", "SHOW/9"]), "9\n");
+    let paths = "SHOW/\nSHOW/9\nSHOW/10.1A\nSHOW/10.1a\nSHOW/11\n";
+    answers(&folder.vault(&["ls", "-R", "show.img"]), paths);
+    answers(&folder.vault(&["ls", "show.img", "SHOW", "-R"]), paths.strip_prefix("SHOW/\n").unwrap());
+    assert_eq!(folder.vault(&["tree", "show.img", "--sectors"]).error, "vault: sectors asked for: open 6, lookup 0, read_directory 2\n");
+    // The last level has a directory: it is drawn, and that it isn't looked into is said.
+    let said = folder.vault(&["tree", "show.img", "--levels", "1"]);
+    assert_eq!((said.status, said.out.as_str()), (11, "/\n└── SHOW/\n1 directory, 0 files\n"));
+    let says = "show.img: 1 directory at level 1, the last, not looked into: \"SHOW\" (refusal 11); --levels 2 shows more";
+    assert_eq!(said.error, format!("vault: {says}\n"));
+    assert_eq!(folder.vault(&["tree", "show.img", "NONE"]).status, 3);
+}
+
+#[test]
+fn a_tree_stops_at_its_limit() {
+    let folder = with_show();
+    for (limit, lines) in [("1", 1), ("4", 4)] {
+        let said = folder.vault(&["ls", "-R", "show.img", "--limit", limit]);
+        assert_eq!((said.status, said.out.lines().count()), (68, lines));
+        assert!(
+            said.error.ends_with("and there are more: --limit N shows N\n") && said.error.contains(&format!("behind {limit} ent")),
+            "{said:?}"
+        );
+    }
+    for limit in ["5", "6"] {
+        assert_eq!(folder.vault(&["ls", "-R", "show.img", "--limit", limit]).status, 0);
+    }
+}
+
+/// A directory of two names for the root: 2^16 paths at the last level.
+#[test]
+fn a_directory_that_holds_itself() {
+    let folder = Folder::new();
+    let mut disc = Disc::new();
+    let root = disc.directory(&[named("a", 3, true), named("cue\u{1b}", 5, false)]);
+    disc.root(root);
+    folder.write("one.img", &disc.0);
+    let said = folder.vault(&["ls", "-R", "one.img"]);
+    assert_eq!((said.status, said.out.lines().count()), (11, 32));
+    assert!(said.out.starts_with("a/\na/a/\n") && said.out.contains("a/a/cue\\u{1b}\na/cue\\u{1b}\ncue\\u{1b}\n"), "{said:?}");
+    let last = format!("vault: one.img: 1 directory at level 16, the last, not looked into: \"{}a\" (refusal 11)\n", "a/".repeat(15));
+    assert_eq!(said.error, last);
+
+    let root = disc.directory(&[named("a", 3, true), named("b", 3, true)]);
+    disc.root(root);
+    folder.write("two.img", &disc.0);
+    let said = folder.vault(&["tree", "two.img"]);
+    // The line in front is the root's.
+    assert_eq!((said.status, said.out.lines().count()), (68, 100_001));
+    let said = folder.vault(&["tree", "two.img", "--limit", "1000000"]);
+    assert_eq!((said.status, said.out.lines().count()), (11, (1 << 17) - 2 + 2));
+    assert!(said.error.contains("65536 directories at level 16, the last, not looked into"), "{}", said.error);
+}
+
+/// What was drawn before a directory that can't be read stays, and the directory is named.
+#[test]
+fn a_tree_names_what_it_cannot_read() {
+    let folder = Folder::new();
+    let mut disc = Disc::new();
+    let below = disc.directory(&[named("x", 5, false), named("gone", 900_000, true), named("z", 5, false)]);
+    let root = disc.directory(&[named("a", 5, false), named("d", below, true), named("b", 5, false)]);
+    disc.root(root);
+    folder.write("a.img", &disc.0);
+    let said = folder.vault(&["tree", "a.img"]);
+    assert_eq!((said.status, said.out.as_str()), (1, "/\n├── a\n├── d/\n│   ├── x\n│   ├── gone/\n"));
+    assert!(
+        said.error.starts_with("vault: a.img: \"d/gone\": a sector that was asked for") && said.error.ends_with("(refusal 1)\n"),
+        "{said:?}"
+    );
+}
+
+/// What `ls -R` prints is what a show gives, or the show is refused.
+#[test]
+fn paths_are_those_of_a_show() {
+    let folder = Folder::new();
+    let mut all = Input(include_bytes!("../../crates/tree_cases/data/images"));
+    let mut compared = 0;
+    while !all.0.is_empty() {
+        let name = String::from_utf8_lossy(all.sized(2)).into_owned();
+        folder.write("a.img", &expand(all.sized(4)).unwrap());
+        all.sized(4);
+        let image = std::fs::read(folder.at("a.img")).unwrap();
+        let vault = Vault::open(&image).unwrap();
+        let said = folder.vault(&["ls", "-R", "a.img"]);
+        match vault.show(16) {
+            Ok(show) => {
+                let line = |one: ShowEntry| one.path + if one.entry.is_directory { "/\n" } else { "\n" };
+                assert_eq!((said.status, said.out), (0, show.into_iter().map(line).collect()), "{name}");
+                compared += 1;
+            }
+            Err(refused) => assert_eq!(said.status, refused.number() as i32, "{name}"),
+        }
+    }
+    assert!(compared > 50, "{compared}");
 }
 
 #[test]

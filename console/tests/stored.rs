@@ -1,4 +1,4 @@
-//! `Vault` on the volumes stored with the programs `volume_cases`, `vault_cases` and `stack_cases`, whose sources say the form of their files. What is
+//! `Vault` on the volumes stored with the programs `volume_cases`, `vault_cases`, `stack_cases` and `tree_cases`, whose sources say the form of their files. What is
 //! expected is their stored output. `Vault` lends what is needed, so that where a query there lends too little, and is refused by 5 or 6,
 //! it must not be refused so here.
 
@@ -190,6 +190,67 @@ fn volumes_answer_every_query() {
         }
     }
     assert_eq!((asked, short, expected.0.next()), (989, 293, None));
+}
+
+/// A show's records, of what was read from one.
+fn records(show: strandlodge::Show) -> Vec<u8> {
+    let mut records = Vec::new();
+    for one in show {
+        let listed = listing(&[one.entry]);
+        records.extend(&listed[..2]);
+        records.push(one.level);
+        records.extend(&listed[2..]);
+    }
+    records
+}
+
+/// The shows: with memory enough each is as it is stored, where nothing was lent too little.
+#[test]
+fn volumes_answer_every_show() {
+    let mut all = Input(include_bytes!("../../crates/tree_cases/data/images"));
+    let mut expected = Expected(include_str!("../../crates/tree_cases/stdout").lines());
+    let (mut asked, mut short) = (0, 0);
+    while !all.0.is_empty() {
+        all.sized(2);
+        let image = expand(all.sized(4)).unwrap();
+        let vaults = [false, true].map(|checked| Vault::open_as(&image, How { checked, ..How::default() }));
+        (expected.next(), expected.next());
+        let mut queries = Input(all.sized(4));
+        while !queries.0.is_empty() {
+            let [levels, room, _work, checked] = [(); 4].map(|()| queries.number(4));
+            let vault = vaults[usize::from(checked != 0)].as_ref().unwrap();
+            expected.next();
+            let given = vault.show(levels as u32).map(|answer| answer.map(records));
+            short += u32::from(held(expected.next(), room, &given));
+            asked += 1;
+        }
+    }
+    assert_eq!((asked, short, expected.0.next()), (1760, 557, None));
+}
+
+/// Every path of a show leads back to its entry, where no name on it is ambiguous.
+#[test]
+fn paths_of_a_show_lead_back() {
+    let mut all = Input(include_bytes!("../../crates/tree_cases/data/images"));
+    let mut shown = 0;
+    while !all.0.is_empty() {
+        let name = String::from_utf8_lossy(all.sized(2));
+        let image = expand(all.sized(4)).unwrap();
+        all.sized(4);
+        if name == "names" || name.contains("each naming the next") {
+            continue;
+        }
+        let vault = Vault::open(&image).unwrap();
+        for one in vault.show(16).into_iter().flatten() {
+            assert_eq!(one.path.split('/').count(), usize::from(one.level), "{name}: {}", one.path);
+            let found = vault.lookup_as(&one.path, Matching::Unambiguous);
+            if answer(&found).0 != 9 {
+                assert_eq!(found.unwrap().value, one.entry.icb, "{name}: {}", one.path);
+                shown += 1;
+            }
+        }
+    }
+    assert!(shown > 500, "{shown}");
 }
 
 /// The lists of paths: each item is what the path gives by itself, and where nothing was lent too little the stored answers.

@@ -3,7 +3,7 @@
 mod common;
 
 use common::{Disc, SECTOR, continuation, continued, identifier, named, noise, reclosed, short_ad, show};
-use strandlodge::{AllocExtent, Answer, How, Kind, Matching, Refusal, Refused, Vault};
+use strandlodge::{AllocExtent, Answer, How, Kind, Matching, Refusal, Refused, Show, Vault};
 use strandlodge::{probe_vrs, read_volume_label, read_volume_label_as, volume_descriptors};
 
 const UPPER: &[u8] = b"cue 10.1A\nfront wash 80, blue backs 40, follow 6 seconds\n";
@@ -429,4 +429,62 @@ fn a_list_goes_on_past_a_wrong_body() {
     let vault = Vault::open_as(&image, CHECKED).unwrap();
     let all = vault.read_all(&["SHOW/9", "SHOW/10.1A", "SHOW/9"]).unwrap();
     assert_eq!(all.value, [Err(Refusal::BadCrc), Ok(UPPER.to_vec()), Err(Refusal::BadCrc)]);
+}
+
+fn paths(show: Show) -> Vec<(u8, String)> {
+    show.map(|one| (one.level, one.path)).collect()
+}
+
+#[test]
+fn a_whole_show() {
+    let image = show();
+    let vault = Vault::open(&image).unwrap();
+    let shown = vault.show(2).unwrap();
+    assert_eq!(shown.sectors, 2);
+    let wanted = [(1, "SHOW"), (2, "SHOW/9"), (2, "SHOW/10.1A"), (2, "SHOW/10.1a"), (2, "SHOW/11")];
+    assert_eq!(paths(shown.value.clone()), wanted.map(|(level, path)| (level, path.to_string())));
+    for one in shown.value {
+        assert_eq!(one.entry.icb, vault.lookup_as(&one.path, Matching::AsWritten).unwrap().value);
+        assert_eq!(one.entry.is_directory, one.path == "SHOW");
+    }
+    // More levels than there are change nothing; fewer are refused at the directory, and any other number at once.
+    assert_eq!(paths(vault.show(16).unwrap().value), paths(vault.show(2).unwrap().value));
+    assert_eq!(refused(vault.show(1)), (Refusal::TooDeep, 1));
+    for levels in [0, 17, 257, u32::MAX] {
+        assert_eq!(refused(vault.show(levels)), (Refusal::TooDeep, 0));
+    }
+}
+
+/// More than is lent at first: records of more than 64 KiB, and directories that together have more.
+#[test]
+fn a_large_show() {
+    let mut disc = Disc::new();
+    let cue = disc.file(b"a look");
+    let named_so = |n: usize, name: &str| (0..n).map(|i| named(&format!("{name} {i:04}"), cue, false)).collect::<Vec<_>>();
+    let mut below = disc.directory(&named_so(900, "a cue of the innermost directory"));
+    for _ in 0..3 {
+        let mut entries = named_so(300, "another cue");
+        entries.push(named("down", below, true));
+        below = disc.directory(&entries);
+    }
+    disc.root(below);
+    let vault = Vault::open(&disc.0).unwrap();
+    let shown = paths(vault.show(4).unwrap().value);
+    assert_eq!(shown.len(), 3 * 301 + 900);
+    assert_eq!(shown[300], (1, "down".to_string()));
+    assert_eq!(shown.last().unwrap(), &(4, "down/down/down/a cue of the innermost directory 0899".to_string()));
+    assert_eq!(refused(vault.show(3)).0, Refusal::TooDeep);
+}
+
+/// A directory that holds itself is found at the last level.
+#[test]
+fn a_show_of_a_directory_that_holds_itself() {
+    let mut disc = Disc::new();
+    let root = disc.directory(&[named("again", 3, true), named("cue", 5, false)]);
+    disc.root(root);
+    let vault = Vault::open(&disc.0).unwrap();
+    // Two sectors for each level: its entry and its bytes.
+    for levels in [1, 2, 16] {
+        assert_eq!(refused(vault.show(levels)), (Refusal::TooDeep, 2 * u64::from(levels)));
+    }
 }

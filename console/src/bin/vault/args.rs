@@ -2,15 +2,16 @@
 
 use crate::failure::Failure;
 use crate::names::shown;
+use crate::tree::{Bounds, Form};
 use std::ffi::{OsStr, OsString};
 use std::os::unix::ffi::{OsStrExt, OsStringExt};
 use strandlodge::{How, Matching};
 
 pub const HELP: &str = "\
 vault: look into a UDF disc. An image is a file or a drive; it is only read.
-
   vault label IMAGE            the volume's name
-  vault ls IMAGE [PATH]        what a directory holds, in the disc's order
+  vault ls IMAGE [PATH]        what a directory holds; with -R all below it too
+  vault tree IMAGE [PATH]      the same as ls -R, drawn as a tree
   vault cat IMAGE PATH         a file's bytes; PATH is names between slashes
   vault get IMAGE PATH FILE    a file's bytes, to FILE, which is replaced
   vault get IMAGE -o TO PATH.. many files, each to its own name in folder TO
@@ -21,15 +22,15 @@ vault: look into a UDF disc. An image is a file or a drive; it is only read.
 
   --as-written    take a name on PATH byte for byte; else ASCII case is ignored
   --unambiguous   refuse a name that several entries match; else take the first
+  --levels N, --limit N   of tree and ls -R: 1 to 16 levels, N entries at most
   --highest       of several volume descriptors the highest number counts
   --maps          find partitions through the volume's maps; else by number
   --checked       refuse a descriptor whose body is ruined: it has another CRC
   --copy          read it into memory first: a mapped image must stand still
   --wait N        up to N seconds for a file of an image copied front to back
   --sectors, --   say how many sectors each call asked for; no options follow
-
 Status: 0 done, 1 to 12 refused by that number, 64 wrong usage, 65 check found
-one wrong, 66 no image, 67 not all read, 70 unknown answer, 74 no output.
+one wrong, 66 no image, 67 not all read, 68 limit, 70 unknown, 74 no output.
 ";
 
 /// A path on the disc, in bytes: names there need not be this system's.
@@ -60,6 +61,7 @@ impl Command {
 pub enum Question {
     Label,
     Ls { path: DiscPath },
+    Tree { path: DiscPath, form: Form, bounds: Bounds },
     Cat { path: DiscPath },
     Get { path: DiscPath, file: OsString },
     GetAll { paths: Vec<DiscPath>, folder: OsString },
@@ -86,7 +88,7 @@ pub struct Args {
 pub fn parse(given: impl IntoIterator<Item = OsString>) -> Result<Args, Failure> {
     let (mut sectors, mut copy, mut help, mut words) = (false, false, false, Vec::new());
     let (mut as_written, mut unambiguous) = (false, false);
-    let (mut how, mut folder, mut wait) = (How::default(), None, None);
+    let (mut how, mut more, mut wait) = (How::default(), More::default(), None);
     let mut given = given.into_iter();
     while let Some(word) = given.next() {
         match word.as_bytes() {
@@ -98,7 +100,12 @@ pub fn parse(given: impl IntoIterator<Item = OsString>) -> Result<Args, Failure>
             b"--highest" => how.highest = true,
             b"--checked" => how.checked = true,
             b"--maps" => how.maps = true,
-            b"-o" => folder = Some(given.next().ok_or_else(|| Failure::usage("-o needs TO, a folder"))?),
+            b"-o" => more.folder = Some(given.next().ok_or_else(|| Failure::usage("-o needs TO, a folder"))?),
+            b"-R" => more.is_deep = true,
+            b"--levels" => {
+                more.levels = Some(number(given.next(), "--levels needs a number, 1 to 16", Bounds::MOST_LEVELS as u64)? as usize)
+            }
+            b"--limit" => more.entries = Some(number(given.next(), "--limit needs a number, of 1 or more", u64::MAX)?),
             b"--wait" => wait = Some(seconds(given.next())?),
             b"--help" | b"-h" => help = true,
             [b'-', _, ..] => return Err(Failure::usage(format!("there is no option {}", shown(word.as_bytes())))),
@@ -108,9 +115,9 @@ pub fn parse(given: impl IntoIterator<Item = OsString>) -> Result<Args, Failure>
     if help {
         return Ok(Args { command: Command::Help, sectors, copy, how, matching: Matching::default(), wait });
     }
-    let (command, matching) = (command(words, folder)?, matching(as_written, unambiguous)?);
+    let (command, matching) = (command(words, more)?, matching(as_written, unambiguous)?);
     if matching != Matching::default() && !command.has_path() {
-        return Err(Failure::usage("--as-written and --unambiguous are for a PATH: that of ls, cat, get or stat"));
+        return Err(Failure::usage("--as-written and --unambiguous are for a PATH: that of ls, tree, cat, get or stat"));
     }
     if wait.is_some() && !command.can_wait() {
         return Err(Failure::usage("--wait is for one file: that of cat or get, without -o"));
@@ -123,6 +130,43 @@ fn seconds(word: Option<OsString>) -> Result<u32, Failure> {
     number.ok_or_else(|| Failure::usage("--wait needs N, a number of seconds"))
 }
 
+/// The options of single commands.
+#[derive(Default)]
+struct More {
+    folder: Option<OsString>,
+    is_deep: bool,
+    levels: Option<usize>,
+    entries: Option<u64>,
+}
+
+impl More {
+    /// Fails where there is one of another command.
+    fn see(&self, name: Option<&[u8]>) -> Result<(), Failure> {
+        let is_tree = name == Some(b"tree") || name == Some(b"ls") && self.is_deep;
+        if self.folder.is_some() && name != Some(b"get") {
+            return Err(Failure::usage("-o is for get"));
+        }
+        if self.is_deep && name != Some(b"ls") {
+            return Err(Failure::usage("-R is for ls"));
+        }
+        if (self.levels.is_some() || self.entries.is_some()) && !is_tree {
+            return Err(Failure::usage("--levels and --limit are for tree and ls -R"));
+        }
+        Ok(())
+    }
+
+    fn bounds(&self) -> Bounds {
+        let usual = Bounds::default();
+        Bounds { levels: self.levels.unwrap_or(usual.levels), entries: self.entries.unwrap_or(usual.entries) }
+    }
+}
+
+/// A number of 1 to `most`.
+fn number(word: Option<OsString>, needs: &str, most: u64) -> Result<u64, Failure> {
+    let number = word.and_then(|word| word.to_str()?.parse().ok()).filter(|n| (1..=most).contains(n));
+    number.ok_or_else(|| Failure::usage(needs))
+}
+
 fn matching(as_written: bool, unambiguous: bool) -> Result<Matching, Failure> {
     match (as_written, unambiguous) {
         (false, false) => Ok(Matching::CaseIgnored),
@@ -132,20 +176,18 @@ fn matching(as_written: bool, unambiguous: bool) -> Result<Matching, Failure> {
     }
 }
 
-fn command(words: Vec<OsString>, folder: Option<OsString>) -> Result<Command, Failure> {
+fn command(words: Vec<OsString>, more: More) -> Result<Command, Failure> {
     let mut words = words.into_iter();
     let name = words.next();
-    if folder.is_some() && name.as_deref() != Some(OsStr::new("get")) {
-        return Err(Failure::usage("-o is for get"));
-    }
+    more.see(name.as_deref().map(OsStr::as_bytes))?;
     let Some(name) = name else {
         return Ok(Command::Tour);
     };
     let command = match name.as_bytes() {
         b"sample" => Command::Sample { file: take(&mut words, &name, "FILE")? },
-        b"label" | b"ls" | b"cat" | b"get" | b"stat" | b"probe" | b"check" => {
+        b"label" | b"ls" | b"tree" | b"cat" | b"get" | b"stat" | b"probe" | b"check" => {
             let image = take(&mut words, &name, "IMAGE")?;
-            Command::Ask { image, question: question(&name, &mut words, folder)? }
+            Command::Ask { image, question: question(&name, &mut words, more)? }
         }
         other => return Err(Failure::usage(format!("there is no command {}", shown(other)))),
     };
@@ -155,7 +197,7 @@ fn command(words: Vec<OsString>, folder: Option<OsString>) -> Result<Command, Fa
     }
 }
 
-fn question(name: &OsStr, words: &mut impl Iterator<Item = OsString>, folder: Option<OsString>) -> Result<Question, Failure> {
+fn question(name: &OsStr, words: &mut impl Iterator<Item = OsString>, more: More) -> Result<Question, Failure> {
     if name == "label" {
         return Ok(Question::Label);
     }
@@ -165,6 +207,10 @@ fn question(name: &OsStr, words: &mut impl Iterator<Item = OsString>, folder: Op
     if name == "check" {
         return Ok(Question::Check);
     }
+    if name == "tree" || more.is_deep {
+        let (path, form) = (words.next().unwrap_or_default().into_vec(), if name == "tree" { Form::Drawn } else { Form::Paths });
+        return Ok(Question::Tree { path, form, bounds: more.bounds() });
+    }
     if name == "ls" {
         return Ok(Question::Ls { path: words.next().unwrap_or_default().into_vec() });
     }
@@ -172,7 +218,7 @@ fn question(name: &OsStr, words: &mut impl Iterator<Item = OsString>, folder: Op
         return Ok(words.next().map_or(Question::Descriptors, |path| Question::Stat { path: path.into_vec() }));
     }
     let path = take(words, name, "PATH")?.into_vec();
-    if let Some(folder) = folder {
+    if let Some(folder) = more.folder {
         return Ok(Question::GetAll { paths: [path].into_iter().chain(words.map(OsString::into_vec)).collect(), folder });
     }
     Ok(match name.as_bytes() {
@@ -243,6 +289,21 @@ mod tests {
     }
 
     #[test]
+    fn a_tree_has_bounds() {
+        let usual = Bounds::default();
+        for (line, path, form, bounds) in [
+            ("tree a", "", Form::Drawn, usual),
+            ("ls -R a", "", Form::Paths, usual),
+            ("tree a b --levels 1", "b", Form::Drawn, Bounds { levels: 1, ..usual }),
+            ("--limit 7 ls a b -R", "b", Form::Paths, Bounds { entries: 7, ..usual }),
+            ("tree --levels 16 --limit 18446744073709551615 a", "", Form::Drawn, Bounds { levels: 16, entries: u64::MAX }),
+        ] {
+            let question = Question::Tree { path: path.into(), form, bounds };
+            assert_eq!(parsed(line).unwrap().command, Command::Ask { image: "a".into(), question }, "{line}");
+        }
+    }
+
+    #[test]
     fn matching_is_for_paths() {
         for (line, matching) in [
             ("ls a", Matching::CaseIgnored),
@@ -265,6 +326,21 @@ mod tests {
             "label a b",
             "ls",
             "ls a b c",
+            "tree",
+            "tree a b c",
+            "tree a -R",
+            "tree a --levels",
+            "tree a --levels 0",
+            "tree a --levels 17",
+            "tree a --levels x",
+            "tree a --limit 0",
+            "tree a --limit -1",
+            "tree a --limit 18446744073709551616",
+            "ls a --levels 1",
+            "ls a --limit 1",
+            "cat a b -R",
+            "stat a --limit 1",
+            "-R",
             "cat a",
             "get a b",
             "get a b c d",

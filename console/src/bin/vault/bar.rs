@@ -1,6 +1,7 @@
 //! A progress bar on standard error, a word before it, and a line while something is waited for.
 
 use std::io::{self, IsTerminal, Write};
+use std::time::{Duration, Instant};
 
 /// What is written at once by any disc needs no bar.
 const LARGE: usize = 32 << 20;
@@ -87,6 +88,39 @@ impl Line {
 impl Drop for Line {
     fn drop(&mut self) {
         self.wipe();
+    }
+}
+
+/// What takes no longer needs no count, nor a newer one.
+const SOON: Duration = Duration::from_millis(500);
+
+/// How many there are so far, on a terminal, of what takes a while. Where the answer itself goes to a terminal it is seen there.
+pub struct Count {
+    what: &'static str,
+    since: Instant,
+    on: bool,
+    drawn: bool,
+}
+
+impl Count {
+    pub fn new(what: &'static str) -> Count {
+        Count { what, since: Instant::now(), on: io::stderr().is_terminal() && !io::stdout().is_terminal(), drawn: false }
+    }
+
+    /// There are `n`. Drawn anew each half second.
+    pub fn at(&mut self, n: u64) {
+        if self.on && self.since.elapsed() >= SOON {
+            draw(&format!("\r{n} {}", self.what));
+            (self.since, self.drawn) = (Instant::now(), true);
+        }
+    }
+}
+
+impl Drop for Count {
+    fn drop(&mut self) {
+        if self.drawn {
+            draw(WIPE);
+        }
     }
 }
 

@@ -10,6 +10,7 @@ use crate::log::Log;
 use crate::many;
 use crate::maps;
 use crate::names::shown;
+use crate::tree;
 use std::ffi::OsStr;
 use std::io::{self, Write};
 use std::os::unix::ffi::OsStrExt;
@@ -35,6 +36,7 @@ pub fn ask(
             line(out, &shown(label.as_bytes()))
         }
         Question::Ls { path } => ls(&mut Disc::open(image, how, name, matching, log)?, path, out),
+        Question::Tree { path, form, bounds } => tree::show(&mut Disc::open(image, how, name, matching, log)?, path, *form, *bounds, out),
         Question::Stat { path } => stat(&mut Disc::open(image, how, name, matching, log)?, path, out),
         Question::Descriptors => {
             // Before opening: where it is refused, what it was refused for may be seen in them.
@@ -80,7 +82,7 @@ fn ls(disc: &mut Disc, path: &[u8], out: &mut impl Write) -> Result<(), Failure>
     entries.iter().try_for_each(|entry| line(out, &listed(entry)))
 }
 
-fn listed(entry: &DirEntry) -> String {
+pub fn listed(entry: &DirEntry) -> String {
     let mark = if entry.is_directory { "/" } else { "" };
     shown(entry.name.as_bytes()) + mark
 }

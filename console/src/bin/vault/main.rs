@@ -17,6 +17,7 @@ mod records;
 mod report;
 mod steps;
 mod tour;
+mod tree;
 mod wait;
 mod walk;
 
