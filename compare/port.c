@@ -7,11 +7,12 @@
  *                                                                               docs/COMPARING.md packs it
  *   'Q' call (1), in noise (1), salt (1),                                       a query; with `in noise`, on an image that holds
  *       volume (95), ICB (17), room (4), work (4), how (4), matching (4),       the kept sectors alone, and noise in all others
- *       places of the lengths (4) and of the answers (4),
+ *       places of the lengths (4) and of the answers (4), levels (4),
  *       path length (4), path, kept sectors (4), each sector's number (4)
  *   'T' times (4), and a query as behind 'Q'                                    the query so many times over: the answer is the
- *                                                                               nanoseconds (8); call 11 copies `room` bytes,
- *                                                                               and 12 reads each path of a list by itself
+ *                                                                               nanoseconds (8); call 12 copies `room` bytes,
+ *                                                                               and 13 reads each path of a list by itself, or
+ *                                                                               lists each directory of a show by itself
  *   'R' call (1), salt (1), room (4), length (4), bytes                         a call on a raw record
  *   'F'                                                                         the answers to all queries so far are written
  *
@@ -48,7 +49,7 @@ struct timespec {
 extern int clock_gettime(int clock, struct timespec *now);
 
 enum { GUARD = 64, SECTOR = 2048 };
-enum { PROBE, OPEN, LABEL, LOOKUP, FAILED, LIST, READ, PART, EXTENTS, READ_PATH, READ_ALL, COPY, EACH };
+enum { PROBE, OPEN, LABEL, LOOKUP, FAILED, LIST, READ, PART, EXTENTS, READ_PATH, READ_ALL, SHOW, COPY, EACH };
 
 typedef struct {
     uint8_t *at;
@@ -66,7 +67,7 @@ typedef struct {
     uint8_t call, in_noise, salt;
     vault_volume volume;
     vault_long_ad icb;
-    uint32_t room, work, how, matching, lengths, answers, path_length, kept;
+    uint32_t room, work, how, matching, lengths, answers, levels, path_length, kept;
 } query;
 
 static buffer image, noise, replies, lent_out, lent_work, lent_lengths, lent_answers, path, kept;
@@ -306,6 +307,27 @@ static void each(const query *q, const uint8_t *disc, size_t n, uint8_t *out, ui
     }
 }
 
+/* The ICB in a listing's record. */
+static vault_long_ad recorded(const uint8_t *b) {
+    uint32_t raw = (uint32_t)b[0] | (uint32_t)b[1] << 8 | (uint32_t)b[2] << 16 | (uint32_t)b[3] << 24;
+    vault_long_ad icb;
+    memset(&icb, 0, sizeof icb);
+    icb.length = raw & 0x3fffffff;
+    icb.extent_type = (uint8_t)(raw >> 30);
+    icb.location.block = (uint32_t)b[4] | (uint32_t)b[5] << 8 | (uint32_t)b[6] << 16 | (uint32_t)b[7] << 24;
+    icb.location.partition_ref = (uint16_t)(b[8] | b[9] << 8);
+    memcpy(icb.implementation_use, b + 10, 6);
+    return icb;
+}
+
+/* Each directory of a show by itself: its listing stands behind those of the directories above it. */
+static void list_each(const query *q, const uint8_t *disc, size_t n, vault_long_ad icb, uint32_t levels, uint8_t *out, size_t room, uint8_t *work) {
+    vault_reply r = vault_list(q->volume, disc, n, icb, out, room, work, q->work);
+    for (size_t at = 0; at < r.length; at += 21 + (size_t)(out[at + 19] | out[at + 20] << 8)) {
+        if (out[at + 2] && levels > 1) list_each(q, disc, n, recorded(out + at + 3), levels - 1, out + r.length, room - r.length, work);
+    }
+}
+
 static outcome call(const query *q, const uint8_t *disc, size_t n, uint8_t *out, uint8_t *work) {
     outcome o;
     memset(&o, 0, sizeof o);
@@ -343,7 +365,11 @@ static outcome call(const query *q, const uint8_t *disc, size_t n, uint8_t *out,
                                       work, q->work));
         break;
     }
-    case EACH: each(q, disc, n, out, work); break;
+    case SHOW: from_reply(&o, vault_show(q->volume, disc, n, q->levels, out, q->room, work, q->work)); break;
+    case EACH:
+        if (q->levels) list_each(q, disc, n, q->volume.root, q->levels, out, q->room, work);
+        else each(q, disc, n, out, work);
+        break;
     case COPY: memcpy(out, disc, q->room); break;
     default: exit(6);
     }
@@ -370,6 +396,7 @@ static query take_query(void) {
     q.matching = (uint32_t)take_number(4);
     q.lengths = (uint32_t)take_number(4);
     q.answers = (uint32_t)take_number(4);
+    q.levels = (uint32_t)take_number(4);
     q.path_length = (uint32_t)take_number(4);
     grow(&path, q.path_length + 1);
     take_all(&path, q.path_length);

@@ -16,10 +16,11 @@ pub enum Call {
     Extents,
     ReadPath,
     ReadAll,
+    Show,
 }
 
 impl Call {
-    pub const ALL: [Call; 11] = [
+    pub const ALL: [Call; 12] = [
         Call::Probe,
         Call::Open,
         Call::Label,
@@ -31,18 +32,19 @@ impl Call {
         Call::Extents,
         Call::ReadPath,
         Call::ReadAll,
+        Call::Show,
     ];
 
     pub fn name(self) -> &'static str {
-        ["probe", "open", "label", "lookup", "failed", "list", "read", "part", "extents", "read_path", "read_all"][self as usize]
+        ["probe", "open", "label", "lookup", "failed", "list", "read", "part", "extents", "read_path", "read_all", "show"][self as usize]
     }
 
     pub fn has_work(self) -> bool {
-        matches!(self, Call::Lookup | Call::Failed | Call::List | Call::ReadPath | Call::ReadAll)
+        matches!(self, Call::Lookup | Call::Failed | Call::List | Call::ReadPath | Call::ReadAll | Call::Show)
     }
 
     pub fn has_room(self) -> bool {
-        matches!(self, Call::Label | Call::List | Call::Read | Call::Extents | Call::ReadPath | Call::ReadAll)
+        matches!(self, Call::Label | Call::List | Call::Read | Call::Extents | Call::ReadPath | Call::ReadAll | Call::Show)
     }
 
     /// It says where in the image, or in the path, its answer stands.
@@ -70,6 +72,18 @@ impl Icb {
     /// The usual ICB: one block.
     pub fn at(block: u32, partition: u16) -> Icb {
         Icb { length: 2048, block, partition, ..Icb::default() }
+    }
+
+    /// From its recorded form.
+    pub fn of(b: [u8; 16]) -> Icb {
+        let raw = u32::from_le_bytes([b[0], b[1], b[2], b[3]]);
+        Icb {
+            length: raw & 0x3fff_ffff,
+            extent_type: (raw >> 30) as u8,
+            block: u32::from_le_bytes([b[4], b[5], b[6], b[7]]),
+            partition: u16::from_le_bytes([b[8], b[9]]),
+            implementation_use: [b[10], b[11], b[12], b[13], b[14], b[15]],
+        }
     }
 
     pub fn recorded(&self) -> [u8; 16] {
@@ -137,6 +151,8 @@ pub struct Query {
     pub places: [usize; 2],
     /// The choices, for the calls that open.
     pub how: u32,
+    /// The levels of a show.
+    pub levels: u32,
 }
 
 /// Memory to spare: more than any answer has.
@@ -145,7 +161,7 @@ pub const PLENTY: usize = usize::MAX;
 impl Query {
     pub fn of(call: Call, volume: Volume) -> Query {
         let (icb, path, matching) = (Icb::default(), Vec::new(), CASE_IGNORED);
-        Query { call, volume, icb, path, how: 0, matching, room: PLENTY, work: PLENTY, places: [0; 2] }
+        Query { call, volume, icb, path, how: 0, matching, room: PLENTY, work: PLENTY, places: [0; 2], levels: 0 }
     }
 
     pub fn on(call: Call, volume: Volume, icb: Icb) -> Query {
@@ -154,6 +170,11 @@ impl Query {
 
     pub fn along(call: Call, volume: Volume, path: &[u8]) -> Query {
         Query { path: path.to_vec(), ..Query::of(call, volume) }
+    }
+
+    /// A whole show.
+    pub fn showing(volume: Volume, levels: u32) -> Query {
+        Query { levels, ..Query::of(Call::Show, volume) }
     }
 
     /// A list of paths, with a place in each row for every one.

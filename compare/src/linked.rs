@@ -72,6 +72,7 @@ pub unsafe fn make(q: &Query, lends: Lends) -> Values {
             Call::Extents => vault_extents(v, d, n, icb, out.cast(), q.room),
             Call::ReadPath => vault_read_path(v, d, n, p, m, matching, out, q.room, work, q.work),
             Call::ReadAll => vault_read_all(v, d, n, p, m, matching, out, q.room, lengths, l, answers, a, work, q.work),
+            Call::Show => vault_show(v, d, n, q.levels, out, q.room, work, q.work),
         }
     };
     if q.call.has_place() {

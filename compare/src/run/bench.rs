@@ -9,7 +9,7 @@ use super::ours::{Ask, Noise, Ours, Timed};
 use super::records::*;
 #[cfg(udfread)]
 use super::udfread;
-use crate::udf::{UdfDisc, within};
+use crate::udf::{LongAd, UdfDisc, within};
 use std::hint::black_box;
 use std::io::Cursor;
 use std::time::Instant;
@@ -27,7 +27,7 @@ struct Row {
     directories: Vec<Icb>,
     /// Bytes that a copy would move.
     copy: Option<usize>,
-    /// The paths of a list are read each by a call of its own, and not by one.
+    /// The paths of a list are read, or the directories of a show listed, each by a call of its own, and not by one.
     each: bool,
 }
 
@@ -173,6 +173,38 @@ fn deep_in_a_mebibyte(each: bool) -> Row {
     forty("at depth 8, work space of 1 MiB", 8, FORTY, MIB, each)
 }
 
+/// 5,000 cues in 40 folders, three deep: by one call, or by a listing of each directory.
+fn show(each: bool) -> Row {
+    const FOLDERS: usize = 40;
+    let mut d = Disc::new(300, 0);
+    let (cue, _) = d.store(b"a look", &Layout::of(3));
+    let (mut directories, mut outer) = (Vec::new(), Vec::new());
+    for i in 0..FOLDERS {
+        let cues: Vec<Item> = (0..5000 / FOLDERS).map(|n| Item::new(name8(format!("{i:03}{n:05}").as_bytes()), cue, 0)).collect();
+        let folder = d.store_directory(&cues, &[], &Layout::of(0));
+        directories.push(folder);
+        outer.push(Item::new(name8(format!("folder {i}").as_bytes()), folder, DIRECTORY));
+    }
+    let mut top = Vec::new();
+    for (i, folders) in outer.chunks(10).enumerate() {
+        let act = d.store_directory(folders, &[], &Layout::of(0));
+        directories.push(act);
+        top.push(Item::new(name8(format!("act {i}").as_bytes()), act, DIRECTORY));
+    }
+    let root = d.store_directory(&top, &[], &Layout::of(0));
+    directories.push(root);
+    d.finish(root, &name8(b"BENCH"));
+    let name = if each { "a list call for each directory" } else { "show" };
+    let query = Query::showing(d.volume, 3).with(PLENTY, 16384);
+    Row { name: format!("{name}, 5,000 cues in 40 folders, three deep"), disc: d, query, directories, copy: None, each }
+}
+
+/// The original's listing of each directory of a show.
+fn list_each(disc: &mut UdfDisc<Cursor<&[u8]>>, icb: LongAd) -> usize {
+    let Ok(entries) = disc.read_directory(icb) else { return 0 };
+    entries.iter().map(|e| if e.is_directory { 1 + list_each(disc, e.icb) } else { 1 }).sum()
+}
+
 fn open() -> Row {
     let r = nested(1);
     Row { name: "open".to_string(), query: Query::of(Call::Open, r.query.volume), ..r }
@@ -235,6 +267,8 @@ fn rows() -> Vec<Box<dyn FnOnce() -> Row>> {
         Box::new(|| deep(true)),
         Box::new(|| deep_in_a_mebibyte(false)),
         Box::new(|| deep_in_a_mebibyte(true)),
+        Box::new(|| show(false)),
+        Box::new(|| show(true)),
     ];
     for n in [10, 100, 1000, 10_000, 100_000] {
         all.push(Box::new(move || entries(&format!("list, {n} entries"), n, Call::List, n * 64)));
@@ -264,6 +298,7 @@ fn original(image: &[u8], q: &Query, times: u32) -> u64 {
             }
             Call::Lookup => drop(black_box(disc.lookup(path))),
             Call::List => drop(black_box(disc.read_directory(long(q.icb)))),
+            Call::Show => drop(black_box(list_each(&mut disc, long(q.volume.root)))),
             Call::ReadAll => path.split('\0').for_each(|path| drop(black_box(disc.read_path(path)))),
             _ => drop(black_box(disc.read_file(long(q.icb)))),
         }
@@ -288,7 +323,7 @@ impl std::fmt::Display for Spread {
 /// libudfread's time, where it is installed.
 #[cfg(udfread)]
 fn other(r: &Row, bytes: &[u8], times: u32) -> Option<u64> {
-    if r.query.call == Call::ReadAll {
+    if matches!(r.query.call, Call::ReadAll | Call::Show) {
         return None;
     }
     udfread::time(&r.disc.image, &r.query, bytes, times)

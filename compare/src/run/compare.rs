@@ -6,7 +6,7 @@ use super::damage::damage;
 use super::disc::Disc;
 use super::expect::Expected;
 use super::ours::{Ask, Noise, Ours};
-use super::queries::{Case, Depth, cases, checked, chosen, mapped, matched, stacked};
+use super::queries::{Case, Depth, cases, checked, chosen, mapped, matched, shown as shows, stacked};
 use super::random::Random;
 use super::raw::{RAW_HELD, RawAsk, RawCall, RawGiven, shown};
 use super::raw_cases::{RawCase, batch};
@@ -18,7 +18,7 @@ use super::{
 use super::{sparse, volumes, volumes_mapped};
 use std::panic::{AssertUnwindSafe, catch_unwind};
 use std::path::{Path, PathBuf};
-use strandlodge_sys::vault::{AMBIGUOUS, BAD_CRC, TOO_MANY};
+use strandlodge_sys::vault::{AMBIGUOUS, BAD_CRC, TOO_DEEP, TOO_MANY};
 
 /// So many absurd information lengths are tried on the original: a process each.
 const CHILDREN: u64 = 60;
@@ -58,6 +58,8 @@ pub struct Comparison {
     maps: Random,
     /// And for lists of paths.
     stacks: Random,
+    /// And for whole shows.
+    shows: Random,
 }
 
 impl Comparison {
@@ -67,7 +69,8 @@ impl Comparison {
         let bodies = Random::new(seed ^ 0x626f_6469);
         let maps = Random::new(seed ^ 0x6d61_7073);
         let stacks = Random::new(seed ^ 0x7374_6163);
-        Comparison { ours, seed, enough, tally: Tally::new(), random, matchings, bodies, maps, stacks }
+        let whole = Random::new(seed ^ 0x7368_6f77);
+        Comparison { ours, seed, enough, tally: Tally::new(), random, matchings, bodies, maps, stacks, shows: whole }
     }
 
     /// Every shape first, and then volumes at random, whole and damaged, until the time is over.
@@ -220,7 +223,7 @@ impl Comparison {
 
     fn image(&mut self, name: &str, disc: &Disc, asked: Asked, depth: Depth, mut random: Random) {
         // A panic here is the original's, or a walk that isn't the original's own: either is worth a look.
-        let (matchings, stacks) = (&mut self.matchings, &mut self.stacks);
+        let (matchings, stacks, whole) = (&mut self.matchings, &mut self.stacks, &mut self.shows);
         let made = catch_unwind(AssertUnwindSafe(|| {
             let mut all = match asked {
                 Asked::Unchecked => cases(&mut random, disc, depth),
@@ -233,6 +236,7 @@ impl Comparison {
             }
             all.extend(chosen(&mut random, disc));
             all.extend(stacked(stacks, disc, asked, depth));
+            all.extend(shows(whole, disc, asked, depth));
             all
         }));
         let Ok(cases) = made else {
@@ -285,7 +289,8 @@ impl Comparison {
             self.keep(name, Some(disc), &format!("{what}\n{text}"));
         }
         // The process of its own has the original as it is.
-        if e.absurd && !e.by_the_rule && row == Row::Matched(Choice::CaseIgnored) && case.query.call != Call::ReadAll {
+        if e.absurd && !e.by_the_rule && row == Row::Matched(Choice::CaseIgnored) && !matches!(case.query.call, Call::ReadAll | Call::Show)
+        {
             self.absurd(name, disc, case);
         }
     }
@@ -433,6 +438,7 @@ fn numbers(row: Row, call: Call) -> Vec<u64> {
         Call::Extents => vec![0, 1, 2, 4, 7],
         Call::ReadPath => vec![0, 1, 2, 3, 4, 5, 6],
         Call::ReadAll => return vec![0, TOO_MANY],
+        Call::Show => vec![0, 1, 2, 4, 5, 6, TOO_DEEP],
     };
     let is_ambiguous = call.has_path() && matches!(row, Row::Matched(Choice::Unambiguous) | Row::Checked | Row::Mapped);
     all.extend(is_ambiguous.then_some(AMBIGUOUS));

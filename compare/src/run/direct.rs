@@ -1,6 +1,6 @@
 //! The archive linked in, with lent memory as port.c lends it.
 
-use super::calls::{Call, Given, Query, Values};
+use super::calls::{Call, Given, Icb, Query, Values};
 use super::lending::{GUARD, Lending};
 use super::linked::{self, Lends};
 use super::ours::{Ask, Noise, Ours, Timed};
@@ -86,11 +86,16 @@ impl Ours for Direct {
         let mut each = Vec::new();
         match timed {
             Timed::Query(q) => rows = Rows::new(q.places, 0),
+            Timed::Each(q) if q.call == Call::Show => {}
             Timed::Each(q) => each.extend(q.items().map(|path| q.item(path, q.room))),
             Timed::Copy(_) => {}
         }
         let mut once = || match timed {
             Timed::Query(q) => black_box(make(q, &self.image, out.lent(), work.lent(), &mut rows)).answer,
+            Timed::Each(q) if q.call == Call::Show => {
+                list_each(q, &self.image, q.volume.root, q.levels, (&mut out, 0), &mut work, &mut rows);
+                0
+            }
             Timed::Each(_) => each.iter().map(|q| black_box(make(q, &self.image, out.lent(), work.lent(), &mut rows)).answer).sum(),
             Timed::Copy(n) => {
                 black_box(&mut out.bytes()[..n]).copy_from_slice(&self.image[..n]);
@@ -103,6 +108,21 @@ impl Ours for Direct {
             once();
         }
         Ok(began.elapsed().as_nanos() as u64)
+    }
+}
+
+/// Each directory of a show by a call of its own: its listing stands behind those of the directories above it, `from` bytes into the output.
+fn list_each(q: &Query, image: &[u8], icb: Icb, levels: u32, (out, from): (&mut Lending, usize), work: &mut Lending, rows: &mut Rows) {
+    let list = Query { room: q.room - from, ..Query::on(Call::List, q.volume, icb).with(0, q.work) };
+    let end = from + make(&list, image, out.lent().wrapping_add(from), work.lent(), rows).length as usize;
+    let mut at = GUARD + from;
+    while at < GUARD + end {
+        let record = &out.bytes()[at..];
+        let (is_directory, icb) = (record[2] == 1, Icb::of(record[3..19].try_into().unwrap()));
+        at += 21 + usize::from(u16::from_le_bytes([record[19], record[20]]));
+        if is_directory && levels > 1 {
+            list_each(q, image, icb, levels - 1, (out, end), work, rows);
+        }
     }
 }
 

@@ -4,7 +4,7 @@ use super::calls::{Call, Choice, Icb, Query, Values, Volume, slot};
 use super::original::{self, Came, Original, icb};
 use super::prevailing;
 use crate::udf::{DirEntry, within};
-use strandlodge_sys::vault::{AMBIGUOUS, BAD_CRC, CHECKED, HIGHEST, MAPS, TOO_MANY};
+use strandlodge_sys::vault::{AMBIGUOUS, BAD_CRC, CHECKED, HIGHEST, MAPS, TOO_DEEP, TOO_MANY};
 
 /// The answer, and what it took.
 pub struct Expected {
@@ -21,12 +21,17 @@ pub struct Expected {
     pub by_the_rule: bool,
     /// The body for which it is refused.
     pub ruined: Option<within::Ruined>,
+    /// A show with more paths than are walked here: nothing is expected.
+    pub beyond: bool,
 }
+
+/// So many paths of a show are walked.
+const MOST_PATHS: usize = 200_000;
 
 impl Expected {
     fn new(answer: u64, sectors: Vec<u64>) -> Expected {
         let values = Values { answer, count: sectors.len() as u64, ..Values::default() };
-        Expected { values, sectors, directories: Vec::new(), full: 0, absurd: false, by_the_rule: false, ruined: None }
+        Expected { values, sectors, directories: Vec::new(), full: 0, absurd: false, by_the_rule: false, ruined: None, beyond: false }
     }
 
     /// An answer of bytes, which are refused where they don't fit.
@@ -55,6 +60,7 @@ fn answered(image: &[u8], q: &Query) -> Expected {
         Call::Lookup | Call::Failed => looking_up(image, q),
         Call::ReadPath => reading_path(image, q),
         Call::ReadAll => reading_all(image, q),
+        Call::Show => showing(image, q),
         Call::List => listing(image, q),
         Call::Read => reading(image, q),
         Call::Part => parting(image, q),
@@ -117,11 +123,8 @@ fn listing(image: &[u8], q: &Query) -> Expected {
         (Ok(b), Ok(entries)) => {
             let mut all = Vec::new();
             for entry in entries {
-                all.extend([0x44, 0x45, entry.is_directory as u8]);
-                all.extend(icb(entry.icb).recorded());
-                // A name has at most 508 bytes: it is recorded in 255 at most.
-                all.extend((entry.name.len() as u16).to_le_bytes());
-                all.extend(entry.name.as_bytes());
+                all.extend([0x44, 0x45]);
+                put_entry(&mut all, &entry);
             }
             let n = all.len();
             sized(Expected::new(0, read.asked).bytes(all, n, q.room, 5), b.len())
@@ -129,6 +132,15 @@ fn listing(image: &[u8], q: &Query) -> Expected {
     };
     e.absurd = o.absurd;
     e
+}
+
+/// What a record has behind its mark, and its level.
+fn put_entry(to: &mut Vec<u8>, entry: &DirEntry) {
+    to.push(entry.is_directory as u8);
+    to.extend(icb(entry.icb).recorded());
+    // A name has at most 508 bytes: it is recorded in 255 at most.
+    to.extend((entry.name.len() as u16).to_le_bytes());
+    to.extend(entry.name.as_bytes());
 }
 
 fn sized(mut e: Expected, directory: usize) -> Expected {
@@ -329,4 +341,54 @@ fn reading_all(image: &[u8], q: &Query) -> Expected {
     all.values.count = asked.len() as u64;
     all.values.length = all.values.written.len() as u64;
     Expected { sectors: asked, ..all }
+}
+
+/// A whole tree so far: the sectors, the records, the work space that each directory takes with those above it, and the paths.
+#[derive(Default)]
+struct Tree {
+    asked: Vec<u64>,
+    records: Vec<u8>,
+    works: Vec<usize>,
+    paths: usize,
+}
+
+/// What is under a directory, whose entries have this level: by the original's reading and listing of it, once for each path. `above` is what the
+/// directories above it take of the work space. An answer number, or 0 where there are too many paths.
+fn below(o: &mut Original, q: &Query, at: Icb, level: u32, above: usize, tree: &mut Tree) -> std::result::Result<(), u64> {
+    if level > q.levels {
+        return Err(TOO_DEEP);
+    }
+    let read = o.read(at);
+    tree.asked.extend(read.asked);
+    let work = above + read.value?.len();
+    tree.works.push(work);
+    if work > q.work {
+        return Err(6);
+    }
+    for entry in o.list(at).value? {
+        tree.paths += 1;
+        if tree.paths > MOST_PATHS {
+            return Err(0);
+        }
+        tree.records.extend([0x44, 0x45, level as u8]);
+        put_entry(&mut tree.records, &entry);
+        if entry.is_directory {
+            below(o, q, icb(entry.icb), level + 1, work, tree)?;
+        }
+    }
+    Ok(())
+}
+
+fn showing(image: &[u8], q: &Query) -> Expected {
+    if !(1..=16).contains(&q.levels) {
+        return Expected::new(TOO_DEEP, Vec::new());
+    }
+    let (mut o, mut tree) = (Original::new(image, q.volume), Tree::default());
+    let done = below(&mut o, q, q.volume.root, 1, 0, &mut tree);
+    let mut e = Expected::new(done.err().unwrap_or(0), tree.asked);
+    if done.is_ok() {
+        let n = tree.records.len();
+        e = e.bytes(tree.records, n, q.room, 5);
+    }
+    Expected { directories: tree.works, absurd: o.absurd, beyond: done == Err(0), ..e }
 }

@@ -60,7 +60,7 @@ fn line(image: &[u8], case: &Case) -> String {
             let words = lent(case, 16);
             (v.length, sum(words.chunks(4).map(|w| u32::from_le_bytes(w.try_into().unwrap()))), 0)
         }
-        Call::Label | Call::List | Call::Read | Call::ReadPath | Call::ReadAll => (v.length, sum_bytes(&lent(case, 1)), 0),
+        Call::Label | Call::List | Call::Read | Call::ReadPath | Call::ReadAll | Call::Show => (v.length, sum_bytes(&lent(case, 1)), 0),
     };
     format!("{} {} {} {length} {sum} {last}\n", case.query.call.name(), v.answer, v.count)
 }

@@ -23,7 +23,7 @@ pub struct Ask<'q> {
 #[derive(Clone, Copy)]
 pub enum Timed<'q> {
     Query(&'q Query),
-    /// The paths of a list, each by a call of its own.
+    /// The paths of a list, or the directories of a show, each by a call of its own.
     Each(&'q Query),
     Copy(usize),
 }

@@ -8,9 +8,9 @@ use std::io::{BufReader, Result, Write};
 use std::path::Path;
 use std::process::{Child, ChildStdin, ChildStdout, Command, Stdio};
 
-/// The calls of port.c that are none of the reader's: a copy, and the paths of a list each by itself.
-const COPY: u8 = 11;
-const EACH: u8 = 12;
+/// The calls of port.c that are none of the reader's: a copy, and the paths of a list, or the directories of a show, each by itself.
+const COPY: u8 = 12;
+const EACH: u8 = 13;
 
 pub struct Port {
     child: Child,

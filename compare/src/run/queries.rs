@@ -348,3 +348,61 @@ pub fn stacked(random: &mut Random, disc: &Disc, asked: Asked, depth: Depth) -> 
     }
     all
 }
+
+/// A number of levels: any, but fewer where a directory holds itself, or has many names, and there would be too many paths.
+fn levels(random: &mut Random, disc: &Disc, v: Volume) -> u32 {
+    let wanted = match random.below(8) {
+        0 => *random.pick(&[0, 17, 18, 255, 256, 257, 272, 1 << 31, u32::MAX]),
+        1 | 2 => 16,
+        _ => 1 + random.below(16) as u32,
+    };
+    if wanted > 16 {
+        return wanted;
+    }
+    let is_much = |levels: &u32| expected(&disc.image, &Query::showing(v, *levels)).directories.len() > 60;
+    [3, 6, 10].into_iter().take_while(|fewer| *fewer < wanted).find(is_much).unwrap_or(wanted)
+}
+
+/// The cases of whole shows, on a volume that says whether bodies are checked and which maps there are: with memory to spare, exactly enough and short,
+/// for the whole tree and for a directory on the way. The first is asked in noise too, and others once in a while.
+pub fn shown(random: &mut Random, disc: &Disc, asked: Asked, depth: Depth) -> Vec<Case> {
+    let v = match asked {
+        Asked::Unchecked => volume(random, disc, depth),
+        Asked::Checked => Volume { checked: *random.pick(&SAYS), ..volume(random, disc, depth) },
+        Asked::Mapped => Volume { checked: u32::from(random.once_in(2)), ..mapped_volume(random, disc, depth) },
+    };
+    let mut all = Vec::new();
+    for _ in 0..if depth == Depth::All { 3 } else { 1 } {
+        let q = Query::showing(v, levels(random, disc, v));
+        let e = expected(&disc.image, &q);
+        if e.beyond {
+            continue;
+        }
+        let most = e.directories.iter().copied().max().unwrap_or(0);
+        let some = if e.directories.is_empty() { 0 } else { *random.pick(&e.directories) };
+        let any = (random.below(e.full + 2), random.below(most + 2));
+        let mut sizes = vec![
+            (e.full, most),
+            (e.full.saturating_sub(1), most),
+            (e.full, most.saturating_sub(1)),
+            (e.full, some),
+            (e.full, some.saturating_sub(1)),
+            (0, some.saturating_sub(1)),
+            (0, most),
+            (0, 0),
+            any,
+        ];
+        if depth == Depth::Some {
+            sizes.retain(|_| random.once_in(3));
+        }
+        sizes.insert(0, (e.full + random.below(80), most + random.below(80)));
+        for (i, (room, work)) in sizes.into_iter().enumerate() {
+            let (query, in_noise) = (q.with(room, work), i == 0 || random.once_in(4));
+            all.push(Case { expected: expected(&disc.image, &query), query: query.clone(), in_noise: false });
+            if in_noise {
+                all.push(Case { expected: expected(&disc.image, &query), query, in_noise: true });
+            }
+        }
+    }
+    all
+}

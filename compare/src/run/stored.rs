@@ -1,6 +1,6 @@
-//! The stored outputs of the programs `matching_cases` and `checked_cases`, which models in another language compute, held to the walk over the
-//! original's listings, and to the original with the body check behind its parser of tags. The source of each program says what stands in its
-//! files.
+//! The stored outputs of the programs `matching_cases`, `checked_cases` and `tree_cases`, which models in another language compute, held to the walk
+//! over the original's listings, and to the original with the body check behind its parser of tags. The source of each program says what stands in
+//! its files.
 
 use super::calls::{Call, Icb, Query, Values, Volume};
 use super::expect::expected;
@@ -51,8 +51,26 @@ fn query(from: &mut &[u8]) -> Result<Query> {
     Ok(Query { path: sized(from, 2)?, ..Query::of(Call::Lookup, Volume::default()).matched(matching).with(room, work) })
 }
 
-/// The lines of `matching_cases`, and how many queries they are of.
-fn of_matching(mut from: &[u8]) -> Result<(Vec<String>, usize)> {
+/// The next query of `tree_cases`: what is asked, and the show.
+fn tree(image: &[u8], opened: Volume, from: &mut &[u8]) -> Result<Vec<String>> {
+    let [levels, room, work, checked] = [0; 4].map(|_| wire::number(from, 4));
+    let (levels, room, work, checked) = (levels? as u32, room? as usize, work? as usize, checked? as u32);
+    let v = expected(image, &Query::showing(Volume { checked, ..opened }, levels).with(room, work)).values;
+    Ok(vec![
+        format!("levels {levels} room {room} work {work} checked {checked}"),
+        format!("show {} count {} length {} sum {} zero", v.answer, v.count, v.length, sum(&v, room)),
+    ])
+}
+
+fn matching(image: &[u8], opened: Volume, from: &mut &[u8]) -> Result<Vec<String>> {
+    Ok(lines(image, opened, &query(from)?))
+}
+
+/// What is printed of the query at the front, on the volume of an image.
+type Printed = fn(&[u8], Volume, &mut &[u8]) -> Result<Vec<String>>;
+
+/// The lines of `matching_cases` or of `tree_cases`, and how many queries they are of.
+fn of_volumes(mut from: &[u8], printed: Printed) -> Result<(Vec<String>, usize)> {
     let (mut wanted, mut queries) = (Vec::new(), 0);
     while !from.is_empty() {
         wanted.push(format!("image {}", String::from_utf8_lossy(&sized(&mut from, 2)?)));
@@ -63,7 +81,7 @@ fn of_matching(mut from: &[u8]) -> Result<(Vec<String>, usize)> {
         let all = sized(&mut from, 4)?;
         let mut all = &all[..];
         while !all.is_empty() {
-            wanted.extend(lines(&image, volume, &query(&mut all)?));
+            wanted.extend(printed(&image, volume, &mut all)?);
             queries += 1;
         }
     }
@@ -153,7 +171,11 @@ fn of_checked(mut from: &[u8]) -> Result<(Vec<String>, usize)> {
 /// Holds the output stored in a program's folder. Says how many queries it has, or what its first wrong line is.
 pub fn held(folder: &Path) -> Result<std::result::Result<usize, String>> {
     let (images, stored) = (fs::read(folder.join("data/images"))?, fs::read_to_string(folder.join("stdout"))?);
-    let (wanted, queries) = if folder.ends_with("checked_cases") { of_checked(&images)? } else { of_matching(&images)? };
+    let (wanted, queries) = match folder.file_name().and_then(|name| name.to_str()) {
+        Some("checked_cases") => of_checked(&images)?,
+        Some("tree_cases") => of_volumes(&images, tree)?,
+        _ => of_volumes(&images, matching)?,
+    };
     let mut stored = stored.lines();
     let wrong = wanted.iter().find(|line| stored.next() != Some(line));
     Ok(match (wrong, stored.next()) {

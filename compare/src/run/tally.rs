@@ -12,7 +12,7 @@ use std::time::Instant;
 use strandlodge_sys::vault::{CHECKED, HIGHEST, MAPS};
 
 /// The answer numbers.
-const NUMBERS: [u64; 11] = [0, 1, 2, 3, 4, 5, 6, 7, 9, 10, 12];
+const NUMBERS: [u64; 12] = [0, 1, 2, 3, 4, 5, 6, 7, 9, 10, 11, 12];
 
 /// A row of a table: a name, and how many of each number.
 fn row(f: &mut fmt::Formatter, name: &str, of: impl Fn(u64) -> u64) -> fmt::Result {

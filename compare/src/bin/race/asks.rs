@@ -5,9 +5,9 @@ use crate::memory::{Piece, Side, Store};
 use crate::stage::Raced;
 use common::calls::{Call, Choice, Query, Values};
 use common::linked::{self, Lends};
-use strandlodge_sys::vault::{AMBIGUOUS, AS_WRITTEN, BAD_CRC, CASE_IGNORED, NO_SLOT, TOO_MANY, UNAMBIGUOUS};
+use strandlodge_sys::vault::{AMBIGUOUS, AS_WRITTEN, BAD_CRC, CASE_IGNORED, NO_SLOT, TOO_DEEP, TOO_MANY, UNAMBIGUOUS};
 
-/// The table's numbers: up to this one, two more, each by a choice, and one of a list of paths.
+/// The table's numbers: up to this one, two more, each by a choice, one of a show, and one of a list of paths.
 const LAST_ANSWER: u64 = NO_SLOT;
 
 /// The choices of matching, by turns along the paths.
@@ -109,7 +109,10 @@ fn rows(items: usize, lengths: &[u8], answers: &[u8]) -> Vec<(u64, u32)> {
 
 /// Whether a number of the table can be the answer to a call on an image, by its choices.
 fn is_listed(q: &Query, answer: u64) -> bool {
-    answer <= LAST_ANSWER || answer == AMBIGUOUS && q.call.has_path() && q.matching == UNAMBIGUOUS || answer == BAD_CRC && q.is_checked()
+    answer <= LAST_ANSWER
+        || answer == AMBIGUOUS && q.call.has_path() && q.matching == UNAMBIGUOUS
+        || answer == BAD_CRC && q.is_checked()
+        || answer == TOO_DEEP && q.call == Call::Show
 }
 
 /// The rows of a list: a place for each path, each with an answer of a read by path, no length where it is refused, and all lengths together.
@@ -208,11 +211,18 @@ fn queries(raced: &Raced, still: &mut impl FnMut(&Query) -> Result<[Values; 2], 
         works.extend(still(&Query::on(Call::Read, raced.volume, *icb).with(PLENTY, 0))?.map(|values| values.length as usize));
     }
     let works = distinct(works);
+    // A show has the root's bytes in front of the subject's.
+    let roots = still(&Query::on(Call::Read, raced.volume, raced.volume.root).with(PLENTY, 0))?.map(|values| values.length as usize);
+    let shows = distinct(roots.iter().flat_map(|root| works.iter().map(move |work| root + work)).chain(works.iter().copied()).collect());
     let mut queries = Vec::new();
     for q in Call::ALL.iter().flat_map(|call| asked(raced, *call)) {
         let plenty = q.with(if q.call == Call::Extents { MANY_SLOTS } else { PLENTY }, PLENTY);
         let rooms = if q.call.has_room() { rooms(still(&plenty)?.map(|values| values.length as usize)) } else { vec![0] };
-        let works = if q.call.has_work() { &works[..] } else { &[0] };
+        let works = match q.call {
+            Call::Show => &shows[..],
+            call if call.has_work() => &works[..],
+            _ => &[0],
+        };
         queries.extend(rooms.iter().flat_map(|room| works.iter().map(|work| q.with(*room, *work))));
     }
     for (i, q) in queries.iter_mut().filter(|q| q.call.has_path()).enumerate() {
@@ -237,6 +247,8 @@ fn asked(raced: &Raced, call: Call) -> Vec<Query> {
             let [n, _] = q.places;
             vec![Query { places: [n + 1, n], ..q.clone() }, Query { places: [n, n - 1], ..q }]
         }
+        // The root has files and the subject, whose entries are files in either state.
+        Call::Show => [1, 2, 3, 17].map(|levels| Query::showing(v, levels)).to_vec(),
         _ if call.has_path() => raced.paths.iter().map(|path| Query::along(call, v, path)).collect(),
         _ => raced.icbs.iter().map(|icb| Query::on(call, v, *icb)).collect(),
     }
@@ -258,6 +270,7 @@ fn words(raced: &Raced, q: &Query) -> String {
     let what = match q.call {
         call if call.has_path() => format!(" along \"{}\", {}", q.path.escape_ascii(), Choice::of(q.matching).name()),
         Call::Probe | Call::Open | Call::Label => String::new(),
+        Call::Show => format!(" of {} levels", q.levels),
         _ => format!(" of block {}", q.icb.block),
     };
     let room = if q.call.has_room() { format!(", room {}", q.room) } else { String::new() };
