@@ -1,3 +1,4 @@
 -- Laws of file identifiers.
 pub mod IdentifierLaws
 pub mod GuardLaws
+pub mod FrontLaws

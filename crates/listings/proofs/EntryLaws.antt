@@ -8,7 +8,7 @@ use native.Mathlib.Omega.{arith}
 use lib.Dec.{eqb}
 use lib.ListN.{length, take, drop, length-append, length-drop, drop-of-length-le}
 use lib.Seq.{take-all, drop-drop, drop-at, length-take-le, sets, length-sets, sets-eq}
-use borrow.Author.Tests.{eqb-true, eqb-false, le-leb, lt-leb}
+use borrow.Author.Tests.{eqb-true, eqb-false}
 use borrow.Rule.Slice.PartMut.{midOf, putMid}
 use Rattle.disc.specs.Choice.{pick}
 use Rattle.disc.specs.Refusals.{number}
@@ -34,8 +34,7 @@ use Rattle.identifiers.specs.inner.Wholes.{Whole}
 use Rattle.identifiers.proofs.IdentifierLaws.{identifier-read, read-identifier}
 use Rattle.listings.specs.Entries.{Entry, entryOf, entryIn, entryRead, isSkipped, nameIn}
 use Rattle.listings.specs.Listings.{recordHead, shown, foldFor, answersTo, unnamed}
-use Rattle.listings.specs.inner.Passes.{Recorded, Puts, listedOver, icbIn, headIn, recordIn, settled, joinedOf, notedOf}
-use Rattle.listings.specs.declared.directory_entries.Put.{Put}
+use Rattle.listings.specs.inner.Passes.{Recorded, Puts, icbIn, headIn, recordIn, settled, joinedOf, notedOf}
 use Rattle.listings.specs.declared.finds.Named.{Named}
 use Rattle.listings.specs.declared.matchings.Matching.{Matching}
 use Rattle.listings.specs.declared.matchings.Matching.the-variants.{CaseIgnored, AsWritten, Unambiguous}
@@ -317,31 +316,3 @@ module _ (m : Matching) where
 
   pub fold-only : m ≡ Unambiguous → Lower ≡ foldFor m
   fold-only e = rw e refl
-
--- ---- the returns of `put_listed`
-
-module _ (s : List ℕ) (b : Bytes s) {r : IdentifierRead} (p : r ≡ identifierRead (readIdentifier false s)) where
-  pub listed-bad : (r .answer ≡ 0 → ⊥) → (d : List ℕ) → d ≡ listedOver (entryRead false s) d
-  unfolding listedOver
-  listed-bad n d = let w = read-bad false s b p n in rw (w .is)
-
-  module _ (z : r .answer ≡ 0) where
-    pub listed-long : 38 ≤ length s
-    listed-long = let w = read-whole false s b p z in omega (arith, w .head, w .within)
-
-    pub listed-fits : 21 + r .descriptor .«name_size» < 18446744073709551616
-    listed-fits = omega (arith, read-whole false s b p z .brief)
-
-    module _ {n : ℕ} (q : n ≡ pick (isSkipped (r .descriptor)) 0 (21 + r .descriptor .«name_size»)) where
-      size-shown : n ≡ length (shown (entryOf s (r .descriptor)))
-      size-shown = q ∙ sym (shown-length (read-whole false s b p z))
-
-      pub listed-full : (d : List ℕ) → length d < n → d ≡ listedOver (entryRead false s) d
-      unfolding listedOver
-      listed-full d h = rw (read-good false s b p z, lt-leb (length (shown (entryOf s (r .descriptor)))) (length d) (omega (arith, size-shown)))
-
-      pub listed-put : {d d′ : List ℕ} → n ≤ length d → {w : Put} → Puts s d d′ w → d′ ≡ listedOver (entryRead false s) d
-      unfolding listedOver
-      listed-put {d} h {w} k =
-          let l : length (shown (entryOf s (r .descriptor))) ≤ length d = omega (arith, size-shown) in
-          rw (read-good false s b p z, le-leb (length (shown (entryOf s (r .descriptor)))) (length d) l) (k .wrote (entryOf s (r .descriptor)) (read-good false s b p z) l .bytes)

@@ -2,6 +2,7 @@
 pub mod PathLaws
 pub mod EntryLaws
 pub mod WalkLaws
+pub mod ListedLaws
 pub mod Promises
 pub mod RecordLaws
 pub mod NamelessLaws

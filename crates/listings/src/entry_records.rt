@@ -4,14 +4,15 @@ ghost use mathlib.Core.Bool.{false};
 ghost use Rattle.identifiers.specs.Identifiers.{readIdentifier, identifierRead};
 ghost use Rattle.listings.specs.Entries.{entryRead};
 ghost use Rattle.listings.specs.inner.Passes.{listedOver};
-use crate::directory_entries::put_entry;
 use crate::directory_entries::record_size;
+use crate::listing::put_entries;
 use disc::answers::DONE;
 use identifiers::FileIdentifierDescriptor;
 use identifiers::IdentifierRead;
 
 // Reads the entry at the front of s, and writes its record over the front of out; one that has no room is left out. The body isn't checked:
-// the caller has parsed the whole directory before.
+// the caller has parsed the whole directory before. The record is written by the one loop that writes a listing's, over a directory of this entry
+// alone, so that the compiler has one place in which to put what writes a record.
 pub fn put_listed(s: &[u8], out: &mut [u8]) -> IdentifierRead
     ensures { λ r. ⌜ r ≡ identifierRead (readIdentifier false (now (s .entry))) ⌝ }
     ensures { λ _. ⌜ now (out .exit) ≡ listedOver (entryRead false (now (s .entry))) (now (out .entry)) ⌝ }
@@ -21,9 +22,11 @@ pub fn put_listed(s: &[u8], out: &mut [u8]) -> IdentifierRead
         return r;
     }
     let f = r.descriptor;
-    if out.len() < record_size(f) {
+    let size = record_size(f);
+    if out.len() < size {
         return r;
     }
-    put_entry(s, out);
+    let end = f.name_at + f.name_length;
+    put_entries(&s[0..end], &mut out[0..size]);
     r
 }

@@ -25,6 +25,7 @@ pub struct ListingSize {
     pub size: usize,
 }
 
+// The size of the listing of a directory's bytes, which are all parsed for it.
 pub fn measure(check: bool, raw: &[u8]) -> ListingSize
     ensures { λ r. ⌜ r ≡ sizeOfListing (entries check (now (raw .entry))) ⌝ }
 {
@@ -50,7 +51,7 @@ pub fn measure(check: bool, raw: &[u8]) -> ListingSize
 
 // Writes the records of the entries over out, each behind the one before. The entries are not checked again, so what is lent is the room
 // that was measured, and nothing behind it can be written, whatever the bytes are by now.
-fn put_entries(raw: &[u8], out: &mut [u8])
+pub(crate) fn put_entries(raw: &[u8], out: &mut [u8])
     ensures { λ _. ⌜ ((es : List Entry) → entries false (now (raw .entry)) ≡ answered es → length (records es) ≡ length (now (out .entry)) → now (out .exit) ≡ records es) ⌝ }
 {
     let mut n: usize = 0;
