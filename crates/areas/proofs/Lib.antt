@@ -3,3 +3,4 @@ pub mod AreaLaws
 pub mod PartLaws
 pub mod TotalLaws
 pub mod Table
+pub mod FrontLaws

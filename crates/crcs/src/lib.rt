@@ -3,7 +3,7 @@ mod table;
 
 ghost use mathlib.Core.Path.{_≡_};
 ghost use Prim.Native.Nat.{_<_};
-ghost use Rattle.crcs.specs.Crcs.{oneByte, crcOf};
+ghost use Rattle.crcs.specs.Crcs.{oneByte, crcFrom, crcOf};
 ghost use Rattle.crcs.specs.inner.Tables.{Remainders};
 use crate::table::REMAINDERS;
 
@@ -17,11 +17,12 @@ fn take_byte(t: &[u32; 256], c: u32, b: u8) -> u32
     c % 256 * 256 ^ t[out]
 }
 
-fn take_bytes(t: &[u32; 256], s: &[u8]) -> u16
-    requires { ⌜ Remainders (now t) ⌝ }
-    ensures { λ r. ⌜ r ≡ crcOf (now (s .entry)) ⌝ }
+// The register `from` after the bytes of s.
+fn take_bytes(t: &[u32; 256], from: u32, s: &[u8]) -> u16
+    requires { ⌜ Remainders (now t) ⌝ ∗ ⌜ from < 65536 ⌝ }
+    ensures { λ r. ⌜ r ≡ crcFrom from (now (s .entry)) ⌝ }
 {
-    let mut c: u32 = 0;
+    let mut c: u32 = from;
     let mut i = 0;
     while i < s.len() {
         c = take_byte(t, c, s[i]);
@@ -30,9 +31,17 @@ fn take_bytes(t: &[u32; 256], s: &[u8]) -> u16
     c as u16
 }
 
-// The CRC of the bytes of s. The table is made where it is lent, so once for all of them.
+// The CRC of s behind bytes that have the CRC `front`: of all of them together, as they come in parts. The table is made where it is lent, so once
+// for all bytes of s.
+pub fn crc_behind(front: u16, s: &[u8]) -> u16
+    ensures { λ r. ⌜ r ≡ crcFrom front (now (s .entry)) ⌝ }
+{
+    take_bytes(&REMAINDERS, front as u32, s)
+}
+
+// The CRC of the bytes of s.
 pub fn crc(s: &[u8]) -> u16
     ensures { λ r. ⌜ r ≡ crcOf (now (s .entry)) ⌝ }
 {
-    take_bytes(&REMAINDERS, s)
+    crc_behind(0, s)
 }

@@ -96,7 +96,7 @@ pub fn refused(answer: u64, count: u64) -> Opened
 }
 
 // The volume whose file set descriptor stands in the sector b.
-fn volume_in(check: bool, kept: Kept, mount: Mount, b: &[u8], count: u64) -> Opened
+pub fn volume_in(check: bool, kept: Kept, mount: Mount, b: &[u8], count: u64) -> Opened
     ensures { λ r. ⌜ r ≡ openedBy count (volumeIn mount kept (readFileSet check (now (b .entry)))) ⌝ }
 {
     let r = FileSetDescriptor::parse(check, b);
@@ -114,7 +114,7 @@ fn volume_in(check: bool, kept: Kept, mount: Mount, b: &[u8], count: u64) -> Ope
 }
 
 // Whether what was kept leads to a file set descriptor: 0, or the number of the refusal.
-fn kept_answer(kept: Kept) -> u64
+pub fn kept_answer(kept: Kept) -> u64
     ensures { λ r. ⌜ r ≡ mountable kept ⌝ }
 {
     if !kept.has_primary {

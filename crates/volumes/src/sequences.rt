@@ -21,6 +21,7 @@ use records::allocations::no_long;
 use records::bytes::le16;
 
 // What is kept of the three descriptors between sectors, each with its volume descriptor sequence number.
+#[repr(C)]
 pub struct Kept {
     pub has_primary: bool,
     pub primary_sequence: u32,
@@ -222,7 +223,7 @@ fn take_logical(how: How, k: Kept, b: &[u8]) -> SectorTurn
 }
 
 // One sector of the sequence, by its id.
-fn take_sector(how: How, wanted: Wanted, k: Kept, b: &[u8]) -> SectorTurn
+pub fn take_sector(how: How, wanted: Wanted, k: Kept, b: &[u8]) -> SectorTurn
     ensures { λ t. ⌜ t ≡ turnOf (orderOf how) (wantedOf wanted) k (saysIn (how .checked) (now (b .entry))) ⌝ }
 {
     let id = le16(b, 0);

@@ -9,10 +9,10 @@ use Rattle.crcs.proofs.take_bytes.Tie as tie
 ruleset bytes = (taken-start, taken-fits, taken-next, taken-end, needs)
 
 abbrev Inv-loop : tie.InvT-loop
-Inv-loop t s c₀ i₀ c i = Taken s c i
+Inv-loop t from s c₀ i₀ c i = Taken from s c i
 
 abbrev μ-loop : tie.MeasureT-loop
-μ-loop t s c₀ i₀ c i = length s - i
+μ-loop t from s c₀ i₀ c i = length s - i
 
 pub take-bytes-spec : {M : Type 1} → statement M
 take-bytes-spec =

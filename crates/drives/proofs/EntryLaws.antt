@@ -1,0 +1,149 @@
+-- Laws of the file entry's sector: the file itself, or the front of its chain. Assumes nothing.
+use mathlib.Core.Path.{_≡_, refl, ap, sym, _∙_}
+use mathlib.Core.Bool.{Bool, true, false}
+use mathlib.Core.List.{List, [], _∷_, _++_, append-nil}
+use Prim.Native.Nat.{ℕ, _+_, _-_, _<_, _≤_, _^_, min}
+use native.Mathlib.Nat.{add-zero}
+use native.Mathlib.Omega.{arith}
+use lib.ListN.{length, take, drop, length-take, length-drop}
+use lib.Seq.{take-all, length-take-le}
+use lib.Dec.{eqb, leb}
+use borrow.Author.Tests.{eq-eqb, ne-eqb, lt-leb, le-leb}
+use Rattle.disc.specs.Choice.{pick}
+use Rattle.disc.specs.Refusals.{number}
+use Rattle.disc.specs.declared.refusals.Refusal.{Refusal}
+use Rattle.disc.specs.declared.refusals.Refusal.the-variants.{NoRoom}
+use Rattle.areas.specs.Areas.{areaAt}
+use Rattle.areas.proofs.PartLaws.{area-in-part}
+use Rattle.entries.specs.FileEntries.{readEntry}
+use Rattle.entries.specs.declared.«file_entries».FileEntry.{FileEntry}
+use Rattle.entries.specs.declared.«file_entries».EntryRead.{EntryRead}
+use Rattle.entries.specs.declared.«file_entries».EntryRead.the-variants.{Read, Refused}
+use Rattle.entries.proofs.EntryLaws.{read-entry}
+use Rattle.chains.specs.Chains.{mostContinuations}
+use Rattle.drives.specs.Feeds.{Feed, following, within, settled}
+use Rattle.drives.specs.Feeds.Feed.{over, stop, put}
+use Rattle.drives.specs.FileFeeds.{joined, chainFeed, entryFeed}
+use Rattle.drives.specs.Readings.{areaOf, endingOf, restOf, placesIn, treeOf, putAt, Goes}
+use Rattle.drives.specs.inner.Scans.{begun, Scans}
+use Rattle.drives.specs.inner.Turns.{Ends, Stands}
+use Rattle.drives.specs.inner.Arrivals.{entryBehind, Arrives}
+use Rattle.drives.specs.inner.Entries.{locatedIn, ofEntry, longerBy, Embeds}
+use Rattle.drives.specs.declared.scans.Scan.{Scan}
+use Rattle.drives.specs.declared.readings.Reading.{Reading}
+use Rattle.drives.proofs.TurnLaws.{stands-stop, ends-tree, end-stop}
+use Rattle.drives.proofs.BodyLaws.{leads-within, rest-none}
+use Rattle.drives.proofs.ArrivalLaws.{stands-arrives}
+
+-- ---- the file itself
+
+module _ (r : Reading) (bytes out : List ℕ) {k : ℕ} (u : (k ≡ min (length bytes) (length out - r .length)) × (r .length + k < 2 ^ 64)) (x y : Reading) (f : x ≡ longerBy r k)
+    (out′ : List ℕ) (o : out′ ≡ putAt (r .length) (take (length out - r .length) bytes) out) where
+  pub embed-full : k < length bytes → Ends x 5 y → Embeds r bytes out y out′
+  unfolding within settled
+  embed-full h p = record {
+    arrives = λ row.
+        rw (lt-leb (length bytes) (length out - r .length) (omega (arith, u .0)), append-nil (take (length out - r .length) bytes)) (record {
+          tree = ends-tree x y 5 p row (length out) ∙ end-stop NoRoom;
+          answer = p .answer;
+          count = p .count ∙ rw f;
+          filled = p .length ∙ rw f (ap (λ a. r .length + a) size);
+          output = o;
+        });
+  }
+    where
+      size : k ≡ length (take (length out - r .length) bytes)
+      size = let j = length-take (length out - r .length) bytes in omega (arith, u .0)
+
+  pub embed-done : length bytes ≤ k → Ends x 0 y → Embeds r bytes out y out′
+  unfolding within settled
+  embed-done h p = record {
+    arrives = λ row.
+        rw (le-leb (length bytes) (length out - r .length) (omega (arith, u .0)), append-nil bytes) (record {
+          tree = ends-tree x y 0 p row (length out);
+          answer = p .answer;
+          count = p .count ∙ rw f;
+          filled = p .length ∙ rw f (ap (λ a. r .length + a) size);
+          output = o ∙ rw (take-all (length out - r .length) bytes (omega (arith, u .0)));
+        });
+  }
+    where
+      size : k ≡ length bytes
+      size = omega (arith, u .0)
+
+-- ---- the entry
+
+module _ (r : Reading) (e : FileEntry) (sector out : List ℕ) (row : List (List ℕ)) (x : Reading) where
+  pub file-embedded : {n : ℕ} (out′ : List ℕ) → e .kind ≡ 3 → n ≡ min (e .«area_length») (e .«information_length»)
+      → Embeds r (take (e .«area_at» + n - e .«area_at») (drop (e .«area_at») sector)) out x out′ → Arrives (entryFeed (r .mount) (locatedIn r e sector)) r out row row x out′
+  unfolding entryFeed
+  file-embedded {n} out′ z q p =
+      let k : e .«area_at» + n - e .«area_at» ≡ min (e .«area_length») (e .«information_length») = omega arith in
+      rw (eq-eqb (e .kind) 3 z) (rw k at (p .arrives row))
+
+  module _ (row′ : List (List ℕ)) (s′ : Scan) (z : e .kind ≡ 3 → ⊥) (l : e .«area_at» + e .«area_length» ≤ length sector)
+      (p : Scans (e .kind) row (begun 0) (take (e .«area_at» + e .«area_length» - e .«area_at») (drop (e .«area_at») sector)) row′ s′) where
+    part : take (e .«area_at» + e .«area_length» - e .«area_at») (drop (e .«area_at») sector) ≡ take (e .«area_length») (drop (e .«area_at») sector)
+    part = let k : e .«area_at» + e .«area_length» - e .«area_at» ≡ e .«area_length» = omega arith in rw k
+
+    area : areaAt (e .kind) sector (e .«area_at») (e .«area_length») ≡ areaOf (e .kind) (take (e .«area_length») (drop (e .«area_at») sector) ++ [])
+    unfolding areaOf
+    area =
+        let d = length-drop (e .«area_at») sector in
+        let j = length-take-le (e .«area_length») (drop (e .«area_at») sector) (omega arith) in
+        let h = area-in-part sector (e .«area_at») (e .«area_length») (e .kind) 0 (e .«area_length») (omega arith) in
+        rw (append-nil (take (e .«area_length») (drop (e .«area_at») sector)), j) (sym (rw add-zero at h))
+
+    chained : (room : ℕ) → within (length row) room (entryFeed (r .mount) (locatedIn r e sector))
+        ≡ within (length row) room (chainFeed (r .mount) (e .kind) mostContinuations (e .«information_length») (placesIn row′ s′) (endingOf s′))
+    unfolding entryFeed restOf areaAt placesIn
+    chained room =
+        let w = leads-within (r .mount) mostContinuations (e .«information_length») room (p .behind []) in
+        let v = rest-none (e .kind) s′ (p .behind [] .carries) in
+        let a : restOf (e .kind) (begun 0) (take (e .«area_at» + e .«area_length» - e .«area_at») (drop (e .«area_at») sector) ++ []) ≡ areaAt (e .kind) sector (e .«area_at») (e .«area_length») = front in
+        rw (ne-eqb (e .kind) 3 z) (rw (a, v, append-nil (placesIn row′ s′)) at w)
+      where
+        front : restOf (e .kind) (begun 0) (take (e .«area_at» + e .«area_length» - e .«area_at») (drop (e .«area_at») sector) ++ []) ≡ areaAt (e .kind) sector (e .«area_at») (e .«area_length»)
+        front = rw part (sym area)
+
+    pub file-chained : (y : Reading) → y ≡ ofEntry r (e .kind) (e .«information_length») s′
+        → Stands row′ (chainFeed (y .mount) (y .kind) (y .hops) (y .missing) (placesIn row′ (y .scan)) (endingOf (y .scan))) y x
+        → Arrives (entryFeed (r .mount) (locatedIn r e sector)) r out row row′ x out
+    file-chained y f q =
+        let w = rw f at q in
+        let h = p .behind [] .long in
+        rw h at (stands-arrives row′ (entryFeed (r .mount) (locatedIn r e sector)) r x out
+        (record {
+          tree = λ room. w .tree room ∙ rw h (sym (chained (room - r .length)));
+          answer = w .answer;
+          count = w .count;
+          length = w .length;
+        }))
+
+-- the same of a scan that began at the front
+pub file-listed : (r : Reading) (e : FileEntry) (sector out : List ℕ) (row : List (List ℕ)) (x : Reading) (row′ : List (List ℕ)) (s₀ s′ : Scan) (y : Reading) → (e .kind ≡ 3 → ⊥)
+    → e .«area_at» + e .«area_length» ≤ length sector → s₀ ≡ begun 0
+    → Scans (e .kind) row s₀ (take (e .«area_at» + e .«area_length» - e .«area_at») (drop (e .«area_at») sector)) row′ s′
+    → y ≡ ofEntry r (e .kind) (e .«information_length») s′
+    → Stands row′ (chainFeed (y .mount) (y .kind) (y .hops) (y .missing) (placesIn row′ (y .scan)) (endingOf (y .scan))) y x
+    → Arrives (entryFeed (r .mount) (locatedIn r e sector)) r out row row′ x out
+file-listed r e sector out row x row′ s₀ s′ y z l g p f q = file-chained r e sector out row x row′ s′ z l (rw g at p) y f q
+
+-- ---- its sector
+
+module _ (r : Reading) (sector out : List ℕ) (row : List (List ℕ)) (x : Reading) {c : Bool} {g : EntryRead} (q : g ≡ readEntry c sector) (check : Bool) (k : c ≡ check) where
+  pub entry-inside : (e : FileEntry) → g ≡ Read e → e .«area_at» + e .«area_length» ≤ length sector
+  entry-inside e h = let i = read-entry c sector q h .inside in omega arith
+
+  pub entry-refused : (why : Refusal) {n : ℕ} → g ≡ Refused why → n ≡ number why → Ends r n x → Arrives (entryBehind r (readEntry check sector) sector) r out row row x out
+  unfolding entryBehind following within
+  entry-refused why h m p =
+      let d : readEntry check sector ≡ Refused why = rw (← k, ← q) h in
+      rw d (stands-arrives row (stop why) r x out (stands-stop row (stop why) r x why (rw m at p) (λ room. refl)))
+
+  pub entry-arrives : (e : FileEntry) (row′ : List (List ℕ)) (out′ : List ℕ) → g ≡ Read e → Arrives (entryFeed (r .mount) (locatedIn r e sector)) r out row row′ x out′
+      → Arrives (entryBehind r (readEntry check sector) sector) r out row row′ x out′
+  unfolding entryBehind following
+  entry-arrives e row′ out′ h p =
+      let d : readEntry check sector ≡ Read e = rw (← k, ← q) h in
+      rw d p

@@ -1,0 +1,13 @@
+use borrow.Author.Needs.{needs}
+use Rattle.drives.proofs.OpeningLaws.{stands-anchor}
+use Rattle.drives.proofs.openings.Opening.start.Statement.{statement}
+use Rattle.drives.proofs.openings.Opening.start.Tie as tie
+
+ruleset starts = (stands-anchor, needs)
+
+pub start-spec : {M : Type 1} → statement M
+start-spec =
+    tie.close (tie.spec
+    (λ c κs. search starts)
+    (λ c κs. search starts)
+    (λ c. search starts))

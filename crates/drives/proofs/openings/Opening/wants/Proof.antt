@@ -1,0 +1,15 @@
+use borrow.Author.Needs.{needs}
+use borrow.Author.Tests.{not-true, not-false}
+use Rattle.drives.proofs.OpeningLaws.{wants-none, wants-anchor, wants-at}
+use Rattle.drives.proofs.openings.Opening.wants.Statement.{statement}
+use Rattle.drives.proofs.openings.Opening.wants.Tie as tie
+
+ruleset wants = (wants-none, wants-anchor, wants-at, not-true, not-false, needs)
+
+pub wants-spec : {M : Type 1} → statement M
+wants-spec =
+    tie.close (tie.spec
+    (λ c κs. search wants)
+    (λ c. search wants)
+    (λ c. search wants)
+    (λ c. search wants))

@@ -1,0 +1,6 @@
+-- What the contracts cite, lowest first.
+pub mod Feeds
+pub mod Openings
+pub mod FileFeeds
+pub mod Readings
+pub mod inner

@@ -1,0 +1,6 @@
+-- What contracts below the face alone cite.
+pub mod Scans
+pub mod Turns
+pub mod Bodies
+pub mod Arrivals
+pub mod Entries
