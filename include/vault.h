@@ -54,7 +54,7 @@ enum {
     VAULT_AS_WRITTEN = 1, /* A name matches byte for byte, and the first entry that matches is taken. */
     /* ASCII case is ignored, and a component that two or more entries match is refused by VAULT_AMBIGUOUS. */
     VAULT_UNAMBIGUOUS = 2,
-    VAULT_VERSION = 7, /* Goes up whenever a struct or a call changes. */
+    VAULT_VERSION = 8, /* Goes up whenever a struct or a call changes. */
 };
 
 enum {
@@ -223,6 +223,156 @@ vault_reply vault_read_all(vault_volume volume, const uint8_t *image, size_t ima
                            size_t paths_length, uint32_t matching, uint8_t *out, size_t out_length, uint64_t *lengths,
                            size_t lengths_places, uint32_t *answers, size_t answers_places, uint8_t *work,
                            size_t work_length);
+
+/* ---- Straight from a drive, with no image in memory: a state names the sector that it wants, is lent its bytes,
+ * and goes on.
+ *
+ * A state is passed by value and holds no pointer. While it is wanting, lend a step the 2,048 bytes of the sector
+ * that it wants; a slice of any other length, 0 for one, says that the sector can't be had, which is VAULT_IO. A
+ * state that has ended has its answer, and a step of it changes nothing. Any state may be stepped, also one made by
+ * hand whose bools are 0 or 1: the step stays inside what it was lent, and from every state the end is reached.
+ *
+ * The sectors that are wanted, the answer and the count are those of vault_open with no choice, and of vault_read. */
+
+/* What is kept of the three descriptors between sectors, each with its volume descriptor sequence number. */
+typedef struct {
+    bool has_primary;
+    uint32_t primary_sequence;
+    uint8_t label[32];
+    bool has_partition;
+    uint32_t partition_sequence;
+    uint16_t partition_number;
+    uint32_t partition_start;
+    bool has_logical;
+    uint32_t logical_sequence;
+    uint32_t block_size;
+    vault_long_ad file_set;
+    /* The front of the map table as recorded, its length in bytes, and how many maps it has. */
+    uint32_t map_table_length;
+    uint32_t map_count;
+    uint8_t maps[24];
+} vault_kept;
+
+/* An opening under way. */
+typedef struct {
+    /* 0: the anchor is wanted; 1: a sector of the sequence; 2: the file set descriptor; any other: it has ended. */
+    uint8_t phase;
+    uint64_t at; /* The sector that is wanted. */
+    uint32_t left; /* The sectors of the sequence behind it. */
+    vault_kept kept; /* What was kept of the descriptors so far. */
+    /* The answer, how many sectors were wanted and have come or couldn't, and the volume: zeros but for the count
+     * until it has ended. */
+    vault_opened opened;
+} vault_opening;
+
+/* A place in an area. */
+typedef struct {
+    size_t listed; /* The places of the row that hold extents. */
+    bool full; /* An extent of this area found no place. */
+    uint8_t closed; /* 0: the area goes on; 1: it has ended; 2: with a continuation; any other: it is refused by 4. */
+    size_t carried; /* The bytes of the descriptor that has begun to arrive, and how many. */
+    uint8_t carry[20];
+    uint32_t next_length; /* The continuation. */
+    uint32_t next_block;
+    uint32_t next_reference;
+} vault_scan;
+
+/* Of a continuation that arrives in parts: what its header said, and what is yet to come of its body and of its
+ * area. */
+typedef struct {
+    bool tagged; /* The tag is good. */
+    bool headed; /* It is that of a header, and the area that it says fits the continuation. */
+    uint16_t crc; /* The tag's CRC, that of the body so far, and how many bytes of the body are yet to come. */
+    uint16_t summed;
+    uint32_t body_left;
+    uint32_t area_left; /* How many bytes of the area are yet to come. */
+} vault_body;
+
+/* A read under way. */
+typedef struct {
+    /* 0: the file entry is wanted; 1: the first sector of a continuation; 2: a further one; 3: a sector of an
+     * extent; any other: it has ended. */
+    uint8_t phase;
+    uint64_t at; /* The sector that is wanted, and how many behind it belong to the same continuation or extent. */
+    uint32_t left;
+    vault_mount mount; /* How the entry's descriptors are read, their kind, and how many continuations may follow. */
+    uint8_t kind;
+    uint8_t hops;
+    uint64_t missing; /* How many bytes are missing of the information length. */
+    uint32_t size; /* The bytes of the continuation, or those of the extent from the sector on that is wanted. */
+    size_t next; /* The place of the extent behind the one that is read. */
+    vault_scan scan;
+    vault_body body;
+    /* The answer, 0 until it has ended; how many sectors were wanted and have come or couldn't; how many bytes have
+     * arrived at the output. */
+    uint64_t answer;
+    uint64_t count;
+    size_t length;
+} vault_reading;
+
+/* The ICB of an entry, and whether it is a directory; zeros where none has the name, or where the directory is
+ * refused. */
+typedef struct {
+    uint64_t answer; /* A number of the table: 0 also where none has the name. */
+    bool found; /* Whether an entry has the name. */
+    vault_long_ad icb;
+    bool directory; /* Whether the entry is a directory's. */
+} vault_named;
+
+/* Where a component of a path stands. */
+typedef struct {
+    size_t at; /* Its place in the path. */
+    size_t length; /* Its bytes: 0 where there is none. */
+} vault_component;
+
+/* An opening before its first sector: as vault_open with a `how` of 0. What it comes to is `opened`, once it has
+ * ended. */
+vault_opening vault_opening_start(void);
+
+/* Whether a sector is wanted; else the opening has ended. */
+bool vault_opening_is_wanting(vault_opening opening);
+
+/* The sector that is wanted, counted from the disc's start; 0 where the opening has ended. */
+uint64_t vault_opening_wants(vault_opening opening);
+
+/* The opening behind the sector that it wants. */
+vault_opening vault_opening_step(vault_opening opening, const uint8_t *sector, size_t sector_length);
+
+/* A read before its first sector, of a file or of a directory's own bytes: as vault_read. An ICB that has no length
+ * or no place ends it at once.
+ *
+ * The file's extents wait in `row`, one to a slot, which is zeroed here: lend every step the same row, untouched. It
+ * may grow between steps, and so may the output. An extent that finds no slot ends the read with VAULT_NO_SLOT, once
+ * its entry or continuation has come whole and is good. */
+vault_reading vault_reading_start(vault_volume volume, vault_long_ad icb, vault_extent *row, size_t row_slots);
+
+/* Whether a sector is wanted; else the read has ended. */
+bool vault_reading_is_wanting(vault_reading reading);
+
+/* The sector that is wanted, counted from the disc's start; 0 where the read has ended. */
+uint64_t vault_reading_wants(vault_reading reading);
+
+/* The read behind the sector that it wants. The bytes of the file that stand in it go to `out` behind the `length`
+ * that have arrived, as many as there is room for: a byte that finds none ends the read with VAULT_NO_ROOM. Nothing
+ * behind them is written, and what has arrived stays after a refusal too. The whole row is zeroed as the read ends,
+ * however it does. */
+vault_reading vault_reading_step(vault_reading reading, const uint8_t *sector, size_t sector_length, vault_extent *row,
+                                 size_t row_slots, uint8_t *out, size_t out_length);
+
+/* Lists a directory whose bytes are at hand, as vault_list does; the count is 0. `volume` says whether the bodies of
+ * its entries are checked, and nothing else of it is looked at. */
+vault_reply vault_list_bytes(vault_volume volume, const uint8_t *bytes, size_t bytes_length, uint8_t *out,
+                             size_t out_length);
+
+/* The entry that a component of a path names in a directory whose bytes are at hand, as vault_lookup matches it.
+ * Where none has the name the answer is VAULT_DONE and `found` is false; two or more under VAULT_UNAMBIGUOUS are
+ * VAULT_AMBIGUOUS, and one bad entry refuses the directory. The empty component is the name of an entry without one. */
+vault_named vault_match(vault_volume volume, const uint8_t *bytes, size_t bytes_length, const uint8_t *component,
+                        size_t component_length, uint32_t matching);
+
+/* Where the first component of a path from `at` on stands; its length is 0 where there is none. From 0 on, and then
+ * each time from the end of the one before, the components come in the order in which vault_lookup takes them. */
+vault_component vault_next_component(const uint8_t *path, size_t path_length, size_t at);
 
 #ifdef __cplusplus
 }

@@ -16,13 +16,14 @@ import tempfile
 sys.dont_write_bytecode = True
 from kit import ROOT, STRICT, Failed, did, linked, ran, unproved
 
-FACE, SHOW = "vault_c/src/lib.rt", ROOT / "crates/first_cue/stdin"
+FACE, STEPS, SHOW = "vault_c/src/lib.rt", "vault_c/src/steps.rt", ROOT / "crates/first_cue/stdin"
 OUT, WORK, IMAGE, PATH, MATCHING = r"out: &mut \[u8\]", r"work: &mut \[u8\]", r"image: &\[u8\]", r"path: &\[u8\]", "matching: u32"
+SECTOR, ROW, BYTES, COMPONENT = r"sector: &\[u8\]", r"row: &mut \[\[u32; 4\]\]", r"bytes: &\[u8\]", r"component: &\[u8\]"
 
 
-def turned(call, one, other):
+def turned(call, one, other, name=FACE):
     """Two parameters of a call the other way round."""
-    return f"{call}: {one} and {other}", FACE, rf"(fn {call}\([^)]*?)({one}),(\s+[^)]*?)({other})", r"\1\4,\3\2"
+    return f"{call}: {one} and {other}", name, rf"(fn {call}\([^)]*?)({one}),(\s+[^)]*?)({other})", r"\1\4,\3\2"
 
 
 # What it is, the file, a pattern that stands there once, and what takes its place. An ICB and a number beside it the other way round are no fault: a
@@ -42,6 +43,19 @@ FAULTS = (
     turned("vault_label", IMAGE, OUT),
     turned("vault_open", IMAGE, "how: u32"),
     turned("vault_label", "how: u32", OUT),
+    turned("vault_reading_step", SECTOR, ROW, STEPS),
+    turned("vault_reading_step", SECTOR, OUT, STEPS),
+    turned("vault_reading_step", ROW, OUT, STEPS),
+    turned("vault_list_bytes", BYTES, OUT, STEPS),
+    turned("vault_match", BYTES, COMPONENT, STEPS),
+    turned("vault_match", COMPONENT, MATCHING, STEPS),
+    turned("vault_next_component", PATH, "at: usize", STEPS),
+    ("length before count of a read", "drives/src/readings.rt", r"(pub count: u64,)(\s+)(pub length: usize,)", r"\3\2\1"),
+    ("an opening's answer before what is left", "drives/src/openings.rt", r"(pub left: u32,)(.*?)(pub opened: Opened,)", r"\3\2\1"),
+    ("an entry found before its answer", "listings/src/finds.rt", r"(pub answer: u64,)(.*?)(pub found: bool,)", r"\3\2\1"),
+    ("length before place of a component", "vault/src/paths.rt", r"(pub at: usize,)(.*?)(pub length: usize,)", r"\3\2\1"),
+    ("a row that isn't zeroed at the end", "drives/src/readings.rt", r"if !x\.is_wanting\(\)", "if x.is_wanting()"),
+    ("a denied sector that isn't counted", "drives/src/openings.rt", r"refused\(IO, count\)", "refused(IO, self.opened.count)"),
     ("count before answer", "volumes/src/openings.rt", r"(pub struct Opened \{.*?)(pub answer: u64,)(.*?)(pub count: u64,)", r"\1\4\3\2"),
     ("length before count", "disc/src/replies.rt", r"(pub struct Reply \{.*?)(pub count: u64,)(.*?)(pub length: u64,)", r"\1\4\3\2"),
     ("root before mount", "volumes/src/openings.rt", r"(pub mount: Mount,)(\s+// The root directory.\s+)(pub root: LongAd,)", r"\3\2\1"),

@@ -1,4 +1,5 @@
-/* calls.c: every call of vault.h, on the small show of show.h, with and without the bodies of its descriptors checked; and opening through maps.
+/* calls.c: every call of vault.h, on the small show of show.h, with and without the bodies of its descriptors checked; opening through maps; and the
+ * same opening and reads a sector at a time, with a sector denied at each place.
  *
  * What is expected is read off the show's layout. No two pieces of memory that a call is lent have the same length, so that an argument in
  * another's place is seen. Ends with 0, or says what isn't so. */
@@ -209,6 +210,106 @@ static void extents(vault_volume v, vault_long_ad icb) {
     EXPECT(is_reply(vault_extents(v, image, IMAGE, icb, row, 0), VAULT_NO_SLOT, 1, 0) && is_all(row, sizeof row, FREE));
 }
 
+/* The bytes of a sector that is wanted, or none of them. */
+static size_t lent(bool denied) { return denied ? 0 : SECTOR; }
+
+/* The sectors that an opening wants, in order, up to one that is denied: the answer is vault_open's, or VAULT_IO with those so far. A step more changes nothing. */
+static void stepped_open(void) {
+    static const uint64_t wanted[] = {256, 32, 33, 34, 35, START + 2};
+    vault_opened whole = vault_open(image, IMAGE, 0);
+    for (size_t denied = 0; denied < 7; denied++) {
+        vault_opening o = vault_opening_start();
+        size_t last = denied < 6 ? denied : 5;
+        for (size_t i = 0; i <= last; i++) {
+            EXPECT(vault_opening_is_wanting(o) && vault_opening_wants(o) == wanted[i] && o.opened.count == i && o.opened.answer == 0);
+            o = vault_opening_step(o, image + wanted[i] * SECTOR, lent(i == denied));
+        }
+        EXPECT(!vault_opening_is_wanting(o) && vault_opening_wants(o) == 0 && o.opened.count == last + 1);
+        EXPECT(o.opened.answer == (denied < 6 ? VAULT_IO : VAULT_DONE));
+        if (denied < 6)
+            EXPECT(is_all(o.opened.volume.label, 32, 0) && o.opened.volume.mount.start == 0);
+        else
+            EXPECT(!memcmp(o.opened.volume.label, whole.volume.label, 32) && o.opened.volume.mount.start == START && is_icb(o.opened.volume.root, 3));
+        vault_opening more = vault_opening_step(o, image, SECTOR);
+        EXPECT(more.phase == o.phase && more.opened.count == o.opened.count && more.opened.answer == o.opened.answer);
+    }
+}
+
+/* A read of n sectors, the last of which may be denied, into so many slots and bytes. The row and the work space are zeroed at its start and its end. */
+static vault_reading stepped(vault_volume v, vault_long_ad icb, const uint32_t *wanted, size_t n, bool denied, size_t slots, size_t room) {
+    lend();
+    vault_reading r = vault_reading_start(v, icb, row, slots);
+    EXPECT(is_all(row, slots * sizeof *row, 0) && is_all(row + slots, (SLOTS - slots) * sizeof *row, FREE));
+    for (size_t i = 0; i < n; i++) {
+        EXPECT(vault_reading_is_wanting(r) && vault_reading_wants(r) == wanted[i] && r.count == i && r.answer == 0);
+        r = vault_reading_step(r, image + wanted[i] * SECTOR, lent(denied && i + 1 == n), row, slots, out, room);
+        EXPECT(is_all(out + r.length, OUT - r.length, FREE));
+        if (i == 0 && n > 1) EXPECT(r.scan.listed == 1 && row[0].block == wanted[1] - START && row[0].length == sizeof cue - 1 && row[0].partition == 65536);
+    }
+    EXPECT(!vault_reading_is_wanting(r) && vault_reading_wants(r) == 0 && r.count == n);
+    EXPECT(is_all(row, slots * sizeof *row, 0) && is_all(row + slots, (SLOTS - slots) * sizeof *row, FREE));
+    vault_reading more = vault_reading_step(r, image, SECTOR, row, slots, out, room);
+    EXPECT(more.count == n && more.length == r.length && more.answer == r.answer && is_all(out + r.length, OUT - r.length, FREE));
+    return r;
+}
+
+static bool has_read(vault_reading r, uint64_t answer, size_t length) { return r.answer == answer && r.length == length; }
+
+/* A cue has its entry and one sector, and one extent; a directory stands in its entry. */
+static void stepped_read(vault_volume v, vault_long_ad directory, vault_long_ad icb) {
+    static const uint32_t wanted[] = {START + 7, START + 8}, shown[] = {START + 4};
+    size_t n = sizeof cue - 1, m = number(image + (START + 4) * SECTOR + ENTRY - 4);
+    EXPECT(has_read(stepped(v, icb, wanted, 2, false, SLOTS, OUT), VAULT_DONE, n) && holds(cue, n));
+    EXPECT(has_read(stepped(v, icb, wanted, 2, false, 1, n), VAULT_DONE, n) && holds(cue, n));
+    EXPECT(has_read(stepped(v, icb, wanted, 2, false, 2, n - 1), VAULT_NO_ROOM, n - 1) && holds(cue, n - 1));
+    EXPECT(has_read(stepped(v, icb, wanted, 1, false, 0, OUT), VAULT_NO_SLOT, 0) && holds("", 0));
+    EXPECT(has_read(stepped(v, icb, wanted, 2, true, SLOTS, OUT), VAULT_IO, 0) && holds("", 0));
+    EXPECT(has_read(stepped(v, icb, wanted, 1, true, SLOTS, OUT), VAULT_IO, 0) && holds("", 0));
+    EXPECT(has_read(stepped(v, directory, shown, 1, false, 0, OUT), VAULT_DONE, m) && holds(image + (START + 4) * SECTOR + ENTRY, m));
+    icb.length = 0;
+    EXPECT(has_read(stepped(v, icb, wanted, 0, false, SLOTS, OUT), VAULT_MALFORMED, 0));
+}
+
+static bool is_named(vault_named r, uint64_t answer, uint32_t block) {
+    return r.answer == answer && r.found == (block != 0) && !r.directory && (block ? is_icb(r.icb, block) : r.icb.length == 0 && r.icb.location.block == 0);
+}
+
+static vault_named matching(vault_volume v, uint32_t block, const char *name, uint32_t choice) {
+    const uint8_t *entry = image + (START + block) * SECTOR + ENTRY;
+    return vault_match(v, entry, number(entry - 4), (const uint8_t *)name, strlen(name), choice);
+}
+
+/* The bytes of a directory at hand, which are those in its entry: listed as from the image, and its entries by name. */
+static void at_hand(vault_volume v, vault_long_ad directory) {
+    static uint8_t listing[OUT];
+    const uint8_t *bytes = image + (START + 4) * SECTOR + ENTRY;
+    size_t n = number(bytes - 4);
+    lend();
+    vault_reply whole = vault_list(v, image, IMAGE, directory, out, OUT, work, WORK);
+    memcpy(listing, out, OUT);
+    lend();
+    EXPECT(is_reply(vault_list_bytes(v, bytes, n, out, OUT), VAULT_DONE, 0, whole.length) && !memcmp(out, listing, OUT));
+    lend();
+    EXPECT(is_reply(vault_list_bytes(v, bytes, n, out, whole.length - 1), VAULT_NO_ROOM, 0, 0) && holds("", 0));
+    EXPECT(is_named(matching(v, 4, "10.1a", VAULT_CASE_IGNORED), VAULT_DONE, 7));
+    EXPECT(is_named(matching(v, 4, "10.1a", VAULT_AS_WRITTEN), VAULT_DONE, 9));
+    EXPECT(is_named(matching(v, 4, "10.1a", VAULT_UNAMBIGUOUS), VAULT_AMBIGUOUS, 0));
+    EXPECT(is_named(matching(v, 4, "10.1a", 3), VAULT_AMBIGUOUS, 0));
+    EXPECT(is_named(matching(v, 4, "none", VAULT_CASE_IGNORED), VAULT_DONE, 0));
+    vault_named show = matching(v, 3, "show", VAULT_CASE_IGNORED);
+    EXPECT(show.answer == VAULT_DONE && show.found && show.directory && is_icb(show.icb, 4));
+}
+
+static bool stands(const char *path, size_t from, size_t at, size_t length) {
+    vault_component c = vault_next_component((const uint8_t *)path, strlen(path), from);
+    return c.at == at && c.length == length;
+}
+
+static void components(void) {
+    EXPECT(stands("//SHOW/10.1a/", 0, 2, 4) && stands("//SHOW/10.1a/", 6, 7, 5) && stands("//SHOW/10.1a/", 12, 13, 0));
+    EXPECT(stands("", 0, 0, 0) && stands("SHOW", 4, 4, 0) && stands("SHOW", 2, 2, 2) && stands("SHOW", SIZE_MAX, SIZE_MAX, 0));
+}
+
 /* Every call on a volume. */
 static void asked(vault_volume v) {
     vault_long_ad directory = found(v, "SHOW", VAULT_CASE_IGNORED, 1, 4), icb = found(v, "SHOW/10.1A", VAULT_CASE_IGNORED, 2, 7);
@@ -220,6 +321,8 @@ static void asked(vault_volume v) {
     read_all(v);
     part(v, directory, icb);
     extents(v, icb);
+    stepped_read(v, directory, icb);
+    at_hand(v, directory);
 }
 
 /* Through the maps, of which the show has none. With two it is opened by the second; the root's reference, 5, is that of no map. */
@@ -280,6 +383,7 @@ static void ruined_files(vault_volume checked, vault_long_ad directory, vault_lo
     lend();
     EXPECT(is_reply(vault_list(checked, image, IMAGE, directory, out, OUT, work, WORK), VAULT_BAD_CRC, 1, 0));
     EXPECT(holds("", 0) && is_all(work, WORK, 0));
+    EXPECT(has_read(stepped(checked, directory, (const uint32_t[]){START + 4}, 1, false, SLOTS, OUT), VAULT_BAD_CRC, 0));
     flip(START + 4, 40);
     flip(START + 7, 40);
     asked(unchecked);
@@ -291,6 +395,7 @@ static void ruined_files(vault_volume checked, vault_long_ad directory, vault_lo
     at = 99;
     EXPECT(is_reply(vault_part(checked, image, IMAGE, icb, &at), VAULT_BAD_CRC, 1, 0) && at == 0);
     EXPECT(is_reply(vault_extents(checked, image, IMAGE, icb, row, SLOTS), VAULT_BAD_CRC, 1, 0) && is_all(row, sizeof row, FREE));
+    EXPECT(has_read(stepped(checked, icb, (const uint32_t[]){START + 7}, 1, false, SLOTS, OUT), VAULT_BAD_CRC, 0));
     flip(START + 7, 40);
 }
 
@@ -301,6 +406,8 @@ int main(void) {
     unopened();
     label();
     mapped();
+    stepped_open();
+    components();
     vault_volume v = opened(0), checked = opened(VAULT_CHECKED);
     opened(VAULT_HIGHEST);
     asked(v);

@@ -33,7 +33,7 @@ HOLDS(VAULT_TOO_MANY == 12);
 HOLDS(VAULT_CASE_IGNORED == 0);
 HOLDS(VAULT_AS_WRITTEN == 1);
 HOLDS(VAULT_UNAMBIGUOUS == 2);
-HOLDS(VAULT_VERSION == 7);
+HOLDS(VAULT_VERSION == 8);
 HOLDS(VAULT_CHECKED == 1);
 HOLDS(VAULT_MAPS == 2);
 HOLDS(VAULT_HIGHEST == 4);
@@ -82,6 +82,73 @@ FIELD(vault_extent, length, 0, 4, uint32_t *);
 FIELD(vault_extent, extent_type, 4, 4, uint32_t *);
 FIELD(vault_extent, block, 8, 4, uint32_t *);
 FIELD(vault_extent, partition, 12, 4, uint32_t *);
+
+HOLDS(sizeof(vault_kept) == 124 && ALIGN(vault_kept) == 4);
+FIELD(vault_kept, has_primary, 0, 1, bool *);
+FIELD(vault_kept, primary_sequence, 4, 4, uint32_t *);
+FIELD(vault_kept, label, 8, 32, uint8_t (*)[32]);
+FIELD(vault_kept, has_partition, 40, 1, bool *);
+FIELD(vault_kept, partition_sequence, 44, 4, uint32_t *);
+FIELD(vault_kept, partition_number, 48, 2, uint16_t *);
+FIELD(vault_kept, partition_start, 52, 4, uint32_t *);
+FIELD(vault_kept, has_logical, 56, 1, bool *);
+FIELD(vault_kept, logical_sequence, 60, 4, uint32_t *);
+FIELD(vault_kept, block_size, 64, 4, uint32_t *);
+FIELD(vault_kept, file_set, 68, 24, vault_long_ad *);
+FIELD(vault_kept, map_table_length, 92, 4, uint32_t *);
+FIELD(vault_kept, map_count, 96, 4, uint32_t *);
+FIELD(vault_kept, maps, 100, 24, uint8_t (*)[24]);
+
+HOLDS(sizeof(vault_opening) == 264 && ALIGN(vault_opening) == 8);
+FIELD(vault_opening, phase, 0, 1, uint8_t *);
+FIELD(vault_opening, at, 8, 8, uint64_t *);
+FIELD(vault_opening, left, 16, 4, uint32_t *);
+FIELD(vault_opening, kept, 20, 124, vault_kept *);
+FIELD(vault_opening, opened, 144, 120, vault_opened *);
+
+HOLDS(sizeof(vault_scan) == 56 && ALIGN(vault_scan) == 8);
+FIELD(vault_scan, listed, 0, 8, size_t *);
+FIELD(vault_scan, full, 8, 1, bool *);
+FIELD(vault_scan, closed, 9, 1, uint8_t *);
+FIELD(vault_scan, carried, 16, 8, size_t *);
+FIELD(vault_scan, carry, 24, 20, uint8_t (*)[20]);
+FIELD(vault_scan, next_length, 44, 4, uint32_t *);
+FIELD(vault_scan, next_block, 48, 4, uint32_t *);
+FIELD(vault_scan, next_reference, 52, 4, uint32_t *);
+
+HOLDS(sizeof(vault_body) == 16 && ALIGN(vault_body) == 4);
+FIELD(vault_body, tagged, 0, 1, bool *);
+FIELD(vault_body, headed, 1, 1, bool *);
+FIELD(vault_body, crc, 2, 2, uint16_t *);
+FIELD(vault_body, summed, 4, 2, uint16_t *);
+FIELD(vault_body, body_left, 8, 4, uint32_t *);
+FIELD(vault_body, area_left, 12, 4, uint32_t *);
+
+HOLDS(sizeof(vault_reading) == 192 && ALIGN(vault_reading) == 8);
+FIELD(vault_reading, phase, 0, 1, uint8_t *);
+FIELD(vault_reading, at, 8, 8, uint64_t *);
+FIELD(vault_reading, left, 16, 4, uint32_t *);
+FIELD(vault_reading, mount, 20, 48, vault_mount *);
+FIELD(vault_reading, kind, 68, 1, uint8_t *);
+FIELD(vault_reading, hops, 69, 1, uint8_t *);
+FIELD(vault_reading, missing, 72, 8, uint64_t *);
+FIELD(vault_reading, size, 80, 4, uint32_t *);
+FIELD(vault_reading, next, 88, 8, size_t *);
+FIELD(vault_reading, scan, 96, 56, vault_scan *);
+FIELD(vault_reading, body, 152, 16, vault_body *);
+FIELD(vault_reading, answer, 168, 8, uint64_t *);
+FIELD(vault_reading, count, 176, 8, uint64_t *);
+FIELD(vault_reading, length, 184, 8, size_t *);
+
+HOLDS(sizeof(vault_named) == 40 && ALIGN(vault_named) == 8);
+FIELD(vault_named, answer, 0, 8, uint64_t *);
+FIELD(vault_named, found, 8, 1, bool *);
+FIELD(vault_named, icb, 12, 24, vault_long_ad *);
+FIELD(vault_named, directory, 36, 1, bool *);
+
+HOLDS(sizeof(vault_component) == 16 && ALIGN(vault_component) == 8);
+FIELD(vault_component, at, 0, 8, size_t *);
+FIELD(vault_component, length, 8, 8, size_t *);
 
 HOLDS(RECORDS_DONE == 0);
 HOLDS(RECORDS_MALFORMED == 2);

@@ -52,7 +52,7 @@ pub const AS_WRITTEN: u32 = 1;
 /// ASCII case is ignored, and a component that two or more entries match is refused by VAULT_AMBIGUOUS.
 pub const UNAMBIGUOUS: u32 = 2;
 /// Goes up whenever a struct or a call changes.
-pub const VERSION: u32 = 7;
+pub const VERSION: u32 = 8;
 
 /// A choice for `how`: the body of each descriptor that is parsed, on opening and in every call on the volume, must
 /// have the CRC that its tag says, or the call is refused by VAULT_BAD_CRC.
@@ -154,6 +154,119 @@ structs! {
         8 block: u32,
         /// 65,536 where the descriptor names none.
         12 partition: u32,
+    }
+
+    /// What is kept of the three descriptors between sectors, each with its volume descriptor sequence number.
+    vault_kept as Kept, 124 aligned to 4 {
+        0 has_primary: bool,
+        4 primary_sequence: u32,
+        8 label: [u8; 32],
+        40 has_partition: bool,
+        44 partition_sequence: u32,
+        48 partition_number: u16,
+        52 partition_start: u32,
+        56 has_logical: bool,
+        60 logical_sequence: u32,
+        64 block_size: u32,
+        68 file_set: LongAd,
+        /// The front of the map table as recorded, its length in bytes, and how many maps it has.
+        92 map_table_length: u32,
+        96 map_count: u32,
+        100 maps: [u8; 24],
+    }
+
+    /// An opening under way.
+    vault_opening as Opening, 264 aligned to 8 {
+        /// 0: the anchor is wanted; 1: a sector of the sequence; 2: the file set descriptor; any other: it has ended.
+        0 phase: u8,
+        /// The sector that is wanted.
+        8 at: u64,
+        /// The sectors of the sequence behind it.
+        16 left: u32,
+        /// What was kept of the descriptors so far.
+        20 kept: Kept,
+        /// The answer, how many sectors were wanted and have come or couldn't, and the volume: zeros but for the count
+        /// until it has ended.
+        144 opened: Opened,
+    }
+
+    /// A place in an area.
+    vault_scan as Scan, 56 aligned to 8 {
+        /// The places of the row that hold extents.
+        0 listed: usize,
+        /// An extent of this area found no place.
+        8 full: bool,
+        /// 0: the area goes on; 1: it has ended; 2: with a continuation; any other: it is refused by 4.
+        9 closed: u8,
+        /// The bytes of the descriptor that has begun to arrive, and how many.
+        16 carried: usize,
+        24 carry: [u8; 20],
+        /// The continuation.
+        44 next_length: u32,
+        48 next_block: u32,
+        52 next_reference: u32,
+    }
+
+    /// Of a continuation that arrives in parts: what its header said, and what is yet to come of its body and of its
+    /// area.
+    vault_body as Body, 16 aligned to 4 {
+        /// The tag is good.
+        0 tagged: bool,
+        /// It is that of a header, and the area that it says fits the continuation.
+        1 headed: bool,
+        /// The tag's CRC, that of the body so far, and how many bytes of the body are yet to come.
+        2 crc: u16,
+        4 summed: u16,
+        8 body_left: u32,
+        /// How many bytes of the area are yet to come.
+        12 area_left: u32,
+    }
+
+    /// A read under way.
+    vault_reading as Reading, 192 aligned to 8 {
+        /// 0: the file entry is wanted; 1: the first sector of a continuation; 2: a further one; 3: a sector of an
+        /// extent; any other: it has ended.
+        0 phase: u8,
+        /// The sector that is wanted, and how many behind it belong to the same continuation or extent.
+        8 at: u64,
+        16 left: u32,
+        /// How the entry's descriptors are read, their kind, and how many continuations may follow.
+        20 mount: Mount,
+        68 kind: u8,
+        69 hops: u8,
+        /// How many bytes are missing of the information length.
+        72 missing: u64,
+        /// The bytes of the continuation, or those of the extent from the sector on that is wanted.
+        80 size: u32,
+        /// The place of the extent behind the one that is read.
+        88 next: usize,
+        96 scan: Scan,
+        152 body: Body,
+        /// The answer, 0 until it has ended; how many sectors were wanted and have come or couldn't; how many bytes
+        /// have arrived at the output.
+        168 answer: u64,
+        176 count: u64,
+        184 length: usize,
+    }
+
+    /// The ICB of an entry, and whether it is a directory; zeros where none has the name, or where the directory is
+    /// refused.
+    vault_named as Named, 40 aligned to 8 {
+        /// A number of the table: 0 also where none has the name.
+        0 answer: u64,
+        /// Whether an entry has the name.
+        8 found: bool,
+        12 icb: LongAd,
+        /// Whether the entry is a directory's.
+        36 directory: bool,
+    }
+
+    /// Where a component of a path stands.
+    vault_component as Component, 16 aligned to 8 {
+        /// Its place in the path.
+        0 at: usize,
+        /// Its bytes: 0 where there is none.
+        8 length: usize,
     }
 }
 
@@ -293,4 +406,67 @@ unsafe extern "C" {
         work: *mut u8,
         work_length: usize,
     ) -> Reply;
+
+    /// An opening before its first sector: as vault_open with a `how` of 0. What it comes to is `opened`, once it has
+    /// ended.
+    pub fn vault_opening_start() -> Opening;
+
+    /// Whether a sector is wanted; else the opening has ended.
+    pub fn vault_opening_is_wanting(opening: Opening) -> bool;
+
+    /// The sector that is wanted, counted from the disc's start; 0 where the opening has ended.
+    pub fn vault_opening_wants(opening: Opening) -> u64;
+
+    /// The opening behind the sector that it wants.
+    pub fn vault_opening_step(opening: Opening, sector: *const u8, sector_length: usize) -> Opening;
+
+    /// A read before its first sector, of a file or of a directory's own bytes: as vault_read. An ICB that has no
+    /// length or no place ends it at once.
+    ///
+    /// The file's extents wait in `row`, one to a slot, which is zeroed here: lend every step the same row, untouched.
+    /// It may grow between steps, and so may the output. An extent that finds no slot ends the read with VAULT_NO_SLOT,
+    /// once its entry or continuation has come whole and is good.
+    pub fn vault_reading_start(volume: Volume, icb: LongAd, row: *mut Extent, row_slots: usize) -> Reading;
+
+    /// Whether a sector is wanted; else the read has ended.
+    pub fn vault_reading_is_wanting(reading: Reading) -> bool;
+
+    /// The sector that is wanted, counted from the disc's start; 0 where the read has ended.
+    pub fn vault_reading_wants(reading: Reading) -> u64;
+
+    /// The read behind the sector that it wants. The bytes of the file that stand in it go to `out` behind the `length`
+    /// that have arrived, as many as there is room for: a byte that finds none ends the read with VAULT_NO_ROOM.
+    /// Nothing behind them is written, and what has arrived stays after a refusal too. The whole row is zeroed as the
+    /// read ends, however it does.
+    pub fn vault_reading_step(
+        reading: Reading,
+        sector: *const u8,
+        sector_length: usize,
+        row: *mut Extent,
+        row_slots: usize,
+        out: *mut u8,
+        out_length: usize,
+    ) -> Reading;
+
+    /// Lists a directory whose bytes are at hand, as vault_list does; the count is 0. `volume` says whether the bodies
+    /// of its entries are checked, and nothing else of it is looked at.
+    pub fn vault_list_bytes(volume: Volume, bytes: *const u8, bytes_length: usize, out: *mut u8, out_length: usize) -> Reply;
+
+    /// The entry that a component of a path names in a directory whose bytes are at hand, as vault_lookup matches it.
+    /// Where none has the name the answer is VAULT_DONE and `found` is false; two or more under VAULT_UNAMBIGUOUS are
+    /// VAULT_AMBIGUOUS, and one bad entry refuses the directory. The empty component is the name of an entry without
+    /// one.
+    pub fn vault_match(
+        volume: Volume,
+        bytes: *const u8,
+        bytes_length: usize,
+        component: *const u8,
+        component_length: usize,
+        matching: u32,
+    ) -> Named;
+
+    /// Where the first component of a path from `at` on stands; its length is 0 where there is none. From 0 on, and
+    /// then each time from the end of the one before, the components come in the order in which vault_lookup takes
+    /// them.
+    pub fn vault_next_component(path: *const u8, path_length: usize, at: usize) -> Component;
 }

@@ -1,11 +1,15 @@
 -- What a call leaves, from the contract of the crate below that it passes on. Assumes nothing.
 use mathlib.Core.Path.{_≡_, refl, ap}
+use mathlib.Core.Bool.{Bool}
 use mathlib.Core.List.{List}
-use Prim.Native.Nat.{ℕ}
+use Prim.Native.Nat.{ℕ, _+_, _-_}
+use native.Mathlib.Omega.{arith}
+use lib.ListN.{length, drop}
 use Rattle.disc.specs.Counts.{reported}
 use Rattle.disc.specs.Ask.{Outcome}
 use Rattle.disc.specs.Ask.Outcome.{answered, refused}
-use Rattle.disc.specs.Ran.{Ran}
+use Rattle.disc.specs.Ran.{Ran, told}
+use Rattle.disc.specs.Places.{isChecked}
 use Rattle.disc.specs.Replies.{Replied}
 use Rattle.disc.specs.declared.refusals.Refusal.the-variants.{NoRoom}
 use Rattle.disc.specs.declared.replies.Reply.{Reply}
@@ -15,8 +19,14 @@ use Rattle.files.specs.Files.{Part}
 use Rattle.layouts.specs.Calls.{partIn, partReply, PartReplied, Listed}
 use Rattle.directories.specs.Lookups.{Sought, foundOf, failedOf, failedReply}
 use Rattle.directories.specs.declared.lookups.Found.{Found}
+use Rattle.volumes.specs.declared.openings.VolumeRecord.{VolumeRecord}
+use Rattle.listings.specs.Listings.{listing, findIn, namedOf}
+use Rattle.listings.specs.Paths.{front, slashes}
+use Rattle.listings.specs.declared.finds.Named.{Named}
+use Rattle.listings.specs.declared.matchings.Matching.{Matching}
 use Rattle.cue_stacks.specs.Stacks.{Stacked}
-use Rattle.vault.specs.Calls.{Written, written, cleared, Worked, worked, Looked, looked, Lost, lost, Parted, parted, Rowed, rowed, LostPlace, lostPlace, PartedPlace, partedPlace, AllRead, allRead}
+use Rattle.vault.specs.declared.paths.Component.{Component}
+use Rattle.vault.specs.Calls.{Written, written, cleared, Worked, worked, Looked, looked, Lost, lost, Parted, parted, Rowed, rowed, LostPlace, lostPlace, PartedPlace, partedPlace, AllRead, allRead, listsBytes, findsIn, nextComponent}
 
 pub written-is : {r : Ran (List ℕ)} {out out′ : List ℕ} {reply : Reply} → Replied NoRoom r out out′ reply → _≡_ {A = Written} (record { reply = reply; out = out′ }) (written out r)
 written-is h = rw (h .says, h .leaves)
@@ -52,3 +62,21 @@ pub all-is : (work : List ℕ) (r : Stacked) {work′ out lengths answers : List
     → _≡_ {A = Stacked} (record { reply = reply; out = out; lengths = lengths; answers = answers }) r → work′ ≡ cleared work
     → _≡_ {A = AllRead} (record { reply = reply; out = out; lengths = lengths; answers = answers; work = work′ }) (allRead work r)
 all-is work r h z = rw z (ap (allRead work) h)
+
+-- ---- bytes at hand, checked where the volume says so
+
+module _ (v : VolumeRecord) (bytes : List ℕ) {check : Bool} (h : check ≡ isChecked (v .mount)) where
+  pub bytes-listed : {out out′ : List ℕ} {reply : Reply} → Replied NoRoom (told (listing check bytes)) out out′ reply
+      → _≡_ {A = Written} (record { reply = reply; out = out′ }) (listsBytes v bytes out)
+  bytes-listed r = rw (r .says, r .leaves, h)
+
+  pub found-in : (component : List ℕ) (matching : Matching) {r : Named} → r ≡ namedOf (findIn check matching component bytes) → r ≡ findsIn v bytes component matching
+  found-in component matching e = rw (← h) e
+
+-- ---- the next component, from where it starts to where it ends
+
+pub next-is : (path : List ℕ) (at : ℕ) {from end : ℕ} → from ≡ at + slashes (drop at path) → end ≡ from + length (front (drop from path))
+    → _≡_ {A = Component} (record { at = from; length = end - from }) (nextComponent path at)
+next-is path at {from} {end} p q =
+    let k : end - from ≡ length (front (drop from path)) = omega arith in
+    rw (k, p)

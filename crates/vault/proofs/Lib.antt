@@ -16,3 +16,4 @@ pub mod Stacking
 pub mod Showing
 pub mod Growing
 pub mod Waiting
+pub mod Walking

@@ -1,14 +1,15 @@
 -- What each call leaves, as a function of what it was lent: its answer, its count, and the memory. The trees of questions are those of the crates below:
 -- RULES 1, 2 and 10.
-use Prim.Native.Nat.{ℕ}
+use Prim.Native.Nat.{ℕ, _+_}
 use mathlib.Core.List.{List}
-use lib.ListN.{length, replicate}
+use lib.ListN.{length, replicate, drop}
 use Rattle.disc.specs.Refusals.{number}
 use Rattle.disc.specs.Counts.{reported}
 use Rattle.disc.specs.Ask.{Ask, Outcome}
 use Rattle.disc.specs.Ask.Outcome.{answered, refused}
 use Rattle.disc.specs.Images.{disc}
-use Rattle.disc.specs.Ran.{Ran, ran, eachIn, each}
+use Rattle.disc.specs.Ran.{Ran, ran, told, eachIn, each}
+use Rattle.disc.specs.Places.{isChecked}
 use Rattle.disc.specs.Replies.{answerOf, replyOf, leftBy}
 use Rattle.disc.specs.declared.refusals.Refusal.the-variants.{NoRoom, NoSlot}
 use Rattle.disc.specs.declared.replies.Reply.{Reply}
@@ -22,11 +23,15 @@ use Rattle.areas.specs.declared.AllocExtent.{AllocExtent}
 use Rattle.files.specs.Files.{fileBytes, Part, filePart, fileExtents}
 use Rattle.layouts.specs.Calls.{partIn, partReply}
 use Rattle.listings.specs.declared.matchings.Matching.{Matching}
+use Rattle.listings.specs.declared.finds.Named.{Named}
+use Rattle.listings.specs.Listings.{listing as listingIn, findIn, namedOf}
+use Rattle.listings.specs.Paths.{front, slashes}
 use Rattle.directories.specs.Directories.{listingAt}
 use Rattle.directories.specs.Lookups.{Sought, seekPath, lookupOf, readPathOf, foundOf, failedOf, failedReply}
 use Rattle.directories.specs.declared.lookups.Found.{Found}
 use Rattle.cue_stacks.specs.Stacks.{Stacked, readAllOf}
 use Rattle.shows.specs.Shows.{showing as showingAt}
+use Rattle.vault.specs.declared.paths.Component.{Component}
 
 -- ---- the tree of questions of each call; `work` is how many bytes of work space there are, `matching` the choice of matching
 
@@ -184,3 +189,19 @@ rowed f row r = record { reply = replyOf NoSlot (length row) (each f r); row = l
 
 abbrev pub extents : {A : Type 0} → (AllocExtent → A) → List ℕ → VolumeRecord → LongAd → List A → Rowed A
 extents f image v icb row = rowed f row (ran (disc image) (extentListing v icb))
+
+-- ---- a directory's bytes at hand (RULES 8.2 to 8.10, 8.22 to 8.24): no sector is asked for; bodies are checked where the volume says so
+
+abbrev pub listsBytes : VolumeRecord → List ℕ → List ℕ → Written
+listsBytes v bytes out = written out (told (listingIn (isChecked (v .mount)) bytes))
+
+abbrev pub findsIn : VolumeRecord → List ℕ → List ℕ → Matching → Named
+findsIn v bytes component matching = namedOf (findIn (isChecked (v .mount)) matching component bytes)
+
+-- ---- the first component of a path from a place on (RULES 8.11): behind the slashes there, up to the next one
+
+abbrev pub componentAt : List ℕ → ℕ → ℕ
+componentAt path at = at + slashes (drop at path)
+
+abbrev pub nextComponent : List ℕ → ℕ → Component
+nextComponent path at = record { at = componentAt path at; length = length (front (drop (componentAt path at) path)) }

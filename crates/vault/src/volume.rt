@@ -2,7 +2,7 @@
 ghost use mathlib.Core.Path.{_≡_};
 ghost use Rattle.layouts.specs.Calls.{wordsOf, extentOf};
 ghost use Rattle.probes.specs.Probes.{probed};
-ghost use Rattle.vault.specs.Calls.{opens, labels, reads, lists, shows, readsPath, readsAll, finds, fails, failsAt, parts, partsAt, extents};
+ghost use Rattle.vault.specs.Calls.{opens, labels, reads, lists, shows, readsPath, readsAll, finds, fails, failsAt, parts, partsAt, extents, listsBytes, findsIn};
 use directories::listed::list_directory;
 use directories::lookups::Found;
 use disc::refusals::Refusal;
@@ -12,6 +12,8 @@ use layouts::lists::Extent;
 use layouts::lists::file_rows;
 use layouts::lists::file_words;
 use layouts::parts::file_part;
+use listings::finds::Named;
+use listings::finds::find;
 use listings::matchings::Matching;
 use records::allocations::LongAd;
 use volumes::openings::How;
@@ -185,6 +187,22 @@ impl Volume {
             answers,
             work,
         )
+    }
+
+    // The listing of a directory whose bytes are at hand, over the front of out.
+    pub fn list_bytes(self, bytes: &[u8], out: &mut [u8]) -> Reply
+        ensures { λ r. ⌜ record { reply = r; out = now (out .exit) } ≡ listsBytes (self .0) (now (bytes .entry)) (now (out .entry)) ⌝ }
+    {
+        let mount = self.0.mount;
+        listings::listing::list(mount.is_checked(), bytes, out)
+    }
+
+    // The entry that a component names among them, by a choice of matching.
+    pub fn find_in(self, bytes: &[u8], component: &[u8], matching: Matching) -> Named
+        ensures { λ r. ⌜ r ≡ findsIn (self .0) (now (bytes .entry)) (now (component .entry)) matching ⌝ }
+    {
+        let mount = self.0.mount;
+        find(mount.is_checked(), matching, bytes, component)
     }
 }
 

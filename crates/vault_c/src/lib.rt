@@ -37,6 +37,7 @@ use volumes::openings::Opened;
 use volumes::openings::refused;
 
 mod choices;
+mod steps;
 
 // ASCII case is ignored, and the first entry that matches is taken.
 pub const VAULT_CASE_IGNORED: u32 = CASE_IGNORED;
@@ -48,12 +49,12 @@ pub const VAULT_AS_WRITTEN: u32 = AS_WRITTEN;
 pub const VAULT_UNAMBIGUOUS: u32 = UNAMBIGUOUS;
 
 // Goes up whenever a struct or a call changes.
-pub const VAULT_VERSION: u32 = 7;
+pub const VAULT_VERSION: u32 = 8;
 
 // The VAULT_VERSION of the archive, which is to be that of the header.
 #[no_mangle]
 pub extern "C" fn vault_version() -> u32
-    ensures { λ r. ⌜ r ≡ 7 ⌝ }
+    ensures { λ r. ⌜ r ≡ 8 ⌝ }
 {
     VAULT_VERSION
 }

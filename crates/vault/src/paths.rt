@@ -1,0 +1,26 @@
+// A path's components, one at a time: for a caller that walks a path itself.
+ghost use mathlib.Core.Path.{_≡_};
+ghost use Rattle.vault.specs.Calls.{nextComponent};
+use listings::paths::component_end;
+use listings::paths::component_from;
+
+// Where a component of a path stands.
+#[repr(C)]
+pub struct Component {
+    // Its place in the path.
+    pub at: usize,
+    // Its bytes: 0 where there is none.
+    pub length: usize,
+}
+
+// The first component that stands at `at` or behind it. The next one is looked for from its end on.
+pub fn next_component(path: &[u8], at: usize) -> Component
+    ensures { λ r. ⌜ r ≡ nextComponent (now (path .entry)) at ⌝ }
+{
+    let from = component_from(path, at);
+    let end = component_end(path, from);
+    Component {
+        at: from,
+        length: end - from,
+    }
+}
