@@ -218,4 +218,5 @@ def main():
     udf.write_records("crates/volume_cases/data/images", (udf.record(name, flat(*one)) for name, one in CASES.items()))
 
 
-main()
+if __name__ == "__main__":
+    main()
