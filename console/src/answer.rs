@@ -63,7 +63,7 @@ impl<T: IntoIterator> IntoIterator for Answer<T> {
 #[derive(Debug, Clone, Copy, PartialEq, Eq, Hash)]
 #[non_exhaustive]
 pub enum Refusal {
-    /// 1: a sector asked for isn't wholly inside the image.
+    /// 1: a sector asked for isn't wholly inside the image, or couldn't be had from the reader.
     Io,
     /// 2: a descriptor, a name or a length is not what it must be.
     Malformed,

@@ -8,8 +8,11 @@
 //! pointer, and asks nothing of the values: a volume or an ICB may be any. The proofs take the image as standing still, which a `&[u8]`
 //! says of itself; lib.rs has what a map of a file has to see to.
 //!
-//! The calls take what they are declared to take if the archive is of the version that is declared. The three that need no volume see to that
+//! The calls take what they are declared to take if the archive is of the version that is declared. Those that need no volume see to that
 //! first, and every volume comes from one of them.
+//!
+//! Of a read that goes a sector at a time the output is lent again and again, and may have moved between two steps. Its front, which has what
+//! arrived, moves with it; a step writes behind that, and looks at nothing of it.
 //!
 //! What is lent for writing isn't initialised: it is handed over as a pointer, and only what the call says it wrote is looked at. (Of an
 //! image that changes meanwhile a call may say that it wrote bytes which it found gone when it came to copy them.)
@@ -178,4 +181,81 @@ pub fn read_all(
         answers.set_len(items);
     }
     Ok(answer)
+}
+
+/// The places of a row in which the extents of a file wait.
+pub type Row = Vec<Extent>;
+
+pub fn opening_start() -> Opening {
+    see_version();
+    // SAFETY: nothing is lent.
+    unsafe { vault_opening_start() }
+}
+
+/// The sector that is wanted; none where the opening has ended.
+pub fn opening_wants(opening: &Opening) -> Option<u64> {
+    // SAFETY: nothing is lent.
+    unsafe { vault_opening_is_wanting(*opening).then(|| vault_opening_wants(*opening)) }
+}
+
+/// No bytes say that the sector can't be had.
+pub fn opening_step(opening: Opening, sector: &[u8]) -> Opening {
+    // SAFETY: the head of this module; nothing is lent for writing.
+    unsafe { vault_opening_step(opening, sector.as_ptr(), sector.len()) }
+}
+
+/// What an opening that has ended came to.
+pub fn opening_ended(opening: &Opening) -> Result<Volume> {
+    let opened = opening.opened;
+    answered(opened.answer, opened.count, opened.volume)
+}
+
+pub fn reading_start(volume: Volume, icb: LongAd, row: &mut Row) -> Reading {
+    // SAFETY: the head of this module; the places are `row`'s own.
+    unsafe { vault_reading_start(volume, icb.to_c(), row.as_mut_ptr(), row.len()) }
+}
+
+/// The sector that is wanted; none where the read has ended.
+pub fn reading_wants(reading: &Reading) -> Option<u64> {
+    // SAFETY: nothing is lent.
+    unsafe { vault_reading_is_wanting(*reading).then(|| vault_reading_wants(*reading)) }
+}
+
+/// No bytes say that the sector can't be had. `out` holds what has arrived, and no more than `most` bytes of its room are lent.
+pub fn reading_step(mut reading: Reading, sector: &[u8], row: &mut Row, out: &mut Vec<u8>, most: usize) -> Reading {
+    reading.length = out.len();
+    let room = out.capacity().min(most);
+    // SAFETY: the head of this module; the places are `row`'s own, and `room` bytes are `out`'s own.
+    let behind = unsafe { vault_reading_step(reading, sector.as_ptr(), sector.len(), row.as_mut_ptr(), row.len(), out.as_mut_ptr(), room) };
+    // SAFETY: a step has written what it says has arrived, behind what had before; and it stays within the room that it was lent.
+    unsafe { out.set_len(behind.length) };
+    behind
+}
+
+/// What a read that has ended came to.
+pub fn reading_ended(reading: &Reading) -> Result<()> {
+    answered(reading.answer, reading.count, ())
+}
+
+pub fn list_bytes(volume: Volume, bytes: &[u8], out: &mut Vec<u8>) -> Result<()> {
+    // SAFETY: the head of this module; `room` bytes from `to` on are `out`'s own.
+    filled(out, |to, room| unsafe { vault_list_bytes(volume, bytes.as_ptr(), bytes.len(), to, room) })
+}
+
+/// The entry that a component names among a directory's bytes, with whether it is a directory; none where nothing has that name.
+pub fn find(volume: Volume, bytes: &[u8], component: &[u8], matching: Matching) -> std::result::Result<Option<(LongAd, bool)>, Refusal> {
+    let (from, length, m) = (component.as_ptr(), component.len(), matching.number());
+    // SAFETY: the head of this module; nothing is lent for writing.
+    let named = unsafe { vault_match(volume, bytes.as_ptr(), bytes.len(), from, length, m) };
+    match Refusal::of(named.answer) {
+        None => Ok(named.found.then(|| (LongAd::of_c(named.icb), named.directory))),
+        Some(why) => Err(why),
+    }
+}
+
+/// The first component of a path from `at` on, with where it ends; none where there is none.
+pub fn next_component(path: &[u8], at: usize) -> Option<(&[u8], usize)> {
+    // SAFETY: the head of this module; nothing is lent for writing.
+    let Component { at, length } = unsafe { vault_next_component(path.as_ptr(), path.len(), at) };
+    (length > 0).then(|| (named(path, at, length as u64), at + length))
 }

@@ -1,7 +1,7 @@
 //! Reads UDF discs from memory, through the proved archive of `vault_c` (include/vault.h).
 //!
 //! [`Vault`] stands over a borrowed image and has the calls of the original's `UdfDisc` under their names; README.md has the two side by
-//! side. Every answer comes with the number of sectors that were asked for, and every refusal too.
+//! side. [`Drive`] has them over a reader. Every answer comes with the number of sectors that were asked for, and every refusal too.
 //!
 //! ```
 //! # fn show() -> Vec<u8> { Vec::new() }
@@ -44,6 +44,11 @@
 //! there are paths, and of a disc that was made to do harm these may be more than can be counted: who doesn't trust a disc walks it with
 //! [`Vault::read_directory`], and stops where it is too much, as the command `vault tree` does.
 //!
+//! # Straight from a drive
+//!
+//! A disc doesn't always fit in memory. [`Drive`] takes a reader, as the original does, and asks it for one sector after another: for the sectors of the
+//! call's list, each once and in their order. Answers, counts and refusals are those of [`Vault`] on the same disc, opened without a choice.
+//!
 //! # An image that is still being copied
 //!
 //! A crew may begin before a disc is copied. Of an image that grows at its end every answer stands, and every refusal but 1:
@@ -60,7 +65,7 @@
 //! neither as it was nor as it is, with bytes in it that were never written; and [`Vault::part`] gives bytes of the image itself, which go on
 //! changing under whoever looks at them.
 //! Where the duty can't be kept, for an image that is written to in its midst or a drive that may read a sector twice, read the image into memory
-//! first, as `std::fs::read` does. A file that only grows at its end keeps it, for a map of the bytes that it has by then.
+//! first, as `std::fs::read` does, or use [`Drive`], which looks at each sector once. A file that only grows at its end keeps it, for a map of the bytes that it has by then.
 //!
 //! # Memory
 //!
@@ -75,12 +80,14 @@ compile_error!("the archive is x86-64 code for Linux");
 
 mod answer;
 mod calls;
+mod drive;
 mod how;
 mod maps;
 mod matching;
 mod records;
 mod room;
 mod sequence;
+mod source;
 mod stack;
 mod table;
 mod tree;
@@ -93,11 +100,13 @@ mod input;
 mod replays;
 
 pub use answer::{Answer, Refusal, Refused, Result};
+pub use drive::{Drive, Uncopied, Unopened};
 pub use how::How;
 pub use maps::PartitionMap;
 pub use matching::Matching;
 pub use records::{AllocExtent, DirEntry, LbAddr, LongAd, ShowEntry};
 pub use sequence::{Kind, VolumeDescriptor, volume_descriptors};
+pub use source::Missed;
 pub use stack::Item;
 pub use table::{MapForm, MapTable, map_table};
 pub use tree::Show;

@@ -7,9 +7,11 @@
 
 use crate::answer::{Answer, Result};
 use crate::calls::{self, Rows};
+use crate::drive::Drive;
 use crate::input::Input;
 use crate::matching::Matching;
 use crate::records::{LbAddr, LongAd};
+use std::io::Cursor;
 use strandlodge_sys::sparse::expand;
 use strandlodge_sys::vault::{CHECKED, Extent, Mount, Volume};
 
@@ -180,6 +182,28 @@ fn the_files_of_the_gate() {
         }
     }
     assert_eq!((expected.next(), asked), (None, 387));
+}
+
+/// The same files a sector at a time, with memory as it is needed: answer, count and bytes are the call's.
+#[test]
+fn the_files_of_the_gate_from_a_drive() {
+    let mut all = Input(include_bytes!("../../crates/file_cases/data/images"));
+    let mut seen = [0; 5];
+    while !all.0.is_empty() {
+        all.sized(2);
+        let image = all.image();
+        for _ in 0..all.number(2) {
+            let mount = all.mount();
+            let (icb, _lent, _slots) = (all.long_ad(), all.number(4), all.number(2));
+            let volume = Volume { mount, root: icb.to_c(), label: [0; 32] };
+            let mut out = room(1 << 20);
+            let read = calls::read(volume, &image, icb, &mut out).map(|answer| answer.map(|()| out));
+            assert_eq!(Drive::over(Cursor::new(&image), volume).read_file(icb), read);
+            seen[read.map_or_else(|refused| refused.number(), |_| 0) as usize] += 1;
+        }
+    }
+    assert_eq!(seen.iter().sum::<u32>(), 387);
+    assert!([0, 1, 2, 4].iter().all(|n| seen[*n] > 0), "{seen:?}");
 }
 
 /// Printable bytes as they are, and every other as \ and two digits.

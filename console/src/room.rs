@@ -16,7 +16,7 @@ pub const MOST_SHOW: usize = 256 << 20;
 pub const AT_ONCE: usize = 1024;
 
 /// What may be lent for a file of any image.
-const SOME_FILE: usize = 256 << 20;
+pub const SOME_FILE: usize = 256 << 20;
 
 /// The most for a file of this image. Only one whose extents overlap has more bytes than its disc.
 pub fn most_file(image: &[u8]) -> usize {

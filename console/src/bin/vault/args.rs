@@ -19,7 +19,6 @@ vault: look into a UDF disc. An image is a file or a drive; it is only read.
   vault probe IMAGE            whether it has a recognition sequence: yes or no
   vault check IMAGE            descriptors out of place, or with a ruined body
   vault sample FILE            writes a sample show; vault alone gives a tour
-
   --as-written    take a name on PATH byte for byte; else ASCII case is ignored
   --unambiguous   refuse a name that several entries match; else take the first
   --levels N, --limit N   of tree and ls -R: 1 to 16 levels, N entries at most
@@ -27,6 +26,7 @@ vault: look into a UDF disc. An image is a file or a drive; it is only read.
   --maps          find partitions through the volume's maps; else by number
   --checked       refuse a descriptor whose body is ruined: it has another CRC
   --copy          read it into memory first: a mapped image must stand still
+  --drive         read it sector by sector, as they are wanted, without a map
   --wait N        up to N seconds for a file of an image copied front to back
   --sectors, --   say how many sectors each call asked for; no options follow
 Status: 0 done, 1 to 12 refused by that number, 64 wrong usage, 65 check found
@@ -48,6 +48,11 @@ impl Command {
     /// One file is asked for.
     fn can_wait(&self) -> bool {
         matches!(self, Command::Ask { question: Question::Cat { .. } | Question::Get { .. }, .. })
+    }
+
+    /// It can be answered a sector at a time.
+    fn can_drive(&self) -> bool {
+        matches!(self, Command::Ask { question, .. } if !matches!(question, Question::GetAll { .. } | Question::Probe | Question::Check))
     }
 
     /// Names on a disc are asked for.
@@ -77,6 +82,8 @@ pub struct Args {
     pub sectors: bool,
     /// The image is copied, and not mapped.
     pub copy: bool,
+    /// It is read a sector at a time, and neither mapped nor copied.
+    pub drive: bool,
     /// The choices on opening.
     pub how: How,
     /// How names on a path are matched.
@@ -86,7 +93,7 @@ pub struct Args {
 }
 
 pub fn parse(given: impl IntoIterator<Item = OsString>) -> Result<Args, Failure> {
-    let (mut sectors, mut copy, mut help, mut words) = (false, false, false, Vec::new());
+    let (mut sectors, mut copy, mut drive, mut help, mut words) = (false, false, false, false, Vec::new());
     let (mut as_written, mut unambiguous) = (false, false);
     let (mut how, mut more, mut wait) = (How::default(), More::default(), None);
     let mut given = given.into_iter();
@@ -95,6 +102,7 @@ pub fn parse(given: impl IntoIterator<Item = OsString>) -> Result<Args, Failure>
             b"--" => words.extend(given.by_ref()),
             b"--sectors" => sectors = true,
             b"--copy" => copy = true,
+            b"--drive" => drive = true,
             b"--as-written" => as_written = true,
             b"--unambiguous" => unambiguous = true,
             b"--highest" => how.highest = true,
@@ -113,7 +121,7 @@ pub fn parse(given: impl IntoIterator<Item = OsString>) -> Result<Args, Failure>
         }
     }
     if help {
-        return Ok(Args { command: Command::Help, sectors, copy, how, matching: Matching::default(), wait });
+        return Ok(Args { command: Command::Help, sectors, copy, drive, how, matching: Matching::default(), wait });
     }
     let (command, matching) = (command(words, more)?, matching(as_written, unambiguous)?);
     if matching != Matching::default() && !command.has_path() {
@@ -122,7 +130,25 @@ pub fn parse(given: impl IntoIterator<Item = OsString>) -> Result<Args, Failure>
     if wait.is_some() && !command.can_wait() {
         return Err(Failure::usage("--wait is for one file: that of cat or get, without -o"));
     }
-    Ok(Args { command, sectors, copy, how, matching, wait })
+    let args = Args { command, sectors, copy, drive, how, matching, wait };
+    if drive {
+        see_drive(&args)?;
+    }
+    Ok(args)
+}
+
+/// Fails where a drive is asked for something that needs the image whole.
+fn see_drive(args: &Args) -> Result<(), Failure> {
+    if !args.command.can_drive() {
+        return Err(Failure::usage("--drive is for label, ls, tree, cat, stat, and get without -o"));
+    }
+    if args.copy || args.wait.is_some() {
+        return Err(Failure::usage("--drive reads what is there now, a sector at a time: it goes with neither --copy nor --wait"));
+    }
+    if args.how != How::default() {
+        return Err(Failure::usage("--drive opens as the original does: it goes with none of --highest, --maps and --checked"));
+    }
+    Ok(())
 }
 
 fn seconds(word: Option<OsString>) -> Result<u32, Failure> {
@@ -249,7 +275,7 @@ mod tests {
     fn options_stand_anywhere() {
         let label = |image: &str| Command::Ask { image: image.into(), question: Question::Label };
         let (how, matching, wait) = (How::default(), Matching::CaseIgnored, None);
-        let asked = |sectors, copy| Args { command: label("a"), sectors, copy, how, matching, wait };
+        let asked = |sectors, copy| Args { command: label("a"), sectors, copy, drive: false, how, matching, wait };
         assert_eq!(parsed("label a").unwrap(), asked(false, false));
         assert_eq!(parsed("--sectors label a").unwrap(), asked(true, false));
         assert_eq!(parsed("label a --sectors").unwrap(), asked(true, false));
@@ -286,6 +312,15 @@ mod tests {
         {
             assert_eq!(parsed(line).unwrap().wait, wait, "{line}");
         }
+    }
+
+    #[test]
+    fn a_drive_is_read_a_sector_at_a_time() {
+        for line in ["label a --drive", "ls --drive a", "--drive tree a b", "cat a b --drive", "get a b c --drive", "stat a --drive"] {
+            let args = parsed(line).unwrap();
+            assert!(args.drive && !args.copy, "{line}");
+        }
+        assert!(!parsed("stat a -- --drive").unwrap().drive);
     }
 
     #[test]
@@ -377,6 +412,17 @@ mod tests {
             "get a -o d b --wait 5",
             "sample a --wait 5",
             "--wait 5",
+            "--drive",
+            "--drives ls a",
+            "probe a --drive",
+            "check a --drive",
+            "sample a --drive",
+            "get a -o d b --drive",
+            "cat a b --drive --copy",
+            "cat a b --drive --wait 5",
+            "ls a --drive --highest",
+            "ls a --drive --maps",
+            "ls a --drive --checked",
         ] {
             assert_eq!(parsed(line).unwrap_err().status, crate::failure::USAGE, "{line}");
         }

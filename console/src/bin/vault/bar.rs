@@ -107,6 +107,11 @@ impl Count {
         Count { what, since: Instant::now(), on: io::stderr().is_terminal() && !io::stdout().is_terminal(), drawn: false }
     }
 
+    /// Also where standard output is a terminal, since nothing is written there.
+    pub fn alone(what: &'static str) -> Count {
+        Count { on: io::stderr().is_terminal(), ..Count::new(what) }
+    }
+
     /// There are `n`. Drawn anew each half second.
     pub fn at(&mut self, n: u64) {
         if self.on && self.since.elapsed() >= SOON {

@@ -16,7 +16,7 @@ const TERMINATOR: u16 = 8;
 pub fn check(image: &[u8], how: How, name: &str, out: &mut impl Write, log: &mut Log) -> Result<(), Failure> {
     let mut report = Report::new(out);
     volume(image, &mut report)?;
-    let vault = Disc::open(image, how, name, Matching::default(), log)?.vault;
+    let vault = Disc::open(image, how, name, Matching::default(), log)?.volume;
     let mut walk = Walk::new(image, vault, &mut report);
     walk.file_set(file_set(image, how))?;
     walk.root()?;

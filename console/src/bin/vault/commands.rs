@@ -3,7 +3,7 @@
 use crate::args::Question;
 use crate::bar::Word;
 use crate::check;
-use crate::disc::{Disc, Found};
+use crate::disc::{Disc, Found, Volume};
 use crate::failure::Failure;
 use crate::file::Target;
 use crate::log::Log;
@@ -67,13 +67,13 @@ pub fn line(out: &mut impl Write, text: &str) -> Result<(), Failure> {
 }
 
 /// A file's bytes.
-fn cat(disc: &mut Disc, path: &[u8]) -> Result<Vec<u8>, Failure> {
+fn cat(disc: &mut Disc<Vault>, path: &[u8]) -> Result<Vec<u8>, Failure> {
     let found = disc.find_file(path)?;
     disc.read(path, found.icb)
 }
 
 /// A directory's entries, or a file's own.
-fn ls(disc: &mut Disc, path: &[u8], out: &mut impl Write) -> Result<(), Failure> {
+pub fn ls<V: Volume>(disc: &mut Disc<V>, path: &[u8], out: &mut impl Write) -> Result<(), Failure> {
     let found = disc.find(path)?;
     let entries = match found.entry {
         Some(entry) if !entry.is_directory => vec![entry],
@@ -94,30 +94,32 @@ fn standing(one: &VolumeDescriptor) -> String {
 }
 
 /// What the descriptors that prevail lead to.
-fn volume(disc: &mut Disc, out: &mut impl Write) -> Result<(), Failure> {
-    let label = disc.count(b"", "label", disc.vault.label())?;
-    let (vault, root) = (disc.vault, disc.vault.root_directory_icb());
-    line(out, &format!("label    {}", shown(label.as_bytes())))?;
-    line(out, &format!("start    sector {}, partition {}", vault.partition_start_sector(), vault.partition_number()))?;
-    let place = root.location;
-    line(
-        out,
-        &format!("root     block {}, partition {}, {} bytes, type {}", place.block, place.partition_ref, root.length, root.extent_type),
-    )?;
+fn volume(disc: &mut Disc<Vault>, out: &mut impl Write) -> Result<(), Failure> {
+    let label = disc.count(b"", "label", disc.volume.label())?;
+    let vault = disc.volume;
+    say_volume(&label, vault.partition_start_sector(), vault.partition_number(), vault.root_directory_icb(), out)?;
     line(out, &format!("sectors  {}", disc.log.sectors()))
 }
 
-fn stat(disc: &mut Disc, path: &[u8], out: &mut impl Write) -> Result<(), Failure> {
+/// A volume's name, its partition and its root.
+pub fn say_volume(label: &str, start: u64, number: u16, root: LongAd, out: &mut impl Write) -> Result<(), Failure> {
+    let (place, length, kind) = (root.location, root.length, root.extent_type);
+    line(out, &format!("label    {}", shown(label.as_bytes())))?;
+    line(out, &format!("start    sector {start}, partition {number}"))?;
+    line(out, &format!("root     block {}, partition {}, {length} bytes, type {kind}", place.block, place.partition_ref))
+}
+
+fn stat(disc: &mut Disc<Vault>, path: &[u8], out: &mut impl Write) -> Result<(), Failure> {
     let found = disc.find(path)?;
-    let part = disc.count(path, "part", disc.vault.part(found.icb))?;
-    let extents = disc.count(path, "extents", disc.vault.extents(found.icb))?;
+    let part = disc.count(path, "part", disc.volume.part(found.icb))?;
+    let extents = disc.count(path, "extents", disc.volume.extents(found.icb))?;
     say_found(&found, path, out)
-        .and_then(|()| say_extents(disc.vault, found.icb, part.len(), &extents, out))
+        .and_then(|()| say_extents(disc.volume, found.icb, part.len(), &extents, out))
         .and_then(|()| writeln!(out, "sectors  {}", disc.log.sectors()))
         .map_err(Failure::output)
 }
 
-fn say_found(found: &Found, path: &[u8], out: &mut impl Write) -> io::Result<()> {
+pub fn say_found(found: &Found, path: &[u8], out: &mut impl Write) -> io::Result<()> {
     let icb = found.icb;
     writeln!(out, "path     {}", shown(path))?;
     writeln!(out, "entry    {}", found.entry.as_ref().map_or("none, this is the root".to_string(), listed))?;

@@ -55,18 +55,27 @@ impl<'a> Target<'a> {
         Ok(Target { name, place })
     }
 
-    /// Writes to a temporary name beside the file, which then takes the file's name; where that fails nothing is left behind.
     pub fn write(&self, bytes: &[u8]) -> Result<(), Failure> {
+        self.fill(|file| pieces(file, bytes).map_err(|error| self.unwritten(error)))
+    }
+
+    /// Has a temporary name beside the file written, which then takes the file's name; where that fails nothing is left behind.
+    pub fn fill(&self, write: impl FnOnce(&mut File) -> Result<(), Failure>) -> Result<(), Failure> {
         let beside = self.beside();
-        let written = File::create_new(&beside).and_then(|file| {
-            let ended = pieces(file, bytes).and_then(|()| fs::rename(&beside, &self.place));
-            if ended.is_err() {
-                // What can't be taken away either is told of by the first error.
-                let _ = fs::remove_file(&beside);
-            }
-            ended
+        let mut file = File::create_new(&beside).map_err(|error| self.unwritten(error))?;
+        let ended = write(&mut file).and_then(|()| {
+            // Before the name is taken, so that a power cut or a pulled stick leaves the old file or the new one.
+            file.sync_all().and_then(|()| fs::rename(&beside, &self.place)).map_err(|error| self.unwritten(error))
         });
-        written.map_err(|error| Failure::file(NO_OUTPUT, self.name, format!("the file can't be written: {error}")))
+        if ended.is_err() {
+            // What can't be taken away either is told of by the first error.
+            let _ = fs::remove_file(&beside);
+        }
+        ended
+    }
+
+    pub fn unwritten(&self, error: io::Error) -> Failure {
+        Failure::file(NO_OUTPUT, self.name, format!("the file can't be written: {error}"))
     }
 
     fn beside(&self) -> PathBuf {
@@ -74,7 +83,7 @@ impl<'a> Target<'a> {
     }
 }
 
-fn pieces(mut file: File, bytes: &[u8]) -> io::Result<()> {
+fn pieces(file: &mut File, bytes: &[u8]) -> io::Result<()> {
     let mut bar = Bar::new(bytes.len());
     let mut done = 0;
     for piece in bytes.chunks(PIECE) {
@@ -82,6 +91,5 @@ fn pieces(mut file: File, bytes: &[u8]) -> io::Result<()> {
         done += piece.len();
         bar.at(done);
     }
-    // Before the name is taken, so that a power cut or a pulled stick leaves the old file or the new one.
-    file.sync_all()
+    Ok(())
 }

@@ -45,13 +45,23 @@ pub fn length(name: &OsStr) -> Result<usize, Failure> {
 
 /// The file and its length.
 fn found(name: &OsStr) -> io::Result<(File, usize)> {
-    let mut file = File::open(name)?;
-    if file.metadata()?.is_dir() {
-        return Err(io::ErrorKind::IsADirectory.into());
-    }
+    let mut file = readable(name)?;
     // Where the end is: a device, such as a drive, has no length in its metadata.
     let length = usize::try_from(file.seek(SeekFrom::End(0))?).map_err(|_| io::ErrorKind::FileTooLarge)?;
     Ok((file, length))
+}
+
+fn readable(name: &OsStr) -> io::Result<File> {
+    let file = File::open(name)?;
+    if file.metadata()?.is_dir() {
+        return Err(io::ErrorKind::IsADirectory.into());
+    }
+    Ok(file)
+}
+
+/// A file or a device, of which nothing was looked at yet.
+pub fn file(name: &OsStr) -> Result<File, Failure> {
+    readable(name).map_err(|error| unopened(name, error))
 }
 
 /// A file's bytes by `pread`, in memory of this program's own.
@@ -63,7 +73,7 @@ fn copy(file: &File, length: usize) -> io::Result<Vec<u8>> {
     Ok(bytes)
 }
 
-fn unopened(name: &OsStr, error: io::Error) -> Failure {
+pub fn unopened(name: &OsStr, error: io::Error) -> Failure {
     match error.kind() {
         io::ErrorKind::NotFound => Failure::file(NO_IMAGE, name, "there is no such file"),
         io::ErrorKind::IsADirectory => Failure::file(NO_IMAGE, name, "this is a directory, and not the image of a disc"),

@@ -5,6 +5,7 @@ mod bar;
 mod check;
 mod commands;
 mod disc;
+mod drive;
 mod failure;
 mod file;
 mod image;
@@ -60,6 +61,9 @@ fn answer(args: &Args, out: &mut impl Write, log: &mut Log) -> Result<(), Failur
             }
             if let Question::GetAll { folder, .. } = question {
                 file::see_folder(folder)?;
+            }
+            if args.drive {
+                return drive::ask(question, args.matching, image, out, log);
             }
             let mut ask = |shown: &[u8], log: &mut Log| commands::ask(question, args.how, args.matching, shown, image, out, log);
             match (args.wait, question) {

@@ -12,6 +12,7 @@ use std::ffi::OsStr;
 use std::io::Write;
 use std::os::unix::ffi::OsStrExt;
 use std::path::{Path, PathBuf};
+use strandlodge::Vault;
 
 /// Files are read together up to so many bytes; a larger one is read by itself, so that no more is in memory at once than that takes.
 const TOGETHER: u64 = 64 << 20;
@@ -32,7 +33,7 @@ struct Missed {
 
 impl Missed {
     /// Tells of one. That a file can't be written is the worse status.
-    fn tell(&mut self, failure: Failure, disc: &mut Disc) {
+    fn tell(&mut self, failure: Failure, disc: &mut Disc<Vault>) {
         self.files += 1;
         self.status = self.status.max(if failure.status == NO_OUTPUT { NO_OUTPUT } else { UNREAD });
         disc.log.remarks.extend(failure.says);
@@ -41,7 +42,7 @@ impl Missed {
 
 /// Writes each file that a path gives to its own name, as the disc has it, in a folder, and prints a line for it. What can't be had is told of, and
 /// the rest goes on.
-pub fn get(disc: &mut Disc, paths: &[DiscPath], folder: &Path, image: &OsStr, out: &mut impl Write) -> Result<(), Failure> {
+pub fn get(disc: &mut Disc<Vault>, paths: &[DiscPath], folder: &Path, image: &OsStr, out: &mut impl Write) -> Result<(), Failure> {
     let (mut wanted, mut missed) = (Vec::new(), Missed::default());
     for path in paths {
         match find(disc, path, folder, image, &wanted) {
@@ -63,7 +64,7 @@ pub fn get(disc: &mut Disc, paths: &[DiscPath], folder: &Path, image: &OsStr, ou
 }
 
 /// What a path gives, and where it goes: to a name that is neither the image's nor another path's.
-fn find<'p>(disc: &mut Disc, path: &'p [u8], folder: &Path, image: &OsStr, others: &[Wanted]) -> Result<Wanted<'p>, Failure> {
+fn find<'p>(disc: &mut Disc<Vault>, path: &'p [u8], folder: &Path, image: &OsStr, others: &[Wanted]) -> Result<Wanted<'p>, Failure> {
     let found = disc.find_file(path)?;
     let name = found.entry.map(|entry| entry.name).unwrap_or_default();
     let to = folder.join(name);
@@ -73,7 +74,7 @@ fn find<'p>(disc: &mut Disc, path: &'p [u8], folder: &Path, image: &OsStr, other
         return Err(Failure::new(USAGE, format!("{}: {says}", disc.name)));
     }
     // Where that is refused, so is the read.
-    let extents = disc.log.count("extents", disc.vault.extents(found.icb)).unwrap_or_default();
+    let extents = disc.log.count("extents", disc.volume.extents(found.icb)).unwrap_or_default();
     Ok(Wanted { path, to, bytes: extents.iter().map(|extent| u64::from(extent.length)).sum() })
 }
 
@@ -88,10 +89,10 @@ fn together(files: &[Wanted]) -> usize {
 }
 
 /// Reads files together, and writes each.
-fn write(disc: &mut Disc, files: &[Wanted], missed: &mut Missed, out: &mut impl Write) -> Result<(), Failure> {
+fn write(disc: &mut Disc<Vault>, files: &[Wanted], missed: &mut Missed, out: &mut impl Write) -> Result<(), Failure> {
     let paths: Vec<&[u8]> = files.iter().map(|file| file.path).collect();
     let word = Word::new("reading");
-    let read = disc.log.count("read_all", disc.vault.read_all_as(&paths, disc.matching));
+    let read = disc.log.count("read_all", disc.volume.read_all_as(&paths, disc.matching));
     drop(word);
     for (file, item) in files.iter().zip(read.map_err(|refused| Failure::refused(disc.name, refused))?) {
         let to = file.to.as_os_str();

@@ -6,7 +6,7 @@
 
 use crate::bar::Count;
 use crate::commands::{line, listed};
-use crate::disc::Disc;
+use crate::disc::{Disc, Volume};
 use crate::failure::{Failure, STOPPED};
 use crate::names::shown;
 use crate::steps::quoted;
@@ -68,7 +68,7 @@ impl Seen {
 }
 
 /// Writes all that stands below what a path gives.
-pub fn show(disc: &mut Disc, path: &[u8], form: Form, bounds: Bounds, out: &mut impl Write) -> Result<(), Failure> {
+pub fn show<V: Volume>(disc: &mut Disc<V>, path: &[u8], form: Form, bounds: Bounds, out: &mut impl Write) -> Result<(), Failure> {
     let found = disc.find(path)?;
     if let Some(entry) = found.entry.filter(|entry| !entry.is_directory) {
         return line(out, &listed(&entry));
@@ -84,7 +84,7 @@ pub fn show(disc: &mut Disc, path: &[u8], form: Form, bounds: Bounds, out: &mut 
     if form == Form::Drawn {
         line(out, &format!("{}, {}", counted(seen.directories, "directory", "directories"), counted(seen.files, "file", "files")))?;
     }
-    too_deep(disc, &seen, bounds)
+    too_deep(disc.name, &seen, bounds)
 }
 
 fn counted(n: u64, one: &str, more: &str) -> String {
@@ -92,16 +92,16 @@ fn counted(n: u64, one: &str, more: &str) -> String {
 }
 
 /// The entries of a directory.
-fn list(disc: &Disc, path: &[u8], icb: strandlodge::LongAd, seen: &mut Seen) -> Result<Vec<DirEntry>, Failure> {
-    let answer = disc.vault.read_directory(icb);
+fn list<V: Volume>(disc: &mut Disc<V>, path: &[u8], icb: strandlodge::LongAd, seen: &mut Seen) -> Result<Vec<DirEntry>, Failure> {
+    let answer = disc.volume.read_directory(icb);
     let sectors = answer.as_ref().map_or_else(|refused| refused.sectors, |answer| answer.sectors);
     seen.sectors = seen.sectors.saturating_add(sectors);
     answer.map(|answer| answer.value).map_err(|refused| disc.refused(path, refused))
 }
 
 /// Goes over the entries of the directory at a path, each before what stands under it.
-fn walk(
-    disc: &Disc,
+fn walk<V: Volume>(
+    disc: &mut Disc<V>,
     path: &[u8],
     entries: Vec<DirEntry>,
     form: Form,
@@ -120,7 +120,7 @@ fn walk(
             continue;
         };
         if seen.entries() == bounds.entries {
-            return Err(stopped(disc, bounds));
+            return Err(stopped(disc.name, bounds));
         }
         path.truncate(level.path);
         path.extend_from_slice(entry.name.as_bytes());
@@ -164,20 +164,20 @@ fn written(form: Form, levels: &[Level], entry: &DirEntry, path: &[u8]) -> Strin
 }
 
 /// There is more than is to be shown.
-fn stopped(disc: &Disc, bounds: Bounds) -> Failure {
+fn stopped(name: &str, bounds: Bounds) -> Failure {
     let says = format!("stopped behind {}, and there are more: --limit N shows N", counted(bounds.entries, "entry", "entries"));
-    Failure::new(STOPPED, format!("{}: {says}", disc.name))
+    Failure::new(STOPPED, format!("{name}: {says}"))
 }
 
 /// What wasn't looked into, if anything.
-fn too_deep(disc: &Disc, seen: &Seen, bounds: Bounds) -> Result<(), Failure> {
+fn too_deep(name: &str, seen: &Seen, bounds: Bounds) -> Result<(), Failure> {
     if seen.deep == 0 {
         return Ok(());
     }
     let many = if seen.deep == 1 { "1 directory at level".to_string() } else { format!("{} directories at level", seen.deep) };
     let first = if seen.deep == 1 { quoted(&seen.first) } else { format!("{} the first", quoted(&seen.first)) };
     let cure = if bounds.levels < Bounds::MOST_LEVELS { format!("; --levels {} shows more", bounds.levels + 1) } else { String::new() };
-    let says = format!("{}: {many} {}, the last, not looked into: {first}", disc.name, bounds.levels);
+    let says = format!("{name}: {many} {}, the last, not looked into: {first}", bounds.levels);
     let mut failure = Failure::with_number(Refusal::TooDeep, says);
     failure.says = failure.says.map(|says| says + &cure);
     Err(failure)

@@ -1,0 +1,115 @@
+//! A reader that is asked for sectors: for each once, and for those that stand in a row together.
+
+use crate::vault::SECTOR_SIZE;
+use std::fmt;
+use std::io::{self, Read, Seek, SeekFrom};
+
+/// So many sectors are asked for together at most: 64 KiB.
+pub const TOGETHER: u64 = 32;
+
+const SECTOR: usize = SECTOR_SIZE as usize;
+
+/// A sector that a reader couldn't give.
+#[derive(Debug)]
+pub struct Missed {
+    /// The sector, counted from the disc's start.
+    pub sector: u64,
+    /// What the reader said: [`UnexpectedEof`](io::ErrorKind::UnexpectedEof) where the sector isn't wholly there.
+    pub error: io::Error,
+}
+
+/// A reader, and the sectors that came from it and were not taken yet.
+pub struct Source<R> {
+    pub reader: R,
+    /// Where the reader stands, as far as that is known.
+    stands: Option<u64>,
+    buffer: Vec<u8>,
+    /// The bytes of the buffer that were taken, and those that came.
+    taken: usize,
+    came: usize,
+    /// Why no more came, until it is told.
+    ended: Option<io::Error>,
+    /// The sector that couldn't be had, once it was wanted.
+    pub missed: Option<Missed>,
+}
+
+impl<R: Read + Seek> Source<R> {
+    pub fn new(reader: R) -> Source<R> {
+        Source { reader, stands: None, buffer: Vec::new(), taken: 0, came: 0, ended: None, missed: None }
+    }
+
+    /// Before a call: what an earlier one left is forgotten, so that each sector is asked for anew.
+    pub fn begin(&mut self) {
+        (self.taken, self.came, self.ended, self.missed) = (0, 0, None, None);
+    }
+
+    /// Whether the next sector is at hand, or is known not to be had.
+    pub fn is_full(&self) -> bool {
+        self.taken < self.came || self.ended.is_some()
+    }
+
+    /// Asks for some sectors, of which each is wanted in its turn.
+    pub fn fetch(&mut self, first: u64, sectors: u64) {
+        let length = sectors.clamp(1, TOGETHER) as usize * SECTOR;
+        if self.buffer.len() < length {
+            self.buffer.resize(length, 0);
+        }
+        let came = self.stand_at(first * SECTOR_SIZE).and_then(|()| self.fill(length));
+        (self.taken, self.came) = (0, self.came / SECTOR * SECTOR);
+        if let Err(error) = came {
+            // Where a reader stands that failed it alone knows.
+            (self.stands, self.ended) = (None, Some(error));
+        }
+    }
+
+    fn stand_at(&mut self, place: u64) -> io::Result<()> {
+        self.came = 0;
+        if self.stands != Some(place) {
+            self.stands = None;
+            self.reader.seek(SeekFrom::Start(place))?;
+            self.stands = Some(place);
+        }
+        Ok(())
+    }
+
+    /// Reads until there are so many bytes. What came before an error counts.
+    fn fill(&mut self, length: usize) -> io::Result<()> {
+        while self.came < length {
+            let room = &mut self.buffer[self.came..length];
+            match self.reader.read(room) {
+                Ok(0) => return Err(io::ErrorKind::UnexpectedEof.into()),
+                Ok(n) => self.came += n.min(room.len()),
+                Err(error) if error.kind() == io::ErrorKind::Interrupted => {}
+                Err(error) => return Err(error),
+            }
+        }
+        self.stands = self.stands.map(|place| place + length as u64);
+        Ok(())
+    }
+
+    /// The sector of this number, which is the next one: no bytes where it couldn't be had.
+    pub fn take(&mut self, number: u64) -> &[u8] {
+        let at = self.taken;
+        if at < self.came {
+            self.taken += SECTOR;
+            return &self.buffer[at..self.taken];
+        }
+        self.missed = self.ended.take().map(|error| Missed { sector: number, error });
+        &[]
+    }
+
+    /// How many bytes the reader has, where it can tell.
+    pub fn length(&mut self) -> Option<u64> {
+        self.stands = None;
+        self.reader.seek(SeekFrom::End(0)).ok()
+    }
+}
+
+impl fmt::Display for Missed {
+    fn fmt(&self, f: &mut fmt::Formatter<'_>) -> fmt::Result {
+        match self.error.kind() {
+            io::ErrorKind::UnexpectedEof => write!(f, "sector {} isn't there: the disc or image ends before it", self.sector),
+            _ => write!(f, "sector {} can't be read: {}", self.sector, self.error),
+        }
+    }
+}
