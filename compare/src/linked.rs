@@ -4,7 +4,7 @@ use crate::calls::{Call, Icb, Query, Values, Volume};
 use strandlodge_sys::vault as face;
 use strandlodge_sys::vault::*;
 
-fn lent(i: Icb) -> LongAd {
+pub fn lent(i: Icb) -> LongAd {
     LongAd {
         length: i.length,
         extent_type: i.extent_type,
@@ -13,7 +13,7 @@ fn lent(i: Icb) -> LongAd {
     }
 }
 
-fn given(l: LongAd) -> Icb {
+pub fn given(l: LongAd) -> Icb {
     Icb {
         length: l.length,
         extent_type: l.extent_type,
@@ -21,6 +21,18 @@ fn given(l: LongAd) -> Icb {
         partition: l.location.partition_ref,
         implementation_use: l.implementation_use,
     }
+}
+
+/// A volume as it is lent.
+pub fn volume(v: Volume) -> face::Volume {
+    let Volume { start, partition, checked, maps, volumes, numbers, starts, root, label } = v;
+    face::Volume { mount: Mount { start, partition, checked, maps, volumes, numbers, starts }, root: lent(root), label }
+}
+
+/// A volume as it is given.
+pub fn opened(v: face::Volume) -> Volume {
+    let face::Volume { mount: Mount { start, partition, checked, maps, volumes, numbers, starts }, root, label } = v;
+    Volume { start, partition, checked, maps, volumes, numbers, starts, root: given(root), label }
 }
 
 /// What is lent for a call; the query says how long the path, the output, the rows and the work space are. The row of an extent list is the
@@ -44,8 +56,7 @@ pub struct Lends {
 ///
 /// The header's word: lent pieces are as long as said, and don't overlap.
 pub unsafe fn make(q: &Query, lends: Lends) -> Values {
-    let Volume { start, partition, checked, maps, volumes, numbers, starts, root, label } = q.volume;
-    let v = face::Volume { mount: Mount { start, partition, checked, maps, volumes, numbers, starts }, root: lent(root), label };
+    let v = volume(q.volume);
     let Lends { image: d, image_length: n, path: p, out, work, lengths, answers, place } = lends;
     let [l, a] = q.places;
     let (icb, m, matching, mut values) = (lent(q.icb), q.path.len(), q.matching, Values::default());
@@ -55,8 +66,7 @@ pub unsafe fn make(q: &Query, lends: Lends) -> Values {
             Call::Probe => Reply { answer: vault_probe(d, n) as u64, count: 0, length: 0 },
             Call::Open => {
                 let o = vault_open(d, n, q.how);
-                let face::Volume { mount: Mount { start, partition, checked, maps, volumes, numbers, starts }, root, label } = o.volume;
-                values.volume = Volume { start, partition, checked, maps, volumes, numbers, starts, root: given(root), label };
+                values.volume = opened(o.volume);
                 Reply { answer: o.answer, count: o.count, length: 0 }
             }
             Call::Label => vault_label(d, n, q.how, out, q.room),

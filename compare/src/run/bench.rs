@@ -15,13 +15,13 @@ use std::io::Cursor;
 use std::time::Instant;
 use strandlodge_sys::vault::{AS_WRITTEN, CASE_IGNORED, DONE, HIGHEST, MAPS, NOT_BLURAY, UNAMBIGUOUS};
 
-const ROUNDS: usize = 9;
-const MIB: usize = 1 << 20;
+pub const ROUNDS: usize = 9;
+pub const MIB: usize = 1 << 20;
 
-struct Row {
-    name: String,
-    disc: Disc,
-    query: Query,
+pub struct Row {
+    pub name: String,
+    pub disc: Disc,
+    pub query: Query,
     /// What libudfread goes through.
     #[cfg_attr(not(udfread), allow(dead_code))]
     directories: Vec<Icb>,
@@ -50,7 +50,7 @@ fn entries_of(name: &str, n: usize, digits: usize, record: fn(&[u8]) -> Vec<u8>,
 }
 
 /// The same with names of eight letters, in bytes.
-fn entries(name: &str, n: usize, call: Call, work: usize) -> Row {
+pub fn entries(name: &str, n: usize, call: Call, work: usize) -> Row {
     entries_of(name, n, 8, name8, call, work)
 }
 
@@ -105,7 +105,7 @@ fn continued(d: &mut Disc, area: &[u8]) -> Vec<u8> {
 }
 
 /// A file of so many bytes in n extents of one size; descriptors that don't fit its entry stand behind one continuation.
-fn extents(name: &str, bytes: usize, n: usize) -> Row {
+pub fn extents(name: &str, bytes: usize, n: usize) -> Row {
     let mut d = Disc::new(300, 0);
     let each = bytes / n;
     // libudfread takes an extent at block 0 for one that isn't recorded.
@@ -284,7 +284,7 @@ fn rows() -> Vec<Box<dyn FnOnce() -> Row>> {
 }
 
 /// The original, so many times over.
-fn original(image: &[u8], q: &Query, times: u32) -> u64 {
+pub fn original(image: &[u8], q: &Query, times: u32) -> u64 {
     let mut disc = within::disc(Cursor::new(image), q.volume.start, q.volume.partition, long(q.volume.root));
     let path = std::str::from_utf8(&q.path).unwrap();
     let began = Instant::now();
@@ -307,9 +307,9 @@ fn original(image: &[u8], q: &Query, times: u32) -> u64 {
 }
 
 /// The middle of some times, with the least and the most, in microseconds for each call.
-struct Spread(f64, f64, f64);
+pub struct Spread(pub f64, f64, f64);
 
-fn spread(mut times: Vec<f64>) -> Spread {
+pub fn spread(mut times: Vec<f64>) -> Spread {
     times.sort_by(f64::total_cmp);
     Spread(times[times.len() / 2], times[0], times[times.len() - 1])
 }

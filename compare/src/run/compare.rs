@@ -6,10 +6,11 @@ use super::damage::damage;
 use super::disc::Disc;
 use super::expect::Expected;
 use super::ours::{Ask, Noise, Ours};
-use super::queries::{Case, Depth, cases, checked, chosen, mapped, matched, shown as shows, stacked};
+use super::queries::{Case, Depth, cases, checked, chosen, mapped, matched, shown as shows, stacked, stepped};
 use super::random::Random;
 use super::raw::{RAW_HELD, RawAsk, RawCall, RawGiven, shown};
 use super::raw_cases::{RawCase, batch};
+use super::steps::{self, StepAsk, StepCase};
 use super::tally::{PARSED, Row, Tally};
 use super::volumes::Sort;
 use super::{
@@ -60,6 +61,8 @@ pub struct Comparison {
     stacks: Random,
     /// And for whole shows.
     shows: Random,
+    /// And for what is read a sector at a time.
+    drives: Random,
 }
 
 impl Comparison {
@@ -70,7 +73,8 @@ impl Comparison {
         let maps = Random::new(seed ^ 0x6d61_7073);
         let stacks = Random::new(seed ^ 0x7374_6163);
         let whole = Random::new(seed ^ 0x7368_6f77);
-        Comparison { ours, seed, enough, tally: Tally::new(), random, matchings, bodies, maps, stacks, shows: whole }
+        let drives = Random::new(seed ^ 0x6472_6976);
+        Comparison { ours, seed, enough, tally: Tally::new(), random, matchings, bodies, maps, stacks, shows: whole, drives }
     }
 
     /// Every shape first, and then volumes at random, whole and damaged, until the time is over.
@@ -268,8 +272,51 @@ impl Comparison {
                 return;
             }
         }
+        self.steps(name, disc, asked, depth);
         self.tally.images += 1;
         self.tally.progress();
+    }
+
+    /// The opening and the reads of the image that is loaded, a sector at a time.
+    fn steps(&mut self, name: &str, disc: &Disc, asked: Asked, depth: Depth) {
+        let drives = &mut self.drives;
+        let made = catch_unwind(AssertUnwindSafe(|| {
+            let queries = stepped(drives, disc, asked, depth);
+            queries.iter().flat_map(|query| steps::groups(drives, &disc.image, query)).collect::<Vec<_>>()
+        }));
+        let Ok(groups) = made else {
+            self.keep(name, Some(disc), "the original stopped by a panic");
+            return;
+        };
+        for group in groups {
+            if let Err(e) = self.group(name, disc, group) {
+                self.keep(name, Some(disc), &format!("our side stopped: {e}"));
+                self.tally.stopped = true;
+            }
+            if self.is_over() {
+                return;
+            }
+        }
+    }
+
+    /// The cases of one query on one disc, the first with memory to spare.
+    fn group(&mut self, name: &str, disc: &Disc, mut cases: Vec<StepCase>) -> std::io::Result<()> {
+        let asks: Vec<&StepAsk> = cases.iter().map(|case| &case.ask).collect();
+        let Some(mut given) = self.ours.steps(&asks)? else {
+            return Ok(());
+        };
+        if let Some(case) = steps::sooner(&mut self.drives, &disc.image, &cases[0], &given[0]) {
+            given.extend(self.ours.steps(&[&case.ask])?.unwrap_or_default());
+            cases.push(case);
+        }
+        for (case, one) in cases.iter().zip(&given) {
+            *self.tally.stepped.entry((case.ask.query.call, one.values.answer)).or_insert(0) += 1;
+            self.tally.denied += u64::from(case.ask.denied.is_some());
+            if let Some(what) = steps::difference(case, one).or_else(|| steps::beside(&given[0], case, one)) {
+                self.keep(name, Some(disc), &format!("a sector at a time, {what}\n{}", steps::told(case, one)));
+            }
+        }
+        Ok(())
     }
 
     fn case(&mut self, name: &str, disc: &Disc, case: &Case, given: &Given) {
@@ -466,6 +513,10 @@ pub fn unreached(tally: &Tally) -> Vec<String> {
     for call in RawCall::ALL {
         let never = call.numbers().iter().filter(|n| !tally.raw.contains_key(&(*call, **n)));
         all.extend(never.map(|n| format!("{} {n}", call.name())));
+    }
+    for (call, numbers) in [(Call::Open, &[0, 1, 2, 3, 4][..]), (Call::Read, &[0, 1, 2, 4, 5, 7, BAD_CRC])] {
+        let never = numbers.iter().filter(|n| !tally.stepped.is_empty() && !tally.stepped.contains_key(&(call, **n)));
+        all.extend(never.map(|n| format!("{} a sector at a time {n}", call.name())));
     }
     if tally.mapped.contains(&0) {
         all.push("an opening through maps, and one that has another answer without".to_string());

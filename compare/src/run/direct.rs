@@ -7,6 +7,8 @@ use super::ours::{Ask, Noise, Ours, Timed};
 use super::random::Random;
 use super::raw::{RawAsk, RawGiven};
 use super::raw_direct;
+use super::stepping;
+use super::steps::{StepAsk, StepGiven};
 use std::hint::black_box;
 use std::time::Instant;
 
@@ -75,6 +77,10 @@ impl Ours for Direct {
 
     fn raws(&mut self, asks: &[&RawAsk]) -> std::io::Result<Vec<RawGiven>> {
         Ok(asks.iter().map(|a| raw_direct::answer(a)).collect())
+    }
+
+    fn steps(&mut self, asks: &[&StepAsk]) -> std::io::Result<Option<Vec<StepGiven>>> {
+        Ok(Some(asks.iter().map(|a| stepping::given(&self.image, a)).collect()))
     }
 
     fn time(&mut self, timed: Timed, times: u32) -> std::io::Result<u64> {

@@ -3,7 +3,7 @@
 //! agree.
 
 use super::calls::{Icb, Volume};
-use super::original::{ABSURD, Came, Logged, long, number};
+use super::original::{ABSURD, Came, Logged, is_denied, long, number};
 use crate::error::BlurayError;
 use crate::udf::{AdType, AllocationExtentDescriptor, DirEntry, FileEntry, FileIdentifierDescriptor, within};
 use std::cell::Cell;
@@ -49,7 +49,7 @@ impl<'a> Way<'a> {
     fn sector(&mut self, sector: u64) -> Result<&'a [u8], u64> {
         self.asked.push(sector);
         let at = sector as usize * 2048;
-        self.image.get(at..at + 2048).ok_or(1)
+        self.image.get(at..at + 2048).filter(|_| !is_denied(sector)).ok_or(1)
     }
 
     /// The start by a reference that may be none: then it is that of the file's own partition.

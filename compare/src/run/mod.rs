@@ -2,6 +2,8 @@
 
 mod aborts;
 mod bench;
+#[cfg(linked)]
+mod bench_drives;
 mod compare;
 mod damage;
 #[cfg(linked)]
@@ -31,6 +33,9 @@ mod shapes_mapped;
 mod shapes_matching;
 mod shapes_opening;
 mod shapes_prevailing;
+#[cfg(linked)]
+mod stepping;
+mod steps;
 mod stored;
 mod tally;
 #[cfg(udfread)]
@@ -49,7 +54,7 @@ use strandlodge_sys::sparse;
 use ways::Way;
 
 const USAGE: &str = "usage: compare [--seconds N] [--seed S] [--first] [--port | --port=PROGRAM]
-       compare --bench [--port | --port=PROGRAM]
+       compare --bench [--drives | --port | --port=PROGRAM]
        compare --list FOLDER
        compare --stored FOLDER
        compare --image FILE [--port | --port=PROGRAM]";
@@ -69,6 +74,8 @@ struct Options {
     port: bool,
     program: Option<String>,
     bench: bool,
+    /// Of the benchmark only what is read a sector at a time.
+    drives: bool,
     list: Option<String>,
     stored: Option<String>,
     image: Option<String>,
@@ -87,6 +94,7 @@ fn options() -> Options {
             "--first" => o.first = true,
             "--port" => o.port = true,
             "--bench" => o.bench = true,
+            "--drives" => o.drives = true,
             "--list" => o.list = Some(next()),
             "--stored" => o.stored = Some(next()),
             "--image" => o.image = Some(next()),
@@ -135,7 +143,16 @@ pub fn main() {
     }
     if o.bench {
         let emulated = std::env::consts::ARCH != "x86_64" && o.program.is_none();
-        return bench::run(ways::ours(way).as_mut(), emulated).expect("our side answers");
+        #[cfg(linked)]
+        let is_linked = matches!(way, Way::Best);
+        if !o.drives {
+            bench::run(ways::ours(way).as_mut(), emulated).expect("our side answers");
+        }
+        #[cfg(linked)]
+        if is_linked {
+            bench_drives::run().expect("a file can be written");
+        }
+        return;
     }
     let (seconds, seed) = (o.seconds.unwrap_or(60), o.seed.unwrap_or(1));
     let enough = if o.first { 1 } else { 8 };

@@ -5,11 +5,30 @@ use super::mapped::Mapped;
 use super::records::seal;
 use crate::error::BlurayError;
 use crate::udf::{AdType, AllocExtent, DirEntry, FileEntry, LbAddr, LongAd, UdfDisc, probe_vrs, within};
+use std::cell::Cell;
 use std::io::{Error, ErrorKind, Read, Result, Seek, SeekFrom};
 use strandlodge_sys::vault::BAD_CRC;
 
 /// An information length above this makes the original ask for as much memory before it reads a byte. No image here holds so much.
 pub const ABSURD: u64 = 1 << 30;
+
+thread_local! {
+    /// The sector that can't be read.
+    static DENIED: Cell<Option<u64>> = const { Cell::new(None) };
+}
+
+/// What is asked of an image of which a sector can't be read.
+pub fn denying<T>(sector: Option<u64>, ask: impl FnOnce() -> T) -> T {
+    DENIED.set(sector);
+    let came = ask();
+    DENIED.set(None);
+    came
+}
+
+/// Whether a sector can't be read.
+pub fn is_denied(sector: u64) -> bool {
+    DENIED.get() == Some(sector)
+}
 
 /// A reader of an image that logs each sector that is sought.
 pub struct Logged<'a> {
@@ -36,6 +55,9 @@ impl Read for Logged<'_> {
         let Some(end) = end else {
             return Err(Error::from(ErrorKind::UnexpectedEof));
         };
+        if is_denied(self.at / 2048) {
+            return Err(Error::other("denied"));
+        }
         to.copy_from_slice(&self.image[self.at as usize..end as usize]);
         self.at = end;
         if std::mem::take(&mut self.lowered) {

@@ -2,6 +2,7 @@
 
 use super::calls::{Given, Query};
 use super::raw::{RawAsk, RawGiven};
+use super::steps::{StepAsk, StepGiven};
 
 /// What stands in the sectors that a call must not look at.
 #[derive(Clone, Copy)]
@@ -37,6 +38,9 @@ pub trait Ours {
 
     /// The same for calls on raw records.
     fn raws(&mut self, asks: &[&RawAsk]) -> std::io::Result<Vec<RawGiven>>;
+
+    /// The same for openings and reads a sector at a time, where this way has them.
+    fn steps(&mut self, asks: &[&StepAsk]) -> std::io::Result<Option<Vec<StepGiven>>>;
 
     /// The nanoseconds that a query takes, so many times over, with memory that is warm; with no query, a copy of so many bytes.
     fn time(&mut self, timed: Timed, times: u32) -> std::io::Result<u64>;

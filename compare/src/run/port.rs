@@ -3,6 +3,7 @@
 use super::calls::{Call, Given, Query, Values, Volume};
 use super::ours::{Ask, Noise, Ours, Timed};
 use super::raw::{RawAsk, RawGiven};
+use super::steps::{StepAsk, StepGiven};
 use super::{sparse, wire};
 use std::io::{BufReader, Result, Write};
 use std::path::Path;
@@ -125,6 +126,11 @@ impl Ours for Port {
         }
         self.send()?;
         asks.iter().map(|_| self.raw_given()).collect()
+    }
+
+    /// They need the archive linked in.
+    fn steps(&mut self, _: &[&StepAsk]) -> Result<Option<Vec<StepGiven>>> {
+        Ok(None)
     }
 
     fn time(&mut self, timed: Timed, times: u32) -> Result<u64> {

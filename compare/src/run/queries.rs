@@ -255,6 +255,18 @@ pub fn mapped(random: &mut Random, disc: &Disc, depth: Depth) -> Vec<Case> {
     queries.iter().flat_map(|q| sized(random, disc, q, depth)).collect()
 }
 
+/// What is asked a sector at a time: the old opening, and reads on a volume as it is asked about.
+pub fn stepped(random: &mut Random, disc: &Disc, asked: Asked, depth: Depth) -> Vec<Query> {
+    let says = *random.pick(&SAYS);
+    let v = match asked {
+        Asked::Unchecked => volume(random, disc, depth),
+        Asked::Checked => Volume { checked: says, ..volume(random, disc, depth) },
+        Asked::Mapped => Volume { checked: if says == 1 { 0 } else { says }, ..mapped_volume(random, disc, depth) },
+    };
+    let reads = icbs(random, disc, v, depth).into_iter().map(|icb| Query::on(Call::Read, v, icb));
+    [Query::of(Call::Open, Volume::default())].into_iter().chain(reads).collect()
+}
+
 /// A path with some of its letters in the other case.
 fn recased(random: &mut Random, path: &[u8]) -> Vec<u8> {
     let seldom = *random.pick(&[1, 2, 8]);

@@ -75,6 +75,9 @@ pub struct Tally {
     /// The paths of lists, by their answers.
     pub items: BTreeMap<(Row, u64), u64>,
     pub raw: BTreeMap<(RawCall, u64), u64>,
+    /// Openings and reads a sector at a time, by their answers; and of these, how many with a sector that couldn't be had.
+    pub stepped: BTreeMap<(Call, u64), u64>,
+    pub denied: u64,
     pub in_noise: u64,
     pub mismatches: u64,
     /// Our side came to an end by itself.
@@ -101,6 +104,8 @@ impl Tally {
             asked: BTreeMap::new(),
             items: BTreeMap::new(),
             raw: BTreeMap::new(),
+            stepped: BTreeMap::new(),
+            denied: 0,
             in_noise: 0,
             mismatches: 0,
             stopped: false,
@@ -165,11 +170,15 @@ impl fmt::Display for Tally {
                 row(f, &kind.items(), |n| self.items.get(&(kind, n)).copied().unwrap_or(0))?;
             }
         }
+        for call in [Call::Open, Call::Read] {
+            row(f, &format!("{}, by sectors", call.name()), |n| self.stepped.get(&(call, n)).copied().unwrap_or(0))?;
+        }
         for call in RawCall::ALL {
             row(f, call.name(), |n| self.raw.get(&(*call, n)).copied().unwrap_or(0))?;
         }
         let (images, queries, in_noise, raws) = (self.images, self.queries(), self.in_noise, self.raws());
         writeln!(f, "images {images}, queries {queries}, again in noise {in_noise}, raw records {raws}, seconds {}", self.seconds())?;
+        writeln!(f, "by sectors {}, with one denied {}", self.stepped.values().sum::<u64>(), self.denied)?;
         let ends: Vec<String> = self.ends.iter().map(|(k, n)| format!("{n} {k}")).collect();
         writeln!(f, "absurd information lengths {}; of these the original, in a process of its own: {}", self.absurd, ends.join(", "))?;
         let [queries, raws] = self.by_the_rule;
