@@ -13,11 +13,15 @@
  *                                                                               nanoseconds (8); call 12 copies `room` bytes,
  *                                                                               and 13 reads each path of a list by itself, or
  *                                                                               lists each directory of a show by itself
+ *   'S' a query as behind 'Q', slots (4), steps at most (4),                    an opening or a read of the image, a sector at a
+ *       whether a sector is denied (1), which (8), length of a slice (4)        time; the slice says that a sector can't be had
  *   'R' call (1), salt (1), room (4), length (4), bytes                         a call on a raw record
  *   'F'                                                                         the answers to all queries so far are written
  *
  *   an answer: answer (8), count (8), length (8), place (8), volume (95), ICB (17), state (1), written length (4), written bytes,
  *       paths of a list (4), the length (8) and the answer (4) of each
+ *   an answer to 'S': answer (8), count (8), length (8), volume (95), state (1), written length (4), written bytes, steps (4), the sector (8)
+ *       and the bytes that have arrived (8) of each
  *   an answer to 'R': state (1), length (4), bytes
  *
  * An ICB is length (4), type (1), block (4), partition (2), implementation use (6); a volume is start (4), partition (2), checked (4), maps (4),
@@ -27,6 +31,9 @@
  * A lent buffer comes full of a pattern that tells where each byte stands, with GUARD bytes of it in front and behind. The state has a
  * bit for each thing that held: 1 the guards of the output, 2 its bytes behind the answer (all of them, if refused), 4 the guards of the
  * work space, 8 the work space all zero, 16 the guards of the rows, 32 their places behind the answer. The written bytes are the front of the output, as many as the reply's length says.
+ *
+ * Behind 'S' the state's bits are 1 the guards of the output, 2 its bytes behind what arrived, 4 the guards of the row, 8 the row all zero, 16 that
+ * a step behind the end changed nothing.
  *
  * A raw record is every field of it in order. What is parsed comes as bytes, and the answer is the number (8) and the record; what is
  * encoded comes as the record, and the answer is bytes; a name comes as bytes, and the answer is the number (8), the length (8) and the
@@ -438,6 +445,107 @@ static void answer(void) {
     }
 }
 
+/* ---- a sector at a time */
+
+typedef struct {
+    uint32_t slots, most, wrong;
+    bool denies;
+    uint64_t denied;
+} walk;
+
+static buffer wanted;
+
+/* Where a sector stands, and its length; another length where it can't be had. */
+static size_t sector_at(const walk *w, uint64_t number, const uint8_t **from) {
+    static const uint8_t wrong[2 * SECTOR];
+    bool there = number < image.length / SECTOR && !(w->denies && number == w->denied);
+    *from = there ? image.at + number * SECTOR : wrong;
+    return there ? SECTOR : w->wrong;
+}
+
+static void note(uint64_t number, uint64_t arrived) {
+    uint64_t both[2] = {number, arrived};
+    grow(&wanted, wanted.length + sizeof both);
+    memcpy(wanted.at + wanted.length, both, sizeof both);
+    wanted.length += sizeof both;
+}
+
+static bool same_opening(vault_opening a, vault_opening b) {
+    return a.phase == b.phase && a.at == b.at && a.left == b.left && a.opened.answer == b.opened.answer && a.opened.count == b.opened.count;
+}
+
+static outcome open_by_steps(const walk *w, uint8_t *held) {
+    vault_opening s = vault_opening_start();
+    const uint8_t *from;
+    for (uint32_t i = 0; i < w->most && vault_opening_is_wanting(s); i++) {
+        uint64_t number = vault_opening_wants(s);
+        size_t n = sector_at(w, number, &from);
+        s = vault_opening_step(s, from, n);
+        note(number, 0);
+    }
+    size_t n = sector_at(w, 0, &from);
+    bool stays = same_opening(s, vault_opening_step(s, from, n)) && same_opening(s, vault_opening_step(s, from, 0));
+    *held = 15 | (uint8_t)(stays << 4);
+    outcome o;
+    memset(&o, 0, sizeof o);
+    o.answer = s.opened.answer;
+    o.count = s.opened.count;
+    o.volume = s.opened.volume;
+    return o;
+}
+
+static bool same_reading(vault_reading a, vault_reading b) {
+    return a.phase == b.phase && a.at == b.at && a.left == b.left && a.missing == b.missing && a.scan.listed == b.scan.listed &&
+           a.answer == b.answer && a.count == b.count && a.length == b.length;
+}
+
+static outcome read_by_steps(const query *q, const walk *w, uint8_t *out, uint8_t *held) {
+    vault_extent *row = (vault_extent *)(void *)lend(&lent_work, w->slots * sizeof(vault_extent), q->salt);
+    vault_reading s = vault_reading_start(q->volume, q->icb, row, w->slots);
+    const uint8_t *from;
+    for (uint32_t i = 0; i < w->most && vault_reading_is_wanting(s); i++) {
+        uint64_t number = vault_reading_wants(s);
+        size_t n = sector_at(w, number, &from);
+        s = vault_reading_step(s, from, n, row, w->slots, out, q->room);
+        note(number, s.length);
+    }
+    size_t n = sector_at(w, 0, &from);
+    bool stays = same_reading(s, vault_reading_step(s, from, n, row, w->slots, out, q->room)) &&
+                 same_reading(s, vault_reading_step(s, from, 0, row, w->slots, out, q->room));
+    outcome o;
+    memset(&o, 0, sizeof o);
+    o.answer = s.answer;
+    o.count = s.count;
+    o.length = s.length;
+    *held = (state(q, s.length < q->room ? s.length : q->room, 0) & 15) | (uint8_t)(stays << 4);
+    return o;
+}
+
+static void answer_steps(void) {
+    query q = take_query();
+    walk w;
+    w.slots = (uint32_t)take_number(4);
+    w.most = (uint32_t)take_number(4);
+    w.denies = take_number(1);
+    w.denied = take_number(8);
+    w.wrong = (uint32_t)take_number(4);
+    if (w.wrong > 2 * SECTOR) exit(6);
+    uint8_t *out = lend(&lent_out, q.room, q.salt), held = 0;
+    lend_rows(&q);
+    wanted.length = 0;
+    outcome o = q.call == OPEN ? open_by_steps(&w, &held) : read_by_steps(&q, &w, out, &held);
+    size_t n = o.length < q.room ? o.length : q.room;
+    give_number(o.answer, 8);
+    give_number(o.count, 8);
+    give_number(o.length, 8);
+    give_volume(o.volume);
+    give_number(held, 1);
+    give_number(n, 4);
+    give(out, n);
+    give_number(wanted.length / 16, 4);
+    give(wanted.at, wanted.length);
+}
+
 /* ---- the raw records */
 
 typedef struct {
@@ -631,6 +739,7 @@ int main(void) {
         switch (what) {
         case 'I': load_image(); break;
         case 'Q': answer(); break;
+        case 'S': answer_steps(); break;
         case 'R': answer_raw(); break;
         case 'T': time_query(); break;
         case 'F': flush(); break;

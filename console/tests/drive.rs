@@ -252,7 +252,7 @@ fn a_reader_that_fails_at_each_place() {
     let mut good = Drive::open(Watched::of(&image)).unwrap();
     good.read_file(icb).unwrap();
     let (list, opened) = (&good.get_ref().gave, vault.sectors as usize);
-    for place in 0..list.len() {
+    for (place, sector) in list.iter().copied().enumerate() {
         let reader = Watched { bad: Some(place), ..Watched::of(&image) };
         let mut drive = match Drive::open(reader) {
             Ok(drive) => drive.value,
@@ -260,8 +260,8 @@ fn a_reader_that_fails_at_each_place() {
                 assert!(place < opened);
                 assert_eq!((unopened.refused.why, unopened.refused.sectors), (Refusal::Io, place as u64 + 1));
                 let missed = unopened.missed.as_ref().unwrap();
-                assert_eq!((missed.sector, missed.error.to_string().as_str()), (list[place], "a scratch"));
-                assert_eq!(unopened.to_string(), format!("sector {} can't be read: a scratch", list[place]));
+                assert_eq!((missed.sector, missed.error.to_string().as_str()), (sector, "a scratch"));
+                assert_eq!(unopened.to_string(), format!("sector {sector} can't be read: a scratch"));
                 continue;
             }
         };
@@ -272,7 +272,7 @@ fn a_reader_that_fails_at_each_place() {
         };
         assert_eq!((refused.why, refused.sectors), (Refusal::Io, (place - opened) as u64 + 1));
         let missed = drive.missed().unwrap();
-        assert_eq!((missed.sector, missed.error.to_string().as_str()), (list[place], "a scratch"));
+        assert_eq!((missed.sector, missed.error.to_string().as_str()), (sector, "a scratch"));
         // What had arrived is the front of the file.
         assert!(read.starts_with(&to), "{place}");
         let again = drive.read_file(icb);

@@ -214,7 +214,8 @@ fn volumes_answer_every_show() {
         all.sized(2);
         let image = expand(all.sized(4)).unwrap();
         let vaults = [false, true].map(|checked| Vault::open_as(&image, How { checked, ..How::default() }));
-        (expected.next(), expected.next());
+        expected.next();
+        expected.next();
         let mut queries = Input(all.sized(4));
         while !queries.0.is_empty() {
             let [levels, room, _work, checked] = [(); 4].map(|()| queries.number(4));
@@ -263,7 +264,8 @@ fn volumes_answer_every_list() {
         all.sized(2);
         let image = expand(all.sized(4)).unwrap();
         let vault = Vault::open(&image).unwrap();
-        (expected.next(), expected.next());
+        expected.next();
+        expected.next();
         let mut queries = Input(all.sized(4));
         while !queries.0.is_empty() {
             let matching = [Matching::CaseIgnored, Matching::AsWritten, Matching::Unambiguous][queries.number(4).min(2)];

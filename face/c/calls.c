@@ -213,7 +213,7 @@ static void extents(vault_volume v, vault_long_ad icb) {
 /* The bytes of a sector that is wanted, or none of them. */
 static size_t lent(bool denied) { return denied ? 0 : SECTOR; }
 
-/* The sectors that an opening wants, in order, up to one that is denied: the answer is vault_open's, or VAULT_IO with those so far. A step more changes nothing. */
+/* The sectors that an opening wants, in order, up to one that is denied: the answer is vault_open's, or VAULT_IO with those so far. */
 static void stepped_open(void) {
     static const uint64_t wanted[] = {256, 32, 33, 34, 35, START + 2};
     vault_opened whole = vault_open(image, IMAGE, 0);
@@ -235,7 +235,7 @@ static void stepped_open(void) {
     }
 }
 
-/* A read of n sectors, the last of which may be denied, into so many slots and bytes. The row and the work space are zeroed at its start and its end. */
+/* A read of n sectors, the last of which may be denied, into so many slots and bytes. The row is zeroed at its start and its end. */
 static vault_reading stepped(vault_volume v, vault_long_ad icb, const uint32_t *wanted, size_t n, bool denied, size_t slots, size_t room) {
     lend();
     vault_reading r = vault_reading_start(v, icb, row, slots);

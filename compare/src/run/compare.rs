@@ -302,11 +302,9 @@ impl Comparison {
     /// The cases of one query on one disc, the first with memory to spare.
     fn group(&mut self, name: &str, disc: &Disc, mut cases: Vec<StepCase>) -> std::io::Result<()> {
         let asks: Vec<&StepAsk> = cases.iter().map(|case| &case.ask).collect();
-        let Some(mut given) = self.ours.steps(&asks)? else {
-            return Ok(());
-        };
-        if let Some(case) = steps::sooner(&mut self.drives, &disc.image, &cases[0], &given[0]) {
-            given.extend(self.ours.steps(&[&case.ask])?.unwrap_or_default());
+        let mut given = self.ours.steps(&asks)?;
+        if let Some(case) = steps::sooner(&mut self.drives, &cases[0], &given[0]) {
+            given.extend(self.ours.steps(&[&case.ask])?);
             cases.push(case);
         }
         for (case, one) in cases.iter().zip(&given) {
@@ -515,7 +513,7 @@ pub fn unreached(tally: &Tally) -> Vec<String> {
         all.extend(never.map(|n| format!("{} {n}", call.name())));
     }
     for (call, numbers) in [(Call::Open, &[0, 1, 2, 3, 4][..]), (Call::Read, &[0, 1, 2, 4, 5, 7, BAD_CRC])] {
-        let never = numbers.iter().filter(|n| !tally.stepped.is_empty() && !tally.stepped.contains_key(&(call, **n)));
+        let never = numbers.iter().filter(|n| !tally.stepped.contains_key(&(call, **n)));
         all.extend(never.map(|n| format!("{} a sector at a time {n}", call.name())));
     }
     if tally.mapped.contains(&0) {

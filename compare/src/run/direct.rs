@@ -79,8 +79,8 @@ impl Ours for Direct {
         Ok(asks.iter().map(|a| raw_direct::answer(a)).collect())
     }
 
-    fn steps(&mut self, asks: &[&StepAsk]) -> std::io::Result<Option<Vec<StepGiven>>> {
-        Ok(Some(asks.iter().map(|a| stepping::given(&self.image, a)).collect()))
+    fn steps(&mut self, asks: &[&StepAsk]) -> std::io::Result<Vec<StepGiven>> {
+        Ok(asks.iter().map(|a| stepping::given(&self.image, a)).collect())
     }
 
     fn time(&mut self, timed: Timed, times: u32) -> std::io::Result<u64> {

@@ -39,8 +39,8 @@ pub trait Ours {
     /// The same for calls on raw records.
     fn raws(&mut self, asks: &[&RawAsk]) -> std::io::Result<Vec<RawGiven>>;
 
-    /// The same for openings and reads a sector at a time, where this way has them.
-    fn steps(&mut self, asks: &[&StepAsk]) -> std::io::Result<Option<Vec<StepGiven>>>;
+    /// The same for openings and reads a sector at a time.
+    fn steps(&mut self, asks: &[&StepAsk]) -> std::io::Result<Vec<StepGiven>>;
 
     /// The nanoseconds that a query takes, so many times over, with memory that is warm; with no query, a copy of so many bytes.
     fn time(&mut self, timed: Timed, times: u32) -> std::io::Result<u64>;

@@ -68,6 +68,20 @@ impl Port {
         Ok(RawGiven { said: wire::bytes(&mut self.from, n)?, held })
     }
 
+    fn step_given(&mut self) -> Result<StepGiven> {
+        let from = &mut self.from;
+        let (answer, count, length) = (wire::number(from, 8)?, wire::number(from, 8)?, wire::number(from, 8)?);
+        let values = Values { answer, count, length, volume: wire::volume(from)?, ..Values::default() };
+        let mut given = StepGiven { values, held: wire::number(from, 1)? as u8, ..StepGiven::default() };
+        let n = wire::number(from, 4)? as usize;
+        given.values.written = wire::bytes(from, n)?;
+        for _ in 0..wire::number(from, 4)? {
+            given.wanted.push(wire::number(from, 8)?);
+            given.arrived.push(wire::number(from, 8)?);
+        }
+        Ok(given)
+    }
+
     fn put_query(&mut self, call: u8, ask: &Ask) {
         let to = &mut self.requests;
         wire::put(to, call as u64, 1);
@@ -128,9 +142,19 @@ impl Ours for Port {
         asks.iter().map(|_| self.raw_given()).collect()
     }
 
-    /// They need the archive linked in.
-    fn steps(&mut self, _: &[&StepAsk]) -> Result<Option<Vec<StepGiven>>> {
-        Ok(None)
+    fn steps(&mut self, asks: &[&StepAsk]) -> Result<Vec<StepGiven>> {
+        for ask in asks {
+            wire::put(&mut self.requests, b'S' as u64, 1);
+            self.put_query(ask.query.call as u8, &Ask { query: &ask.query, kept: None, salt: ask.salt });
+            let to = &mut self.requests;
+            wire::put(to, ask.slots as u64, 4);
+            wire::put(to, ask.most as u64, 4);
+            wire::put(to, ask.denied.is_some() as u64, 1);
+            wire::put(to, ask.denied.unwrap_or(0), 8);
+            wire::put(to, ask.wrong as u64, 4);
+        }
+        self.send()?;
+        asks.iter().map(|_| self.step_given()).collect()
     }
 
     fn time(&mut self, timed: Timed, times: u32) -> Result<u64> {

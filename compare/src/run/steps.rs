@@ -7,6 +7,8 @@ use super::calls::{Call, Query, Values};
 use super::expect::{Expected, expected};
 use super::original::denying;
 use super::random::Random;
+use crate::udf::{AllocationExtentDescriptor, FileEntry, within};
+use std::rc::Rc;
 use strandlodge_sys::vault::{NO_ROOM, NO_SLOT};
 
 /// An opening or a read by steps. The query's room is what is lent of the output.
@@ -42,13 +44,15 @@ pub struct StepGiven {
 pub enum Wanted {
     /// The original's list, answer and output.
     All,
-    /// This answer behind a front of the list.
-    Front(u64),
+    /// 7 behind so many sectors of the list, and no byte.
+    NoSlot(usize),
+    /// 5 behind a front of the list, with as many bytes as there is room for.
+    NoRoom,
 }
 
 pub struct StepCase {
     pub ask: StepAsk,
-    pub expected: Expected,
+    pub expected: Rc<Expected>,
     pub wanted: Wanted,
 }
 
@@ -74,33 +78,57 @@ pub fn groups(random: &mut Random, image: &[u8], q: &Query) -> Vec<Vec<StepCase>
     denials(random, &list).into_iter().map(|denied| cases(random, image, q, denied)).collect()
 }
 
+/// Behind how many sectors of a chain, whose list the original gave, an extent has no place in a row of so many: behind the entry or the continuation that
+/// names it, where that is accepted.
+fn full_behind(image: &[u8], q: &Query, list: &[u64], denied: Option<u64>, slots: usize) -> Option<usize> {
+    let bytes = |sectors: &[u64]| {
+        let there = |s: &u64| image.get(*s as usize * 2048..).and_then(|rest| rest.get(..2048)).filter(|_| denied != Some(*s));
+        Some(sectors.iter().map(there).collect::<Option<Vec<_>>>()?.concat())
+    };
+    let walked = || {
+        let mut entry = FileEntry::parse(&bytes(list.get(..1)?)?).ok()?;
+        let mut behind = 1;
+        while entry.extents().len() <= slots {
+            let next = entry.continuation.take()?;
+            let end = behind + (next.length as usize).div_ceil(2048);
+            let whole = bytes(list.get(behind..end)?)?;
+            let header = AllocationExtentDescriptor::parse(&whole).ok()?;
+            let area = whole[..next.length as usize].get(24..)?.get(..header.length_of_allocation_descriptors as usize)?;
+            within::area(&mut entry, area).ok()?;
+            behind = end;
+        }
+        Some(behind)
+    };
+    within::checked(q.is_checked(), walked).0
+}
+
 /// With memory to spare; and for a read with exactly enough, and too little.
 fn cases(random: &mut Random, image: &[u8], q: &Query, denied: Option<u64>) -> Vec<StepCase> {
     let of = |q: &Query| denying(denied, || expected(image, q));
     let extents = Query { call: Call::Extents, ..q.clone() };
     let chain = if q.call == Call::Read { of(&extents) } else { of(q) };
-    let e = of(q);
-    // No sector of the chain has more extents, and no other more bytes.
-    let (slots, room) = (257 * chain.sectors.len(), 2048 * e.sectors.len());
+    let e = Rc::new(of(q));
+    // Of one that is refused it isn't known; but no sector of the chain has more extents, and no other more bytes.
+    let slots = if chain.values.answer == 0 { chain.full } else { 257 * chain.sectors.len() };
+    let room = if e.values.answer == 0 { e.full } else { 2048 * e.sectors.len() };
     let mut sizes = vec![(slots + random.below(3), room + random.below(80), Wanted::All)];
-    if q.call == Call::Read && chain.values.answer == 0 {
-        sizes.push((chain.full, room, Wanted::All));
-        if chain.full > 0 {
-            sizes.push((chain.full - 1, room, Wanted::Front(NO_SLOT)));
-            sizes.push((random.below(chain.full), 0, Wanted::Front(NO_SLOT)));
+    if q.call == Call::Read {
+        for places in [chain.full, chain.full.saturating_sub(1), random.below(chain.full + 8), 0] {
+            let full = full_behind(image, q, &chain.sectors, denied, places);
+            sizes.push((places, room, full.map_or(Wanted::All, Wanted::NoSlot)));
         }
     }
     if q.call == Call::Read && e.values.answer == 0 {
         sizes.push((chain.full, e.full, Wanted::All));
         if e.full > 0 {
-            sizes.push((chain.full, e.full - 1, Wanted::Front(NO_ROOM)));
-            sizes.push((slots, random.below(e.full), Wanted::Front(NO_ROOM)));
+            sizes.push((chain.full, e.full - 1, Wanted::NoRoom));
+            sizes.push((slots, random.below(e.full), Wanted::NoRoom));
         }
     }
     let most = e.sectors.len() + 2;
     let case = |(slots, room, wanted)| {
         let ask = StepAsk { query: q.with(room, 0), slots, denied, wrong: wrong(random), salt: random.next() as u8, most };
-        StepCase { ask, expected: of(q), wanted }
+        StepCase { ask, expected: e.clone(), wanted }
     };
     sizes.into_iter().map(case).collect()
 }
@@ -120,11 +148,13 @@ pub fn difference(case: &StepCase, given: &StepGiven) -> Option<String> {
         Wanted::All if got.answer != e.values.answer => told("another answer"),
         Wanted::All if got.volume != e.values.volume => told("another volume"),
         Wanted::All if got.answer == 0 && got.written != e.values.written => told("other bytes"),
-        Wanted::Front(answer) if got.answer != answer => told(&format!("not {answer}")),
-        Wanted::Front(_) if !e.sectors.starts_with(&given.wanted) => told("no front of the list"),
-        Wanted::Front(NO_ROOM) if got.length != case.ask.query.room as u64 => told(&format!("{} bytes", got.length)),
-        Wanted::Front(NO_ROOM) if e.values.answer == 0 && !e.values.written.starts_with(&got.written) => told("other bytes"),
-        Wanted::Front(NO_SLOT) if got.length != 0 => told("bytes before the chain has ended"),
+        Wanted::All => None,
+        _ if !e.sectors.starts_with(&given.wanted) => told("no front of the list"),
+        Wanted::NoSlot(behind) if (got.answer, given.wanted.len()) != (NO_SLOT, behind) => told(&format!("not 7 behind {behind}")),
+        Wanted::NoSlot(_) if got.length != 0 => told("bytes before the chain has ended"),
+        Wanted::NoRoom if got.answer != NO_ROOM => told("not 5"),
+        Wanted::NoRoom if got.length != case.ask.query.room as u64 => told(&format!("{} bytes", got.length)),
+        Wanted::NoRoom if e.values.answer == 0 && !e.values.written.starts_with(&got.written) => told("other bytes"),
         _ => None,
     }
 }
@@ -143,14 +173,13 @@ pub fn beside(spare: &StepGiven, case: &StepCase, given: &StepGiven) -> Option<S
 }
 
 /// A refused read with less room than the bytes that had arrived by then: 5 comes first.
-pub fn sooner(random: &mut Random, image: &[u8], spare: &StepCase, given: &StepGiven) -> Option<StepCase> {
+pub fn sooner(random: &mut Random, spare: &StepCase, given: &StepGiven) -> Option<StepCase> {
     let ask = &spare.ask;
     if given.values.answer == 0 || given.values.length == 0 {
         return None;
     }
     let query = ask.query.with(random.below(given.values.length as usize), 0);
-    let e = denying(ask.denied, || expected(image, &ask.query));
-    Some(StepCase { ask: StepAsk { query, ..ask.clone() }, expected: e, wanted: Wanted::Front(NO_ROOM) })
+    Some(StepCase { ask: StepAsk { query, ..ask.clone() }, expected: spare.expected.clone(), wanted: Wanted::NoRoom })
 }
 
 pub fn told(case: &StepCase, given: &StepGiven) -> String {

@@ -1,4 +1,15 @@
 -- What is promised of a file's read that is fed, on every disc and from every state: RULES 14. Assumes nothing.
+--
+--   it asks for the very sectors of the read's list, in order, and ends with the same answer and count    whole-list, whole-answer, whole-count
+--   save for an early 5 or 7, and then for a front of that list                                           own-answer, front-wanted
+--   5 exactly when the read is refused by 5, or more bytes than there is room for arrive before a refusal five-how, five-when; five-only, full-answer
+--   7 exactly when an extent has no slot, once the entry or continuation that names it was accepted       seven-only, crowded-answer
+--   an answered read has the read's reply, and leaves its output                                          done-reads, done-equal
+--   after a refusal the front of the output holds what had arrived; how many bytes is reported            output-holds, length-told, full-bytes
+--   the row is zero when the read ends, however it ends                                                   row-zero
+--   an answered read is over within 16,385 + L div 2,048 + E steps                                        steps-within
+--   discs that agree on the sectors wanted give the same answer, count, output and row                    agreed-alike
+--   every read ends, from whatever state                                                                  EndPromises read-ends, read-walks
 use mathlib.Core.Path.{_≡_, refl, ap, sym, _∙_}
 use mathlib.Core.Bool.{Bool, true, false}
 use mathlib.Core.List.{List, [], _∷_, _++_, append-nil}
