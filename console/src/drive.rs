@@ -195,7 +195,8 @@ impl<R: Read + Seek> Drive<R> {
 
     /// Writes a file's bytes to a writer as they arrive, and gives how many there are: for a file that doesn't fit in memory.
     ///
-    /// What had arrived is written also where the read is refused in the end.
+    /// What had arrived is written also where the read is refused in the end. Nothing bounds it but the descriptors of the file: a disc that was made to do
+    /// harm may give more bytes than it has, and a writer that has had enough fails.
     pub fn copy_file(&mut self, icb: impl Into<LongAd>, to: &mut impl Write) -> std::result::Result<Answer<u64>, Uncopied> {
         let (mut window, mut written) = (Vec::with_capacity(WINDOW), 0);
         let mut write = |window: &mut Vec<u8>| {

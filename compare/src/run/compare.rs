@@ -15,6 +15,7 @@ use super::tally::{PARSED, Row, Tally};
 use super::volumes::Sort;
 use super::{
     shapes_bodies, shapes_deleted, shapes_directories, shapes_files, shapes_mapped, shapes_matching, shapes_opening, shapes_prevailing,
+    shapes_steps,
 };
 use super::{sparse, volumes, volumes_mapped};
 use std::panic::{AssertUnwindSafe, catch_unwind};
@@ -83,6 +84,13 @@ impl Comparison {
         for (i, (name, disc)) in shapes().iter().chain(&shapes_prevailing::shapes()).enumerate() {
             self.image(name, disc, Asked::Unchecked, Depth::All, Random::new(self.seed ^ i as u64));
             self.raws();
+            if self.is_over() {
+                return;
+            }
+        }
+        for (name, disc) in shapes_steps::shapes() {
+            let random = Random::new(self.drives.next());
+            self.image(&name, &disc, Asked::Unchecked, Depth::All, random);
             if self.is_over() {
                 return;
             }
@@ -178,6 +186,10 @@ impl Comparison {
     fn sealed_shapes(&mut self, seconds: u64) {
         for (name, disc) in shapes_bodies::shapes() {
             self.checked(&name, &disc, Depth::All);
+        }
+        for (name, mut disc) in shapes_steps::shapes() {
+            disc.seal();
+            self.checked(&format!("{name}, sealed"), &disc, Depth::Some);
         }
         let others = shapes().into_iter().chain(shapes_prevailing::shapes()).chain(shapes_matching::shapes());
         for (name, disc) in others {

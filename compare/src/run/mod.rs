@@ -33,6 +33,7 @@ mod shapes_mapped;
 mod shapes_matching;
 mod shapes_opening;
 mod shapes_prevailing;
+mod shapes_steps;
 #[cfg(linked)]
 mod stepping;
 mod steps;

@@ -6,14 +6,14 @@ use super::random::Random;
 use super::records::*;
 use super::shapes_opening::Shape;
 
-const NUMBER: u16 = 5;
+pub const NUMBER: u16 = 5;
 
-fn disc() -> Disc {
+pub fn disc() -> Disc {
     Disc::new(41, NUMBER)
 }
 
 /// Makes the disc one that can be opened: a root that holds every file under a number.
-fn closed(name: &str, mut disc: Disc) -> Shape {
+pub fn closed(name: &str, mut disc: Disc) -> Shape {
     let mut items = vec![Item::new(vec![], Icb::at(0, NUMBER), PARENT)];
     // The root's entries refer to all files, so that each can be read by path too.
     for (i, icb) in disc.icbs.clone().iter().enumerate() {
@@ -27,7 +27,7 @@ fn closed(name: &str, mut disc: Disc) -> Shape {
 }
 
 /// An entry with this area as it stands.
-fn raw(disc: &mut Disc, kind: u8, extended: bool, information: u64, area: &[u8]) -> Icb {
+pub fn raw(disc: &mut Disc, kind: u8, extended: bool, information: u64, area: &[u8]) -> Icb {
     let block = disc.take(1);
     disc.put_block(block, &Entry { extended, flags: kind as u16, information, attributes: 0, area }.bytes());
     let icb = Icb::at(block, NUMBER);
@@ -36,7 +36,7 @@ fn raw(disc: &mut Disc, kind: u8, extended: bool, information: u64, area: &[u8])
 }
 
 /// Blocks with contents, which descriptors may point to.
-fn blocks(disc: &mut Disc, random: &mut Random, n: usize) -> u32 {
+pub fn blocks(disc: &mut Disc, random: &mut Random, n: usize) -> u32 {
     let at = disc.take(n as u32);
     let bytes = contents(random, n * 2048, true);
     disc.put(disc.volume.start as u64 + at as u64, &bytes);
