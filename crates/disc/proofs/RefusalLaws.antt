@@ -4,7 +4,7 @@ use Prim.Native.Nat.{_<_, _^_}
 use native.Mathlib.Omega.{arith}
 use Rattle.disc.specs.Refusals.{number}
 use Rattle.disc.specs.declared.refusals.Refusal.{Refusal}
-use Rattle.disc.specs.declared.refusals.Refusal.the-variants.{Io, Malformed, NotBluray, Unsupported, NoRoom, NoWork, NoSlot, Ambiguous, BadCrc, TooDeep, TooMany}
+use Rattle.disc.specs.declared.refusals.Refusal.the-variants.{Io, Malformed, NotBluray, Unsupported, NoRoom, NoWork, NoSlot, Ambiguous, BadCrc, TooDeep, TooMany, BadName, BadFiles}
 
 -- each number fits in 32 bits
 pub refusal-small : (why : Refusal) → number why < 2 ^ 32
@@ -19,6 +19,8 @@ refusal-small Ambiguous = omega arith
 refusal-small BadCrc = omega arith
 refusal-small TooDeep = omega arith
 refusal-small TooMany = omega arith
+refusal-small BadName = omega arith
+refusal-small BadFiles = omega arith
 
 -- no refusal has number 0, which is "done"
 pub refusal-numbered : (why : Refusal) → number why ≡ 0 → ⊥
@@ -33,3 +35,5 @@ refusal-numbered Ambiguous e = omega arith
 refusal-numbered BadCrc e = omega arith
 refusal-numbered TooDeep e = omega arith
 refusal-numbered TooMany e = omega arith
+refusal-numbered BadName e = omega arith
+refusal-numbered BadFiles e = omega arith

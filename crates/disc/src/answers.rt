@@ -35,3 +35,9 @@ pub const TOO_DEEP: u64 = 11;
 
 // There are more paths than places for their lengths, or than places for their answers.
 pub const TOO_MANY: u64 = 12;
+
+// A name of a vault that is to be written isn't one, or two are equal with ASCII case ignored.
+pub const BAD_NAME: u64 = 13;
+
+// The files of a vault that is to be written: too many, names and lengths unlike in number, one too long, or lengths that pass the staging area.
+pub const BAD_FILES: u64 = 14;

@@ -3,6 +3,8 @@ ghost use mathlib.Core.Path.{_≡_};
 ghost use Rattle.disc.specs.Refusals.{number};
 use crate::answers::AMBIGUOUS;
 use crate::answers::BAD_CRC;
+use crate::answers::BAD_FILES;
+use crate::answers::BAD_NAME;
 use crate::answers::IO;
 use crate::answers::MALFORMED;
 use crate::answers::NO_ROOM;
@@ -33,6 +35,10 @@ pub enum Refusal {
     TooDeep,
     // There are more paths than places for what each is answered.
     TooMany,
+    // A name of a vault that is to be written is bad, or stands there twice.
+    BadName,
+    // The files of a vault that is to be written aren't what can be written.
+    BadFiles,
 }
 
 impl Refusal {
@@ -52,6 +58,8 @@ impl Refusal {
             Refusal::BadCrc => BAD_CRC,
             Refusal::TooDeep => TOO_DEEP,
             Refusal::TooMany => TOO_MANY,
+            Refusal::BadName => BAD_NAME,
+            Refusal::BadFiles => BAD_FILES,
         }
     }
 }

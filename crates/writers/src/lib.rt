@@ -1,0 +1,122 @@
+// A vault written from a staging area: a complete image in what is lent, front to back.
+mod bodies;
+pub mod contents;
+pub mod namings;
+pub mod numbers;
+pub mod parts;
+pub mod seals;
+pub mod structures;
+
+ghost use mathlib.Core.Path.{_≡_};
+ghost use mathlib.Core.List.{_++_};
+ghost use Prim.Native.Nat.{_*_};
+ghost use lib.ListN.{drop};
+ghost use Rattle.writers.specs.Layout.{image as layout};
+ghost use Rattle.writers.specs.Refusing.{namesIn, goodFiles, refusedBy, totalOf, writes};
+ghost use Rattle.writers.specs.inner.Pours.{Poured, Heads, Ready, head};
+use crate::contents::are_short;
+use crate::contents::blocks_of;
+use crate::contents::pour_files;
+use crate::contents::sum_of;
+use crate::namings::are_good;
+use crate::namings::count_of;
+use crate::namings::directory_size;
+use crate::parts::pour_directory;
+use crate::parts::pour_end;
+use crate::parts::pour_entries;
+use crate::parts::pour_front;
+use disc::answers::DONE;
+use disc::refusals::Refusal;
+
+// The answer number, and how many sectors the image has: 0 where the call was refused.
+#[repr(C)]
+pub struct WriteReply {
+    pub answer: u64,
+    pub sectors: u64,
+}
+
+// A refusal.
+fn refusal(why: Refusal) -> WriteReply
+    ensures { λ r. ⌜ r ≡ refusedBy why ⌝ }
+{
+    WriteReply {
+        answer: why.number(),
+        sectors: 0,
+    }
+}
+
+// Whether there are at most 64 files, as many names as lengths, and none is too long.
+fn are_files(names: &[u8], lengths: &[u64]) -> bool
+    ensures { λ r. ⌜ r ≡ goodFiles (now (names .entry)) (now (lengths .entry)) ⌝ }
+{
+    let count = count_of(names);
+    if 64 < count {
+        return false;
+    }
+    if count != lengths.len() {
+        return false;
+    }
+    are_short(lengths)
+}
+
+// The sectors of an image of these files: the refusals of writing it, but for those of the memory that is lent.
+pub fn total(names: &[u8], lengths: &[u64]) -> WriteReply
+    ensures { λ r. ⌜ r ≡ totalOf (now (names .entry)) (now (lengths .entry)) ⌝ }
+{
+    if !are_good(names) {
+        return refusal(Refusal::BadName);
+    }
+    if !are_files(names, lengths) {
+        return refusal(Refusal::BadFiles);
+    }
+    WriteReply {
+        answer: DONE,
+        sectors: (384 + blocks_of(lengths)) / 32 * 32,
+    }
+}
+
+// What stands before the files, sectors 0 to 351: of a partition of so many blocks.
+fn pour_head(names: &[u8], lengths: &[u64], size: u32, image: &mut [u8]) -> usize
+    requires { ⌜ Heads (now names) (now lengths) (now image) ⌝ }
+    ensures { λ r. ⌜ Poured (head (namesIn (now (names .entry))) (now (lengths .entry)) size) 720896 0 (now (image .entry)) (now (image .exit)) r ⌝ }
+{
+    let bytes = directory_size(names);
+    let behind = pour_front(size, lengths.len() as u32, bytes as u32, image);
+    let entries = pour_directory(names, image, behind);
+    pour_entries(lengths, image, entries)
+}
+
+// The image over the front of what is lent, part by part.
+fn pour(names: &[u8], lengths: &[u64], staging: &[u8], sectors: u64, image: &mut [u8])
+    requires { ⌜ Ready (now names) (now lengths) (now staging) (now image) sectors ⌝ }
+    ensures { λ _. ⌜ now (image .exit) ≡ layout (namesIn (now (names .entry))) (now (lengths .entry)) (now (staging .entry)) ++ drop (2048 * sectors) (now (image .entry)) ⌝ }
+{
+    let blocks = blocks_of(lengths);
+    let data = pour_head(names, lengths, (sectors - 273) as u32, image);
+    let rest = pour_files(lengths, staging, image, data);
+    pour_end(
+        (sectors - 353 - blocks) as usize,
+        (sectors - 1) as u32,
+        image,
+        rest,
+    );
+}
+
+// A vault of these files: names, each ended by a zero byte; the length of each; the staging area, in which the files stand one behind another. The image
+// is written over the front of what is lent, and the bytes behind it stay. A refusal writes nothing.
+pub fn write(names: &[u8], lengths: &[u64], staging: &[u8], image: &mut [u8]) -> WriteReply
+    ensures { λ r. ⌜ record { reply = r; image = now (image .exit) } ≡ writes (now (names .entry)) (now (lengths .entry)) (now (staging .entry)) (now (image .entry)) ⌝ }
+{
+    let reply = total(names, lengths);
+    if reply.answer != DONE {
+        return reply;
+    }
+    if (staging.len() as u64) < sum_of(lengths) {
+        return refusal(Refusal::BadFiles);
+    }
+    if ((image.len() / 2048) as u64) < reply.sectors {
+        return refusal(Refusal::NoRoom);
+    }
+    pour(names, lengths, staging, reply.sectors, image);
+    reply
+}
