@@ -1,7 +1,7 @@
-/* vault.h: UDF discs (ECMA-167, OSTA UDF) read from memory, for C.
+/* vault.h: UDF discs (ECMA-167, OSTA UDF) read from memory, and vaults written to it, for C.
  *
  * Link target/staticlib/libvault_c.a, which `rt staticlib vault_c` makes from the proved sources. Each call has the
- * contract of the call of crate vault that it passes on.
+ * contract of the call of crate vault, or of crate writers, that it passes on.
  *
  * Nothing here allocates, keeps or frees memory: the caller lends the image, the output and the work space for the
  * length of the call, each as a pointer and a length. Lent pieces must not overlap. A piece of length 0 needs a
@@ -47,6 +47,11 @@ enum {
     /* A directory stands below the last level that was asked for, or that number is 0 or over 16. */
     VAULT_TOO_DEEP = 11,
     VAULT_TOO_MANY = 12, /* There are more paths than places for their lengths, or than places for their answers. */
+    /* A name of a vault that is to be written isn't one, or two are equal with ASCII case ignored. */
+    VAULT_BAD_NAME = 13,
+    /* The files of a vault that is to be written: too many, names and lengths unlike in number, one too long, or
+     * lengths that pass the staging area. */
+    VAULT_BAD_FILES = 14,
 };
 
 enum {
@@ -54,7 +59,7 @@ enum {
     VAULT_AS_WRITTEN = 1, /* A name matches byte for byte, and the first entry that matches is taken. */
     /* ASCII case is ignored, and a component that two or more entries match is refused by VAULT_AMBIGUOUS. */
     VAULT_UNAMBIGUOUS = 2,
-    VAULT_VERSION = 8, /* Goes up whenever a struct or a call changes. */
+    VAULT_VERSION = 9, /* Goes up whenever a struct or a call changes. */
 };
 
 enum {
@@ -373,6 +378,33 @@ vault_named vault_match(vault_volume volume, const uint8_t *bytes, size_t bytes_
 /* Where the first component of a path from `at` on stands; its length is 0 where there is none. From 0 on, and then
  * each time from the end of the one before, the components come in the order in which vault_lookup takes them. */
 vault_component vault_next_component(const uint8_t *path, size_t path_length, size_t at);
+
+/* ---- A vault written from a staging area: a complete image in memory that is lent, of up to 64 files in one
+ * directory. docs/LAYOUT.md has every sector of it.
+ *
+ * Here a refusal has no sectors, and leaves `image` as it came. `names` and `lengths` are looked at more than once,
+ * and must stand still during a call: what is said above of an image that changes isn't said of them. Of `staging`
+ * that changes meanwhile the files' bytes may be a mixture, and nothing else. */
+
+/* The answer number, and how many sectors the image has: 0 where the call was refused. */
+typedef struct {
+    uint64_t answer;
+    uint64_t sectors;
+} vault_write_reply;
+
+/* How many sectors of 2,048 bytes the image of these files has. `names` has their names, each ended by a zero byte,
+ * and `lengths` how many bytes each has. A name is 1 to 127 bytes from 21 to 7E, without 2F: one that isn't, a rest
+ * without its zero byte, and two names that are equal with ASCII case ignored are VAULT_BAD_NAME. Over 64 files,
+ * another number of names than of lengths, and a file of more than 1,073,739,776 bytes are VAULT_BAD_FILES. */
+vault_write_reply vault_write_total(const uint8_t *names, size_t names_length, const uint64_t *lengths,
+                                    size_t lengths_places);
+
+/* Writes that image over the front of `image`, and leaves what is behind it as it came; the answer has its sectors.
+ * The files stand in `staging` one behind another, from its front, in the order of their names. The refusals are
+ * those of vault_write_total; then VAULT_BAD_FILES for lengths that pass `staging`; then VAULT_NO_ROOM for an image
+ * of more sectors than `image` has whole ones. */
+vault_write_reply vault_write(const uint8_t *names, size_t names_length, const uint64_t *lengths, size_t lengths_places,
+                              const uint8_t *staging, size_t staging_length, uint8_t *image, size_t image_length);
 
 #ifdef __cplusplus
 }

@@ -16,7 +16,7 @@ import tempfile
 sys.dont_write_bytecode = True
 from kit import ROOT, STRICT, Failed, did, linked, ran, unproved
 
-FACE, STEPS, SHOW = "vault_c/src/lib.rt", "vault_c/src/steps.rt", ROOT / "crates/first_cue/stdin"
+FACE, STEPS, WRITING, SHOW = "vault_c/src/lib.rt", "vault_c/src/steps.rt", "vault_c/src/writing.rt", ROOT / "crates/first_cue/stdin"
 OUT, WORK, IMAGE, PATH, MATCHING = r"out: &mut \[u8\]", r"work: &mut \[u8\]", r"image: &\[u8\]", r"path: &\[u8\]", "matching: u32"
 SECTOR, ROW, BYTES, COMPONENT = r"sector: &\[u8\]", r"row: &mut \[\[u32; 4\]\]", r"bytes: &\[u8\]", r"component: &\[u8\]"
 
@@ -66,6 +66,10 @@ FAULTS = (
     ("a refusal by another number", "disc/src/answers.rt", r"BAD_CRC: u64 = 10", "BAD_CRC: u64 = 2"),
     ("the bits of two choices the other way round", "vault_c/src/choices.rt", r"CHECKED: u32 = 1(.*)HIGHEST: u32 = 4", r"CHECKED: u32 = 4\1HIGHEST: u32 = 1"),
     ("a bit of no choice that is taken", "vault_c/src/choices.rt", r"if how / 8 != 0", "if how / 16 != 0"),
+    ("vault_write: names and staging", WRITING, r"(fn vault_write\(\s+)names(: &\[u8\],\s+lengths: &\[u64\],\s+)staging", r"\1staging\2names"),
+    ("a total that is no multiple of 32", "writers/src/lib.rt", r"\(384 \+ blocks_of\(lengths\)\) / 32 \* 32", "353 + blocks_of(lengths)"),
+    ("a sector of room too few", "writers/src/lib.rt", r"image\.len\(\) / 2048\) as u64\) < reply", "image.len() / 2048 + 1) as u64) < reply"),
+    ("two refusals the other way round", "writers/src/lib.rt", r"Refusal::BadName(.*)Refusal::BadFiles\);\n    }\n    WriteReply", r"Refusal::BadFiles\1Refusal::BadName);\n    }\n    WriteReply"),
     ("checked by the lowest bit alone", "disc/src/places.rt", r"self\.checked != 0", "self.checked == 1"),
 )
 

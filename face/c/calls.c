@@ -1,5 +1,5 @@
-/* calls.c: every call of vault.h, on the small show of show.h, with and without the bodies of its descriptors checked; opening through maps; and the
- * same opening and reads a sector at a time, with a sector denied at each place.
+/* calls.c: every call of vault.h, on the small show of show.h, with and without the bodies of its descriptors checked; opening through maps; the same
+ * opening and reads a sector at a time, with a sector denied at each place; and a vault that is written, and read back.
  *
  * What is expected is read off the show's layout. No two pieces of memory that a call is lent have the same length, so that an argument in
  * another's place is seen. Ends with 0, or says what isn't so. */
@@ -399,9 +399,52 @@ static void ruined_files(vault_volume checked, vault_long_ad directory, vault_lo
     flip(START + 7, 40);
 }
 
+/* A vault of two files, one of them empty, written and read back; it has 384 sectors. */
+enum { LAYOUT = 384 * SECTOR, BEHIND = 700, STAGED = 2049 };
+static uint8_t vault[LAYOUT + BEHIND], staging[STAGED];
+static const char names[] = "9\0" "10.1A"; /* The last zero byte is that of the text. */
+
+static bool is_written(vault_write_reply r, uint64_t answer, uint64_t sectors) { return r.answer == answer && r.sectors == sectors; }
+
+static vault_write_reply writing(size_t n, const uint64_t *lengths, size_t places, size_t staged, size_t lent) {
+    memset(vault, FREE, sizeof vault);
+    return vault_write((const uint8_t *)names, n, lengths, places, staging, staged, vault, lent);
+}
+
+/* 13, 14 and 5 in their order: the worse is left in the call, and the lesser taken away. */
+static void unwritten(void) {
+    static const uint64_t lengths[3] = {0, STAGED, 0};
+    const uint8_t *all = (const uint8_t *)names;
+    EXPECT(is_written(vault_write_total(all, sizeof names - 1, lengths, 3), VAULT_BAD_NAME, 0));
+    EXPECT(is_written(vault_write_total(all, sizeof names, lengths, 3), VAULT_BAD_FILES, 0));
+    EXPECT(is_written(writing(sizeof names - 1, lengths, 3, STAGED - 1, LAYOUT - 1), VAULT_BAD_NAME, 0) && is_all(vault, sizeof vault, FREE));
+    EXPECT(is_written(writing(sizeof names, lengths, 3, STAGED, LAYOUT - 1), VAULT_BAD_FILES, 0) && is_all(vault, sizeof vault, FREE));
+    EXPECT(is_written(writing(sizeof names, lengths, 2, STAGED - 1, LAYOUT - 1), VAULT_BAD_FILES, 0) && is_all(vault, sizeof vault, FREE));
+    EXPECT(is_written(writing(sizeof names, lengths, 2, STAGED, LAYOUT - 1), VAULT_NO_ROOM, 0) && is_all(vault, sizeof vault, FREE));
+}
+
+static void written(void) {
+    static const uint64_t lengths[2] = {0, STAGED};
+    static uint8_t got[STAGED + 100];
+    for (size_t i = 0; i < STAGED; i++) staging[i] = (uint8_t)(7 * i + 1);
+    unwritten();
+    EXPECT(is_written(vault_write_total((const uint8_t *)names, sizeof names, lengths, 2), VAULT_DONE, 384));
+    EXPECT(is_written(writing(sizeof names, lengths, 2, STAGED, sizeof vault), VAULT_DONE, 384));
+    EXPECT(is_all(vault + LAYOUT, BEHIND, FREE) && vault_probe(vault, LAYOUT));
+    for (uint32_t how = 0; how < 8; how++) {
+        vault_opened r = vault_open(vault, LAYOUT, how);
+        EXPECT(r.answer == VAULT_DONE && r.count == 8);
+        EXPECT(is_reply(vault_read_path(r.volume, vault, LAYOUT, (const uint8_t *)"10.1a", 5, VAULT_UNAMBIGUOUS, got, sizeof got, work, WORK), VAULT_DONE,
+                        5, STAGED));
+        EXPECT(!memcmp(got, staging, STAGED) && is_all(work, WORK, 0));
+        EXPECT(is_reply(vault_read_path(r.volume, vault, LAYOUT, (const uint8_t *)"9", 1, VAULT_AS_WRITTEN, got, sizeof got, work, WORK), VAULT_DONE, 3, 0));
+    }
+}
+
 int main(void) {
     unpack();
     EXPECT(vault_version() == VAULT_VERSION);
+    written();
     probe();
     unopened();
     label();

@@ -30,10 +30,12 @@ HOLDS(VAULT_AMBIGUOUS == 9);
 HOLDS(VAULT_BAD_CRC == 10);
 HOLDS(VAULT_TOO_DEEP == 11);
 HOLDS(VAULT_TOO_MANY == 12);
+HOLDS(VAULT_BAD_NAME == 13);
+HOLDS(VAULT_BAD_FILES == 14);
 HOLDS(VAULT_CASE_IGNORED == 0);
 HOLDS(VAULT_AS_WRITTEN == 1);
 HOLDS(VAULT_UNAMBIGUOUS == 2);
-HOLDS(VAULT_VERSION == 8);
+HOLDS(VAULT_VERSION == 9);
 HOLDS(VAULT_CHECKED == 1);
 HOLDS(VAULT_MAPS == 2);
 HOLDS(VAULT_HIGHEST == 4);
@@ -149,6 +151,10 @@ FIELD(vault_named, directory, 36, 1, bool *);
 HOLDS(sizeof(vault_component) == 16 && ALIGN(vault_component) == 8);
 FIELD(vault_component, at, 0, 8, size_t *);
 FIELD(vault_component, length, 8, 8, size_t *);
+
+HOLDS(sizeof(vault_write_reply) == 16 && ALIGN(vault_write_reply) == 8);
+FIELD(vault_write_reply, answer, 0, 8, uint64_t *);
+FIELD(vault_write_reply, sectors, 8, 8, uint64_t *);
 
 HOLDS(RECORDS_DONE == 0);
 HOLDS(RECORDS_MALFORMED == 2);

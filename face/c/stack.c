@@ -18,6 +18,8 @@ static const char *path;
 static size_t length, room, at;
 static uint32_t how, matching, answers[1];
 static uint64_t lengths[1];
+static const uint64_t sizes[1] = {OUT};
+static uint8_t vault[384 * SECTOR];
 
 /* What is called. A reply in memory is asked for by a first argument that is also the result. */
 static void (*volatile callee)(void);
@@ -42,13 +44,16 @@ CALL(vault_part, volume, DISC, icb, &at)
 CALL(vault_extents, volume, DISC, icb, row, SLOTS)
 CALL(vault_read_path, volume, DISC, PATH, matching, out, room, work, WORK)
 CALL(vault_read_all, volume, DISC, PATH, matching, out, room, lengths, 1, answers, 1, work, WORK)
+/* A vault of one file, of as many bytes as there is room for; and without a whole sector for it. */
+CALL(vault_write_total, (const uint8_t *)"10.1A", 6, sizes, 1)
+CALL(vault_write, (const uint8_t *)"10.1A", 6, sizes, 1, out, OUT, vault, length < IMAGE ? SECTOR : sizeof vault)
 
 static const struct {
     const char *name;
     void (*call)(void), (*made)(void);
 } calls[] = {ROW(vault_version), ROW(vault_probe), ROW(vault_open), ROW(vault_label), ROW(vault_lookup),   ROW(vault_failed),
              ROW(vault_list),    ROW(vault_show),  ROW(vault_read), ROW(vault_part),  ROW(vault_extents), ROW(vault_read_path),
-             ROW(vault_read_all)};
+             ROW(vault_read_all), ROW(vault_write_total), ROW(vault_write)};
 
 /* Makes a call on the painted stack. */
 static void make(void (*call)(void), void (*made)(void)) {

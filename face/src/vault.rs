@@ -1,7 +1,7 @@
-//! include/vault.h: UDF discs (ECMA-167, OSTA UDF) read from memory, for C.
+//! include/vault.h: UDF discs (ECMA-167, OSTA UDF) read from memory, and vaults written to it, for C.
 //!
 //! Link target/staticlib/libvault_c.a, which `rt staticlib vault_c` makes from the proved sources. Each call has the
-//! contract of the call of crate vault that it passes on.
+//! contract of the call of crate vault, or of crate writers, that it passes on.
 //!
 //! Nothing here allocates, keeps or frees memory: the caller lends the image, the output and the work space for the
 //! length of the call, each as a pointer and a length. Lent pieces must not overlap. A piece of length 0 needs a
@@ -44,6 +44,11 @@ pub const BAD_CRC: u64 = 10;
 pub const TOO_DEEP: u64 = 11;
 /// There are more paths than places for their lengths, or than places for their answers.
 pub const TOO_MANY: u64 = 12;
+/// A name of a vault that is to be written isn't one, or two are equal with ASCII case ignored.
+pub const BAD_NAME: u64 = 13;
+/// The files of a vault that is to be written: too many, names and lengths unlike in number, one too long, or lengths
+/// that pass the staging area.
+pub const BAD_FILES: u64 = 14;
 
 /// ASCII case is ignored, and the first entry that matches is taken.
 pub const CASE_IGNORED: u32 = 0;
@@ -52,7 +57,7 @@ pub const AS_WRITTEN: u32 = 1;
 /// ASCII case is ignored, and a component that two or more entries match is refused by VAULT_AMBIGUOUS.
 pub const UNAMBIGUOUS: u32 = 2;
 /// Goes up whenever a struct or a call changes.
-pub const VERSION: u32 = 8;
+pub const VERSION: u32 = 9;
 
 /// A choice for `how`: the body of each descriptor that is parsed, on opening and in every call on the volume, must
 /// have the CRC that its tag says, or the call is refused by VAULT_BAD_CRC.
@@ -268,6 +273,12 @@ structs! {
         /// Its bytes: 0 where there is none.
         8 length: usize,
     }
+
+    /// The answer number, and how many sectors the image has: 0 where the call was refused.
+    vault_write_reply as WriteReply, 16 aligned to 8 {
+        0 answer: u64,
+        8 sectors: u64,
+    }
 }
 
 unsafe extern "C" {
@@ -469,4 +480,25 @@ unsafe extern "C" {
     /// then each time from the end of the one before, the components come in the order in which vault_lookup takes
     /// them.
     pub fn vault_next_component(path: *const u8, path_length: usize, at: usize) -> Component;
+
+    /// How many sectors of 2,048 bytes the image of these files has. `names` has their names, each ended by a zero
+    /// byte, and `lengths` how many bytes each has. A name is 1 to 127 bytes from 21 to 7E, without 2F: one that isn't,
+    /// a rest without its zero byte, and two names that are equal with ASCII case ignored are VAULT_BAD_NAME. Over 64
+    /// files, another number of names than of lengths, and a file of more than 1,073,739,776 bytes are VAULT_BAD_FILES.
+    pub fn vault_write_total(names: *const u8, names_length: usize, lengths: *const u64, lengths_places: usize) -> WriteReply;
+
+    /// Writes that image over the front of `image`, and leaves what is behind it as it came; the answer has its
+    /// sectors. The files stand in `staging` one behind another, from its front, in the order of their names. The
+    /// refusals are those of vault_write_total; then VAULT_BAD_FILES for lengths that pass `staging`; then
+    /// VAULT_NO_ROOM for an image of more sectors than `image` has whole ones.
+    pub fn vault_write(
+        names: *const u8,
+        names_length: usize,
+        lengths: *const u64,
+        lengths_places: usize,
+        staging: *const u8,
+        staging_length: usize,
+        image: *mut u8,
+        image_length: usize,
+    ) -> WriteReply;
 }

@@ -17,3 +17,4 @@ pub mod Showing
 pub mod Growing
 pub mod Waiting
 pub mod Walking
+pub mod Writing

@@ -18,7 +18,7 @@ use Rattle.disc.specs.Images.{disc}
 use Rattle.disc.specs.Ran.{Ran, ran, onward}
 use Rattle.disc.specs.declared.places.Mount.{Mount}
 use Rattle.disc.specs.declared.refusals.Refusal.{Refusal}
-use Rattle.disc.specs.declared.refusals.Refusal.the-variants.{Io, Malformed, NotBluray, Unsupported, NoRoom, NoWork, NoSlot, Ambiguous, BadCrc, TooDeep, TooMany}
+use Rattle.disc.specs.declared.refusals.Refusal.the-variants.{Io, Malformed, NotBluray, Unsupported, NoRoom, NoWork, NoSlot, Ambiguous, BadCrc, TooDeep, TooMany, BadName, BadFiles}
 use Rattle.disc.proofs.OnlyLaws.{Within, refuses-within}
 use Rattle.disc.proofs.RanLaws.{ran-then, never}
 use Rattle.records.specs.declared.allocations.LongAd.{LongAd}
@@ -198,6 +198,8 @@ eleven-is Ambiguous e = absurd (omega arith)
 eleven-is BadCrc e = absurd (omega arith)
 eleven-is TooDeep e = refl
 eleven-is TooMany e = absurd (omega arith)
+eleven-is BadName e = absurd (omega arith)
+eleven-is BadFiles e = absurd (omega arith)
 
 six-is : (why : Refusal) → number why ≡ 6 → why ≡ NoWork
 six-is Io e = absurd (omega arith)
@@ -211,6 +213,8 @@ six-is Ambiguous e = absurd (omega arith)
 six-is BadCrc e = absurd (omega arith)
 six-is TooDeep e = absurd (omega arith)
 six-is TooMany e = absurd (omega arith)
+six-is BadName e = absurd (omega arith)
+six-is BadFiles e = absurd (omega arith)
 
 -- a number that is neither 0 nor 5 is that of a refusal
 by-number : (n room : ℕ) (o : Outcome (List ℕ)) (why : Refusal) → ((x : Refusal) → number x ≡ n → x ≡ why) → (n ≡ 0 → ⊥) → (n ≡ 5 → ⊥) → roomed room o ≡ n → o ≡ refused why

@@ -1,7 +1,7 @@
-// UDF discs (ECMA-167, OSTA UDF) read from memory, for C.
+// UDF discs (ECMA-167, OSTA UDF) read from memory, and vaults written to it, for C.
 //
 // Link target/staticlib/libvault_c.a, which `rt staticlib vault_c` makes from the proved sources. Each call has the contract of the call of
-// crate vault that it passes on.
+// crate vault, or of crate writers, that it passes on.
 //
 // Nothing here allocates, keeps or frees memory: the caller lends the image, the output and the work space for the length of the call, each as a
 // pointer and a length. Lent pieces must not overlap. A piece of length 0 needs a pointer that isn't null. If the image changes during a call,
@@ -38,6 +38,7 @@ use volumes::openings::refused;
 
 mod choices;
 mod steps;
+pub mod writing;
 
 // ASCII case is ignored, and the first entry that matches is taken.
 pub const VAULT_CASE_IGNORED: u32 = CASE_IGNORED;
@@ -49,12 +50,12 @@ pub const VAULT_AS_WRITTEN: u32 = AS_WRITTEN;
 pub const VAULT_UNAMBIGUOUS: u32 = UNAMBIGUOUS;
 
 // Goes up whenever a struct or a call changes.
-pub const VAULT_VERSION: u32 = 8;
+pub const VAULT_VERSION: u32 = 9;
 
 // The VAULT_VERSION of the archive, which is to be that of the header.
 #[no_mangle]
 pub extern "C" fn vault_version() -> u32
-    ensures { λ r. ⌜ r ≡ 8 ⌝ }
+    ensures { λ r. ⌜ r ≡ 9 ⌝ }
 {
     VAULT_VERSION
 }
