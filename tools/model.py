@@ -62,10 +62,10 @@ def front(data):
     return name, unpacked(data[4 : 4 + n]), data[4 + n :]
 
 
-def stored(program, lines, words):
+def stored(program, lines, words, data="images"):
     """Writes what a program is to print, or with --check fails where the stored output is something else."""
     here = CRATES / program
-    wanted = "".join(line + "\n" for line in lines((here / "data" / "images").read_bytes()))
+    wanted = "".join(line + "\n" for line in lines((here / "data" / data).read_bytes()))
     if words != ["--check"]:
         (here / "stdout").write_text(wanted, encoding="ascii")
     elif (here / "stdout").read_text(encoding="ascii") != wanted:
