@@ -88,12 +88,18 @@ pub enum Refusal {
     /// 12: there are more paths in a list than places for their answers could be lent. Given by [`Vault::read_all`](crate::Vault::read_all)
     /// alone, for the list; no path of it is answered with it.
     TooMany,
+    /// 13: a name of a vault that is to be written isn't 1 to 127 bytes from 21 to 7E without the slash, or two are equal with ASCII case ignored. Given
+    /// by [`write`](crate::write) and its like alone, as the next is.
+    BadName,
+    /// 14: the files of a vault that is to be written are over 64, one has more than 1,073,739,776 bytes, there are other numbers of names and of lengths,
+    /// or the lengths pass the staging area.
+    BadFiles,
     /// A number that this crate's table doesn't have.
     Unknown(u64),
 }
 
 /// The refusals and their numbers.
-const TABLE: [(Refusal, u64); 11] = [
+const TABLE: [(Refusal, u64); 13] = [
     (Refusal::Io, vault::IO),
     (Refusal::Malformed, vault::MALFORMED),
     (Refusal::NotBluray, vault::NOT_BLURAY),
@@ -105,10 +111,12 @@ const TABLE: [(Refusal, u64); 11] = [
     (Refusal::BadCrc, vault::BAD_CRC),
     (Refusal::TooDeep, vault::TOO_DEEP),
     (Refusal::TooMany, vault::TOO_MANY),
+    (Refusal::BadName, vault::BAD_NAME),
+    (Refusal::BadFiles, vault::BAD_FILES),
 ];
 
 impl Refusal {
-    /// The number that the call answered with: 1 to 7 or 9 to 12, in the answer table.
+    /// The number that the call answered with: 1 to 7 or 9 to 14, in the answer table.
     pub fn number(self) -> u64 {
         match self {
             Refusal::Unknown(number) => number,
@@ -154,6 +162,10 @@ impl fmt::Display for Refusal {
             Refusal::BadCrc => "a descriptor's body isn't the one that its tag has the CRC of: it is scratched, or was written so",
             Refusal::TooDeep => "a directory stands below the last level that was asked for, or that number isn't 1 to 16",
             Refusal::TooMany => "there are more paths than there is memory for their answers",
+            Refusal::BadName => {
+                "a name of a vault is 1 to 127 bytes from 21 to 7E without the slash, and no two are equal with ASCII case ignored"
+            }
+            Refusal::BadFiles => "a vault has up to 64 files of up to 1,073,739,776 bytes each, and as many bytes are staged as they have",
             Refusal::Unknown(number) => return write!(f, "the archive answered with {number}, a number that isn't known here"),
         })
     }
@@ -171,7 +183,7 @@ pub struct Refused {
 }
 
 impl Refused {
-    /// The number that the call answered with: 1 to 7 or 9 to 12, in the answer table.
+    /// The number that the call answered with: 1 to 7 or 9 to 14, in the answer table.
     pub fn number(&self) -> u64 {
         self.why.number()
     }
@@ -211,7 +223,7 @@ mod tests {
         for (why, number) in TABLE {
             assert_eq!((Refusal::of(number), why.number()), (Some(why), number));
         }
-        assert_eq!(TABLE.map(|(_, number)| number), [1, 2, 3, 4, 5, 6, 7, 9, 10, 11, 12]);
+        assert_eq!(TABLE.map(|(_, number)| number), [1, 2, 3, 4, 5, 6, 7, 9, 10, 11, 12, 13, 14]);
     }
 
     #[test]
@@ -223,7 +235,7 @@ mod tests {
 
     #[test]
     fn a_number_that_the_table_lacks_shows_itself() {
-        for number in [8, 13, 14, 255, 256 + 7, u64::MAX] {
+        for number in [8, 15, 16, 255, 256 + 7, u64::MAX] {
             let why = Refusal::of(number).unwrap();
             assert_eq!((why, why.number()), (Refusal::Unknown(number), number));
             assert!(why.to_string().contains(&number.to_string()), "{why}");

@@ -259,3 +259,34 @@ pub fn next_component(path: &[u8], at: usize) -> Option<(&[u8], usize)> {
     let Component { at, length } = unsafe { vault_next_component(path.as_ptr(), path.len(), at) };
     (length > 0).then(|| (named(path, at, length as u64), at + length))
 }
+
+/// `names` has a zero byte behind each.
+pub fn write_total(names: &[u8], lengths: &[u64]) -> std::result::Result<u64, Refusal> {
+    see_version();
+    // SAFETY: the head of this module; nothing is lent for writing.
+    let reply = unsafe { vault_write_total(names.as_ptr(), names.len(), lengths.as_ptr(), lengths.len()) };
+    Refusal::of(reply.answer).map_or(Ok(reply.sectors), Err)
+}
+
+/// The image over the front of what is lent, and its sectors.
+pub fn write(names: &[u8], lengths: &[u64], staging: &[u8], image: &mut [u8]) -> std::result::Result<u64, Refusal> {
+    write_to(names, lengths, staging, image.as_mut_ptr(), image.len())
+}
+
+/// The image as the content of a vector that has room for it.
+pub fn write_into(names: &[u8], lengths: &[u64], staging: &[u8], image: &mut Vec<u8>) -> std::result::Result<(), Refusal> {
+    image.clear();
+    let room = image.spare_capacity_mut();
+    let sectors = write_to(names, lengths, staging, room.as_mut_ptr().cast(), room.len())?;
+    // SAFETY: a call that is done has written so many sectors at the front of what was lent, and was lent as many: else it is refused.
+    unsafe { image.set_len(sectors as usize * crate::SECTOR_SIZE as usize) };
+    Ok(())
+}
+
+fn write_to(names: &[u8], lengths: &[u64], staging: &[u8], image: Lent, room: usize) -> std::result::Result<u64, Refusal> {
+    see_version();
+    let (n, l, s) = (names.len(), lengths.len(), staging.len());
+    // SAFETY: the head of this module; both callers have `room` bytes from `image` on in a mutable borrow.
+    let reply = unsafe { vault_write(names.as_ptr(), n, lengths.as_ptr(), l, staging.as_ptr(), s, image, room) };
+    Refusal::of(reply.answer).map_or(Ok(reply.sectors), Err)
+}

@@ -1,4 +1,4 @@
-//! Reads UDF discs from memory, through the proved archive of `vault_c` (include/vault.h).
+//! Reads UDF discs from memory, and writes vaults to it, through the proved archive of `vault_c` (include/vault.h).
 //!
 //! [`Vault`] stands over a borrowed image and has the calls of the original's `UdfDisc` under their names; README.md has the two side by
 //! side. [`Drive`] has them over a reader. Every answer comes with the number of sectors that were asked for, and every refusal too.
@@ -57,6 +57,11 @@
 //! added behind the last one: a copy that goes from the front to the back. A copy that makes the file at its full length first leaves zeros where
 //! nothing was copied yet, and a sector of zeros is there.
 //!
+//! # A vault that is written
+//!
+//! [`write`] makes a complete image of up to 64 files: that [`Vault::open`] opens it, and that each name gives its file's bytes, is proved.
+//! [`write_staged`] writes it into memory that is lent, and [`write_total`] says how many sectors it has.
+//!
 //! # The image stands still
 //!
 //! A `&[u8]` says that nobody writes to its bytes while it is borrowed. Memory of one's own is such a slice by itself. A map of a file is one
@@ -92,6 +97,7 @@ mod stack;
 mod table;
 mod tree;
 mod vault;
+mod writer;
 
 #[cfg(test)]
 #[path = "../tests/common/input.rs"]
@@ -111,6 +117,7 @@ pub use stack::Item;
 pub use table::{MapForm, MapTable, map_table};
 pub use tree::Show;
 pub use vault::{SECTOR_SIZE, Vault, probe_vrs, read_volume_label, read_volume_label_as};
+pub use writer::{write, write_staged, write_total};
 
 /// The code in README.md is compiled with the tests.
 #[cfg(doctest)]

@@ -53,7 +53,7 @@ fn the_tour_can_be_typed() {
         assert_eq!((said.out + &said.error).trim_end(), answer, "{line}");
         typed += 1;
     }
-    assert_eq!(typed, 7);
+    assert_eq!(typed, 10);
 }
 
 #[test]

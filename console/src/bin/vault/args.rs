@@ -8,7 +8,7 @@ use std::os::unix::ffi::{OsStrExt, OsStringExt};
 use strandlodge::{How, Matching};
 
 pub const HELP: &str = "\
-vault: look into a UDF disc. An image is a file or a drive; it is only read.
+vault: look into a UDF disc. An image is a file or a drive, and is only read.
   vault label IMAGE            the volume's name
   vault ls IMAGE [PATH]        what a directory holds; with -R all below it too
   vault tree IMAGE [PATH]      the same as ls -R, drawn as a tree
@@ -18,18 +18,18 @@ vault: look into a UDF disc. An image is a file or a drive; it is only read.
   vault stat IMAGE [PATH]      ICB, kind, extents; or volume descriptors, maps
   vault probe IMAGE            whether it has a recognition sequence: yes or no
   vault check IMAGE            descriptors out of place, or with a ruined body
+  vault make IMAGE FILE..      writes a vault of up to 64 files, by their names
   vault sample FILE            writes a sample show; vault alone gives a tour
   --as-written    take a name on PATH byte for byte; else ASCII case is ignored
   --unambiguous   refuse a name that several entries match; else take the first
   --levels N, --limit N   of tree and ls -R: 1 to 16 levels, N entries at most
-  --highest       of several volume descriptors the highest number counts
-  --maps          find partitions through the volume's maps; else by number
+  --highest, --maps   highest of several descriptors; partitions through maps
   --checked       refuse a descriptor whose body is ruined: it has another CRC
   --copy          read it into memory first: a mapped image must stand still
   --drive         read it sector by sector, as they are wanted, without a map
   --wait N        up to N seconds for a file of an image copied front to back
   --sectors, --   say how many sectors each call asked for; no options follow
-Status: 0 done, 1 to 12 refused by that number, 64 wrong usage, 65 check found
+Status: 0 done, 1 to 14 refused by that number, 64 wrong usage, 65 check found
 one wrong, 66 no image, 67 not all read, 68 limit, 70 unknown, 74 no output.
 ";
 
@@ -41,6 +41,7 @@ pub enum Command {
     Help,
     Tour,
     Sample { file: OsString },
+    Make { image: OsString, files: Vec<OsString> },
     Ask { image: OsString, question: Question },
 }
 
@@ -211,6 +212,7 @@ fn command(words: Vec<OsString>, more: More) -> Result<Command, Failure> {
     };
     let command = match name.as_bytes() {
         b"sample" => Command::Sample { file: take(&mut words, &name, "FILE")? },
+        b"make" => Command::Make { image: take(&mut words, &name, "IMAGE")?, files: words.by_ref().collect() },
         b"label" | b"ls" | b"tree" | b"cat" | b"get" | b"stat" | b"probe" | b"check" => {
             let image = take(&mut words, &name, "IMAGE")?;
             Command::Ask { image, question: question(&name, &mut words, more)? }
@@ -306,6 +308,14 @@ mod tests {
     }
 
     #[test]
+    fn a_vault_is_made_of_any_number_of_files() {
+        for (line, files) in [("make a", &[][..]), ("make a b", &["b"]), ("make a b c -- --copy", &["b", "c", "--copy"])] {
+            let files = files.iter().map(OsString::from).collect();
+            assert_eq!(parsed(line).unwrap().command, Command::Make { image: "a".into(), files }, "{line}");
+        }
+    }
+
+    #[test]
     fn waiting_is_for_one_file() {
         for (line, wait) in
             [("cat a b", None), ("cat --wait 5 a b", Some(5)), ("get a b c --wait 0", Some(0)), ("--help --wait 7", Some(7))]
@@ -390,6 +400,10 @@ mod tests {
             "check",
             "check a b",
             "sample",
+            "make",
+            "make a b --as-written",
+            "make a b --wait 1",
+            "make a b -o c",
             "-x",
             "--sector",
             "--copies",

@@ -1,12 +1,13 @@
-//! A file that `get` writes: whole, or not at all.
+//! A file that `get` or `make` writes: whole, or not at all.
 
 use crate::bar::Bar;
 use crate::failure::{Failure, NO_OUTPUT, USAGE};
+use crate::map::MapMut;
 use std::ffi::OsStr;
 use std::fs::{self, File};
 use std::io::{self, Write};
 use std::os::unix::fs::MetadataExt;
-use std::path::PathBuf;
+use std::path::{Path, PathBuf};
 
 /// Written at a time, between two looks of the bar.
 const PIECE: usize = 1 << 20;
@@ -59,10 +60,15 @@ impl<'a> Target<'a> {
         self.fill(|file| pieces(file, bytes).map_err(|error| self.unwritten(error)))
     }
 
+    /// The same of a file of `length` bytes that is mapped, and put there by `put`.
+    pub fn put(&self, length: usize, put: impl FnOnce(&mut [u8]) -> Result<(), Failure>) -> Result<(), Failure> {
+        self.fill(|file| put(&mut self.mapped(file, length)?))
+    }
+
     /// Has a temporary name beside the file written, which then takes the file's name; where that fails nothing is left behind.
     pub fn fill(&self, write: impl FnOnce(&mut File) -> Result<(), Failure>) -> Result<(), Failure> {
-        let beside = self.beside();
-        let mut file = File::create_new(&beside).map_err(|error| self.unwritten(error))?;
+        let beside = self.beside("new");
+        let mut file = created(&beside).map_err(|error| self.unwritten(error))?;
         let ended = write(&mut file).and_then(|()| {
             // Before the name is taken, so that a power cut or a pulled stick leaves the old file or the new one.
             file.sync_all().and_then(|()| fs::rename(&beside, &self.place)).map_err(|error| self.unwritten(error))
@@ -74,13 +80,29 @@ impl<'a> Target<'a> {
         ended
     }
 
+    /// Memory of `length` bytes, all zero, that is kept in a file beside this one. The file has no name any more, and goes with the map.
+    pub fn space(&self, length: usize) -> Result<MapMut, Failure> {
+        let beside = self.beside("space");
+        let file = created(&beside).and_then(|file| fs::remove_file(&beside).map(|()| file)).map_err(|error| self.unwritten(error))?;
+        self.mapped(&file, length)
+    }
+
+    fn mapped(&self, file: &File, length: usize) -> Result<MapMut, Failure> {
+        MapMut::new(file, length).map_err(|error| self.unwritten(error))
+    }
+
     pub fn unwritten(&self, error: io::Error) -> Failure {
         Failure::file(NO_OUTPUT, self.name, format!("the file can't be written: {error}"))
     }
 
-    fn beside(&self) -> PathBuf {
-        self.place.with_file_name(format!(".vault-{}", std::process::id()))
+    fn beside(&self, what: &str) -> PathBuf {
+        self.place.with_file_name(format!(".vault-{}-{what}", std::process::id()))
     }
+}
+
+/// A new file, to be read too: a map needs both.
+fn created(place: &Path) -> io::Result<File> {
+    File::options().read(true).write(true).create_new(true).open(place)
 }
 
 fn pieces(file: &mut File, bytes: &[u8]) -> io::Result<()> {

@@ -1,4 +1,4 @@
-//! `vault`: look into a UDF disc from a shell.
+//! `vault`: look into a UDF disc from a shell, or make one.
 
 mod args;
 mod bar;
@@ -10,6 +10,7 @@ mod failure;
 mod file;
 mod image;
 mod log;
+mod make;
 mod many;
 mod map;
 mod maps;
@@ -55,6 +56,7 @@ fn answer(args: &Args, out: &mut impl Write, log: &mut Log) -> Result<(), Failur
         Command::Help => out.write_all(HELP.as_bytes()).map_err(Failure::output),
         Command::Tour => tour::give(out),
         Command::Sample { file } => file::Target::at(file)?.write(&tour::sample()?),
+        Command::Make { image, files } => make::make(image, files, out),
         Command::Ask { image, question } => {
             if let Question::Get { file, .. } = question {
                 file::apart(image, file)?;

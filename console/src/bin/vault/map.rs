@@ -1,5 +1,5 @@
-//! A file in memory: mapped, so that a disc of 25 GB opens at once and costs what is looked at. With the library's calls and those of
-//! `records` this is the only module with `unsafe` in it.
+//! A file in memory: mapped, so that a disc of 25 GB opens at once and costs what is looked at; or made, of a given length, and mapped to be
+//! written. With the library's calls and those of `records` this is the only module with `unsafe` in it.
 //!
 //! # What is relied on
 //!
@@ -15,23 +15,29 @@
 //! as a pointer and a length, and these stay inside what they are lent whatever the image holds from one look to the next (docs/PROMISES.md,
 //! "What is assumed", says how far that is proved and how far it is tried). The answer may then be that of no image: a mixture of before and
 //! after, with bytes in it that were never written. A file that is cut short meanwhile ends the command with a sentence.
+//!
+//! A file that is written, `MapMut`, is one that this command has made just before under a name of its own, so that nobody else has a reason to
+//! write to it; its blocks are there before the first byte is put, and a disk that is full says so then.
 #![allow(unsafe_code)]
 
 use crate::failure::NO_IMAGE;
 use std::ffi::{c_int, c_void};
 use std::fs::File;
 use std::io;
-use std::ops::Deref;
+use std::ops::{Deref, DerefMut};
 use std::os::fd::AsRawFd;
 use std::ptr;
 
 const PROT_READ: c_int = 1;
+const PROT_WRITE: c_int = 2;
+const MAP_SHARED: c_int = 1;
 const MAP_PRIVATE: c_int = 2;
 const SIGBUS: c_int = 7;
 
 unsafe extern "C" {
     fn mmap(at: *mut c_void, length: usize, protection: c_int, flags: c_int, file: c_int, offset: i64) -> *mut c_void;
     fn munmap(at: *mut c_void, length: usize) -> c_int;
+    fn posix_fallocate(file: c_int, offset: i64, length: i64) -> c_int;
     fn signal(number: c_int, handler: extern "C" fn(c_int)) -> usize;
     fn write(file: c_int, bytes: *const u8, length: usize) -> isize;
     fn _exit(status: c_int) -> !;
@@ -46,12 +52,16 @@ pub struct Map {
 impl Map {
     /// A map of a file's first `length` bytes. A byte that the file doesn't have ends the command when it is looked at.
     pub fn new(file: &File, length: usize) -> io::Result<Map> {
+        Map::of(file, length, PROT_READ, MAP_PRIVATE)
+    }
+
+    fn of(file: &File, length: usize, protection: c_int, flags: c_int) -> io::Result<Map> {
         if length == 0 {
             // An empty map is refused by the system.
             return Ok(Map { at: ptr::null_mut(), length });
         }
         // SAFETY: a new map where the system puts it; no memory of this program is touched.
-        let at = unsafe { mmap(ptr::null_mut(), length, PROT_READ, MAP_PRIVATE, file.as_raw_fd(), 0) };
+        let at = unsafe { mmap(ptr::null_mut(), length, protection, flags, file.as_raw_fd(), 0) };
         if at as isize == -1 {
             return Err(io::Error::last_os_error());
         }
@@ -80,6 +90,43 @@ impl Drop for Map {
             // SAFETY: this map, whole, and nothing borrows from it any more.
             unsafe { munmap(self.at, self.length) };
         }
+    }
+}
+
+/// A file that is made, mapped to be written: what is put here stands in the file.
+pub struct MapMut(Map);
+
+impl MapMut {
+    /// A map of a new file, which is given `length` bytes, all zero. Its blocks are taken at once.
+    pub fn new(file: &File, length: usize) -> io::Result<MapMut> {
+        let size = i64::try_from(length).map_err(|_| io::ErrorKind::FileTooLarge)?;
+        if length > 0 {
+            // SAFETY: a call on an open file; no memory of this program is touched.
+            match unsafe { posix_fallocate(file.as_raw_fd(), 0, size) } {
+                0 => {}
+                error => return Err(io::Error::from_raw_os_error(error)),
+            }
+        }
+        Map::of(file, length, PROT_READ | PROT_WRITE, MAP_SHARED).map(MapMut)
+    }
+}
+
+impl Deref for MapMut {
+    type Target = [u8];
+
+    fn deref(&self) -> &[u8] {
+        &self.0
+    }
+}
+
+impl DerefMut for MapMut {
+    fn deref_mut(&mut self) -> &mut [u8] {
+        if self.0.length == 0 {
+            return &mut [];
+        }
+        // SAFETY: `length` bytes are mapped from `at` on to be written until this is dropped, and this borrow is the only one. That no other
+        // program writes to the file is relied on: the head of this module.
+        unsafe { std::slice::from_raw_parts_mut(self.0.at.cast(), self.0.length) }
     }
 }
 

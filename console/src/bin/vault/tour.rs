@@ -1,14 +1,15 @@
-//! The tour of the sample show.
+//! The tour of the sample show, and of a vault that is made.
 
 use crate::args::Question;
 use crate::commands;
 use crate::disc::Disc;
 use crate::failure::{Failure, NO_IMAGE, NO_OUTPUT};
 use crate::log::Log;
+use crate::make;
 use crate::names::shown;
 use std::ffi::OsStr;
 use std::io::Write;
-use strandlodge::{How, Matching};
+use strandlodge::{How, Matching, SECTOR_SIZE};
 use strandlodge_sys::sparse;
 
 /// The input of the program `first_cue`: a show with four cues, kept sparse. tools/show_image.py writes it.
@@ -44,7 +45,9 @@ pub fn give(out: &mut impl Write) -> Result<(), Failure> {
     text(out, WRITTEN)?;
     step(&image, cat(LOWER), AsWritten, "cat --as-written show.img SHOW/10.1a", out)?;
     step(&image, Question::Stat { path: LOWER.into() }, AsWritten, "stat --as-written show.img SHOW/10.1a", out)?;
-    text(out, CONSOLE)
+    text(out, CONSOLE)?;
+    text(out, MAKING)?;
+    made(&image, out)
 }
 
 const BEGIN: &str = "\
@@ -74,6 +77,33 @@ const CONSOLE: &str = "\
 A console has the same choice: lookup_as and read_path_as, with
 Matching::AsWritten or Matching::Unambiguous.
 ";
+
+const MAKING: &str = "
+Files that are staged make a vault, a disc of one directory:
+
+";
+
+/// The files of the vault in the tour, and its image.
+const STAGED: [&str; 2] = ["9", "11"];
+const NEW: &str = "new.img";
+
+/// Two cues taken off the show, and a vault made of them; in memory, as everything here.
+fn made(image: &[u8], out: &mut impl Write) -> Result<(), Failure> {
+    let mut log = Log::default();
+    let disc = Disc::open(image, How::default(), NAME, Matching::CaseIgnored, &mut log)?;
+    let paths = STAGED.map(|name| format!("SHOW/{name}"));
+    let cues = disc.volume.read_all(&paths).map_err(|refused| Failure::refused(NAME, refused))?;
+    let cues = cues.value.into_iter().collect::<Result<Vec<_>, _>>().map_err(|why| Failure::refused(NAME, why))?;
+    text(out, &format!("$ vault get show.img -o . {}\n", paths.join(" ")))?;
+    for ((name, path), cue) in STAGED.iter().zip(&paths).zip(&cues) {
+        text(out, &format!("{path}: {} bytes, to ./{name}\n", cue.len()))?;
+    }
+    let files: Vec<(&str, &[u8])> = STAGED.iter().copied().zip(cues.iter().map(Vec::as_slice)).collect();
+    let vault = strandlodge::write(&files).map_err(|why| Failure::refused(NEW, why))?;
+    let says = make::made(OsStr::new(NEW), files.len(), vault.len() as u64 / SECTOR_SIZE);
+    text(out, &format!("\n$ vault make {NEW} {}\n{says}\n\n", STAGED.join(" ")))?;
+    step(&vault, Question::Ls { path: Vec::new() }, Matching::CaseIgnored, &format!("ls {NEW}"), out)
+}
 
 fn text(out: &mut impl Write, text: &str) -> Result<(), Failure> {
     out.write_all(text.as_bytes()).map_err(Failure::output)

@@ -1,0 +1,60 @@
+//! Vaults written: a complete image from names and files.
+
+use crate::answer::Refusal;
+use crate::calls;
+use crate::vault::SECTOR_SIZE;
+
+/// A vault of these files, in their order: the bytes of a complete image, docs/LAYOUT.md has every one of them. Equal files give equal images.
+///
+/// A name is 1 to 127 bytes from 21 to 7E, without the slash, and no two are equal with ASCII case ignored, else the call is refused by 13. There are up to
+/// 64 files of up to 1,073,739,776 bytes each, else it is refused by 14. It is refused by 5 where there is no memory for the image, or for a copy
+/// of the files one behind another, from which it is written: [`write_staged`] takes files that stand so already.
+///
+/// ```no_run
+/// # fn main() -> std::result::Result<(), Box<dyn std::error::Error>> {
+/// let image = strandlodge::write(&[("9", &b"cue 9"[..]), ("10.1A", b"cue 10.1A")])?;
+/// let vault = strandlodge::Vault::open(&image)?;
+/// assert_eq!(vault.read_path("10.1A")?.value, b"cue 10.1A");
+/// # Ok(())
+/// # }
+/// ```
+pub fn write(files: &[(impl AsRef<[u8]>, impl AsRef<[u8]>)]) -> Result<Vec<u8>, Refusal> {
+    let names = ended(files.iter().map(|(name, _)| name.as_ref()))?;
+    let lengths: Vec<u64> = files.iter().map(|(_, bytes)| bytes.as_ref().len() as u64).collect();
+    let mut image = room(calls::write_total(&names, &lengths)?.saturating_mul(SECTOR_SIZE))?;
+    let mut staging = room(lengths.iter().sum())?;
+    files.iter().for_each(|(_, bytes)| staging.extend_from_slice(bytes.as_ref()));
+    calls::write_into(&names, &lengths, &staging, &mut image)?;
+    Ok(image)
+}
+
+/// The same of files that stand one behind another in `staging`, from its front, over the front of `image`; what is behind it there stays as it came.
+/// Gives the image's sectors of 2,048 bytes, and is refused by 5 where `image` has fewer whole ones. A refusal writes nothing.
+pub fn write_staged(names: &[impl AsRef<[u8]>], lengths: &[u64], staging: &[u8], image: &mut [u8]) -> Result<u64, Refusal> {
+    calls::write(&ended(names.iter().map(AsRef::as_ref))?, lengths, staging, image)
+}
+
+/// The sectors of the image of files with these names and lengths, or why it can't be written: what [`write_staged`] answers, given enough memory.
+pub fn write_total(names: &[impl AsRef<[u8]>], lengths: &[u64]) -> Result<u64, Refusal> {
+    calls::write_total(&ended(names.iter().map(AsRef::as_ref))?, lengths)
+}
+
+/// The names, each with a zero byte behind it. One that has such a byte in it would be two.
+fn ended<'a>(names: impl Iterator<Item = &'a [u8]>) -> Result<Vec<u8>, Refusal> {
+    let mut all = Vec::new();
+    for name in names {
+        if name.contains(&0) {
+            return Err(Refusal::BadName);
+        }
+        all.try_reserve(name.len() + 1).map_err(|_| Refusal::NoRoom)?;
+        all.extend_from_slice(name);
+        all.push(0);
+    }
+    Ok(all)
+}
+
+fn room(bytes: u64) -> Result<Vec<u8>, Refusal> {
+    let mut room = Vec::new();
+    room.try_reserve_exact(usize::try_from(bytes).map_err(|_| Refusal::NoRoom)?).map_err(|_| Refusal::NoRoom)?;
+    Ok(room)
+}

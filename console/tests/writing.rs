@@ -1,0 +1,276 @@
+//! Vaults that are written: by the library and by `vault make`, read back by both, and by readers that nobody here wrote. Each of those is left out,
+//! with a line that says so, where it isn't installed. The original and libudfread read such vaults in compare (docs/COMPARING.md).
+
+mod common;
+
+use common::command::{Folder, left_out, tool};
+use common::noise;
+use std::fs::{read, write as put};
+use std::os::unix::ffi::OsStrExt;
+use std::path::PathBuf;
+use std::process::{Command, Output, Stdio};
+use strandlodge::{How, Matching, Refusal, SECTOR_SIZE, Vault, probe_vrs, read_volume_label, write, write_staged, write_total};
+use strandlodge_sys::sparse;
+
+/// The bytes of a sector.
+const SECTOR: usize = SECTOR_SIZE as usize;
+/// The sectors of a vault with up to 31 sectors of files.
+const LEAST: u64 = 384;
+/// The most bytes of a file.
+const MOST: u64 = 1_073_739_776;
+
+type Files = Vec<(String, Vec<u8>)>;
+
+/// Files of these sizes, each of other bytes, under names of a byte, of 127 bytes, and with a number.
+fn sized(sizes: &[usize]) -> Files {
+    let name = |i: usize| match i {
+        0 => "~".to_string(),
+        1 => "n".repeat(127),
+        _ => format!("cue{i}"),
+    };
+    sizes.iter().enumerate().map(|(i, size)| (name(i), noise(size + i)[i..].to_vec())).collect()
+}
+
+/// Vaults of no files, one, three, five and 64.
+fn vaults() -> Vec<Files> {
+    let sizes = [0, 1, 2047, 2048, 2049];
+    let alike = (b'!'..=b'`').chain([b'{']).filter(|c| *c != b'/');
+    let alike = alike.enumerate().map(|(i, c)| (format!("10.{}", char::from(c)), noise(i * 100)));
+    let long = (0..64).map(|i| (format!("{i:02}{}", "x".repeat(125)), noise(sizes[i % 5])));
+    let several = [&[][..], &[0], &[1], &[3 << 20], &[2047, 0, 3 << 20], &[2048, 2049, 1], &sizes].map(sized);
+    several.into_iter().chain([alike.collect(), long.collect()]).collect()
+}
+
+/// The files in a folder, and the words of a command that makes a vault of them. A name may begin as an option does.
+fn staged(folder: &Folder, files: &Files) -> Vec<String> {
+    std::fs::create_dir_all(folder.at("from")).unwrap();
+    let words = ["make", "v.img", "--"].map(str::to_string).into_iter();
+    words
+        .chain(files.iter().map(|(name, bytes)| {
+            put(folder.at("from").join(name), bytes).unwrap();
+            format!("from/{name}")
+        }))
+        .collect()
+}
+
+fn made(files: &Files) -> Folder {
+    let folder = Folder::new();
+    let said = folder.vault(&staged(&folder, files));
+    assert_eq!((said.status, said.error.as_str()), (0, ""), "{said:?}");
+    folder
+}
+
+/// What a program that reads images did, in the folder.
+fn ran(folder: &Folder, program: &PathBuf, words: &[&str], input: &[u8]) -> Output {
+    folder.write("input", input);
+    let input = std::fs::File::open(folder.at("input")).unwrap();
+    let mut command = Command::new(program);
+    command.args(words).current_dir(&folder.0).stdin(input).stdout(Stdio::piped()).stderr(Stdio::piped());
+    command.output().unwrap()
+}
+
+#[test]
+fn the_library_reads_what_it_writes() {
+    for files in vaults() {
+        let image = write(&files).unwrap();
+        let names: Vec<&str> = files.iter().map(|(name, _)| name.as_str()).collect();
+        let lengths: Vec<u64> = files.iter().map(|(_, bytes)| bytes.len() as u64).collect();
+        assert_eq!(image.len() as u64, write_total(&names, &lengths).unwrap() * SECTOR_SIZE);
+        assert!(probe_vrs(&image) && read_volume_label(&image).unwrap().value == "VAULT");
+        for bits in 0..8 {
+            let how = How { highest: bits & 4 != 0, checked: bits & 1 != 0, maps: bits & 2 != 0 };
+            let vault = Vault::open_as(&image, how).unwrap();
+            assert_eq!(vault.sectors, 8);
+            let listed = vault.read_directory(vault.root_directory_icb()).unwrap().value;
+            assert!(listed.iter().all(|entry| !entry.is_directory));
+            assert_eq!(listed.iter().map(|entry| entry.name.as_str()).collect::<Vec<_>>(), names);
+            for ((name, bytes), entry) in files.iter().zip(&listed) {
+                for matching in [Matching::CaseIgnored, Matching::AsWritten, Matching::Unambiguous] {
+                    assert_eq!(vault.lookup_as(name, matching).unwrap().value, entry.icb);
+                }
+                assert!(vault.read_file(entry.icb).unwrap().value == *bytes, "{name}");
+            }
+        }
+    }
+}
+
+#[test]
+fn the_command_writes_the_same() {
+    for files in vaults() {
+        let folder = made(&files);
+        assert!(read(folder.at("v.img")).unwrap() == write(&files).unwrap());
+        assert!(folder.vault(&["check", "--checked", "v.img"]).out.ends_with(" descriptors, each in place and with a right body\n"));
+        // A backslash is shown as two.
+        let listed: String = files.iter().map(|(name, _)| name.replace('\\', "\\\\") + "\n").collect();
+        assert_eq!(folder.vault(&["ls", "v.img"]).out, listed);
+        for (name, bytes) in files.iter().step_by(7) {
+            assert!(folder.vault(&["cat", "--as-written", "v.img", "--", name]).bytes == *bytes, "{name}");
+        }
+        // The files, the image, and nothing else.
+        assert_eq!(folder.names(), ["from", "v.img"]);
+    }
+}
+
+/// The vault that the model of docs/LAYOUT.md has written, byte for byte.
+#[test]
+fn the_command_writes_the_stored_vault() {
+    let bytes: Vec<u8> = (0..9097u32).map(|k| (k % 256 * 7 + k / 2048) as u8).collect();
+    let parts = [("9", 0..0), ("10.1A", 0..2049), ("Interval.look", 2049..4097), ("11", 4097..9097)];
+    let folder = made(&parts.map(|(name, part)| (name.to_string(), bytes[part].to_vec())).into());
+    let stored = sparse::expand(include_bytes!("../../crates/writer_cases/data/written")).unwrap();
+    assert!(read(folder.at("v.img")).unwrap() == stored);
+}
+
+#[test]
+fn a_refused_vault_leaves_nothing_behind() {
+    let folder = Folder::new();
+    folder.write("v.img", b"what was there");
+    folder.write("a", b"1");
+    folder.write("A", b"2");
+    folder.write("a b", b"3");
+    folder.write(&"n".repeat(128), b"4");
+    std::fs::create_dir(folder.at("folder")).unwrap();
+    std::fs::create_dir(folder.at("other")).unwrap();
+    folder.write("other/a", b"5");
+    (0..65).for_each(|i| folder.write(&format!("{i}"), b""));
+    // As long as a file that is one byte too long, of which no byte is written.
+    std::fs::File::create(folder.at("long")).unwrap().set_len(MOST + 1).unwrap();
+    let before = folder.names();
+    let refuses = |words: &[&str], status: i32, phrase: &str| {
+        let said = folder.vault(&[&["make"], words].concat());
+        assert_eq!((said.status, said.out.as_str(), said.error.lines().count()), (status, "", 1), "{words:?} {said:?}");
+        assert!(said.error.contains(phrase), "{words:?} {said:?}");
+        assert_eq!(folder.names(), before, "{words:?}");
+        assert_eq!(read(folder.at("v.img")).unwrap(), b"what was there");
+    };
+    let all: Vec<String> = (0..65).map(|i| i.to_string()).collect();
+    let all: Vec<&str> = all.iter().map(String::as_str).collect();
+    refuses(&["v.img", "a", "a b"], 13, "a b: a name of a vault is");
+    refuses(&["v.img", "0", "a", "A"], 13, "vault: A: a name");
+    refuses(&["v.img", "a", "other/a"], 13, "vault: other/a: a name");
+    refuses(&["v.img", &"n".repeat(128)], 13, "(refusal 13)");
+    refuses(&["v.img", ".."], 13, "(refusal 13)");
+    refuses(&[&["v.img"], &all[..]].concat(), 14, "v.img: a vault has up to 64 files");
+    refuses(&[&["v.img", "a b"], &all[..]].concat(), 13, "a b: ");
+    refuses(&["v.img", "a", "long"], 14, "long: a vault has");
+    refuses(&["v.img", "a", "none"], 66, "none: the file can't be opened");
+    refuses(&["v.img", "a", "folder"], 66, "folder: this is no ordinary file");
+    refuses(&["v.img", "./v.img"], 64, "this is the image itself");
+    refuses(&["folder", "a"], 74, "this is a directory");
+    refuses(&["no/v.img", "a"], 74, "the file can't be written");
+    refuses(&[], 64, "make needs IMAGE");
+    // What was there is replaced, also by a vault of nothing.
+    let said = folder.vault(&["make", "v.img"]);
+    assert_eq!((said.status, said.out.as_str()), (0, "v.img: 0 files, 384 sectors\n"));
+    assert!(read(folder.at("v.img")).unwrap() == write(&Files::new()).unwrap());
+}
+
+/// The library's calls: 13, 14 and 5 in this order, and nothing written.
+#[test]
+fn refusals_come_in_their_order() {
+    let good = ["a", "b"];
+    assert_eq!(write_total(&good, &[0, MOST]), Ok((384 + MOST / 2048) / 32 * 32));
+    assert_eq!(write_total(&good, &[0, MOST + 1]), Err(Refusal::BadFiles));
+    assert_eq!(write_total(&good, &[0]), Err(Refusal::BadFiles));
+    assert_eq!(write_total(&["a", "A"], &[0]), Err(Refusal::BadName));
+    // A zero byte in a name would make two of it.
+    assert_eq!(write_total(&["a\0b"], &[0, 0]), Err(Refusal::BadName));
+    assert_eq!(write(&[("a\0b", "")]), Err(Refusal::BadName));
+    for length in [0, 1, SECTOR, LEAST as usize * SECTOR - 1] {
+        let mut image = vec![0xa5; length];
+        assert_eq!(write_staged(&["a", "a"], &[9], b"", &mut image), Err(Refusal::BadName));
+        assert_eq!(write_staged(&good, &[4, 5], b"eight by", &mut image), Err(Refusal::BadFiles));
+        assert_eq!(write_staged(&good, &[4, 5], b"nine byte", &mut image), Err(Refusal::NoRoom));
+        assert!(image.iter().all(|byte| *byte == 0xa5));
+    }
+    let mut image = vec![0xa5; LEAST as usize * SECTOR + 700];
+    assert_eq!(write_staged(&good, &[4, 5], b"nine byte and more", &mut image), Ok(LEAST));
+    assert!(image[LEAST as usize * SECTOR..].iter().all(|byte| *byte == 0xa5));
+    assert!(image[..LEAST as usize * SECTOR] == write(&[("a", "nine"), ("b", " byte")]).unwrap());
+    // 64 names are taken and 65 aren't.
+    let names: Vec<String> = (0..65).map(|i| i.to_string()).collect();
+    assert_eq!(write_total(&names[..64], &[0; 64]), Ok(LEAST));
+    assert_eq!(write_total(&names, &[0; 65]), Err(Refusal::BadFiles));
+}
+
+#[test]
+fn seven_zip_reads_a_vault() {
+    let Some(program) = ["7z", "7zz", "7za"].iter().find_map(|name| tool(name)) else {
+        return left_out("vaults that 7-Zip reads", "7z");
+    };
+    for files in vaults() {
+        let folder = made(&files);
+        let said = ran(&folder, &program, &["x", "-y", "-oto", "v.img"], b"");
+        let text = String::from_utf8_lossy(&said.stdout).into_owned();
+        assert!(said.status.success() && text.contains("Everything is Ok") && !text.to_lowercase().contains("warning"), "{text}");
+        for (name, bytes) in &files {
+            assert!(read(folder.at("to").join(name)).unwrap() == *bytes, "{name}");
+        }
+    }
+}
+
+#[test]
+fn udfinfo_reads_a_vault() {
+    let Some(program) = tool("udfinfo") else {
+        return left_out("vaults that udfinfo reads", "udfinfo");
+    };
+    for files in vaults() {
+        let folder = made(&files);
+        let said = ran(&folder, &program, &["v.img"], b"");
+        let sectors = read(folder.at("v.img")).unwrap().len() / SECTOR;
+        // It warns on standard error.
+        assert!(said.status.success() && said.stderr.is_empty(), "{said:?}");
+        let text = String::from_utf8_lossy(&said.stdout).into_owned();
+        let lines = [
+            "label=VAULT",
+            "udfrev=1.02",
+            "integrity=closed",
+            "numdirs=1",
+            "start=16, blocks=3, type=VRS",
+            "start=32, blocks=16, type=MVDS",
+        ];
+        let more =
+            [format!("numfiles={}", files.len()), format!("blocks={sectors}"), format!("start={}, blocks=1, type=ANCHOR", sectors - 1)];
+        for line in lines.iter().copied().chain(more.iter().map(String::as_str)) {
+            assert!(text.lines().any(|there| there == line), "{line}: {text}");
+        }
+    }
+}
+
+/// Its shell has its own meaning for some signs, so that names of letters, digits and dots are asked for.
+#[test]
+fn udfclient_reads_a_vault() {
+    let Some(program) = tool("udfclient") else {
+        return left_out("vaults that udfclient reads", "udfclient");
+    };
+    for files in vaults().into_iter().filter(|files| !files.is_empty()) {
+        let plain = |name: &str| name.bytes().all(|byte| byte.is_ascii_alphanumeric() || byte == b'.');
+        let folder = made(&files);
+        let asked: Vec<&(String, Vec<u8>)> = files.iter().filter(|(name, _)| plain(name)).collect();
+        let gets: String = asked.iter().enumerate().map(|(i, (name, _))| format!("get {name} got{i}\n")).collect();
+        let words = format!("cd 386D438000000000VAULT:VAULT:VAULT:VAULT\nls\n{gets}quit\n");
+        let said = ran(&folder, &program, &["-b", "2048", "v.img"], words.as_bytes());
+        let text = String::from_utf8_lossy(&said.stdout).into_owned();
+        assert!(said.status.success() && files.iter().all(|(name, _)| text.contains(name.as_str())), "{text}");
+        for (i, (name, bytes)) in asked.iter().enumerate() {
+            assert!(read(folder.at(&format!("got{i}"))).unwrap() == *bytes, "{name}");
+        }
+    }
+}
+
+#[test]
+fn grub_reads_a_vault() {
+    let Some(program) = tool("grub-fstest") else {
+        return left_out("vaults that GRUB reads", "grub-fstest");
+    };
+    for files in vaults() {
+        let folder = made(&files);
+        for (name, bytes) in files.iter().step_by(3) {
+            let said = ran(&folder, &program, &["v.img", "cat", &format!("/{name}")], b"");
+            assert!(said.status.success() && said.stdout == *bytes, "{name} {}", String::from_utf8_lossy(&said.stderr));
+        }
+        let said = ran(&folder, &program, &["v.img", "ls", "/"], b"");
+        let listed: Vec<&[u8]> = said.stdout.split(|byte| *byte == b' ' || *byte == b'\n').filter(|name| !name.is_empty()).collect();
+        assert_eq!(listed, files.iter().map(|(name, _)| std::ffi::OsStr::new(name).as_bytes()).collect::<Vec<_>>());
+    }
+}
