@@ -45,6 +45,8 @@ mod volumes;
 mod volumes_mapped;
 mod ways;
 mod wire;
+#[cfg(linked)]
+mod written;
 
 #[cfg(linked)]
 use common::linked;
@@ -58,6 +60,7 @@ const USAGE: &str = "usage: compare [--seconds N] [--seed S] [--first] [--port |
        compare --bench [--drives | --port | --port=PROGRAM]
        compare --list FOLDER
        compare --stored FOLDER
+       compare --written [--bench]
        compare --image FILE [--port | --port=PROGRAM]";
 
 fn usage() -> ! {
@@ -80,6 +83,7 @@ struct Options {
     list: Option<String>,
     stored: Option<String>,
     image: Option<String>,
+    written: bool,
     child: bool,
 }
 
@@ -99,6 +103,7 @@ fn options() -> Options {
             "--list" => o.list = Some(next()),
             "--stored" => o.stored = Some(next()),
             "--image" => o.image = Some(next()),
+            "--written" => o.written = true,
             "--original-child" => o.child = true,
             _ => o.program = Some(word.strip_prefix("--port=").unwrap_or_else(|| usage()).to_string()),
         }
@@ -124,6 +129,9 @@ pub fn main() {
                 exit(1);
             }
         };
+    }
+    if o.written {
+        return written_vaults(o.bench);
     }
     let way = match &o.program {
         Some(program) => Way::Program(program),
@@ -166,4 +174,29 @@ pub fn main() {
         println!("never answered: {}", unreached.join(", "));
     }
     exit(if tally.mismatches > 0 { 1 } else { 0 });
+}
+
+/// Vaults that are written, where the archive is linked.
+#[cfg(linked)]
+fn written_vaults(bench: bool) {
+    if bench {
+        return written::speed();
+    }
+    match written::held().expect("our side answers") {
+        Ok([vaults, files, queries]) => {
+            let others = if cfg!(udfread) { "and libudfread" } else { "(libudfread isn't installed)" };
+            println!(
+                "compare: {vaults} vaults written, of {files} files, read by the original {others}; {queries} queries, each answered as by the original"
+            )
+        }
+        Err(what) => {
+            eprintln!("compare: a vault that was written: {what}");
+            exit(1);
+        }
+    }
+}
+
+#[cfg(not(linked))]
+fn written_vaults(_: bool) {
+    println!("compare: vaults written: left out, the archive is x86-64 code");
 }

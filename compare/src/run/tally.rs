@@ -11,7 +11,7 @@ use std::fmt;
 use std::time::Instant;
 use strandlodge_sys::vault::{CHECKED, HIGHEST, MAPS};
 
-/// The answer numbers.
+/// The answer numbers of the calls on an image.
 const NUMBERS: [u64; 12] = [0, 1, 2, 3, 4, 5, 6, 7, 9, 10, 11, 12];
 
 /// A row of a table: a name, and how many of each number.

@@ -4,7 +4,7 @@
 
 use super::calls::{Call, Icb, Query};
 use super::disc::Disc;
-use std::ffi::{CString, c_char, c_int, c_void};
+use std::ffi::{CStr, CString, c_char, c_int, c_void};
 use std::hint::black_box;
 use std::time::Instant;
 
@@ -100,6 +100,25 @@ impl Opened {
         }
     }
 
+    /// The names of the root's entries but for the folders, of which it gives `.` and `..` too.
+    fn names(&self) -> Vec<Vec<u8>> {
+        let mut entry = Entry { kind: 0, name: std::ptr::null() };
+        let mut names = Vec::new();
+        // The directory is open while it is walked, and closed once; a name stands until the next is asked for.
+        unsafe {
+            let dir = udfread_opendir(self.udf, c"/".as_ptr());
+            assert!(!dir.is_null(), "libudfread doesn't open the root");
+            while !udfread_readdir(dir, &mut entry).is_null() {
+                let name = CStr::from_ptr(entry.name).to_bytes();
+                if name != b"." && name != b".." {
+                    names.push(name.to_vec());
+                }
+            }
+            udfread_closedir(dir);
+        }
+        names
+    }
+
     fn file(&self, path: &[u8]) -> Handle {
         let path = CString::new(path).unwrap();
         let file = unsafe { udfread_file_open(self.udf, path.as_ptr()) };
@@ -112,6 +131,31 @@ impl Drop for Opened {
     fn drop(&mut self) {
         unsafe { udfread_close(self.udf) }
     }
+}
+
+/// What it doesn't read of a vault as it was written: the names in their order, and the bytes of each.
+pub fn unread(image: &[u8], files: &[(String, Vec<u8>)]) -> Option<String> {
+    let opened = Opened::new(image);
+    if opened.names() != files.iter().map(|(name, _)| name.as_bytes()).collect::<Vec<_>>() {
+        return Some("libudfread lists something else".to_string());
+    }
+    for (name, bytes) in files {
+        // A byte more, which a file that is too long has.
+        let mut out = vec![0; bytes.len() + 1];
+        let file = opened.file(format!("/{name}").as_bytes());
+        let mut n = 0;
+        // The room that is left is lent, and the file is closed once.
+        unsafe {
+            while let more @ 1.. = udfread_file_read(file, out[n..].as_mut_ptr(), out.len() - n) {
+                n += more as usize;
+            }
+            udfread_file_close(file);
+        }
+        if out[..n] != bytes[..] {
+            return Some(format!("libudfread reads something else of {name}"));
+        }
+    }
+    None
 }
 
 /// So many reads; nothing where they don't give the bytes that the original gave.
