@@ -54,7 +54,7 @@ FAULTS = (
     ("an opening's answer before what is left", "drives/src/openings.rt", r"(pub left: u32,)(.*?)(pub opened: Opened,)", r"\3\2\1"),
     ("an entry found before its answer", "listings/src/finds.rt", r"(pub answer: u64,)(.*?)(pub found: bool,)", r"\3\2\1"),
     ("length before place of a component", "vault/src/paths.rt", r"(pub at: usize,)(.*?)(pub length: usize,)", r"\3\2\1"),
-    ("a row that isn't zeroed at the end", "drives/src/readings.rt", r"if !x\.is_wanting\(\)", "if x.is_wanting()"),
+    ("a row that isn't zeroed", "drives/src/readings.rt", r"row\[i\] = \[0; 4\]", "row[i] = [1; 4]"),
     ("a denied sector that isn't counted", "drives/src/openings.rt", r"refused\(IO, count\)", "refused(IO, self.opened.count)"),
     ("count before answer", "volumes/src/openings.rt", r"(pub struct Opened \{.*?)(pub answer: u64,)(.*?)(pub count: u64,)", r"\1\4\3\2"),
     ("length before count", "disc/src/replies.rt", r"(pub struct Reply \{.*?)(pub count: u64,)(.*?)(pub length: u64,)", r"\1\4\3\2"),
