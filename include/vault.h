@@ -237,7 +237,10 @@ vault_reply vault_read_all(vault_volume volume, const uint8_t *image, size_t ima
  * state that has ended has its answer, and a step of it changes nothing. Any state may be stepped, also one made by
  * hand whose bools are 0 or 1: the step stays inside what it was lent, and from every state the end is reached.
  *
- * The sectors that are wanted, the answer and the count are those of vault_open with no choice, and of vault_read. */
+ * The sectors that are wanted, the answer and the count are those of vault_open with no choice, and of vault_read,
+ * save that of a read VAULT_NO_SLOT and VAULT_NO_ROOM may come before a later refusal: what was wanted is then the
+ * front of that list. What is said above of `out` and of the slots after a refusal isn't so of a read by steps: what
+ * had arrived stays in `out`, and the row is zeroed. The steps have the contracts of crate drives. */
 
 /* What is kept of the three descriptors between sectors, each with its volume descriptor sequence number. */
 typedef struct {

@@ -148,10 +148,6 @@ def said(slots, room, what, more=""):
     return f"slots {slots} room {room} fed {answer} count {count} length {length} sum {sum} list {list} zero kept still{more}"
 
 
-def places(count):
-    return range(0, count, 1 + count // 32)
-
-
 def reading(image, volume, icb, room):
     drive = Drive(image)
     answer, data = drive.ends(lambda disc: fitted(content(disc, volume, icb), room))
@@ -171,7 +167,7 @@ def reading(image, volume, icb, room):
             yield said(slots, bytes, this)
         before = this
     sum = 0
-    for i in places(one[1]):
+    for i in range(one[1]):
         a, count, length, arrived, list = read(image, volume, icb, SLOTS, room, i)[0]
         assert a == GONE and count == i + 1
         sum = mixed(sum, mixed(list, a, count, length, arrived, 1, 1, 1))

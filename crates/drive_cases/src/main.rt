@@ -5,7 +5,7 @@
 // fewer, with none, with a byte less room, and with none, whenever what it says is something else than the line before. `sum` is that of the bytes that
 // arrived, `list` that of the sectors that were wanted, in order; `zero` says that the row came back all zero, `kept` that the output behind what arrived is
 // as it came, full of A5, `still` that a step more changed nothing, and `same` that answer, count and bytes are the call's. `denied` sums up the same with a
-// sector denied at one place of the list: at each, or of a long list at every so many. A denied sector is a slice of 0, 2,047 or 2,049 bytes.
+// sector denied at one place of the list, for each place in turn. A denied sector is a slice of 0, 2,047 or 2,049 bytes.
 //
 // What is expected is computed by tools/drive_model.py, from the images and the rules.
 ghost use mathlib.Core.Path.{_≡_};
@@ -165,7 +165,7 @@ fn denied_opening(image: &[u8], i: usize) -> u64 {
     mixed(b, is_still_open(image, w.opening) as u64)
 }
 
-// Each place of a list of n in turn, or every so many.
+// Each place of a list of n in turn.
 fn say_denied_openings(image: &[u8], n: usize) {
     let mut total = 0;
     let mut i = 0;
@@ -407,7 +407,7 @@ fn denied_reading(image: &[u8], q: Question, i: usize, out: &mut [u8]) -> u64 {
     mixed(mixed(b, s.kept as u64), s.still as u64)
 }
 
-// Each place of a list of n in turn, or of a long one every so many.
+// Each place of the list in turn.
 fn say_denied_readings(image: &[u8], q: Question, n: usize, out: &mut [u8])
     requires { ⌜ n ≤ 2000 ⌝ }
 {
@@ -415,7 +415,7 @@ fn say_denied_readings(image: &[u8], q: Question, n: usize, out: &mut [u8])
     let mut i = 0;
     while i < n {
         total = mixed(total, denied_reading(image, q, i, out));
-        i += 1 + n / 32;
+        i += 1;
     }
     say_named(b"denied ", total);
     end_line();

@@ -16,3 +16,4 @@ pub mod WalkLaws
 pub mod Promises
 pub mod ReadPromises
 pub mod EndPromises
+pub mod GrownLaws

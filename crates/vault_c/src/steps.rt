@@ -4,7 +4,9 @@
 // 0 for one, says that the sector can't be had, which is VAULT_IO. A state that has ended has its answer, and a step of it changes nothing. Any state may be
 // stepped, also one made by hand whose bools are 0 or 1: the step stays inside what it was lent, and from every state the end is reached.
 //
-// The sectors that are wanted, the answer and the count are those of vault_open with no choice, and of vault_read.
+// The sectors that are wanted, the answer and the count are those of vault_open with no choice, and of vault_read, save that of a read VAULT_NO_SLOT and
+// VAULT_NO_ROOM may come before a later refusal: what was wanted is then the front of that list. What is said above of `out` and of the slots after a
+// refusal isn't so of a read by steps: what had arrived stays in `out`, and the row is zeroed. The steps have the contracts of crate drives.
 ghost use mathlib.Core.Path.{_≡_};
 ghost use Rattle.volumes.specs.Openings.{usual, opening};
 ghost use Rattle.listings.specs.Listings.{matchingOf};
