@@ -1,5 +1,5 @@
 -- The layout of a vault that is written, sector by sector and field by field: UDF 1.02 (ECMA-167 as OSTA UDF narrows it), sectors of 2,048 bytes,
--- one partition that starts in sector 272. Clauses are of ECMA-167 unless they say UDF.
+-- one partition that starts in sector 272: RULES 15.11, 15.12, and docs/LAYOUT.md in words. Clauses are of ECMA-167 unless they say UDF.
 use Prim.Native.Nat.{ℕ, _+_, _-_, _*_, _/_}
 use mathlib.Core.List.{List, [], _∷_, _++_}
 use lib.Dec.{eqb}

@@ -1,4 +1,4 @@
--- The names and the lengths of a vault that is to be written, what is refused of them, and the call.
+-- The names and the lengths of a vault that is to be written, what is refused of them, and the call: RULES 15.1 to 15.10, 15.14.
 use Prim.Native.Nat.{ℕ, _*_, _/_}
 use mathlib.Core.Bool.{Bool, true, false}
 use mathlib.Core.List.{List, [], _∷_, _++_}
