@@ -229,6 +229,33 @@ vault_reply vault_read_all(vault_volume volume, const uint8_t *image, size_t ima
                            size_t lengths_places, uint32_t *answers, size_t answers_places, uint8_t *work,
                            size_t work_length);
 
+/* ---- A vault written from a staging area: a complete image in memory that is lent, of up to 64 files in one
+ * directory. docs/LAYOUT.md has every sector of it.
+ *
+ * Here a refusal has no sectors, and leaves `image` as it came. `names` and `lengths` are looked at more than once,
+ * and must stand still during a call: what is said above of an image that changes isn't said of them. Of `staging`
+ * that changes meanwhile the files' bytes may be a mixture, and nothing else. */
+
+/* The answer number, and how many sectors the image has: 0 where the call was refused. */
+typedef struct {
+    uint64_t answer;
+    uint64_t sectors;
+} vault_write_reply;
+
+/* How many sectors of 2,048 bytes the image of these files has. `names` has their names, each ended by a zero byte,
+ * and `lengths` how many bytes each has. A name is 1 to 127 bytes from 21 to 7E, without 2F: one that isn't, a rest
+ * without its zero byte, and two names that are equal with ASCII case ignored are VAULT_BAD_NAME. Over 64 files,
+ * another number of names than of lengths, and a file of more than 1,073,739,776 bytes are VAULT_BAD_FILES. */
+vault_write_reply vault_write_total(const uint8_t *names, size_t names_length, const uint64_t *lengths,
+                                    size_t lengths_places);
+
+/* Writes that image over the front of `image`, and leaves what is behind it as it came; the answer has its sectors.
+ * The files stand in `staging` one behind another, from its front, in the order of their names. The refusals are
+ * those of vault_write_total; then VAULT_BAD_FILES for lengths that pass `staging`; then VAULT_NO_ROOM for an image
+ * of more sectors than `image` has whole ones. */
+vault_write_reply vault_write(const uint8_t *names, size_t names_length, const uint64_t *lengths, size_t lengths_places,
+                              const uint8_t *staging, size_t staging_length, uint8_t *image, size_t image_length);
+
 /* ---- Straight from a drive, with no image in memory: a state names the sector that it wants, is lent its bytes,
  * and goes on.
  *
@@ -381,33 +408,6 @@ vault_named vault_match(vault_volume volume, const uint8_t *bytes, size_t bytes_
 /* Where the first component of a path from `at` on stands; its length is 0 where there is none. From 0 on, and then
  * each time from the end of the one before, the components come in the order in which vault_lookup takes them. */
 vault_component vault_next_component(const uint8_t *path, size_t path_length, size_t at);
-
-/* ---- A vault written from a staging area: a complete image in memory that is lent, of up to 64 files in one
- * directory. docs/LAYOUT.md has every sector of it.
- *
- * Here a refusal has no sectors, and leaves `image` as it came. `names` and `lengths` are looked at more than once,
- * and must stand still during a call: what is said above of an image that changes isn't said of them. Of `staging`
- * that changes meanwhile the files' bytes may be a mixture, and nothing else. */
-
-/* The answer number, and how many sectors the image has: 0 where the call was refused. */
-typedef struct {
-    uint64_t answer;
-    uint64_t sectors;
-} vault_write_reply;
-
-/* How many sectors of 2,048 bytes the image of these files has. `names` has their names, each ended by a zero byte,
- * and `lengths` how many bytes each has. A name is 1 to 127 bytes from 21 to 7E, without 2F: one that isn't, a rest
- * without its zero byte, and two names that are equal with ASCII case ignored are VAULT_BAD_NAME. Over 64 files,
- * another number of names than of lengths, and a file of more than 1,073,739,776 bytes are VAULT_BAD_FILES. */
-vault_write_reply vault_write_total(const uint8_t *names, size_t names_length, const uint64_t *lengths,
-                                    size_t lengths_places);
-
-/* Writes that image over the front of `image`, and leaves what is behind it as it came; the answer has its sectors.
- * The files stand in `staging` one behind another, from its front, in the order of their names. The refusals are
- * those of vault_write_total; then VAULT_BAD_FILES for lengths that pass `staging`; then VAULT_NO_ROOM for an image
- * of more sectors than `image` has whole ones. */
-vault_write_reply vault_write(const uint8_t *names, size_t names_length, const uint64_t *lengths, size_t lengths_places,
-                              const uint8_t *staging, size_t staging_length, uint8_t *image, size_t image_length);
 
 #ifdef __cplusplus
 }

@@ -16,7 +16,8 @@ import tempfile
 sys.dont_write_bytecode = True
 from kit import ROOT, STRICT, Failed, did, linked, ran, unproved
 
-FACE, STEPS, WRITING, SHOW = "vault_c/src/lib.rt", "vault_c/src/steps.rt", "vault_c/src/writing.rt", ROOT / "crates/first_cue/stdin"
+FACE, STEPS, WRITING, SHOW = "vault_c/src/lib.rt", "drives_c/src/lib.rt", "vault_c/src/writing.rt", ROOT / "crates/first_cue/stdin"
+ARCHIVES = ("vault_c", "drives_c")
 OUT, WORK, IMAGE, PATH, MATCHING = r"out: &mut \[u8\]", r"work: &mut \[u8\]", r"image: &\[u8\]", r"path: &\[u8\]", "matching: u32"
 SECTOR, ROW, BYTES, COMPONENT = r"sector: &\[u8\]", r"row: &mut \[\[u32; 4\]\]", r"bytes: &\[u8\]", r"component: &\[u8\]"
 
@@ -81,10 +82,18 @@ def uncalled():
     return declared, [name for name in declared if name not in made]
 
 
-def made(archive, folder):
-    """Makes the calls over an archive."""
-    linked(ROOT / "face/c/calls.c", [archive], f"{folder}/calls")
+def made(archives, folder):
+    """Makes the calls over the archives."""
+    linked(ROOT / "face/c/calls.c", archives, f"{folder}/calls")
     ran(f"{folder}/calls", SHOW.read_bytes())
+
+
+def compiled(crates, folder):
+    """The archives of sources in a folder, without proof."""
+    archives = [folder / f"{crate}.a" for crate in ARCHIVES]
+    for crate, archive in zip(ARCHIVES, archives):
+        unproved(crate, crates / crate / "src/lib.rt", crates, archive)
+    return archives
 
 
 def is_seen(fault, crates, folder):
@@ -95,10 +104,10 @@ def is_seen(fault, crates, folder):
     if times != 1 or changed == text:
         raise Failed(f"the fault has no place in {name}: {old}")
     (crates / name).write_text(changed, encoding="utf-8")
-    unproved("vault_c", crates / FACE, crates, folder / "wrong.a")
+    wrong = compiled(crates, folder)
     (crates / name).write_text(text, encoding="utf-8")
     try:
-        made(folder / "wrong.a", folder)
+        made(wrong, folder)
         return False
     except Failed:
         return True
@@ -110,8 +119,7 @@ def self_test():
         crates = folder / "crates"
         for source in (ROOT / "crates").glob("*/src"):
             shutil.copytree(source, crates / source.parent.name / "src")
-        unproved("vault_c", crates / FACE, crates, folder / "right.a")
-        made(folder / "right.a", folder)
+        made(compiled(crates, folder), folder)
         missed = [fault[0] for fault in FAULTS if not is_seen(fault, crates, folder)]
     for what in missed:
         print(f"calls: not seen: {what}")
@@ -126,7 +134,7 @@ def check():
     did("cc", "-std=c11", *STRICT, "-fsyntax-only", ROOT / "face/c/layouts.c")
     did("c++", "-std=c++17", *STRICT, "-fsyntax-only", "-x", "c++", ROOT / "face/c/layouts.c")
     with tempfile.TemporaryDirectory() as folder:
-        made(ROOT / "target/staticlib/libvault_c.a", folder)
+        made([ROOT / f"target/staticlib/lib{crate}.a" for crate in ARCHIVES], folder)
     print(f"calls: the {len(declared)} calls of include/vault.h, made from C; the layouts of both headers, as C11 and as C++17")
     return 0
 

@@ -16,7 +16,7 @@ if __name__ == "__main__":
     declared = set(re.findall(r"^\w+ (vault_\w+)\(", (ROOT / "include/vault.h").read_text(), re.M))
     if missing := declared - set(re.findall(r"ROW\((vault_\w+)\)", (ROOT / "face/c/stack.c").read_text())):
         sys.exit(f"face/c/stack.c doesn't call {', '.join(sorted(missing))}")
-    archive = sys.argv[1] if len(sys.argv) > 1 else ROOT / "target/staticlib/libvault_c.a"
+    archives = sys.argv[1:] or [ROOT / f"target/staticlib/lib{crate}.a" for crate in ("vault_c", "drives_c")]
     with tempfile.TemporaryDirectory() as folder:
-        linked(ROOT / "face/c/stack.c", [archive], f"{folder}/stack")
+        linked(ROOT / "face/c/stack.c", archives, f"{folder}/stack")
         print(ran(f"{folder}/stack", (ROOT / "crates/first_cue/stdin").read_bytes()).decode(), end="")

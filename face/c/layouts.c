@@ -85,6 +85,10 @@ FIELD(vault_extent, extent_type, 4, 4, uint32_t *);
 FIELD(vault_extent, block, 8, 4, uint32_t *);
 FIELD(vault_extent, partition, 12, 4, uint32_t *);
 
+HOLDS(sizeof(vault_write_reply) == 16 && ALIGN(vault_write_reply) == 8);
+FIELD(vault_write_reply, answer, 0, 8, uint64_t *);
+FIELD(vault_write_reply, sectors, 8, 8, uint64_t *);
+
 HOLDS(sizeof(vault_kept) == 124 && ALIGN(vault_kept) == 4);
 FIELD(vault_kept, has_primary, 0, 1, bool *);
 FIELD(vault_kept, primary_sequence, 4, 4, uint32_t *);
@@ -151,10 +155,6 @@ FIELD(vault_named, directory, 36, 1, bool *);
 HOLDS(sizeof(vault_component) == 16 && ALIGN(vault_component) == 8);
 FIELD(vault_component, at, 0, 8, size_t *);
 FIELD(vault_component, length, 8, 8, size_t *);
-
-HOLDS(sizeof(vault_write_reply) == 16 && ALIGN(vault_write_reply) == 8);
-FIELD(vault_write_reply, answer, 0, 8, uint64_t *);
-FIELD(vault_write_reply, sectors, 8, 8, uint64_t *);
 
 HOLDS(RECORDS_DONE == 0);
 HOLDS(RECORDS_MALFORMED == 2);

@@ -161,6 +161,12 @@ structs! {
         12 partition: u32,
     }
 
+    /// The answer number, and how many sectors the image has: 0 where the call was refused.
+    vault_write_reply as WriteReply, 16 aligned to 8 {
+        0 answer: u64,
+        8 sectors: u64,
+    }
+
     /// What is kept of the three descriptors between sectors, each with its volume descriptor sequence number.
     vault_kept as Kept, 124 aligned to 4 {
         0 has_primary: bool,
@@ -272,12 +278,6 @@ structs! {
         0 at: usize,
         /// Its bytes: 0 where there is none.
         8 length: usize,
-    }
-
-    /// The answer number, and how many sectors the image has: 0 where the call was refused.
-    vault_write_reply as WriteReply, 16 aligned to 8 {
-        0 answer: u64,
-        8 sectors: u64,
     }
 }
 
@@ -418,6 +418,27 @@ unsafe extern "C" {
         work_length: usize,
     ) -> Reply;
 
+    /// How many sectors of 2,048 bytes the image of these files has. `names` has their names, each ended by a zero
+    /// byte, and `lengths` how many bytes each has. A name is 1 to 127 bytes from 21 to 7E, without 2F: one that isn't,
+    /// a rest without its zero byte, and two names that are equal with ASCII case ignored are VAULT_BAD_NAME. Over 64
+    /// files, another number of names than of lengths, and a file of more than 1,073,739,776 bytes are VAULT_BAD_FILES.
+    pub fn vault_write_total(names: *const u8, names_length: usize, lengths: *const u64, lengths_places: usize) -> WriteReply;
+
+    /// Writes that image over the front of `image`, and leaves what is behind it as it came; the answer has its
+    /// sectors. The files stand in `staging` one behind another, from its front, in the order of their names. The
+    /// refusals are those of vault_write_total; then VAULT_BAD_FILES for lengths that pass `staging`; then
+    /// VAULT_NO_ROOM for an image of more sectors than `image` has whole ones.
+    pub fn vault_write(
+        names: *const u8,
+        names_length: usize,
+        lengths: *const u64,
+        lengths_places: usize,
+        staging: *const u8,
+        staging_length: usize,
+        image: *mut u8,
+        image_length: usize,
+    ) -> WriteReply;
+
     /// An opening before its first sector: as vault_open with a `how` of 0. What it comes to is `opened`, once it has
     /// ended.
     pub fn vault_opening_start() -> Opening;
@@ -480,25 +501,4 @@ unsafe extern "C" {
     /// then each time from the end of the one before, the components come in the order in which vault_lookup takes
     /// them.
     pub fn vault_next_component(path: *const u8, path_length: usize, at: usize) -> Component;
-
-    /// How many sectors of 2,048 bytes the image of these files has. `names` has their names, each ended by a zero
-    /// byte, and `lengths` how many bytes each has. A name is 1 to 127 bytes from 21 to 7E, without 2F: one that isn't,
-    /// a rest without its zero byte, and two names that are equal with ASCII case ignored are VAULT_BAD_NAME. Over 64
-    /// files, another number of names than of lengths, and a file of more than 1,073,739,776 bytes are VAULT_BAD_FILES.
-    pub fn vault_write_total(names: *const u8, names_length: usize, lengths: *const u64, lengths_places: usize) -> WriteReply;
-
-    /// Writes that image over the front of `image`, and leaves what is behind it as it came; the answer has its
-    /// sectors. The files stand in `staging` one behind another, from its front, in the order of their names. The
-    /// refusals are those of vault_write_total; then VAULT_BAD_FILES for lengths that pass `staging`; then
-    /// VAULT_NO_ROOM for an image of more sectors than `image` has whole ones.
-    pub fn vault_write(
-        names: *const u8,
-        names_length: usize,
-        lengths: *const u64,
-        lengths_places: usize,
-        staging: *const u8,
-        staging_length: usize,
-        image: *mut u8,
-        image_length: usize,
-    ) -> WriteReply;
 }

@@ -28,6 +28,10 @@ NUMBERS = {
 # An item of a lent row that C has as a struct, since no proof covers a lent row of structs: the struct has as many fields of that type.
 SLOTS = {"[u32; 4]": "layouts::lists::Extent"}
 
+# Crates whose functions for C stand in the header of another, with an archive of their own: what they call is then called once in each archive, and
+# the compiler puts it into its callers.
+BESIDE = {"vault_c": ["drives_c"]}
+
 # The module that has the answer numbers.
 ANSWERS = ("disc", "answers")
 
@@ -189,7 +193,8 @@ class Maker:
     def __init__(self, reader, crate):
         self.reader, self.crate, self.prefix = reader, crate, crate.removesuffix("_c")
         self.root = reader.source(crate, "")
-        self.sources = [self.root, *(reader.source(crate, mod) for mod in self.root.mods)]
+        beside = [reader.source(other, "") for other in BESIDE.get(crate, [])]
+        self.sources = [self.root, *(reader.source(crate, mod) for mod in self.root.mods), *beside]
         self.names, self.kinds, self.owners, self.made = {}, {}, {}, {}
         for source in self.sources:
             for function in source.functions:

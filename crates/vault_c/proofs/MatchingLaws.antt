@@ -5,8 +5,7 @@ use Prim.Native.Nat.{ℕ}
 use Rattle.volumes.specs.declared.openings.VolumeRecord.{VolumeRecord}
 use Rattle.listings.specs.Listings.{matchingOf}
 use Rattle.listings.specs.declared.matchings.Matching.{Matching}
-use Rattle.listings.specs.declared.finds.Named.{Named}
-use Rattle.vault.specs.Calls.{Looked, finds, LostPlace, failsAt, Worked, readsPath, AllRead, readsAll, findsIn}
+use Rattle.vault.specs.Calls.{Looked, finds, LostPlace, failsAt, Worked, readsPath, AllRead, readsAll}
 
 module _ (image : List ℕ) (v : VolumeRecord) (path work : List ℕ) (n : ℕ) {m : Matching} (h : m ≡ matchingOf n) where
   pub found-by : {x : Looked} → x ≡ finds image v path m work → x ≡ finds image v path (matchingOf n) work
@@ -21,8 +20,3 @@ module _ (image : List ℕ) (v : VolumeRecord) (path work : List ℕ) (n : ℕ) 
   -- `path` is a list of paths here
   pub all-by : (out lengths answers : List ℕ) {x : AllRead} → x ≡ readsAll image v path m out lengths answers work → x ≡ readsAll image v path (matchingOf n) out lengths answers work
   all-by out lengths answers e = e ∙ ap (λ (matching : Matching). readsAll image v path matching out lengths answers work) h
-
--- over bytes at hand
-pub named-by : (v : VolumeRecord) (bytes component : List ℕ) (n : ℕ) {m : Matching} → m ≡ matchingOf n → {x : Named} → x ≡ findsIn v bytes component m
-    → x ≡ findsIn v bytes component (matchingOf n)
-named-by v bytes component n h e = e ∙ ap (λ (matching : Matching). findsIn v bytes component matching) h

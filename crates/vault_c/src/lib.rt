@@ -37,7 +37,6 @@ use volumes::openings::Opened;
 use volumes::openings::refused;
 
 mod choices;
-mod steps;
 pub mod writing;
 
 // ASCII case is ignored, and the first entry that matches is taken.

@@ -1,0 +1,2 @@
+-- Laws of the choice of matching as a number.
+pub mod MatchingLaws
