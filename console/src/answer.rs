@@ -4,8 +4,11 @@ use std::fmt;
 use std::ops::{Deref, DerefMut};
 use strandlodge_sys::vault;
 
-/// What every call on an image gives.
-pub type Result<T> = std::result::Result<Answer<T>, Refused>;
+/// What a call on an image gives.
+pub type Result<T> = std::result::Result<T, Refused>;
+
+/// The same where the sectors are counted: by [`Counted`](crate::Counted) and [`CountedDrive`](crate::CountedDrive).
+pub type Answered<T> = std::result::Result<Answer<T>, Refused>;
 
 /// An answer, and how many sectors of 2,048 bytes were asked for to give it.
 #[derive(Debug, Clone, Copy, PartialEq, Eq)]
@@ -55,6 +58,18 @@ impl<T: IntoIterator> IntoIterator for Answer<T> {
     type IntoIter = T::IntoIter;
 
     fn into_iter(self) -> T::IntoIter {
+        self.value.into_iter()
+    }
+}
+
+impl<'a, T> IntoIterator for &'a Answer<T>
+where
+    &'a T: IntoIterator,
+{
+    type Item = <&'a T as IntoIterator>::Item;
+    type IntoIter = <&'a T as IntoIterator>::IntoIter;
+
+    fn into_iter(self) -> Self::IntoIter {
         self.value.into_iter()
     }
 }

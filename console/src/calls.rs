@@ -18,7 +18,7 @@
 //! image that changes meanwhile a call may say that it wrote bytes which it found gone when it came to copy them.)
 #![allow(unsafe_code)]
 
-use crate::answer::{Answer, Refusal, Refused, Result};
+use crate::answer::{Answer, Answered, Refusal, Refused};
 use crate::matching::Matching;
 use crate::records::LongAd;
 use strandlodge_sys::vault::*;
@@ -26,7 +26,7 @@ use strandlodge_sys::vault::*;
 type Lent = *mut u8;
 
 /// The value, where the number says that there is one.
-fn answered<T>(answer: u64, sectors: u64, value: T) -> Result<T> {
+fn answered<T>(answer: u64, sectors: u64, value: T) -> Answered<T> {
     match Refusal::of(answer) {
         None => Ok(Answer { value, sectors }),
         Some(why) => Err(Refused { why, sectors }),
@@ -34,7 +34,7 @@ fn answered<T>(answer: u64, sectors: u64, value: T) -> Result<T> {
 }
 
 /// Lends the room of `out`, and makes what was written its content.
-fn filled<T>(out: &mut Vec<T>, call: impl FnOnce(*mut T, usize) -> Reply) -> Result<()> {
+fn filled<T>(out: &mut Vec<T>, call: impl FnOnce(*mut T, usize) -> Reply) -> Answered<()> {
     out.clear();
     let room = out.spare_capacity_mut();
     let reply = call(room.as_mut_ptr().cast(), room.len());
@@ -78,20 +78,20 @@ pub fn probe(image: &[u8]) -> bool {
 }
 
 /// `how` is the sum of the choices.
-pub fn open(image: &[u8], how: u32) -> Result<Volume> {
+pub fn open(image: &[u8], how: u32) -> Answered<Volume> {
     see_version();
     // SAFETY: the head of this module; nothing is lent for writing.
     let opened = unsafe { vault_open(image.as_ptr(), image.len(), how) };
     answered(opened.answer, opened.count, opened.volume)
 }
 
-pub fn label(image: &[u8], how: u32, out: &mut Vec<u8>) -> Result<()> {
+pub fn label(image: &[u8], how: u32, out: &mut Vec<u8>) -> Answered<()> {
     see_version();
     // SAFETY: the head of this module; `room` bytes from `to` on are `out`'s own.
     filled(out, |to, room| unsafe { vault_label(image.as_ptr(), image.len(), how, to, room) })
 }
 
-pub fn lookup(volume: Volume, image: &[u8], path: &[u8], matching: Matching, work: &mut Vec<u8>) -> Result<LongAd> {
+pub fn lookup(volume: Volume, image: &[u8], path: &[u8], matching: Matching, work: &mut Vec<u8>) -> Answered<LongAd> {
     let ((work, w), m) = (space(work), matching.number());
     // SAFETY: the head of this module; `w` bytes from `work` on are the vector's own.
     let found = unsafe { vault_lookup(volume, image.as_ptr(), image.len(), path.as_ptr(), path.len(), m, work, w) };
@@ -99,7 +99,7 @@ pub fn lookup(volume: Volume, image: &[u8], path: &[u8], matching: Matching, wor
 }
 
 /// The component at which the lookup is refused by 3, or none where the path is there.
-pub fn failed<'p>(volume: Volume, image: &[u8], path: &'p [u8], matching: Matching, work: &mut Vec<u8>) -> Result<Option<&'p [u8]>> {
+pub fn failed<'p>(volume: Volume, image: &[u8], path: &'p [u8], matching: Matching, work: &mut Vec<u8>) -> Answered<Option<&'p [u8]>> {
     let ((work, w), m) = (space(work), matching.number());
     let mut at = 0;
     // SAFETY: the head of this module; `w` bytes from `work` on are the vector's own, and `at` is a number of this function's.
@@ -110,36 +110,36 @@ pub fn failed<'p>(volume: Volume, image: &[u8], path: &'p [u8], matching: Matchi
     }
 }
 
-pub fn list(volume: Volume, image: &[u8], icb: LongAd, out: &mut Vec<u8>, work: &mut Vec<u8>) -> Result<()> {
+pub fn list(volume: Volume, image: &[u8], icb: LongAd, out: &mut Vec<u8>, work: &mut Vec<u8>) -> Answered<()> {
     let (work, w) = space(work);
     // SAFETY: the head of this module; `room` bytes from `to` on are `out`'s own, and `w` from `work` on are the other vector's.
     filled(out, |to, room| unsafe { vault_list(volume, image.as_ptr(), image.len(), icb.to_c(), to, room, work, w) })
 }
 
-pub fn show(volume: Volume, image: &[u8], levels: u32, out: &mut Vec<u8>, work: &mut Vec<u8>) -> Result<()> {
+pub fn show(volume: Volume, image: &[u8], levels: u32, out: &mut Vec<u8>, work: &mut Vec<u8>) -> Answered<()> {
     let (work, w) = space(work);
     // SAFETY: the head of this module; `room` bytes from `to` on are `out`'s own, and `w` from `work` on are the other vector's.
     filled(out, |to, room| unsafe { vault_show(volume, image.as_ptr(), image.len(), levels, to, room, work, w) })
 }
 
-pub fn read(volume: Volume, image: &[u8], icb: LongAd, out: &mut Vec<u8>) -> Result<()> {
+pub fn read(volume: Volume, image: &[u8], icb: LongAd, out: &mut Vec<u8>) -> Answered<()> {
     // SAFETY: the head of this module; `room` bytes from `to` on are `out`'s own.
     filled(out, |to, room| unsafe { vault_read(volume, image.as_ptr(), image.len(), icb.to_c(), to, room) })
 }
 
-pub fn part(volume: Volume, image: &[u8], icb: LongAd) -> Result<&[u8]> {
+pub fn part(volume: Volume, image: &[u8], icb: LongAd) -> Answered<&[u8]> {
     let mut at = 0;
     // SAFETY: the head of this module; `at` is a number of this function's.
     let reply = unsafe { vault_part(volume, image.as_ptr(), image.len(), icb.to_c(), &mut at) };
     answered(reply.answer, reply.count, named(image, at, reply.length))
 }
 
-pub fn extents(volume: Volume, image: &[u8], icb: LongAd, row: &mut Vec<Extent>) -> Result<()> {
+pub fn extents(volume: Volume, image: &[u8], icb: LongAd, row: &mut Vec<Extent>) -> Answered<()> {
     // SAFETY: the head of this module; `slots` slots from `to` on are `row`'s own.
     filled(row, |to, slots| unsafe { vault_extents(volume, image.as_ptr(), image.len(), icb.to_c(), to, slots) })
 }
 
-pub fn read_path(volume: Volume, image: &[u8], path: &[u8], matching: Matching, out: &mut Vec<u8>, work: &mut Vec<u8>) -> Result<()> {
+pub fn read_path(volume: Volume, image: &[u8], path: &[u8], matching: Matching, out: &mut Vec<u8>, work: &mut Vec<u8>) -> Answered<()> {
     let ((work, w), m) = (space(work), matching.number());
     // SAFETY: the head of this module; `room` bytes from `to` on are `out`'s own, and `w` from `work` on are the other vector's.
     filled(out, |to, room| unsafe { vault_read_path(volume, image.as_ptr(), image.len(), path.as_ptr(), path.len(), m, to, room, work, w) })
@@ -161,7 +161,7 @@ pub fn read_all(
     out: &mut Vec<u8>,
     rows: &mut Rows,
     work: &mut Vec<u8>,
-) -> Result<()> {
+) -> Answered<()> {
     let ((work, w), m) = (space(work), matching.number());
     let Rows { lengths, answers } = rows;
     lengths.clear();
@@ -205,7 +205,7 @@ pub fn opening_step(opening: Opening, sector: &[u8]) -> Opening {
 }
 
 /// What an opening that has ended came to.
-pub fn opening_ended(opening: &Opening) -> Result<Volume> {
+pub fn opening_ended(opening: &Opening) -> Answered<Volume> {
     let opened = opening.opened;
     answered(opened.answer, opened.count, opened.volume)
 }
@@ -233,11 +233,11 @@ pub fn reading_step(mut reading: Reading, sector: &[u8], row: &mut Row, out: &mu
 }
 
 /// What a read that has ended came to.
-pub fn reading_ended(reading: &Reading) -> Result<()> {
+pub fn reading_ended(reading: &Reading) -> Answered<()> {
     answered(reading.answer, reading.count, ())
 }
 
-pub fn list_bytes(volume: Volume, bytes: &[u8], out: &mut Vec<u8>) -> Result<()> {
+pub fn list_bytes(volume: Volume, bytes: &[u8], out: &mut Vec<u8>) -> Answered<()> {
     // SAFETY: the head of this module; `room` bytes from `to` on are `out`'s own.
     filled(out, |to, room| unsafe { vault_list_bytes(volume, bytes.as_ptr(), bytes.len(), to, room) })
 }

@@ -3,7 +3,7 @@
 use strandlodge_sys::vault::{CHECKED, HIGHEST, MAPS};
 
 /// How a volume is opened. The default is the original's rule.
-#[derive(Debug, Clone, Copy, Default, PartialEq, Eq)]
+#[derive(Debug, Clone, Copy, Default, PartialEq, Eq, Hash)]
 pub struct How {
     /// Of several primary volume, partition or logical volume descriptors the one with the highest volume descriptor sequence number counts,
     /// the later of equals. Else the last one does.

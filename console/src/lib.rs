@@ -1,13 +1,14 @@
 //! Reads UDF discs from memory, and writes vaults to it, through the proved archive of `vault_c` (include/vault.h).
 //!
-//! [`Vault`] stands over a borrowed image and has the calls of the original's `UdfDisc` under their names; README.md has the two side by
-//! side. [`Drive`] has them over a reader. Every answer comes with the number of sectors that were asked for, and every refusal too.
+//! [`Vault`] stands over an image that it owns or borrows, and has the calls of the original's `UdfDisc` under their names; README.md has the two side by
+//! side. [`Drive`] has them over a reader. Their calls give plain values; [`Vault::counted`] and [`Drive::counted`] have the same calls with the number of
+//! sectors that were asked for beside each answer. A refusal has it always.
 //!
 //! ```
 //! # fn show() -> Vec<u8> { Vec::new() }
 //! let image = show(); // the bytes of a disc
 //! match strandlodge::Vault::open(&image) {
-//!     Ok(vault) => println!("{} sectors asked for", vault.sectors),
+//!     Ok(vault) => println!("{} sectors asked for", vault.sectors()),
 //!     Err(refused) => println!("refusal {}: {refused}", refused.number()),
 //! }
 //! ```
@@ -59,7 +60,7 @@
 //!
 //! # A vault that is written
 //!
-//! [`write`] makes a complete image of up to 64 files: that [`Vault::open`] opens it, and that each name gives its file's bytes, is proved.
+//! [`write()`] makes a complete image of up to 64 files: that [`Vault::open`] opens it, and that each name gives its file's bytes, is proved.
 //! [`write_staged`] writes it into memory that is lent, and [`write_total`] says how many sectors it has.
 //!
 //! # The image stands still
@@ -85,6 +86,8 @@ compile_error!("the archive is x86-64 code for Linux");
 
 mod answer;
 mod calls;
+mod counted;
+mod counted_drive;
 mod drive;
 mod how;
 mod maps;
@@ -105,8 +108,10 @@ mod input;
 #[cfg(test)]
 mod replays;
 
-pub use answer::{Answer, Refusal, Refused, Result};
-pub use drive::{Drive, Uncopied, Unopened};
+pub use answer::{Answer, Answered, Refusal, Refused, Result};
+pub use counted::{Counted, SECTOR_SIZE};
+pub use counted_drive::{CountedDrive, Uncopied, Unopened};
+pub use drive::Drive;
 pub use how::How;
 pub use maps::PartitionMap;
 pub use matching::Matching;
@@ -116,7 +121,7 @@ pub use source::Missed;
 pub use stack::Item;
 pub use table::{MapForm, MapTable, map_table};
 pub use tree::Show;
-pub use vault::{SECTOR_SIZE, Vault, probe_vrs, read_volume_label, read_volume_label_as};
+pub use vault::{Vault, probe_vrs, read_volume_label, read_volume_label_as};
 pub use writer::{write, write_staged, write_total};
 
 /// The code in README.md is compiled with the tests.

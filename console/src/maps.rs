@@ -7,7 +7,7 @@ use crate::records::{LbAddr, LongAd};
 use strandlodge_sys::vault::Mount;
 
 /// A partition map of type 1 (ECMA-167 3/10.7.2), with the start of its partition.
-#[derive(Debug, Clone, Copy, PartialEq, Eq)]
+#[derive(Debug, Clone, Copy, PartialEq, Eq, Hash)]
 pub struct PartitionMap {
     /// The sequence number of the volume that holds the partition.
     pub volume: u16,

@@ -4,7 +4,7 @@ use crate::answer::Answer;
 use strandlodge_sys::vault as face;
 
 /// A block of a partition.
-#[derive(Debug, Clone, Copy, PartialEq, Eq)]
+#[derive(Debug, Clone, Copy, PartialEq, Eq, Hash)]
 pub struct LbAddr {
     /// The block, counted from the partition's start.
     pub block: u32,
@@ -13,7 +13,7 @@ pub struct LbAddr {
 }
 
 /// Where something stands: the ICB of a file or a directory.
-#[derive(Debug, Clone, Copy, PartialEq, Eq)]
+#[derive(Debug, Clone, Copy, PartialEq, Eq, Hash)]
 pub struct LongAd {
     /// In bytes, below 2^30 where it was read from a disc.
     pub length: u32,
@@ -60,7 +60,7 @@ impl From<Answer<LongAd>> for LongAd {
 }
 
 /// An extent of a file, in the order of the file.
-#[derive(Debug, Clone, Copy, PartialEq, Eq)]
+#[derive(Debug, Clone, Copy, PartialEq, Eq, Hash)]
 pub struct AllocExtent {
     /// The bytes that it gives to its file.
     pub length: u32,
@@ -73,7 +73,7 @@ pub struct AllocExtent {
 }
 
 /// An entry of a directory.
-#[derive(Debug, Clone, PartialEq, Eq)]
+#[derive(Debug, Clone, PartialEq, Eq, Hash)]
 pub struct DirEntry {
     /// The name as recorded.
     pub name: String,
@@ -84,7 +84,7 @@ pub struct DirEntry {
 }
 
 /// An entry of a whole show: one for each path that leads to it.
-#[derive(Debug, Clone, PartialEq, Eq)]
+#[derive(Debug, Clone, PartialEq, Eq, Hash)]
 pub struct ShowEntry {
     /// How many names its path has: 1 for what stands in the root.
     pub level: u8,

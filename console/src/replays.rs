@@ -5,9 +5,9 @@
 //!
 //! What a call leaves in memory that it doesn't answer with is seen by those programs and by `compare`, and not here.
 
-use crate::answer::{Answer, Result};
+use crate::answer::{Answer, Answered};
 use crate::calls::{self, Rows};
-use crate::drive::Drive;
+use crate::counted_drive::CountedDrive;
 use crate::input::Input;
 use crate::matching::Matching;
 use crate::records::{LbAddr, LongAd};
@@ -64,7 +64,7 @@ fn room<T>(n: usize) -> Vec<T> {
 }
 
 /// A line of `replay` without its last number: the call, answer, count, length and sum. Where it is refused the output is as it came.
-fn line<T>(call: &str, answer: &Result<T>, refused: u64, values: impl FnOnce(&T) -> (u64, u64)) -> String {
+fn line<T>(call: &str, answer: &Answered<T>, refused: u64, values: impl FnOnce(&T) -> (u64, u64)) -> String {
     match answer {
         Ok(Answer { value, sectors }) => {
             let (length, sum) = values(value);
@@ -103,7 +103,7 @@ fn ask(call: u8, v: Volume, image: &[u8], q: &Lends) -> String {
 }
 
 /// The component stands in an answer here, where the list has the lookup's 3.
-fn failed(answer: &Result<Option<&[u8]>>) -> String {
+fn failed(answer: &Answered<Option<&[u8]>>) -> String {
     match answer {
         Ok(Answer { value: Some(c), sectors }) => format!("failed 3 {sectors} {} {}", c.len(), sum(c.iter().copied())),
         other => line("failed", other, 0, |_| (0, 0)),
@@ -198,7 +198,7 @@ fn the_files_of_the_gate_from_a_drive() {
             let volume = Volume { mount, root: icb.to_c(), label: [0; 32] };
             let mut out = room(1 << 20);
             let read = calls::read(volume, &image, icb, &mut out).map(|answer| answer.map(|()| out));
-            assert_eq!(Drive::over(Cursor::new(&image), volume).read_file(icb), read);
+            assert_eq!(CountedDrive::over(Cursor::new(&image), volume).read_file(icb), read);
             seen[read.map_or_else(|refused| refused.number(), |_| 0) as usize] += 1;
         }
     }
@@ -270,7 +270,7 @@ fn the_choices_of_the_gate() {
 }
 
 /// The call, its number and its count.
-fn head<T>(call: &str, answer: &Result<T>) -> String {
+fn head<T>(call: &str, answer: &Answered<T>) -> String {
     match answer {
         Ok(a) => format!("{call} 0 count {}", a.sectors),
         Err(r) => format!("{call} {} count {}", r.number(), r.sectors),

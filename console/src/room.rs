@@ -1,6 +1,6 @@
 //! Memory that is lent to a call, and more of it as long as that was the only trouble.
 
-use crate::answer::{Refusal, Result};
+use crate::answer::{Answered, Refusal};
 
 /// What is lent at first, in bytes. A show's cues and directories fit.
 pub const FIRST: usize = 64 << 10;
@@ -61,7 +61,7 @@ impl<T> Room<T> {
 }
 
 /// Makes a call, and again with twice the room where too little of it was the refusal. A refused call has written nothing.
-pub fn retry<T, R>(out: &mut Room<T>, work: &mut Room<u8>, mut call: impl FnMut(&mut Vec<T>, &mut Vec<u8>) -> Result<R>) -> Result<R> {
+pub fn retry<T, R>(out: &mut Room<T>, work: &mut Room<u8>, mut call: impl FnMut(&mut Vec<T>, &mut Vec<u8>) -> Answered<R>) -> Answered<R> {
     loop {
         let answer = call(&mut out.lent, &mut work.lent);
         let grown = match answer.as_ref().err().map(|refused| refused.why) {

@@ -37,7 +37,7 @@ impl fmt::Display for Kind {
 }
 
 /// A descriptor of the main volume descriptor sequence.
-#[derive(Debug, Clone, Copy, PartialEq, Eq)]
+#[derive(Debug, Clone, Copy, PartialEq, Eq, Hash)]
 pub struct VolumeDescriptor {
     /// Where it stands.
     pub sector: u64,

@@ -1,6 +1,6 @@
 //! A reader that is asked for sectors: for each once, and for those that stand in a row together.
 
-use crate::vault::SECTOR_SIZE;
+use crate::counted::SECTOR_SIZE;
 use std::fmt;
 use std::io::{self, Read, Seek, SeekFrom};
 

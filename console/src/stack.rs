@@ -1,6 +1,6 @@
 //! Many files that are read by one call.
 
-use crate::answer::{Refusal, Refused, Result};
+use crate::answer::{Answered, Refusal, Refused};
 use crate::calls::{self, Rows};
 use crate::matching::Matching;
 use crate::room::{FIRST, Room};
@@ -48,7 +48,7 @@ pub struct Stack {
 impl Stack {
     /// Reads a list by one call, and again with more work space where too little of it was the refusal of a path. The output has room for as much
     /// as files have at first: one that doesn't fit what is left of it is refused by 5. No paths are no list: no bytes would be one path.
-    pub fn read(volume: Volume, image: &[u8], list: &List, matching: Matching, work: &mut Room<u8>) -> Result<Stack> {
+    pub fn read(volume: Volume, image: &[u8], list: &List, matching: Matching, work: &mut Room<u8>) -> Answered<Stack> {
         let mut stack = Stack::default();
         if list.paths == 0 {
             return Ok(crate::Answer { value: stack, sectors: 0 });

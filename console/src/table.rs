@@ -13,7 +13,7 @@ const TABLE: usize = 440;
 const PLAIN: [u8; 2] = [1, 6];
 
 /// The map table of the logical volume descriptor that prevails.
-#[derive(Debug, Clone, PartialEq, Eq)]
+#[derive(Debug, Clone, PartialEq, Eq, Hash)]
 pub struct MapTable {
     /// How many maps it says that it has.
     pub maps: u32,
@@ -34,7 +34,7 @@ impl MapTable {
 }
 
 /// A partition map.
-#[derive(Debug, Clone, PartialEq, Eq)]
+#[derive(Debug, Clone, PartialEq, Eq, Hash)]
 pub enum MapForm {
     /// Of type 1, which is read.
     Plain {

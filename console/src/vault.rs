@@ -1,62 +1,89 @@
-//! The calls, over a borrowed image.
+//! The calls, over an image that is owned or borrowed.
 
-use crate::answer::{Answer, Refusal, Refused, Result};
+use crate::answer::{Answer, Answered, Refused, Result};
 use crate::calls;
+use crate::counted::Counted;
 use crate::how::How;
-use crate::maps::{PartitionMap, maps, place_of, started};
+use crate::maps::PartitionMap;
 use crate::matching::Matching;
-use crate::records::{AllocExtent, DirEntry, LbAddr, LongAd, entries, text};
-use crate::room::{AT_ONCE, FIRST, MOST_DIRECTORY, MOST_SHOW, Room, most_file, retry};
-use crate::stack::{Item, List, Stack, copied, too_many};
+use crate::records::{AllocExtent, DirEntry, LbAddr, LongAd};
+use crate::stack::Item;
 use crate::tree::Show;
 use std::fmt;
-use strandlodge_sys::vault::{Extent, Volume};
-
-/// The bytes of a sector, and of a block.
-pub const SECTOR_SIZE: u64 = 2048;
-
-/// The slots that are lent at first for an extent list.
-const FIRST_SLOTS: usize = 256;
-
-/// No extent list is longer: 32 continuations of at most 2^20 bytes, and an entry of 2,048, with 8 bytes for each descriptor.
-const MOST_SLOTS: usize = 32 * ((1 << 20) / 8) + 2048 / 8;
-
-/// A label has at most 30 recorded bytes of one or two bytes of UTF-8 each, or 15 pairs of at most three.
-const LABEL: usize = 64;
+use strandlodge_sys::vault::Volume;
 
 /// Whether the image has a volume recognition sequence. Opening doesn't depend on it.
+///
+/// ```
+/// # fn main() -> Result<(), strandlodge::Refusal> {
+/// let image = strandlodge::write(&[("9", b"cue 9")])?;
+/// assert!(strandlodge::probe_vrs(&image) && !strandlodge::probe_vrs(&[]));
+/// # Ok(())
+/// # }
+/// ```
 pub fn probe_vrs(image: &[u8]) -> bool {
     calls::probe(image)
 }
 
 /// Opens an image and gives its label.
+///
+/// ```no_run
+/// # fn main() -> Result<(), Box<dyn std::error::Error>> {
+/// println!("{}", strandlodge::read_volume_label(&std::fs::read("show.img")?)?);
+/// # Ok(())
+/// # }
+/// ```
 pub fn read_volume_label(image: &[u8]) -> Result<String> {
     read_volume_label_as(image, How::default())
 }
 
 /// The same, opened as it is chosen.
+///
+/// ```no_run
+/// # fn main() -> Result<(), Box<dyn std::error::Error>> {
+/// let how = strandlodge::How { highest: true, ..Default::default() };
+/// println!("{}", strandlodge::read_volume_label_as(&std::fs::read("show.img")?, how)?);
+/// # Ok(())
+/// # }
+/// ```
 pub fn read_volume_label_as(image: &[u8], how: How) -> Result<String> {
-    let mut out = Room::new(LABEL, LABEL);
-    let answer = calls::label(image, how.number(), &mut out.lent)?;
-    kept(answer, Refusal::NoRoom, |()| text(&out.lent))
+    plain(Counted::label_of(image, how))
 }
 
-/// The answer's value made into another, for which there may be no memory.
-fn kept<T, U>(answer: Answer<T>, full: Refusal, make: impl FnOnce(T) -> Option<U>) -> Result<U> {
-    let sectors = answer.sectors;
-    let value = make(answer.value).ok_or(Refused { why: full, sectors })?;
-    Ok(Answer { value, sectors })
+/// The value alone.
+pub(crate) fn plain<T>(answered: Answered<T>) -> Result<T> {
+    answered.map(|answer| answer.value)
 }
 
-/// An opened volume over the image that it was opened from. It is small and holds nothing but borrows: copy it, share it between threads.
+/// An opened volume with its image, which it owns, as a `Vec<u8>`, a `Box<[u8]>` or a map, or borrows, as a `&[u8]`, a `&Vec<u8>` or an `Arc<[u8]>`.
+///
+/// Its calls take `&self` and keep nothing: it can be shared between threads, and copied where the image is a borrow. What they give are plain values, as
+/// in the original; [`Vault::counted`] has the same calls with the sectors that each asked for.
+///
+/// ```
+/// use strandlodge::{LongAd, Vault};
+///
+/// # fn main() -> Result<(), Box<dyn std::error::Error>> {
+/// let image = strandlodge::write(&[("9", &b"cue 9"[..]), ("10.1A", b"cue 10.1A")])?;
+/// let vault = Vault::open(&image)?; // or Vault::open(image)?, which owns it
+/// let icb: LongAd = vault.lookup("10.1A")?;
+/// let look: Vec<u8> = vault.read_file(icb)?;
+/// assert_eq!(look, b"cue 10.1A");
+/// for entry in &vault.read_directory(vault.root_directory_icb())? {
+///     println!("{}", entry.name);
+/// }
+/// # Ok(())
+/// # }
+/// ```
 #[derive(Clone, Copy)]
-pub struct Vault<'a> {
-    image: &'a [u8],
+pub struct Vault<B> {
+    image: B,
     volume: Volume,
     how: How,
+    sectors: u64,
 }
 
-impl fmt::Debug for Vault<'_> {
+impl<B: AsRef<[u8]>> fmt::Debug for Vault<B> {
     /// Without the image, which may have many gigabytes.
     fn fmt(&self, f: &mut fmt::Formatter<'_>) -> fmt::Result {
         f.debug_struct("Vault")
@@ -67,16 +94,71 @@ impl fmt::Debug for Vault<'_> {
     }
 }
 
-impl<'a> Vault<'a> {
-    /// Opens the volume of an image.
-    pub fn open(image: &'a [u8]) -> Result<Vault<'a>> {
+impl<B: AsRef<[u8]>> Vault<B> {
+    /// Opens the volume of an image. Where it is refused the image goes, and [`Vault::open`] of a borrow keeps it.
+    ///
+    /// ```no_run
+    /// # fn main() -> Result<(), Box<dyn std::error::Error>> {
+    /// let vault = strandlodge::Vault::open(std::fs::read("show.img")?)?;
+    /// # Ok(())
+    /// # }
+    /// ```
+    pub fn open(image: B) -> Result<Vault<B>> {
         Vault::open_as(image, How::default())
     }
 
     /// The same, as it is chosen: which of several descriptors of one kind counts, whether the bodies of descriptors are checked, here and in
     /// every call on what is opened, and whether partition references go through the volume's maps.
-    pub fn open_as(image: &'a [u8], how: How) -> Result<Vault<'a>> {
-        Ok(calls::open(image, how.number())?.map(|volume| Vault { image, volume, how }))
+    ///
+    /// ```no_run
+    /// # fn main() -> Result<(), Box<dyn std::error::Error>> {
+    /// use strandlodge::{How, Vault};
+    /// let vault = Vault::open_as(std::fs::read("show.img")?, How { checked: true, ..How::default() })?;
+    /// # Ok(())
+    /// # }
+    /// ```
+    pub fn open_as(image: B, how: How) -> Result<Vault<B>> {
+        let Answer { value, sectors } = Counted::open_as(image.as_ref(), how)?;
+        let volume = value.volume();
+        Ok(Vault { image, volume, how, sectors })
+    }
+
+    /// The same calls, with the sectors that each asks for.
+    ///
+    /// ```
+    /// # fn main() -> Result<(), Box<dyn std::error::Error>> {
+    /// # let image = strandlodge::write(&[("9", b"cue 9")])?;
+    /// let vault = strandlodge::Vault::open(image)?;
+    /// let look = vault.counted().read_path("9")?;
+    /// println!("{} bytes, {} sectors", look.value.len(), look.sectors);
+    /// # Ok(())
+    /// # }
+    /// ```
+    pub fn counted(&self) -> Counted<'_> {
+        Counted::over(self.image.as_ref(), self.volume, self.how)
+    }
+
+    /// The sectors that opening asked for.
+    pub fn sectors(&self) -> u64 {
+        self.sectors
+    }
+
+    /// The image.
+    pub fn image(&self) -> &[u8] {
+        self.image.as_ref()
+    }
+
+    /// The image back.
+    ///
+    /// ```
+    /// # fn main() -> Result<(), Box<dyn std::error::Error>> {
+    /// # let image = strandlodge::write(&[("9", b"cue 9")])?;
+    /// let image: Vec<u8> = strandlodge::Vault::open(image)?.into_inner();
+    /// # Ok(())
+    /// # }
+    /// ```
+    pub fn into_inner(self) -> B {
+        self.image
     }
 
     /// What it was opened with.
@@ -86,112 +168,131 @@ impl<'a> Vault<'a> {
 
     /// The sector in which the partition starts; of a volume that was opened through its maps, the file set's.
     pub fn partition_start_sector(&self) -> u64 {
-        self.volume.mount.start.into()
+        self.counted().partition_start_sector()
     }
 
     /// The partition's number.
     pub fn partition_number(&self) -> u16 {
-        self.volume.mount.partition
+        self.counted().partition_number()
     }
 
     /// The partition maps through which references are resolved, in their order: one that was opened without [`How::maps`](How) has none. A
     /// reference is an index into them.
     pub fn maps(&self) -> Vec<PartitionMap> {
-        maps(self.volume.mount)
+        self.counted().maps()
     }
 
     /// The sector of a block, by the reference that a descriptor on the disc gives with it: through the maps, or without them where the
     /// reference is the partition's number. None where it is of no partition of this volume, which calls refuse by 4.
     pub fn sector_of(&self, place: LbAddr) -> Option<u64> {
-        place_of(self.volume.mount, place)
+        self.counted().sector_of(place)
     }
 
     /// The sector in which the entry stands that an ICB names. Without maps an ICB's reference isn't looked at.
     pub fn icb_sector(&self, icb: impl Into<LongAd>) -> Option<u64> {
-        let (icb, mount) = (icb.into(), self.volume.mount);
-        Some(started(mount, icb)? + u64::from(icb.location.block))
+        self.counted().icb_sector(icb)
     }
 
     /// The first sector of an extent that [`Vault::extents`] gives of the file that an ICB names: one that names no partition stands in that of
     /// the file's entry. The extent's bytes are the first of that sector and of those behind it. None where a read that comes to this extent is
     /// refused by 4; what an extent's type says isn't looked at.
     pub fn extent_sector(&self, icb: impl Into<LongAd>, extent: &AllocExtent) -> Option<u64> {
-        match extent.partition_ref {
-            Some(partition_ref) => self.sector_of(LbAddr { block: extent.block, partition_ref }),
-            None => Some(started(self.volume.mount, icb.into())? + u64::from(extent.block)),
-        }
+        self.counted().extent_sector(icb, extent)
     }
 
     /// The sector for want of which [`Vault::read_file`] or [`Vault::read_directory`] of this ICB was refused by 1: the first of the file's sectors,
     /// in the order in which they are read, that isn't there. None where the refusal isn't by 1, and where the sector is one of the chain that
     /// stands behind the file's entry: no call gives its place.
-    ///
-    /// The count of a refusal by 1 is the place of the missing sector among those that the call asked for. [`Vault::extents`] asks for the
-    /// entry's and the chain's alone, which come first; so the rest of the count is the place among the sectors of the extents in turn.
     pub fn missing_sector(&self, icb: impl Into<LongAd>, refused: &Refused) -> Option<u64> {
-        let icb = icb.into();
-        if !refused.may_pass() {
-            return None;
-        }
-        if refused.sectors == 1 {
-            return self.icb_sector(icb);
-        }
-        let extents = self.extents(icb).ok()?;
-        // How many of the extents' sectors are there in front of it.
-        let mut before = refused.sectors.checked_sub(extents.sectors)?.checked_sub(1)?;
-        for extent in &extents.value {
-            let sectors = u64::from(extent.length).div_ceil(SECTOR_SIZE);
-            if before < sectors {
-                return Some(self.extent_sector(icb, extent)? + before);
-            }
-            before -= sectors;
-        }
-        None
+        self.counted().missing_sector(icb, refused)
     }
 
     /// The root directory.
     pub fn root_directory_icb(&self) -> LongAd {
-        LongAd::of_c(self.volume.root)
+        self.counted().root_directory_icb()
     }
 
-    /// The volume's name. The count is that of opening: the call opens the image again.
+    /// The volume's name: the original's `volume_identifier`. The call opens the image again.
+    ///
+    /// ```no_run
+    /// # fn main() -> Result<(), Box<dyn std::error::Error>> {
+    /// println!("{}", strandlodge::Vault::open(std::fs::read("show.img")?)?.label()?);
+    /// # Ok(())
+    /// # }
+    /// ```
     pub fn label(&self) -> Result<String> {
-        read_volume_label_as(self.image, self.how)
+        plain(self.counted().label())
     }
 
     /// The ICB that a path names. Components stand between slashes and empty ones are dropped; of a directory's entries the first is
     /// taken that is equal with ASCII case ignored. The empty path names the root.
     ///
     /// What it gives may have another name than was asked for: [`Vault::lookup_as`] is for cues whose names differ in case alone.
+    ///
+    /// ```no_run
+    /// # fn main() -> Result<(), Box<dyn std::error::Error>> {
+    /// # let disc = strandlodge::Vault::open(std::fs::read("show.img")?)?;
+    /// let icb: strandlodge::LongAd = disc.lookup("SHOW/10.1A")?;
+    /// # Ok(())
+    /// # }
+    /// ```
     pub fn lookup(&self, path: impl AsRef<[u8]>) -> Result<LongAd> {
-        self.lookup_as(path, Matching::CaseIgnored)
+        plain(self.counted().lookup(path))
     }
 
     /// The same, with components matched as is said.
+    ///
+    /// ```no_run
+    /// # fn main() -> Result<(), Box<dyn std::error::Error>> {
+    /// # let disc = strandlodge::Vault::open(std::fs::read("show.img")?)?;
+    /// let icb = disc.lookup_as("SHOW/10.1a", strandlodge::Matching::AsWritten)?;
+    /// # Ok(())
+    /// # }
+    /// ```
     pub fn lookup_as(&self, path: impl AsRef<[u8]>, matching: Matching) -> Result<LongAd> {
-        let path = path.as_ref();
-        retry::<u8, _>(&mut Room::none(), &mut work_space(), |_, work| calls::lookup(self.volume, self.image, path, matching, work))
+        plain(self.counted().lookup_as(path, matching))
     }
 
     /// The component at which [`Vault::lookup`] finds nothing, as a part of the path; none where the path is there.
+    ///
+    /// ```no_run
+    /// # fn main() -> Result<(), Box<dyn std::error::Error>> {
+    /// # let disc = strandlodge::Vault::open(std::fs::read("show.img")?)?;
+    /// assert_eq!(disc.failed("SHOW/12")?, Some(&b"12"[..]));
+    /// # Ok(())
+    /// # }
+    /// ```
     pub fn failed<'p>(&self, path: &'p (impl AsRef<[u8]> + ?Sized)) -> Result<Option<&'p [u8]>> {
-        self.failed_as(path, Matching::CaseIgnored)
+        plain(self.counted().failed(path))
     }
 
     /// The same for [`Vault::lookup_as`]. A component that is ambiguous isn't one at which nothing is found: the call is then refused as the
     /// lookup is.
+    ///
+    /// ```no_run
+    /// # fn main() -> Result<(), Box<dyn std::error::Error>> {
+    /// # let disc = strandlodge::Vault::open(std::fs::read("show.img")?)?;
+    /// assert_eq!(disc.failed_as("show/9", strandlodge::Matching::AsWritten)?, Some(&b"show"[..]));
+    /// # Ok(())
+    /// # }
+    /// ```
     pub fn failed_as<'p>(&self, path: &'p (impl AsRef<[u8]> + ?Sized), matching: Matching) -> Result<Option<&'p [u8]>> {
-        let path = path.as_ref();
-        retry::<u8, _>(&mut Room::none(), &mut work_space(), |_, work| calls::failed(self.volume, self.image, path, matching, work))
+        plain(self.counted().failed_as(path, matching))
     }
 
     /// The entries of a directory in the disc's order, without those that are deleted and the parent.
+    ///
+    /// ```no_run
+    /// # fn main() -> Result<(), Box<dyn std::error::Error>> {
+    /// # let disc = strandlodge::Vault::open(std::fs::read("show.img")?)?;
+    /// for entry in &disc.read_directory(disc.root_directory_icb())? {
+    ///     println!("{}{}", entry.name, if entry.is_directory { "/" } else { "" });
+    /// }
+    /// # Ok(())
+    /// # }
+    /// ```
     pub fn read_directory(&self, icb: impl Into<LongAd>) -> Result<Vec<DirEntry>> {
-        let icb = icb.into();
-        // A name of 8 bits a letter may have twice as many bytes as recorded, so a listing is at most twice as long as its directory.
-        let mut out = Room::new(FIRST, 2 * MOST_DIRECTORY);
-        let answer = retry(&mut out, &mut work_space(), |out, work| calls::list(self.volume, self.image, icb, out, work))?;
-        kept(answer, Refusal::NoRoom, |()| entries(&out.lent))
+        plain(self.counted().read_directory(icb))
     }
 
     /// All that stands on the volume, down to so many levels, 1 to 16: an entry for each path, each before what stands under it, and those of a
@@ -201,56 +302,63 @@ impl<'a> Vault<'a> {
     /// is found there. Whatever is refused on the way refuses the show. The call takes as long as there are paths, however few directories they lead to.
     ///
     /// ```no_run
-    /// # fn main() -> std::result::Result<(), Box<dyn std::error::Error>> {
-    /// let image = std::fs::read("show.img")?;
-    /// let vault = strandlodge::Vault::open(&image)?;
-    /// for one in vault.show(16)? {
+    /// # fn main() -> Result<(), Box<dyn std::error::Error>> {
+    /// # let disc = strandlodge::Vault::open(std::fs::read("show.img")?)?;
+    /// for one in disc.show(16)? {
     ///     println!("{}{}", one.path, if one.entry.is_directory { "/" } else { "" });
     /// }
     /// # Ok(())
     /// # }
     /// ```
     pub fn show(&self, levels: u32) -> Result<Show> {
-        let mut out = Room::new(FIRST, MOST_SHOW);
-        let answer = retry(&mut out, &mut work_space(), |out, work| calls::show(self.volume, self.image, levels, out, work))?;
-        out.lent.shrink_to_fit();
-        Ok(answer.map(|()| Show::of(out.lent)))
+        plain(self.counted().show(levels))
     }
 
     /// A file's bytes, or a directory's own.
+    ///
+    /// ```no_run
+    /// # fn main() -> Result<(), Box<dyn std::error::Error>> {
+    /// # let disc = strandlodge::Vault::open(std::fs::read("show.img")?)?;
+    /// let look: Vec<u8> = disc.read_file(disc.lookup("SHOW/9")?)?;
+    /// # Ok(())
+    /// # }
+    /// ```
     pub fn read_file(&self, icb: impl Into<LongAd>) -> Result<Vec<u8>> {
-        let icb = icb.into();
-        self.fitted(|| self.held(icb), |out| calls::read(self.volume, self.image, icb, out))
+        plain(self.counted().read_file(icb))
     }
 
-    /// Looks a path up and reads what it names; the count is that of both.
+    /// Looks a path up and reads what it names.
+    ///
+    /// ```no_run
+    /// fn load(disc: &strandlodge::Vault<Vec<u8>>, cue: &str) -> strandlodge::Result<Vec<u8>> {
+    ///     Ok(disc.read_path(cue)?)
+    /// }
+    /// ```
     pub fn read_path(&self, path: impl AsRef<[u8]>) -> Result<Vec<u8>> {
-        self.read_path_as(path, Matching::CaseIgnored)
+        plain(self.counted().read_path(path))
     }
 
     /// The same, with components matched as is said.
+    ///
+    /// ```no_run
+    /// # fn main() -> Result<(), Box<dyn std::error::Error>> {
+    /// # let disc = strandlodge::Vault::open(std::fs::read("show.img")?)?;
+    /// let look = disc.read_path_as("SHOW/10.1a", strandlodge::Matching::AsWritten)?;
+    /// # Ok(())
+    /// # }
+    /// ```
     pub fn read_path_as(&self, path: impl AsRef<[u8]>, matching: Matching) -> Result<Vec<u8>> {
-        let path = path.as_ref();
-        let held = || self.lookup_as(path, matching).map_or(0, |icb| self.held(icb.value));
-        self.fitted(held, |out| {
-            let call = |_: &mut Vec<u8>, work: &mut Vec<u8>| calls::read_path(self.volume, self.image, path, matching, out, work);
-            retry(&mut Room::none(), &mut work_space(), call)
-        })
+        plain(self.counted().read_path_as(path, matching))
     }
 
     /// Reads what each of many paths names: for each, in their order, its bytes or why there are none, as [`Vault::read_path`] gives them. One that
-    /// is refused keeps none of the others back. The count is that of all together, each path's sectors once.
-    ///
-    /// Up to 1,024 paths are read by one call of the archive; a file that doesn't fit the room that is left of what is lent to it is read by
-    /// itself. A path with a zero byte in it, which the archive's list can't have, is read by itself too. (No name has that byte, so that such a
-    /// path is refused, by 3 where nothing in front of it is.) The call itself is refused, by 12, only where there is no memory for the list.
+    /// is refused keeps none of the others back. The call itself is refused, by 12, only where there is no memory for the list.
     ///
     /// ```no_run
-    /// # fn main() -> std::result::Result<(), Box<dyn std::error::Error>> {
-    /// let image = std::fs::read("show.img")?;
-    /// let vault = strandlodge::Vault::open(&image)?;
+    /// # fn main() -> Result<(), Box<dyn std::error::Error>> {
+    /// # let disc = strandlodge::Vault::open(std::fs::read("show.img")?)?;
     /// let cues = ["SHOW/9", "SHOW/10.1A", "SHOW/11"];
-    /// for (cue, look) in cues.iter().zip(vault.read_all(&cues)?) {
+    /// for (cue, look) in cues.iter().zip(disc.read_all(&cues)?) {
     ///     match look {
     ///         Ok(bytes) => println!("{cue}: {} bytes", bytes.len()),
     ///         Err(why) => println!("{cue}: {why}"),
@@ -260,89 +368,48 @@ impl<'a> Vault<'a> {
     /// # }
     /// ```
     pub fn read_all(&self, paths: &[impl AsRef<[u8]>]) -> Result<Vec<Item>> {
-        self.read_all_as(paths, Matching::CaseIgnored)
+        plain(self.counted().read_all(paths))
     }
 
     /// The same, with the components of every path matched as is said.
+    ///
+    /// ```no_run
+    /// # fn main() -> Result<(), Box<dyn std::error::Error>> {
+    /// # let disc = strandlodge::Vault::open(std::fs::read("show.img")?)?;
+    /// let looks = disc.read_all_as(&["SHOW/10.1A", "SHOW/10.1a"], strandlodge::Matching::AsWritten)?;
+    /// # Ok(())
+    /// # }
+    /// ```
     pub fn read_all_as(&self, paths: &[impl AsRef<[u8]>], matching: Matching) -> Result<Vec<Item>> {
-        let (mut all, mut work) = (Answer { value: Vec::new(), sectors: 0 }, work_space());
-        all.value.try_reserve_exact(paths.len()).map_err(|_| too_many())?;
-        for paths in paths.chunks(AT_ONCE) {
-            let list = List::of(paths).ok_or_else(too_many)?;
-            let mut stack = Stack::read(self.volume, self.image, &list, matching, &mut work)?;
-            all.sectors = all.sectors.saturating_add(stack.sectors);
-            for path in paths.iter().map(AsRef::as_ref) {
-                let came = if List::can_have(path) { stack.next() } else { None };
-                let (item, sectors) = match came {
-                    Some(Ok(bytes)) => (copied(bytes), 0),
-                    // Its sectors are counted already: 5 comes behind all of them.
-                    Some(Err(Refusal::NoRoom)) => (self.alone(path, matching).0, 0),
-                    Some(Err(why)) => (Err(why), 0),
-                    None => self.alone(path, matching),
-                };
-                all.value.push(item);
-                all.sectors = all.sectors.saturating_add(sectors);
-            }
-        }
-        Ok(all)
-    }
-
-    /// A path of a list that is read by itself, and its sectors.
-    fn alone(&self, path: &[u8], matching: Matching) -> (Item, u64) {
-        match self.read_path_as(path, matching) {
-            Ok(answer) => (Ok(answer.value), answer.sectors),
-            Err(refused) => (Err(refused.why), refused.sectors),
-        }
-    }
-
-    /// A read, and again with room for all that the file's extents hold where there was too little: that is exact, and doubling isn't.
-    fn fitted(&self, held: impl FnOnce() -> usize, mut read: impl FnMut(&mut Vec<u8>) -> Result<()>) -> Result<Vec<u8>> {
-        let mut out = Room::new(FIRST, most_file(self.image));
-        let mut answer = read(&mut out.lent);
-        if matches!(answer, Err(Refused { why: Refusal::NoRoom, .. })) && out.reach(held()) {
-            answer = read(&mut out.lent);
-        }
-        let answer = answer?;
-        out.lent.shrink_to_fit();
-        Ok(answer.map(|()| out.lent))
-    }
-
-    /// The bytes in all of a file's extents: a read gives no more.
-    fn held(&self, icb: LongAd) -> usize {
-        let lengths = self.extents(icb).map_or(0, |list| list.iter().map(|extent| u64::from(extent.length)).sum());
-        usize::try_from(lengths).unwrap_or(usize::MAX)
+        plain(self.counted().read_all_as(paths, matching))
     }
 
     /// Where a file stands on the disc, its whole chain followed; an embedded file has no extents.
+    ///
+    /// ```no_run
+    /// # fn main() -> Result<(), Box<dyn std::error::Error>> {
+    /// # let disc = strandlodge::Vault::open(std::fs::read("show.img")?)?;
+    /// let icb = disc.lookup("SHOW/9")?;
+    /// for extent in disc.extents(icb)? {
+    ///     println!("{} bytes from sector {:?} on", extent.length, disc.extent_sector(icb, &extent));
+    /// }
+    /// # Ok(())
+    /// # }
+    /// ```
     pub fn extents(&self, icb: impl Into<LongAd>) -> Result<Vec<AllocExtent>> {
-        let icb = icb.into();
-        let mut row = Room::new(FIRST_SLOTS, MOST_SLOTS);
-        let answer = retry(&mut row, &mut Room::none(), |row, _| calls::extents(self.volume, self.image, icb, row))?;
-        kept(answer, Refusal::NoSlot, |()| {
-            let mut extents = Vec::new();
-            extents.try_reserve_exact(row.lent.len()).ok()?;
-            extents.extend(row.lent.iter().map(extent));
-            Some(extents)
-        })
+        plain(self.counted().extents(icb))
     }
 
     /// An embedded file's bytes where they stand in the image; none for any other file that can be read.
-    pub fn part(&self, icb: impl Into<LongAd>) -> Result<&'a [u8]> {
-        calls::part(self.volume, self.image, icb.into())
-    }
-}
-
-/// Work space for the directories on a path.
-fn work_space() -> Room<u8> {
-    Room::new(FIRST, MOST_DIRECTORY)
-}
-
-/// A partition of 65,536 is none, and a type is at most 3.
-fn extent(slot: &Extent) -> AllocExtent {
-    AllocExtent {
-        length: slot.length,
-        extent_type: slot.extent_type as u8,
-        block: slot.block,
-        partition_ref: u16::try_from(slot.partition).ok(),
+    ///
+    /// ```no_run
+    /// # fn main() -> Result<(), Box<dyn std::error::Error>> {
+    /// # let disc = strandlodge::Vault::open(std::fs::read("show.img")?)?;
+    /// let bytes: &[u8] = disc.part(disc.root_directory_icb())?;
+    /// # Ok(())
+    /// # }
+    /// ```
+    pub fn part(&self, icb: impl Into<LongAd>) -> Result<&[u8]> {
+        plain(self.counted().part(icb))
     }
 }

@@ -2,7 +2,7 @@
 
 use crate::answer::Refusal;
 use crate::calls;
-use crate::vault::SECTOR_SIZE;
+use crate::counted::SECTOR_SIZE;
 
 /// A vault of these files, in their order: the bytes of a complete image, docs/LAYOUT.md has every one of them. Equal files give equal images.
 ///
@@ -14,7 +14,7 @@ use crate::vault::SECTOR_SIZE;
 /// # fn main() -> std::result::Result<(), Box<dyn std::error::Error>> {
 /// let image = strandlodge::write(&[("9", &b"cue 9"[..]), ("10.1A", b"cue 10.1A")])?;
 /// let vault = strandlodge::Vault::open(&image)?;
-/// assert_eq!(vault.read_path("10.1A")?.value, b"cue 10.1A");
+/// assert_eq!(vault.read_path("10.1A")?, b"cue 10.1A");
 /// # Ok(())
 /// # }
 /// ```
@@ -30,11 +30,26 @@ pub fn write(files: &[(impl AsRef<[u8]>, impl AsRef<[u8]>)]) -> Result<Vec<u8>, 
 
 /// The same of files that stand one behind another in `staging`, from its front, over the front of `image`; what is behind it there stays as it came.
 /// Gives the image's sectors of 2,048 bytes, and is refused by 5 where `image` has fewer whole ones. A refusal writes nothing.
+///
+/// ```
+/// # fn main() -> Result<(), strandlodge::Refusal> {
+/// let (names, lengths) = (["9", "11"], [5, 6]);
+/// let mut image = vec![0; strandlodge::write_total(&names, &lengths)? as usize * 2048];
+/// let sectors = strandlodge::write_staged(&names, &lengths, b"cue 9cue 11", &mut image)?;
+/// assert_eq!(sectors as usize * 2048, image.len());
+/// # Ok(())
+/// # }
+/// ```
 pub fn write_staged(names: &[impl AsRef<[u8]>], lengths: &[u64], staging: &[u8], image: &mut [u8]) -> Result<u64, Refusal> {
     calls::write(&ended(names.iter().map(AsRef::as_ref))?, lengths, staging, image)
 }
 
 /// The sectors of the image of files with these names and lengths, or why it can't be written: what [`write_staged`] answers, given enough memory.
+///
+/// ```
+/// assert_eq!(strandlodge::write_total(&["9", "11"], &[5, 6]), Ok(384));
+/// assert_eq!(strandlodge::write_total(&["a/b"], &[5]), Err(strandlodge::Refusal::BadName));
+/// ```
 pub fn write_total(names: &[impl AsRef<[u8]>], lengths: &[u64]) -> Result<u64, Refusal> {
     calls::write_total(&ended(names.iter().map(AsRef::as_ref))?, lengths)
 }

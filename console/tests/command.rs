@@ -8,7 +8,7 @@ use common::{Disc, SECTOR, identifier, named, noise, reclosed, show};
 use std::ffi::OsStr;
 use std::os::unix::ffi::OsStrExt;
 use std::process::{Command, Stdio};
-use strandlodge::{ShowEntry, Vault};
+use strandlodge::{Counted, ShowEntry};
 use strandlodge_sys::sparse::expand;
 
 const BLACKOUT: &str = "cue 11\nblackout\n";
@@ -22,6 +22,11 @@ fn with_show() -> Folder {
 /// An answer on standard output, and nothing on standard error.
 fn answers(said: &Said, out: &str) {
     assert_eq!((said.status, said.out.as_str(), said.error.as_str()), (0, out, ""));
+}
+
+/// What the probe says where there is no recognition sequence, with a status that isn't that of a yes.
+fn is_no(said: &Said) {
+    assert_eq!((said.status, said.out.as_str(), said.error.as_str()), (65, "no\n", ""));
 }
 
 #[test]
@@ -64,7 +69,7 @@ fn every_command_answers() {
     answers(&folder.vault(&["ls", "show.img", "/SHOW/"]), "9\n10.1A\n10.1a\n11\n");
     answers(&folder.vault(&["ls", "show.img", "SHOW/9"]), "9\n");
     answers(&folder.vault(&["cat", "show.img", "SHOW/11"]), BLACKOUT);
-    answers(&folder.vault(&["probe", "show.img"]), "no\n");
+    is_no(&folder.vault(&["probe", "show.img"]));
     answers(&folder.vault(&["check", "show.img"]), "19 descriptors, each in place and with a right body\n");
     answers(&folder.vault(&["get", "show.img", "SHOW/11", "cue"]), "");
     assert_eq!(std::fs::read_to_string(folder.at("cue")).unwrap(), BLACKOUT);
@@ -172,11 +177,11 @@ fn paths_are_those_of_a_show() {
         folder.write("a.img", &expand(all.sized(4)).unwrap());
         all.sized(4);
         let image = std::fs::read(folder.at("a.img")).unwrap();
-        let vault = Vault::open(&image).unwrap();
-        let said = folder.vault(&["ls", "-R", "a.img"]);
+        let vault = Counted::open(&image).unwrap();
+        let said = folder.vault(&["ls", "-R", "-0", "a.img"]);
         match vault.show(16) {
             Ok(show) => {
-                let line = |one: ShowEntry| one.path + if one.entry.is_directory { "/\n" } else { "\n" };
+                let line = |one: ShowEntry| one.path + if one.entry.is_directory { "/\0" } else { "\0" };
                 assert_eq!((said.status, said.out), (0, show.into_iter().map(line).collect()), "{name}");
                 compared += 1;
             }
@@ -377,7 +382,7 @@ fn bad_images_are_refused_by_every_command() {
     refuses(&folder, &["probe", "none"], 66, "there is no such file");
     refuses(&folder, &["probe", "folder"], 66, "this is a directory");
     for image in ["empty", "short", "random"] {
-        answers(&folder.vault(&["probe", image]), "no\n");
+        is_no(&folder.vault(&["probe", image]));
     }
 }
 
@@ -642,8 +647,8 @@ fn a_terminal_sees_a_bar() {
     let said =
         Said::of(Command::new(script).args(["-qec", &line, "/dev/null"]).current_dir(&folder.0).stdin(Stdio::null()).output().unwrap());
     assert_eq!(said.status, 0, "{said:?}");
-    assert!(said.out.starts_with("\rreading\r\u{1b}[K\r["), "{said:?}");
-    assert!(said.out.contains("]  52% of 38 MiB") && said.out.contains("] 100% of 38 MiB"), "{said:?}");
+    assert!(said.out.starts_with("\rreading\r\u{1b}[K\r\u{1b}[K["), "{said:?}");
+    assert!(said.out.contains("]  52%, 20 of 38 MiB, ") && said.out.contains("] 100%, 38 of 38 MiB, 0 s left"), "{said:?}");
     assert!(said.out.ends_with("\r\u{1b}[K"));
     assert!(std::fs::read(folder.at("copy")).unwrap() == bytes);
 }
@@ -661,7 +666,7 @@ fn a_terminal_is_not_tricked_by_names() {
     folder.write("tricks.img", &disc.0);
     answers(&folder.vault(&["ls", "tricks.img"]), "a\\u{1b}[2J\\u{202e}\\u{200b}\\u{a}\\\\\nb\\u{9b}c/\n");
     answers(&folder.vault(&["label", "tricks.img"]), "\\u{1b}HOW 1\n");
-    let said = folder.vault(&["stat", "tricks.img", "A\u{1b}[2J\u{202e}\u{200b}\n\\"]);
+    let said = folder.vault(&["stat", "--raw", "tricks.img", "A\u{1b}[2J\u{202e}\u{200b}\n\\"]);
     assert_eq!((said.status, said.error.lines().count()), (0, 1));
     assert!(said.out.contains("path     A\\u{1b}[2J") && said.out.contains("entry    a\\u{1b}[2J"), "{said:?}");
     assert!(said.error.starts_with("vault: \"A\\u{1b}[2J\\u{202e}\\u{200b}\\u{a}\\\\\" under the root gives \"a\\u{1b}[2J"), "{said:?}");

@@ -4,7 +4,7 @@ mod common;
 
 use common::command::Folder;
 use common::{SECTOR, show};
-use strandlodge::{DirEntry, How, LongAd, Matching, Refused, Result, Vault};
+use strandlodge::{Answered, Counted, DirEntry, How, LongAd, Matching, Refused};
 
 /// Numbers below a bound, the same in each run.
 struct Random(u64);
@@ -48,7 +48,7 @@ fn early(refused: &Refused) {
 }
 
 /// The value or the number, and the count.
-fn parts<T>(answer: Result<T>) -> (std::result::Result<T, u64>, u64) {
+fn parts<T>(answer: Answered<T>) -> (std::result::Result<T, u64>, u64) {
     match answer {
         Ok(answer) => (Ok(answer.value), answer.sectors),
         Err(refused) => (Err(refused.number()), refused.sectors),
@@ -56,7 +56,7 @@ fn parts<T>(answer: Result<T>) -> (std::result::Result<T, u64>, u64) {
 }
 
 /// Reading by path is a lookup and a read, counts added; of a file's bytes an embedded one's are its part.
-fn hold_file(vault: &Vault, path: &[u8], icb: LongAd) {
+fn hold_file(vault: &Counted, path: &[u8], icb: LongAd) {
     let (read, count) = parts(vault.read_file(icb).inspect_err(early));
     let (by_path, both) = parts(vault.read_path(path));
     assert_eq!((&by_path, both), (&read, vault.lookup(path).unwrap().sectors + count));
@@ -69,7 +69,7 @@ fn hold_file(vault: &Vault, path: &[u8], icb: LongAd) {
 }
 
 /// The other choices: the first entry of the very name, and the only one of its letters or 9. `above` is a path that all three give.
-fn hold_matching(vault: &Vault, above: &[u8], entries: &[DirEntry], name: &str) {
+fn hold_matching(vault: &Counted, above: &[u8], entries: &[DirEntry], name: &str) {
     let path = [above, b"/", name.as_bytes()].concat();
     let written = entries.iter().find(|entry| entry.name == name).unwrap();
     assert_eq!(vault.lookup_as(&path, Matching::AsWritten).unwrap().value, written.icb);
@@ -80,12 +80,12 @@ fn hold_matching(vault: &Vault, above: &[u8], entries: &[DirEntry], name: &str) 
 }
 
 /// Whether all three choices give what a path gives, so that what stands below it can be told.
-fn is_plain(vault: &Vault, path: &[u8], icb: LongAd) -> bool {
+fn is_plain(vault: &Counted, path: &[u8], icb: LongAd) -> bool {
     [Matching::AsWritten, Matching::Unambiguous].iter().all(|m| vault.lookup_as(path, *m).is_ok_and(|found| found.value == icb))
 }
 
 /// In a directory a path gives the first entry of its name, and so on below. Gives how many paths were held.
-fn hold(vault: &Vault, path: &[u8], icb: LongAd, levels: u32) -> u32 {
+fn hold(vault: &Counted, path: &[u8], icb: LongAd, levels: u32) -> u32 {
     hold_file(vault, path, icb);
     let (Ok(entries), true) = (vault.read_directory(icb).inspect_err(early), levels > 0) else {
         return 1;
@@ -111,7 +111,7 @@ fn what_holds_on_any_disc() {
     let (mut opened, mut held) = (0, 0);
     for _ in 0..2_000 {
         let image = damaged(&show, &mut random);
-        if let Ok(vault) = Vault::open(&image).inspect_err(early) {
+        if let Ok(vault) = Counted::open(&image).inspect_err(early) {
             opened += 1;
             held += hold(&vault, b"", vault.root_directory_icb(), 3);
         }
@@ -120,7 +120,7 @@ fn what_holds_on_any_disc() {
 }
 
 /// A checked call is answered as an unchecked one is, or refused by 10, after no more sectors.
-fn same_or_10<T: PartialEq + std::fmt::Debug>(checked: Result<T>, plain: Result<T>) -> bool {
+fn same_or_10<T: PartialEq + std::fmt::Debug>(checked: Answered<T>, plain: Answered<T>) -> bool {
     let (checked, plain) = (parts(checked), parts(plain));
     match checked.0 {
         Err(10) => assert!(checked.1 <= plain.1, "{checked:?} {plain:?}"),
@@ -130,7 +130,7 @@ fn same_or_10<T: PartialEq + std::fmt::Debug>(checked: Result<T>, plain: Result<
 }
 
 /// The calls on two vaults of one image. Gives how many were refused by 10, and how many weren't.
-fn hold_checked(checked: &Vault, plain: &Vault) -> [u32; 2] {
+fn hold_checked(checked: &Counted, plain: &Counted) -> [u32; 2] {
     let mut seen = [0; 2];
     let mut note = |bad: bool| seen[usize::from(!bad)] += 1;
     for path in ["", "SHOW", "SHOW/9", "show/10.1a", "SHOW/11", "none"] {
@@ -153,7 +153,7 @@ fn what_a_check_of_bodies_changes() {
     let (mut opened, mut seen) = ([0; 2], [0; 2]);
     for _ in 0..2_000 {
         let image = damaged(&show, &mut random);
-        let (checked, plain) = (Vault::open_as(&image, how), Vault::open(&image));
+        let (checked, plain) = (Counted::open_as(&image, how), Counted::open(&image));
         let both = (checked.as_ref().ok().copied(), plain.as_ref().ok().copied());
         let bad = same_or_10(
             checked.map(|answer| answer.map(|v| v.root_directory_icb())),

@@ -1,4 +1,4 @@
-//! `Drive` beside `Vault` on the same images, over readers that fail, that give few bytes at a time, and that change; and `vault --drive`.
+//! `CountedDrive` beside `Counted` on the same images, over readers that fail, that give few bytes at a time, and that change; and `vault --drive`.
 
 mod common;
 
@@ -7,7 +7,7 @@ use common::input::Input;
 use common::{Disc, SECTOR, continuation, continued, named, noise, short_ad, show};
 use std::io::{self, Cursor, Read, Seek, SeekFrom, Write};
 use std::process::Command;
-use strandlodge::{Drive, LbAddr, LongAd, Matching, Refusal, Uncopied, Vault};
+use strandlodge::{Counted, CountedDrive, LbAddr, LongAd, Matching, Refusal, Uncopied};
 use strandlodge_sys::sparse::expand;
 
 /// A reader of an image that notes what it gave.
@@ -71,17 +71,17 @@ impl Seek for Watched {
     }
 }
 
-fn drive(image: &[u8]) -> Drive<Cursor<&[u8]>> {
-    Drive::open(Cursor::new(image)).unwrap().value
+fn drive(image: &[u8]) -> CountedDrive<Cursor<&[u8]>> {
+    CountedDrive::open(Cursor::new(image)).unwrap().value
 }
 
-fn number_and_count<T>(answer: &strandlodge::Result<T>) -> (u64, u64) {
+fn number_and_count<T>(answer: &strandlodge::Answered<T>) -> (u64, u64) {
     answer.as_ref().map_or_else(|refused| (refused.number(), refused.sectors), |answer| (0, answer.sectors))
 }
 
 const MATCHINGS: [Matching; 3] = [Matching::CaseIgnored, Matching::AsWritten, Matching::Unambiguous];
 
-fn same_path(drive: &mut Drive<Cursor<&[u8]>>, vault: &Vault, path: &[u8]) {
+fn same_path(drive: &mut CountedDrive<Cursor<&[u8]>>, vault: &Counted, path: &[u8]) {
     for matching in MATCHINGS {
         assert_eq!(drive.lookup_as(path, matching), vault.lookup_as(path, matching));
         assert_eq!(drive.failed_as(path, matching), vault.failed_as(path, matching));
@@ -89,7 +89,7 @@ fn same_path(drive: &mut Drive<Cursor<&[u8]>>, vault: &Vault, path: &[u8]) {
     }
 }
 
-fn same_icb(drive: &mut Drive<Cursor<&[u8]>>, vault: &Vault, icb: LongAd) {
+fn same_icb(drive: &mut CountedDrive<Cursor<&[u8]>>, vault: &Counted, icb: LongAd) {
     let read = vault.read_file(icb);
     assert_eq!(drive.read_file(icb), read);
     assert_eq!(drive.missed().is_some(), read.as_ref().is_err_and(|refused| refused.may_pass()));
@@ -112,7 +112,7 @@ fn long_ad(recorded: &[u8]) -> LongAd {
 #[test]
 fn every_call_on_the_show() {
     let image = show();
-    let (vault, mut drive) = (Vault::open(&image).unwrap(), Drive::open(Cursor::new(&image[..])).unwrap());
+    let (vault, mut drive) = (Counted::open(&image).unwrap(), CountedDrive::open(Cursor::new(&image[..])).unwrap());
     assert_eq!(drive.sectors, vault.sectors);
     assert_eq!(drive.partition_start_sector(), vault.partition_start_sector());
     assert_eq!((drive.partition_number(), drive.root_directory_icb()), (vault.partition_number(), vault.root_directory_icb()));
@@ -126,7 +126,7 @@ fn every_call_on_the_show() {
         assert_eq!(drive.read_path(path), vault.read_path(path));
         same_path(&mut drive, &vault, path.as_bytes());
     }
-    assert_eq!(format!("{:?}", drive.value).replace("Drive", "Vault"), format!("{:?}", vault.value));
+    assert_eq!(format!("{:?}", drive.value).replace("CountedDrive", "Counted"), format!("{:?}", vault.value));
     assert_eq!(drive.value.into_inner().into_inner().len(), image.len());
 }
 
@@ -137,12 +137,12 @@ fn stored_volumes_open_as_from_memory() {
     while !all.0.is_empty() {
         let name = String::from_utf8_lossy(all.sized(2));
         let image = expand(all.sized(4)).unwrap();
-        let vault = Vault::open(&image);
-        match Drive::open(Watched::of(&image)) {
+        let vault = Counted::open(&image);
+        match CountedDrive::open(Watched::of(&image)) {
             Ok(drive) => {
                 let vault = vault.unwrap_or_else(|_| panic!("{name}"));
                 assert_eq!((drive.sectors, drive.get_ref().gave.len() as u64), (vault.sectors, vault.sectors), "{name}");
-                assert_eq!(format!("{:?}", drive.value).replace("Drive", "Vault"), format!("{:?}", vault.value), "{name}");
+                assert_eq!(format!("{:?}", drive.value).replace("CountedDrive", "Counted"), format!("{:?}", vault.value), "{name}");
                 assert_eq!(drive.label().map(|label| label.value), vault.label().map(|label| label.value), "{name}");
                 opened += 1;
             }
@@ -165,7 +165,7 @@ fn stored_volumes_answer_as_from_memory() {
         all.sized(2);
         let image = expand(all.sized(4)).unwrap();
         let mut queries = Input(all.sized(4));
-        let Ok(vault) = Vault::open(&image) else { continue };
+        let Ok(vault) = Counted::open(&image) else { continue };
         let mut drive = drive(&image);
         while !queries.0.is_empty() {
             let (what, _room, _work) = (queries.number(2), queries.number(4), queries.number(4));
@@ -193,15 +193,15 @@ fn chained() -> (Vec<u8>, LongAd) {
     let block = disc.entry(0, &area, 699 * (SECTOR as u64 - 3) + 9 * SECTOR as u64 + 7);
     let root = disc.directory(&[named("file", block, false)]);
     disc.root(root);
-    let icb = Vault::open(&disc.0).unwrap().lookup("file").unwrap().value;
+    let icb = Counted::open(&disc.0).unwrap().lookup("file").unwrap().value;
     (disc.0, icb)
 }
 
 #[test]
 fn a_sector_is_asked_for_once_and_none_in_vain() {
     let (image, icb) = chained();
-    let read = Vault::open(&image).unwrap().read_file(icb).unwrap();
-    let mut drive = Drive::open(Watched::of(&image)).unwrap();
+    let read = Counted::open(&image).unwrap().read_file(icb).unwrap();
+    let mut drive = CountedDrive::open(Watched::of(&image)).unwrap();
     assert_eq!(drive.read_file(icb).unwrap(), read);
     let (opened, gave) = (drive.sectors as usize, &drive.get_ref().gave);
     assert_eq!((gave.len() - opened) as u64, read.sectors);
@@ -211,9 +211,9 @@ fn a_sector_is_asked_for_once_and_none_in_vain() {
     assert!(last.iter().zip(last[0]..).all(|(sector, n)| *sector == n));
     // A sector less is wanted, and it isn't asked for, though the extent has it.
     let mut shorter = image.clone();
-    let entry = Vault::open(&image).unwrap().icb_sector(icb).unwrap() as usize * SECTOR;
+    let entry = Counted::open(&image).unwrap().icb_sector(icb).unwrap() as usize * SECTOR;
     shorter[entry + 56..][..8].copy_from_slice(&(699 * (SECTOR as u64 - 3) + 9 * SECTOR as u64).to_le_bytes());
-    let mut drive = Drive::open(Watched::of(&shorter)).unwrap();
+    let mut drive = CountedDrive::open(Watched::of(&shorter)).unwrap();
     assert_eq!(drive.read_file(icb).unwrap().sectors, read.sectors - 1);
     assert_eq!((drive.get_ref().gave.len() - opened) as u64, read.sectors - 1);
 }
@@ -225,7 +225,7 @@ fn the_reader_is_not_moved_where_it_stands() {
     let block = disc.file(&bytes);
     let root = disc.directory(&[named("file", block, false)]);
     disc.root(root);
-    let mut drive = Drive::open(Watched::of(&disc.0)).unwrap();
+    let mut drive = CountedDrive::open(Watched::of(&disc.0)).unwrap();
     let icb = drive.lookup("file").unwrap();
     let before = (drive.get_ref().seeks, drive.get_ref().reads);
     assert_eq!(drive.read_file(icb).unwrap().value, bytes);
@@ -236,9 +236,9 @@ fn the_reader_is_not_moved_where_it_stands() {
 #[test]
 fn a_reader_that_gives_few_bytes_at_a_time() {
     let (image, icb) = chained();
-    let vault = Vault::open(&image).unwrap();
+    let vault = Counted::open(&image).unwrap();
     for few in [1, 7, 2047, 2048, 2049, 5000] {
-        let mut drive = Drive::open(Watched { few, ..Watched::of(&image) }).unwrap();
+        let mut drive = CountedDrive::open(Watched { few, ..Watched::of(&image) }).unwrap();
         assert_eq!(drive.read_path("FILE"), vault.read_path("FILE"), "{few}");
         assert_eq!(drive.read_file(icb), vault.read_file(icb), "{few}");
     }
@@ -247,14 +247,14 @@ fn a_reader_that_gives_few_bytes_at_a_time() {
 #[test]
 fn a_reader_that_fails_at_each_place() {
     let (image, icb) = chained();
-    let vault = Vault::open(&image).unwrap();
+    let vault = Counted::open(&image).unwrap();
     let read = vault.read_file(icb).unwrap();
-    let mut good = Drive::open(Watched::of(&image)).unwrap();
+    let mut good = CountedDrive::open(Watched::of(&image)).unwrap();
     good.read_file(icb).unwrap();
     let (list, opened) = (&good.get_ref().gave, vault.sectors as usize);
     for (place, sector) in list.iter().copied().enumerate() {
         let reader = Watched { bad: Some(place), ..Watched::of(&image) };
-        let mut drive = match Drive::open(reader) {
+        let mut drive = match CountedDrive::open(reader) {
             Ok(drive) => drive.value,
             Err(unopened) => {
                 assert!(place < opened);
@@ -283,7 +283,7 @@ fn a_reader_that_fails_at_each_place() {
 #[test]
 fn a_drive_goes_on_behind_a_failure() {
     let (image, icb) = chained();
-    let mut drive = Drive::open(Cursor::new(&image[..])).unwrap();
+    let mut drive = CountedDrive::open(Cursor::new(&image[..])).unwrap();
     let read = drive.read_file(icb).unwrap();
     // An ICB beyond the end, between two reads.
     let beyond = LongAd { location: LbAddr { block: 1 << 31, partition_ref: 5 }, ..icb };
@@ -298,8 +298,8 @@ fn a_drive_goes_on_behind_a_failure() {
 #[test]
 fn a_reader_that_changes() {
     let (image, icb) = chained();
-    let vault = Vault::open(&image).unwrap();
-    let mut drive = Drive::open(Watched { changes: true, ..Watched::of(&image) }).unwrap();
+    let vault = Counted::open(&image).unwrap();
+    let mut drive = CountedDrive::open(Watched { changes: true, ..Watched::of(&image) }).unwrap();
     assert_eq!(drive.sectors, vault.sectors);
     // The sectors of the last extent stand in the first ones too, and are other bytes by then.
     let (read, first) = (drive.read_file(icb).unwrap(), vault.read_file(icb).unwrap());
@@ -330,7 +330,7 @@ fn a_file_beyond_its_disc_is_refused() {
     let directory = disc.entry(0, &area, 65 * (4 << 20));
     let root = disc.directory(&[named("file", block, false), named("directory", directory, true)]);
     disc.root(root);
-    let (mut drive, vault) = (drive(&disc.0), Vault::open(&disc.0).unwrap());
+    let (mut drive, vault) = (drive(&disc.0), Counted::open(&disc.0).unwrap());
     let (ours, other) = (drive.read_path("file").map(|_| ()), vault.read_path("file").map(|_| ()));
     assert_eq!((ours.as_ref().unwrap_err().why, other.unwrap_err().why), (Refusal::NoRoom, Refusal::NoRoom));
     // The root, the entry, 256 MiB and the sector that has no room.
@@ -353,7 +353,7 @@ fn many_extents() {
     let block = disc.entry(0, &continued(chain.len(), at), u64::MAX);
     let root = disc.directory(&[named("file", block, false)]);
     disc.root(root);
-    let read = Vault::open(&disc.0).unwrap().read_path("file").unwrap();
+    let read = Counted::open(&disc.0).unwrap().read_path("file").unwrap();
     assert_eq!(read.sectors, 2 + 1 + 512 + many as u64);
     assert_eq!(drive(&disc.0).read_path("file").unwrap(), read);
 }

@@ -14,7 +14,7 @@ use std::process::Stdio;
 use std::ptr;
 use std::sync::atomic::Ordering::Relaxed;
 use std::sync::atomic::{AtomicBool, AtomicU32};
-use strandlodge::{How, Vault};
+use strandlodge::{Counted, How};
 
 /// Does something while a thread writes one value and then the other over four bytes of a file, as fast as it can.
 #[allow(unsafe_code)]
@@ -129,7 +129,7 @@ fn a_copied_image_that_changes_ends_no_run() {
 /// What opening and the calls on the volume give with bodies checked: text, or the number of the refusal.
 fn checked_answers(image: &[u8]) -> Vec<Result<String, u64>> {
     const PATHS: [&str; 6] = ["", "SHOW", "SHOW/9", "SHOW/10.1A", "SHOW/11", "SHOW/none"];
-    let vault = match Vault::open_as(image, How { checked: true, ..How::default() }) {
+    let vault = match Counted::open_as(image, How { checked: true, ..How::default() }) {
         Ok(vault) => vault.value,
         Err(refused) => return vec![Err(refused.number()); 1 + 3 * PATHS.len()],
     };

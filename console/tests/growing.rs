@@ -10,7 +10,7 @@ use std::io::Write;
 use std::path::Path;
 use std::process::{Child, Stdio};
 use std::time::{Duration, Instant};
-use strandlodge::{How, LbAddr, LongAd, Vault};
+use strandlodge::{Counted, How, LbAddr, LongAd};
 use strandlodge_sys::sparse;
 
 // ---- the crate, on the images of `growing_cases`
@@ -51,10 +51,10 @@ fn a_read_passes_from_1_to_its_answer_once_and_names_what_it_waits_for() {
     let (mut named, mut unnamed, mut ended) = (0, 0, 0);
     for (image, queries) in stored() {
         for (how, icb) in queries {
-            let whole = Vault::open_as(&image, how).unwrap();
+            let whole = Counted::open_as(&image, how).unwrap();
             let last = whole.read_file(icb);
             for sectors in 0..=(image.len() / SECTOR) as u64 {
-                let Ok(vault) = Vault::open_as(cut(&image, sectors), how) else { continue };
+                let Ok(vault) = Counted::open_as(cut(&image, sectors), how) else { continue };
                 let refused = match vault.read_file(icb) {
                     Err(refused) if refused.may_pass() => refused,
                     // An answer stays, and so does any other refusal.
@@ -73,7 +73,7 @@ fn a_read_passes_from_1_to_its_answer_once_and_names_what_it_waits_for() {
                 };
                 assert!(missing >= sectors);
                 // Up to that sector the same one is missing, and with it another, or none.
-                let read = |sectors| Vault::open_as(cut(&image, sectors), how).unwrap().read_file(icb);
+                let read = |sectors| Counted::open_as(cut(&image, sectors), how).unwrap().read_file(icb);
                 assert_eq!(read(missing), Err(refused));
                 if missing < (image.len() / SECTOR) as u64 {
                     assert_ne!(read(missing + 1), Err(refused));

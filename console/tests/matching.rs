@@ -1,4 +1,4 @@
-//! Names of the same letters on one disc: which entry each choice gives, through `Vault` and through the command, and what the command
+//! Names of the same letters on one disc: which entry each choice gives, through `Counted` and through the command, and what the command
 //! remarks.
 
 mod common;
@@ -6,7 +6,7 @@ mod common;
 use common::command::{Folder, Said};
 use common::{DELETED, Disc, PARENT, identifier, marked, named, show};
 use strandlodge::Matching::{self, AsWritten, CaseIgnored, Unambiguous};
-use strandlodge::{Answer, Refusal, Refused, Vault};
+use strandlodge::{Answer, Counted, Refusal, Refused};
 
 const UPPER: &str = "cue 10.1A\nfront wash 80, blue backs 40, follow 6 seconds\n";
 const LOWER: &str = "cue 10.1a\nfront wash 20, the look before the interval\n";
@@ -31,7 +31,7 @@ fn plain(names: &[&str]) -> Disc {
 
 /// What each choice reads along a path: the bytes, or the number of the refusal.
 fn reads(disc: &Disc, path: &str) -> [Result<String, u64>; 3] {
-    let vault = Vault::open(&disc.0).unwrap();
+    let vault = Counted::open(&disc.0).unwrap();
     ALL.map(|matching| {
         let read = vault.read_path_as(path, matching).map_err(|refused| refused.number());
         read.map(|bytes| String::from_utf8(bytes.value).unwrap())
@@ -46,7 +46,7 @@ fn gives(disc: &Disc, path: &str, expected: [Result<usize, u64>; 3]) {
 #[test]
 fn the_two_cues_of_the_show() {
     let image = show();
-    let vault = Vault::open(&image).unwrap();
+    let vault = Counted::open(&image).unwrap();
     let cues = vault.read_directory(vault.lookup("SHOW").unwrap()).unwrap();
     let found = |entry: usize| Ok(Answer { value: cues[entry].icb, sectors: 2 });
     let refused = |why, sectors| Err(Refused { why, sectors });
@@ -75,7 +75,7 @@ fn the_two_cues_of_the_show() {
 #[test]
 fn the_component_that_failed() {
     let image = show();
-    let vault = Vault::open(&image).unwrap();
+    let vault = Counted::open(&image).unwrap();
     let failed = |path: &'static str| ALL.map(|matching| vault.failed_as(path, matching).map_err(|refused| refused.number()));
     let component = |name: &'static str, sectors| Ok(Answer { value: Some(name.as_bytes()), sectors });
     assert_eq!(failed("SHOW/9"), ALL.map(|_| Ok(Answer { value: None, sectors: 2 })));
@@ -161,7 +161,7 @@ fn a_folder_above_may_be_ambiguous() {
     // What stands below isn't looked at.
     gives(&disc, "act/none", [Err(3), Err(3), Err(9)]);
     gives(&disc, "other/First", [Ok(4), Err(3), Ok(4)]);
-    let vault = Vault::open(&disc.0).unwrap();
+    let vault = Counted::open(&disc.0).unwrap();
     assert_eq!(vault.lookup_as("ACT/second", Unambiguous), Err(Refused { why: Refusal::Ambiguous, sectors: 2 }));
     assert_eq!(vault.lookup_as("ACT/second", AsWritten).unwrap().sectors, 4);
 }
@@ -196,7 +196,7 @@ fn remarks(said: &Said, out: &str, lines: &[&str]) {
     assert_eq!((said.status, said.out.as_str(), &given[..]), (0, out, lines));
 }
 
-const CASE: &str = "(--as-written takes the very name alone)";
+const CASE: &str = "(--as-written takes the very name alone, --unambiguous refuses where several match)";
 const BOTH: &str = "(--as-written takes the very name alone, --unambiguous refuses)";
 
 #[test]
@@ -249,11 +249,38 @@ fn each_name_of_a_path_has_its_line() {
     remarks(&folder.vault(&["cat", "a.img", "other/second"]), "5", &[]);
 }
 
+/// Whichever command takes a path, and however the disc is read.
+#[test]
+fn every_command_with_a_path_remarks() {
+    let folder = with_show();
+    std::fs::create_dir(folder.at("to")).unwrap();
+    for drive in [&[][..], &["--drive"]] {
+        for words in [
+            &["ls", "a.img", "show/10.1a"][..],
+            &["ls", "-R", "a.img", "show/10.1a"],
+            &["ls", "--json", "a.img", "show/10.1a"],
+            &["tree", "a.img", "show/10.1a"],
+            &["cat", "a.img", "show/10.1a"],
+            &["stat", "a.img", "show/10.1a"],
+            &["get", "a.img", "show/10.1a", "cue"],
+            &["get", "-r", "a.img", "-o", "to", "show/10.1a"],
+        ] {
+            let said = folder.vault(&[words, drive].concat());
+            let lines: Vec<&str> = said.error.lines().collect();
+            assert!(said.status == 0 && lines.len() == 2, "{words:?} {said:?}");
+            assert!(lines.iter().all(|line| line.contains("--as-written") && line.contains("--unambiguous")), "{words:?} {said:?}");
+        }
+    }
+    assert_eq!(folder.vault(&["get", "a.img", "-o", "to", "show/10.1a"]).error.lines().count(), 2);
+    assert_eq!(folder.vault(&["cat", "--wait", "0", "a.img", "show/10.1a"]).error.lines().count(), 2);
+}
+
 /// No choice gives the second of two entries with one name; both that answer say so.
 #[test]
 fn a_second_entry_of_the_very_name_is_remarked() {
     let folder = with(&plain(&["x", "x", "y"]));
-    let line = "\"x\" under the root gives \"x\" in block 17, the first of 2 that match, and not \"x\" in block 19 (--unambiguous refuses)";
+    let line = "\"x\" under the root gives \"x\" in block 17, the first of 2 that match, and not \"x\" in block 19 \
+                (--as-written doesn't tell them apart and --icb does, --unambiguous refuses)";
     remarks(&folder.vault(&["cat", "a.img", "x"]), "0", &[line]);
     remarks(&folder.vault(&["cat", "--as-written", "a.img", "x"]), "0", &[line]);
     remarks(&folder.vault(&["cat", "--as-written", "a.img", "y"]), "2", &[]);

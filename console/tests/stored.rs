@@ -1,13 +1,13 @@
-//! `Vault` on the volumes stored with the programs `volume_cases`, `vault_cases`, `stack_cases` and `tree_cases`, whose sources say the form of their files. What is
-//! expected is their stored output. `Vault` lends what is needed, so that where a query there lends too little, and is refused by 5 or 6,
+//! `Counted` on the volumes stored with the programs `volume_cases`, `vault_cases`, `stack_cases` and `tree_cases`, whose sources say the form of their files. What is
+//! expected is their stored output. `Counted` lends what is needed, so that where a query there lends too little, and is refused by 5 or 6,
 //! it must not be refused so here.
 
 mod common;
 
 use common::input::Input;
 use std::str::Lines;
-use strandlodge::{How, Kind, LbAddr, LongAd, Matching, Vault};
-use strandlodge::{probe_vrs, read_volume_label, read_volume_label_as, volume_descriptors};
+use strandlodge::{Counted, How, Kind, LbAddr, LongAd, Matching};
+use strandlodge::{probe_vrs, volume_descriptors};
 use strandlodge_sys::sparse::expand;
 
 /// The lines of a stored output.
@@ -19,7 +19,7 @@ impl<'a> Expected<'a> {
     }
 }
 
-fn answer<T>(answer: &strandlodge::Result<T>) -> (u64, u64) {
+fn answer<T>(answer: &strandlodge::Answered<T>) -> (u64, u64) {
     answer.as_ref().map_or_else(|refused| (refused.number(), refused.sectors), |answer| (0, answer.sectors))
 }
 
@@ -36,11 +36,11 @@ fn volumes_open_and_have_their_labels() {
         let name = String::from_utf8_lossy(all.sized(2));
         let image = expand(all.sized(4)).unwrap();
         assert_eq!(expected.next(), format!("image {name}"));
-        opens(&name, "opened", &Vault::open(&image), &read_volume_label(&image), &mut expected);
+        opens(&name, "opened", &Counted::open(&image), &Counted::label_of(&image, How::default()), &mut expected);
         prevails(&image, How::default());
         expected.next();
         let how = How { highest: true, ..How::default() };
-        opens(&name, "highest", &Vault::open_as(&image, how), &read_volume_label_as(&image, how), &mut expected);
+        opens(&name, "highest", &Counted::open_as(&image, how), &Counted::label_of(&image, how), &mut expected);
         prevails(&image, how);
         assert_eq!(expected.next(), format!("probe {}", if probe_vrs(&image) { "yes" } else { "no" }), "{name}");
         volumes += 1;
@@ -50,7 +50,7 @@ fn volumes_open_and_have_their_labels() {
 
 /// The partition descriptor that is said to prevail is the one that was opened by.
 fn prevails(image: &[u8], how: How) {
-    if let Ok(vault) = Vault::open_as(image, how) {
+    if let Ok(vault) = Counted::open_as(image, how) {
         let all = volume_descriptors(image, how);
         let mut ones = all.iter().filter(|one| one.prevails && one.kind == Kind::Partition);
         let mut all = Input(&image[ones.next().unwrap().sector as usize * 2048 + 188..]);
@@ -59,7 +59,7 @@ fn prevails(image: &[u8], how: How) {
 }
 
 /// Holds what opening and the label gave to their stored lines.
-fn opens(name: &str, word: &str, opened: &strandlodge::Result<Vault>, label: &strandlodge::Result<String>, expected: &mut Expected) {
+fn opens(name: &str, word: &str, opened: &strandlodge::Answered<Counted>, label: &strandlodge::Answered<String>, expected: &mut Expected) {
     let (number, count) = answer(opened);
     assert_eq!(expected.next(), format!("{word} {number} count {count}"), "{name}");
     let (volume, root) = (expected.next(), expected.next());
@@ -90,7 +90,7 @@ fn sum_lent(out: &[u8], room: usize) -> u64 {
 }
 
 /// Holds an answer of bytes to a stored line: number, count, length and sum. True if the query lent too little.
-fn held(line: &str, room: usize, given: &strandlodge::Result<impl AsRef<[u8]>>) -> bool {
+fn held(line: &str, room: usize, given: &strandlodge::Answered<impl AsRef<[u8]>>) -> bool {
     let expected = numbers(line);
     let (number, count) = answer(given);
     assert!(!(5..=7).contains(&number), "{line}");
@@ -127,7 +127,7 @@ fn listing(entries: &[strandlodge::DirEntry]) -> Vec<u8> {
 
 /// What the other choices come to beside the first: an unambiguous path is the first choice's or refused by 9, as no other is; and where a
 /// path gives something as it is written and is unambiguous, both are the same.
-fn hold_matching(vault: &Vault, path: &[u8]) {
+fn hold_matching(vault: &Counted, path: &[u8]) {
     let [first, written, only] =
         [Matching::CaseIgnored, Matching::AsWritten, Matching::Unambiguous].map(|matching| vault.lookup_as(path, matching));
     assert!(answer(&first).0 != 9 && answer(&written).0 != 9);
@@ -140,7 +140,7 @@ fn hold_matching(vault: &Vault, path: &[u8]) {
 }
 
 /// A path: looked up, the component that failed, read. True if the query lent too little.
-fn by_path(vault: &Vault, path: &[u8], room: usize, expected: &mut Expected) -> bool {
+fn by_path(vault: &Counted, path: &[u8], room: usize, expected: &mut Expected) -> bool {
     let (lookup, failed, read) = (expected.next(), expected.next(), expected.next());
     let icb = vault.lookup(path);
     let (number, count) = answer(&icb);
@@ -155,7 +155,7 @@ fn by_path(vault: &Vault, path: &[u8], room: usize, expected: &mut Expected) -> 
 }
 
 /// An ICB: listed, read, its part. True if the query lent too little.
-fn by_icb(vault: &Vault, icb: LongAd, room: usize, expected: &mut Expected) -> bool {
+fn by_icb(vault: &Counted, icb: LongAd, room: usize, expected: &mut Expected) -> bool {
     let listed = vault.read_directory(icb).map(|answer| answer.map(|entries| listing(&entries)));
     let short = held(expected.next(), room, &listed);
     let short = held(expected.next(), room, &vault.read_file(icb)) || short;
@@ -173,7 +173,7 @@ fn volumes_answer_every_query() {
         let name = String::from_utf8_lossy(all.sized(2));
         let image = expand(all.sized(4)).unwrap();
         assert_eq!(expected.next(), format!("image {name}"));
-        let opened = Vault::open(&image);
+        let opened = Counted::open(&image);
         assert_eq!(numbers(expected.next())[..2], [answer(&opened).0, answer(&opened).1], "{name}");
         let mut queries = Input(all.sized(4));
         while !queries.0.is_empty() {
@@ -181,7 +181,7 @@ fn volumes_answer_every_query() {
             let text = queries.sized(2);
             expected.next();
             let lent_too_little = match what {
-                0 => held(expected.next(), room, &read_volume_label(&image)),
+                0 => held(expected.next(), room, &Counted::label_of(&image, How::default())),
                 1 => by_path(opened.as_ref().unwrap(), text, room, &mut expected),
                 _ => by_icb(opened.as_ref().unwrap(), long_ad(text), room, &mut expected),
             };
@@ -213,7 +213,7 @@ fn volumes_answer_every_show() {
     while !all.0.is_empty() {
         all.sized(2);
         let image = expand(all.sized(4)).unwrap();
-        let vaults = [false, true].map(|checked| Vault::open_as(&image, How { checked, ..How::default() }));
+        let vaults = [false, true].map(|checked| Counted::open_as(&image, How { checked, ..How::default() }));
         expected.next();
         expected.next();
         let mut queries = Input(all.sized(4));
@@ -241,7 +241,7 @@ fn paths_of_a_show_lead_back() {
         if name == "names" || name.contains("each naming the next") {
             continue;
         }
-        let vault = Vault::open(&image).unwrap();
+        let vault = Counted::open(&image).unwrap();
         for one in vault.show(16).into_iter().flatten() {
             assert_eq!(one.path.split('/').count(), usize::from(one.level), "{name}: {}", one.path);
             let found = vault.lookup_as(&one.path, Matching::Unambiguous);
@@ -263,7 +263,7 @@ fn volumes_answer_every_list() {
     while !all.0.is_empty() {
         all.sized(2);
         let image = expand(all.sized(4)).unwrap();
-        let vault = Vault::open(&image).unwrap();
+        let vault = Counted::open(&image).unwrap();
         expected.next();
         expected.next();
         let mut queries = Input(all.sized(4));

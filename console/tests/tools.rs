@@ -181,6 +181,32 @@ fn mkudffs_makes_empty_volumes() {
     }
 }
 
+/// What `info` says is what udfinfo says of the same image.
+#[test]
+fn info_beside_udfinfo() {
+    let (Some(make), Some(info)) = (tool("mkudffs"), tool("udfinfo")) else {
+        return left_out("info beside udfinfo", "mkudffs or udfinfo");
+    };
+    for revision in ["1.02", "1.50", "2.00", "2.01"] {
+        let (folder, ..) = mkudffs(&make, &["-b", "2048", "-m", "hd", "-r", revision, "--lvid=Volume 日"]);
+        let said = Command::new(&info).args(["--utf8", "disc.img"]).current_dir(&folder.0).output().unwrap();
+        let said = String::from_utf8(said.stdout).unwrap();
+        let value = |key: &str| said.lines().find_map(|line| line.strip_prefix(key)?.strip_prefix('=')).unwrap().to_string();
+        let ours = folder.vault(&["info", "disc.img"]);
+        assert_eq!(ours.status, 0, "{ours:?}");
+        for line in [
+            format!("label    {}", value("vid")),
+            format!("volume   {}", value("lvid")),
+            format!("revision UDF {}", value("udfrev")),
+            format!("state    {}, by sector ", value("integrity")),
+            format!("free     {} of ", value("freeblocks")),
+            format!("holds    files: {}, directories: {}", value("numfiles"), value("numdirs")),
+        ] {
+            assert!(ours.out.contains(&line), "{line} {ours:?}");
+        }
+    }
+}
+
 /// Sparable partitions, which are read as if nothing had been spared, and aren't through their map (docs/DIFFERENCES.md).
 #[test]
 fn mkudffs_for_rewritable_discs() {

@@ -1,15 +1,15 @@
-//! Every call of `Vault` on the sample show, each refusal that a disc can give, and answers beyond what is lent at first.
+//! Every call of `Counted` on the sample show, each refusal that a disc can give, and answers beyond what is lent at first.
 
 mod common;
 
 use common::{Disc, SECTOR, continuation, continued, identifier, named, noise, reclosed, short_ad, show};
-use strandlodge::{AllocExtent, Answer, How, Kind, Matching, Refusal, Refused, Show, Vault};
-use strandlodge::{probe_vrs, read_volume_label, read_volume_label_as, volume_descriptors};
+use strandlodge::{AllocExtent, Answer, Counted, How, Kind, Matching, Refusal, Refused, Show};
+use strandlodge::{probe_vrs, read_volume_label, volume_descriptors};
 
 const UPPER: &[u8] = b"cue 10.1A\nfront wash 80, blue backs 40, follow 6 seconds\n";
 const LOWER: &[u8] = b"cue 10.1a\nfront wash 20, the look before the interval\n";
 
-fn refused<T>(answer: strandlodge::Result<T>) -> (Refusal, u64) {
+fn refused<T>(answer: strandlodge::Answered<T>) -> (Refusal, u64) {
     // The value may be of many bytes, and isn't printed.
     let Refused { why, sectors } = answer.map(|_| ()).expect_err("an answer");
     (why, sectors)
@@ -18,11 +18,11 @@ fn refused<T>(answer: strandlodge::Result<T>) -> (Refusal, u64) {
 #[test]
 fn every_call_on_the_show() {
     let image = show();
-    let vault = Vault::open(&image).unwrap();
+    let vault = Counted::open(&image).unwrap();
     assert_eq!(vault.sectors, 6);
     assert_eq!((vault.partition_start_sector(), vault.partition_number()), (288, 5));
     assert_eq!(vault.label().unwrap(), Answer { value: "SHOW 1".to_string(), sectors: 6 });
-    assert_eq!(read_volume_label(&image).unwrap().value, "SHOW 1");
+    assert_eq!(read_volume_label(&image).unwrap(), "SHOW 1");
     assert!(!probe_vrs(&image));
 
     let root = vault.read_directory(vault.root_directory_icb()).unwrap();
@@ -47,7 +47,7 @@ fn every_call_on_the_show() {
 #[test]
 fn either_case_gives_the_first_and_an_icb_gives_its_own() {
     let image = show();
-    let vault = Vault::open(&image).unwrap();
+    let vault = Counted::open(&image).unwrap();
     for path in ["SHOW/10.1A", "SHOW/10.1a", "show//10.1A/", "/Show/10.1a"] {
         assert_eq!(vault.read_path(path).unwrap().value, UPPER, "{path}");
     }
@@ -58,7 +58,7 @@ fn either_case_gives_the_first_and_an_icb_gives_its_own() {
 #[test]
 fn paths_are_bytes() {
     let image = show();
-    let vault = Vault::open(&image).unwrap();
+    let vault = Counted::open(&image).unwrap();
     assert_eq!(vault.lookup("").unwrap(), Answer { value: vault.root_directory_icb(), sectors: 0 });
     assert_eq!(vault.lookup(b"SHOW/9").unwrap().value, vault.lookup("SHOW/9").unwrap().value);
     for (path, component) in
@@ -75,36 +75,36 @@ fn paths_are_bytes() {
 fn refusals_of_opening() {
     let image = show();
     let cut = |sector: usize| &image[..sector * SECTOR];
-    assert_eq!(refused(Vault::open(&[])), (Refusal::Io, 1));
-    assert_eq!(refused(Vault::open(&image[..257 * SECTOR - 1])), (Refusal::Io, 1));
-    assert_eq!(refused(Vault::open(cut(257))), (Refusal::Io, 6));
-    assert_eq!(refused(read_volume_label(cut(257))), (Refusal::Io, 6));
-    assert_eq!(refused(Vault::open(&noise(300 * SECTOR))), (Refusal::Malformed, 1));
+    assert_eq!(refused(Counted::open(&[])), (Refusal::Io, 1));
+    assert_eq!(refused(Counted::open(&image[..257 * SECTOR - 1])), (Refusal::Io, 1));
+    assert_eq!(refused(Counted::open(cut(257))), (Refusal::Io, 6));
+    assert_eq!(refused(Counted::label_of(cut(257), How::default())), (Refusal::Io, 6));
+    assert_eq!(refused(Counted::open(&noise(300 * SECTOR))), (Refusal::Malformed, 1));
     let changed = |sector: usize, at: usize, byte: u8| {
         let mut image = image.clone();
         image[sector * SECTOR + at] = byte;
         image
     };
     // The partition descriptor under an id that is passed over; a block size of 4,096.
-    assert_eq!(refused(Vault::open(&changed(33, 0, 0x77))).0, Refusal::NotBluray);
-    assert_eq!(refused(Vault::open(&changed(34, 213, 16))).0, Refusal::Unsupported);
+    assert_eq!(refused(Counted::open(&changed(33, 0, 0x77))).0, Refusal::NotBluray);
+    assert_eq!(refused(Counted::open(&changed(34, 213, 16))).0, Refusal::Unsupported);
 }
 
 #[test]
 fn the_highest_number_prevails_where_it_is_chosen() {
     let (image, how) = (reclosed(), How { highest: true, ..How::default() });
-    assert_eq!(refused(Vault::open(&image)), (Refusal::Malformed, 7));
-    assert_eq!(refused(read_volume_label(&image)), (Refusal::Malformed, 7));
-    let vault = Vault::open_as(&image, how).unwrap();
+    assert_eq!(refused(Counted::open(&image)), (Refusal::Malformed, 7));
+    assert_eq!(refused(Counted::label_of(&image, How::default())), (Refusal::Malformed, 7));
+    let vault = Counted::open_as(&image, how).unwrap();
     assert_eq!((vault.sectors, vault.partition_start_sector(), vault.partition_number()), (7, 288, 5));
     let show = show();
-    let shown = Vault::open(&show).unwrap();
+    let shown = Counted::open(&show).unwrap();
     assert_eq!(vault.read_path("SHOW/10.1A").unwrap(), shown.read_path("SHOW/10.1A").unwrap());
     // The label call opens the image again, in the same way.
     assert_eq!(vault.label().unwrap(), Answer { value: "SHOW 1".to_string(), sectors: 7 });
-    assert_eq!(read_volume_label_as(&image, how), vault.label());
+    assert_eq!(Counted::label_of(&image, how), vault.label());
     // Where no number falls both choices are one.
-    assert_eq!(format!("{:?}", Vault::open_as(&show, how)), format!("{:?}", Vault::open(&show)));
+    assert_eq!(format!("{:?}", Counted::open_as(&show, how)), format!("{:?}", Counted::open(&show)));
 }
 
 const CHECKED: How = How { highest: false, checked: true, maps: false };
@@ -112,9 +112,9 @@ const CHECKED: How = How { highest: false, checked: true, maps: false };
 #[test]
 fn a_checked_vault_answers_as_an_unchecked_one() {
     let image = show();
-    let (plain, checked) = (Vault::open(&image).unwrap(), Vault::open_as(&image, CHECKED).unwrap());
+    let (plain, checked) = (Counted::open(&image).unwrap(), Counted::open_as(&image, CHECKED).unwrap());
     assert_eq!((plain.how(), checked.how(), checked.sectors), (How::default(), CHECKED, plain.sectors));
-    assert_eq!((checked.label(), read_volume_label_as(&image, CHECKED)), (plain.label(), plain.label()));
+    assert_eq!((checked.label(), Counted::label_of(&image, CHECKED)), (plain.label(), plain.label()));
     let icb = checked.lookup("SHOW/10.1A").unwrap();
     assert_eq!((icb, checked.failed("SHOW/12").unwrap().value), (plain.lookup("SHOW/10.1A").unwrap(), Some(&b"12"[..])));
     assert_eq!(checked.read_path("show/10.1a").unwrap().value, UPPER);
@@ -138,20 +138,20 @@ fn a_wrong_body_is_refusal_10() {
     for (sector, count) in [(256, 1), (32, 2), (33, 3), (34, 4), (290, 6)] {
         let mut image = show();
         image[sector * SECTOR + 80] ^= 1;
-        assert!(Vault::open(&image).is_ok());
-        assert_eq!(refused(Vault::open_as(&image, CHECKED)), (Refusal::BadCrc, count));
-        assert_eq!(refused(read_volume_label_as(&image, CHECKED)), (Refusal::BadCrc, count));
+        assert!(Counted::open(&image).is_ok());
+        assert_eq!(refused(Counted::open_as(&image, CHECKED)), (Refusal::BadCrc, count));
+        assert_eq!(refused(Counted::label_of(&image, CHECKED)), (Refusal::BadCrc, count));
     }
     // SHOW's entry, and that of cue 10.1A.
     let image = flipped(292);
-    let (plain, checked) = (Vault::open(&image).unwrap(), Vault::open_as(&image, CHECKED).unwrap());
+    let (plain, checked) = (Counted::open(&image).unwrap(), Counted::open_as(&image, CHECKED).unwrap());
     let show = checked.lookup("SHOW").unwrap();
     assert_eq!(refused(checked.read_directory(show)), (Refusal::BadCrc, 1));
     assert_eq!(refused(checked.lookup("SHOW/9")), (Refusal::BadCrc, 2));
     assert_eq!(refused(checked.failed("SHOW/12")), (Refusal::BadCrc, 2));
     assert_eq!(plain.read_path("SHOW/10.1A").unwrap().value, UPPER);
     let image = flipped(295);
-    let (plain, checked) = (Vault::open(&image).unwrap(), Vault::open_as(&image, CHECKED).unwrap());
+    let (plain, checked) = (Counted::open(&image).unwrap(), Counted::open_as(&image, CHECKED).unwrap());
     let icb = checked.lookup("SHOW/10.1A").unwrap();
     assert_eq!(refused(checked.read_file(icb)), (Refusal::BadCrc, 1));
     assert_eq!(refused(checked.read_path("SHOW/10.1A")), (Refusal::BadCrc, 3));
@@ -198,7 +198,7 @@ fn refusals_of_files() {
     let bad = disc.lay(&[1; 100]);
     let listing = disc.directory(&[named("unrecorded", unrecorded, false), named("missing", missing, false), named("bad", bad, true)]);
     disc.root(listing);
-    let vault = Vault::open(&disc.0).unwrap();
+    let vault = Counted::open(&disc.0).unwrap();
     assert_eq!(refused(vault.read_path("unrecorded")), (Refusal::Unsupported, 3));
     assert_eq!(refused(vault.read_path("missing")), (Refusal::Io, 4));
     let bad = vault.lookup("bad").unwrap();
@@ -215,7 +215,7 @@ fn an_embedded_file_is_a_part_of_the_image() {
     let block = disc.entry(3, b"in the entry, and behind it", 12);
     let listing = disc.directory(&[named("embedded", block, false)]);
     disc.root(listing);
-    let vault = Vault::open(&disc.0).unwrap();
+    let vault = Counted::open(&disc.0).unwrap();
     let icb = vault.lookup("embedded").unwrap();
     let part = vault.part(icb).unwrap();
     assert_eq!((part.value, part.sectors), (&b"in the entry"[..], 1));
@@ -240,7 +240,7 @@ fn wide_disc(bytes: &[u8]) -> Disc {
 fn room_grows_until_the_answer_fits() {
     let bytes = noise(5_000_000);
     let disc = wide_disc(&bytes);
-    let vault = Vault::open(&disc.0).unwrap();
+    let vault = Counted::open(&disc.0).unwrap();
     let wide = vault.lookup("wide").unwrap();
     let entries = vault.read_directory(wide).unwrap();
     assert_eq!((entries.len(), entries[19_999].name.as_str()), (20_001, "a longer name 19999"));
@@ -271,7 +271,7 @@ fn slots_grow_until_the_list_fits() {
     let many = disc.entry(0, &[&short_ad(1, block)[..], &continued(24 + area.len(), further)].concat(), u64::MAX);
     let listing = disc.directory(&[named("many", many, false)]);
     disc.root(listing);
-    let vault = Vault::open(&disc.0).unwrap();
+    let vault = Counted::open(&disc.0).unwrap();
     let icb = vault.lookup("many").unwrap();
     let extents = vault.extents(icb).unwrap();
     assert_eq!((extents.len(), extents[0].length, extents[120_000].length), (120_001, 1, 100));
@@ -291,7 +291,7 @@ fn names_grow_when_they_are_listed() {
     assert!(entries.concat().len() < 64 << 10);
     let listing = disc.directory(&entries);
     disc.root(listing);
-    let vault = Vault::open(&disc.0).unwrap();
+    let vault = Counted::open(&disc.0).unwrap();
     let entries = vault.read_directory(vault.root_directory_icb()).unwrap();
     assert!(entries.len() == 200 && entries.iter().all(|entry| entry.name == "é".repeat(254)));
 }
@@ -307,7 +307,7 @@ fn an_absurd_disc_is_refused_by_its_number() {
     let empty = disc.entry(0, &short_ad(0, block), 1 << 60);
     let listing = disc.directory(&[named("file", absurd, false), named("empty", empty, false), named("absurd", absurd, true)]);
     disc.root(listing);
-    let vault = Vault::open(&disc.0).unwrap();
+    let vault = Counted::open(&disc.0).unwrap();
     assert_eq!(refused(vault.read_path("file")).0, Refusal::NoRoom);
     assert_eq!(refused(vault.read_file(vault.lookup("file").unwrap())).0, Refusal::NoRoom);
     assert_eq!(vault.read_path("empty").unwrap().value, []);
@@ -332,7 +332,7 @@ fn refusals_have_their_numbers_and_a_sentence_each() {
 #[test]
 fn a_vault_may_be_shared_between_threads() {
     let image = show();
-    let vault = Vault::open(&image).unwrap().value;
+    let vault = Counted::open(&image).unwrap().value;
     let cues = ["SHOW/9", "SHOW/10.1A", "SHOW/11"];
     std::thread::scope(|scope| {
         let reads = cues.map(|path| scope.spawn(move || vault.read_path(path).unwrap().value));
@@ -346,7 +346,7 @@ fn a_vault_may_be_shared_between_threads() {
 #[test]
 fn an_answer_stands_for_its_value() {
     let image = show();
-    let vault = Vault::open(&image).unwrap();
+    let vault = Counted::open(&image).unwrap();
     let bytes = |taken: &dyn AsRef<[u8]>| taken.as_ref().to_vec();
     assert_eq!(bytes(&vault.read_path("SHOW/10.1A").unwrap()), UPPER);
     assert_eq!(format!("{}", vault.label().unwrap()), "SHOW 1");
@@ -362,7 +362,7 @@ fn an_answer_stands_for_its_value() {
 #[test]
 fn many_paths_in_one_call() {
     let image = show();
-    let vault = Vault::open(&image).unwrap();
+    let vault = Counted::open(&image).unwrap();
     let paths = ["SHOW/10.1a", "SHOW/12", "show/11", "", "SHOW/9\0", "SHOW", "SHOW/10.1A"];
     for matching in [Matching::CaseIgnored, Matching::AsWritten, Matching::Unambiguous] {
         let all = vault.read_all_as(&paths, matching).unwrap();
@@ -383,7 +383,7 @@ fn many_paths_in_one_call() {
 #[test]
 fn lists_of_nothing() {
     let image = show();
-    let vault = Vault::open(&image).unwrap();
+    let vault = Counted::open(&image).unwrap();
     assert_eq!(vault.read_all(&[] as &[&str]).unwrap(), Answer { value: Vec::new(), sectors: 0 });
     let root = vault.read_file(vault.root_directory_icb()).unwrap();
     assert_eq!(vault.read_all(&[""]).unwrap(), Answer { value: vec![Ok(root.value.clone())], sectors: root.sectors });
@@ -399,7 +399,7 @@ fn lists_of_much() {
     let entries: Vec<Vec<u8>> = (0..5000).map(|i| named(&format!("cue {i:05}"), files[i % 6], false)).collect();
     let listing = disc.directory(&entries);
     disc.root(listing);
-    let vault = Vault::open(&disc.0).unwrap();
+    let vault = Counted::open(&disc.0).unwrap();
     let of = |i: usize| (format!("CUE {i:05}"), sizes[i % 6]);
     for (step, n) in [(1, 40), (6, 40), (37, 1), (1, 1024 + 3)] {
         let wanted: Vec<(String, usize)> = (0..n).map(|i| of(4999 - i * step)).collect();
@@ -426,7 +426,7 @@ fn lists_of_much() {
 fn a_list_goes_on_past_a_wrong_body() {
     let mut image = show();
     image[293 * SECTOR + 40] ^= 1;
-    let vault = Vault::open_as(&image, CHECKED).unwrap();
+    let vault = Counted::open_as(&image, CHECKED).unwrap();
     let all = vault.read_all(&["SHOW/9", "SHOW/10.1A", "SHOW/9"]).unwrap();
     assert_eq!(all.value, [Err(Refusal::BadCrc), Ok(UPPER.to_vec()), Err(Refusal::BadCrc)]);
 }
@@ -438,7 +438,7 @@ fn paths(show: Show) -> Vec<(u8, String)> {
 #[test]
 fn a_whole_show() {
     let image = show();
-    let vault = Vault::open(&image).unwrap();
+    let vault = Counted::open(&image).unwrap();
     let shown = vault.show(2).unwrap();
     assert_eq!(shown.sectors, 2);
     let wanted = [(1, "SHOW"), (2, "SHOW/9"), (2, "SHOW/10.1A"), (2, "SHOW/10.1a"), (2, "SHOW/11")];
@@ -468,7 +468,7 @@ fn a_large_show() {
         below = disc.directory(&entries);
     }
     disc.root(below);
-    let vault = Vault::open(&disc.0).unwrap();
+    let vault = Counted::open(&disc.0).unwrap();
     let shown = paths(vault.show(4).unwrap().value);
     assert_eq!(shown.len(), 3 * 301 + 900);
     assert_eq!(shown[300], (1, "down".to_string()));
@@ -482,7 +482,7 @@ fn a_show_of_a_directory_that_holds_itself() {
     let mut disc = Disc::new();
     let root = disc.directory(&[named("again", 3, true), named("cue", 5, false)]);
     disc.root(root);
-    let vault = Vault::open(&disc.0).unwrap();
+    let vault = Counted::open(&disc.0).unwrap();
     // Two sectors for each level: its entry and its bytes.
     for levels in [1, 2, 16] {
         assert_eq!(refused(vault.show(levels)), (Refusal::TooDeep, 2 * u64::from(levels)));

@@ -9,7 +9,7 @@ use std::fs::{read, write as put};
 use std::os::unix::ffi::OsStrExt;
 use std::path::PathBuf;
 use std::process::{Command, Output, Stdio};
-use strandlodge::{How, Matching, Refusal, SECTOR_SIZE, Vault, probe_vrs, read_volume_label, write, write_staged, write_total};
+use strandlodge::{Counted, How, Matching, Refusal, SECTOR_SIZE, probe_vrs, read_volume_label, write, write_staged, write_total};
 use strandlodge_sys::sparse;
 
 /// The bytes of a sector.
@@ -76,10 +76,10 @@ fn the_library_reads_what_it_writes() {
         let names: Vec<&str> = files.iter().map(|(name, _)| name.as_str()).collect();
         let lengths: Vec<u64> = files.iter().map(|(_, bytes)| bytes.len() as u64).collect();
         assert_eq!(image.len() as u64, write_total(&names, &lengths).unwrap() * SECTOR_SIZE);
-        assert!(probe_vrs(&image) && read_volume_label(&image).unwrap().value == "VAULT");
+        assert!(probe_vrs(&image) && read_volume_label(&image).unwrap() == "VAULT");
         for bits in 0..8 {
             let how = How { highest: bits & 4 != 0, checked: bits & 1 != 0, maps: bits & 2 != 0 };
-            let vault = Vault::open_as(&image, how).unwrap();
+            let vault = Counted::open_as(&image, how).unwrap();
             assert_eq!(vault.sectors, 8);
             let listed = vault.read_directory(vault.root_directory_icb()).unwrap().value;
             assert!(listed.iter().all(|entry| !entry.is_directory));
@@ -104,7 +104,7 @@ fn the_command_writes_the_same() {
         let listed: String = files.iter().map(|(name, _)| name.replace('\\', "\\\\") + "\n").collect();
         assert_eq!(folder.vault(&["ls", "v.img"]).out, listed);
         for (name, bytes) in files.iter().step_by(7) {
-            assert!(folder.vault(&["cat", "--as-written", "v.img", "--", name]).bytes == *bytes, "{name}");
+            assert!(folder.vault(&["cat", "--as-written", "--raw", "v.img", "--", name]).bytes == *bytes, "{name}");
         }
         // The files, the image, and nothing else.
         assert_eq!(folder.names(), ["from", "v.img"]);

@@ -112,7 +112,7 @@ fn ours(icb: super::calls::Icb) -> LongAd {
 fn over_a_file(r: Row) -> Result<String> {
     let stored = Stored::new(&r.disc.image)?;
     let (q, path) = (&r.query, std::str::from_utf8(&r.query.path).unwrap());
-    let mut drive = Drive::open(File::open(&stored.0)?).expect("a disc").value;
+    let mut drive = Drive::open(File::open(&stored.0)?).expect("a disc");
     let mut disc = within::disc(File::open(&stored.0)?, q.volume.start, q.volume.partition, long(q.volume.root));
     let name = format!("{}, Drive over a file, beside the original", r.name);
     Ok(match q.call {
@@ -128,7 +128,7 @@ fn over_a_file(r: Row) -> Result<String> {
             |times| timed(times, || disc.read_directory(long(q.icb))),
         ),
         _ => {
-            assert!(drive.read_file(ours(q.icb)).unwrap().value == disc.read_file(long(q.icb)).unwrap(), "{name}: other bytes");
+            assert!(drive.read_file(ours(q.icb)).unwrap() == disc.read_file(long(q.icb)).unwrap(), "{name}: other bytes");
             row(&name, |times| timed(times, || drive.read_file(ours(q.icb))), |times| timed(times, || disc.read_file(long(q.icb))))
         }
     })

@@ -1,48 +1,31 @@
 //! What the command line asks for.
 
 use crate::failure::Failure;
-use crate::names::shown;
+use crate::names::{self, shown};
+use crate::style::Style;
 use crate::tree::{Bounds, Form};
+use crate::wanted::{Icb, Wanted};
 use std::ffi::{OsStr, OsString};
 use std::os::unix::ffi::{OsStrExt, OsStringExt};
 use strandlodge::{How, Matching};
 
-pub const HELP: &str = "\
-vault: look into a UDF disc. An image is a file or a drive, and is only read.
-  vault label IMAGE            the volume's name
-  vault ls IMAGE [PATH]        what a directory holds; with -R all below it too
-  vault tree IMAGE [PATH]      the same as ls -R, drawn as a tree
-  vault cat IMAGE PATH         a file's bytes; PATH is names between slashes
-  vault get IMAGE PATH FILE    a file's bytes, to FILE, which is replaced
-  vault get IMAGE -o TO PATH.. many files, each to its own name in folder TO
-  vault stat IMAGE [PATH]      ICB, kind, extents; or volume descriptors, maps
-  vault probe IMAGE            whether it has a recognition sequence: yes or no
-  vault check IMAGE            descriptors out of place, or with a ruined body
-  vault make IMAGE FILE..      writes a vault of up to 64 files, by their names
-  vault sample FILE            writes a sample show; vault alone gives a tour
-  --as-written    take a name on PATH byte for byte; else ASCII case is ignored
-  --unambiguous   refuse a name that several entries match; else take the first
-  --levels N, --limit N   of tree and ls -R: 1 to 16 levels, N entries at most
-  --highest, --maps   highest of several descriptors; partitions through maps
-  --checked       refuse a descriptor whose body is ruined: it has another CRC
-  --copy          read it into memory first: a mapped image must stand still
-  --drive         read it sector by sector, as they are wanted, without a map
-  --wait N        up to N seconds for a file of an image copied front to back
-  --sectors, --   say how many sectors each call asked for; no options follow
-Status: 0 done, 1 to 14 refused by that number, 64 wrong usage, 65 check found
-one wrong, 66 no image, 67 not all read, 68 limit, 70 unknown, 74 no output.
-";
-
-/// A path on the disc, in bytes: names there need not be this system's.
-pub type DiscPath = Vec<u8>;
-
 #[derive(Debug, PartialEq, Eq)]
 pub enum Command {
-    Help,
+    /// Of all, or of one command.
+    Help(Option<String>),
+    Version,
     Tour,
-    Sample { file: OsString },
-    Make { image: OsString, files: Vec<OsString> },
-    Ask { image: OsString, question: Question },
+    Sample {
+        file: OsString,
+    },
+    Make {
+        image: OsString,
+        files: Vec<OsString>,
+    },
+    Ask {
+        image: OsString,
+        question: Question,
+    },
 }
 
 impl Command {
@@ -53,12 +36,8 @@ impl Command {
 
     /// It can be answered a sector at a time.
     fn can_drive(&self) -> bool {
-        matches!(self, Command::Ask { question, .. } if !matches!(question, Question::GetAll { .. } | Question::Probe | Question::Check))
-    }
-
-    /// Names on a disc are asked for.
-    fn has_path(&self) -> bool {
-        matches!(self, Command::Ask { question, .. } if !matches!(question, Question::Label | Question::Probe))
+        let whole = |question: &Question| matches!(question, Question::GetAll { .. } | Question::Probe | Question::Check | Question::Info);
+        matches!(self, Command::Ask { question, .. } if !whole(question))
     }
 }
 
@@ -66,12 +45,35 @@ impl Command {
 #[derive(Debug, PartialEq, Eq)]
 pub enum Question {
     Label,
-    Ls { path: DiscPath },
-    Tree { path: DiscPath, form: Form, bounds: Bounds },
-    Cat { path: DiscPath },
-    Get { path: DiscPath, file: OsString },
-    GetAll { paths: Vec<DiscPath>, folder: OsString },
-    Stat { path: DiscPath },
+    Info,
+    Ls {
+        wanted: Wanted,
+    },
+    Tree {
+        wanted: Wanted,
+        form: Form,
+        bounds: Bounds,
+    },
+    Cat {
+        wanted: Wanted,
+    },
+    Get {
+        wanted: Wanted,
+        file: OsString,
+    },
+    GetAll {
+        paths: Vec<Vec<u8>>,
+        folder: OsString,
+    },
+    /// All below each path, or where there is none all of the disc.
+    GetTree {
+        paths: Vec<Vec<u8>>,
+        folder: OsString,
+        limit: u64,
+    },
+    Stat {
+        wanted: Wanted,
+    },
     Descriptors,
     Probe,
     Check,
@@ -91,47 +93,160 @@ pub struct Args {
     pub matching: Matching,
     /// So many seconds are waited for what isn't there yet.
     pub wait: Option<u32>,
+    /// How entries are printed.
+    pub style: Style,
+}
+
+/// The commands that look at what a disc holds.
+const PATHS: &[&str] = &["ls", "tree", "cat", "get", "stat"];
+const FOR_PATHS: &str = "--as-written and --unambiguous are for a PATH: that of ls, tree, cat, get or stat";
+
+/// Options that aren't for every command, those that they are for, and what is said else.
+const OPTIONS: [(&str, &[&str], &str); 15] = [
+    ("--as-written", PATHS, FOR_PATHS),
+    ("--unambiguous", PATHS, FOR_PATHS),
+    ("--raw", PATHS, "--raw is for a PATH: that of ls, tree, cat, get or stat"),
+    ("--icb", PATHS, "--icb is for ls, tree, cat, get or stat, in place of PATH"),
+    ("-o", &["get"], "-o is for get"),
+    ("-r", &["get"], "-r is for get"),
+    ("-R", &["ls"], "-R is for ls"),
+    ("-i", &["ls"], "-i is for ls"),
+    ("-0", &["ls"], "-0 is for ls"),
+    ("--json", &["ls", "tree", "stat", "info", "check"], "--json is for ls, tree, stat, info and check"),
+    ("--levels", &["tree", "ls"], "--levels is for tree and ls -R"),
+    ("--limit", &["tree", "ls", "get"], "--limit is for tree, ls -R and get -r"),
+    ("--wait", &["cat", "get"], FOR_ONE_FILE),
+    ("--drive", &["label", "ls", "tree", "cat", "get", "stat"], FOR_DRIVES),
+    ("--copy", &["label", "info", "ls", "tree", "cat", "get", "stat", "probe", "check"], "--copy is for a command that reads an IMAGE"),
+];
+const FOR_ONE_FILE: &str = "--wait is for one file: that of cat or get, without -o";
+const FOR_DRIVES: &str = "--drive is for label, ls, tree, cat, stat, and get, with -o only where there is -r";
+
+/// What stands on the line beside words.
+#[derive(Default)]
+struct Options {
+    /// Those of the table that were given.
+    given: Vec<&'static str>,
+    sectors: bool,
+    help: bool,
+    version: bool,
+    how: How,
+    icb: Option<Icb>,
+    folder: Option<OsString>,
+    levels: Option<usize>,
+    limit: Option<u64>,
+    wait: Option<u32>,
+}
+
+impl Options {
+    fn has(&self, option: &str) -> bool {
+        self.given.contains(&option)
+    }
+
+    /// Takes an option, and what belongs to it.
+    fn take(&mut self, word: &OsStr, rest: &mut impl Iterator<Item = OsString>) -> Result<(), Failure> {
+        let known = OPTIONS.iter().map(|(name, ..)| *name).find(|name| word == *name);
+        self.given.extend(known);
+        match word.as_bytes() {
+            b"--sectors" => self.sectors = true,
+            b"--highest" => self.how.highest = true,
+            b"--checked" => self.how.checked = true,
+            b"--maps" => self.how.maps = true,
+            b"--help" | b"-h" => self.help = true,
+            b"--version" | b"-V" => self.version = true,
+            b"-o" => self.folder = Some(rest.next().ok_or_else(|| Failure::usage("-o needs TO, a folder"))?),
+            b"--icb" => self.icb = Some(icb(rest.next())?),
+            b"--levels" => {
+                self.levels = Some(number(rest.next(), "--levels needs a number, 1 to 16", Bounds::MOST_LEVELS as u64)? as usize)
+            }
+            b"--limit" => self.limit = Some(number(rest.next(), "--limit needs a number, of 1 or more", u64::MAX)?),
+            b"--wait" => self.wait = Some(seconds(rest.next())?),
+            _ if known.is_some() => {}
+            other => return Err(Failure::usage(format!("there is no option {}", shown(other)))),
+        }
+        Ok(())
+    }
+
+    /// Fails where there is one of another command.
+    fn see(&self, name: Option<&OsStr>) -> Result<(), Failure> {
+        for (option, commands, says) in OPTIONS {
+            let is_for = name.is_some_and(|name| commands.iter().any(|command| name == *command));
+            if self.has(option) && !is_for {
+                return Err(Failure::usage(says));
+            }
+        }
+        let deep = name.is_some_and(|name| name == "tree") || self.has("-R") || self.has("-r");
+        if (self.levels.is_some() || self.limit.is_some()) && !deep {
+            return Err(Failure::usage("--levels and --limit are for tree and ls -R, and --limit for get -r"));
+        }
+        if self.has("-r") && (self.levels.is_some() || self.folder.is_none()) {
+            return Err(Failure::usage("get -r needs -o TO, a folder, and takes no --levels"));
+        }
+        if self.icb.is_some() && (self.folder.is_some() || self.has("--raw") || self.matching()? != Matching::default()) {
+            return Err(Failure::usage("--icb stands in place of a PATH: it goes with none of -o, --raw, --as-written and --unambiguous"));
+        }
+        if self.has("--json") && (self.has("-0") || self.has("-i")) {
+            return Err(Failure::usage("--json has the names and the ICBs: it goes with neither -0 nor -i"));
+        }
+        Ok(())
+    }
+
+    fn bounds(&self) -> Bounds {
+        let usual = Bounds::default();
+        Bounds { levels: self.levels.unwrap_or(usual.levels), entries: self.limit.unwrap_or(usual.entries) }
+    }
+
+    fn matching(&self) -> Result<Matching, Failure> {
+        match (self.has("--as-written"), self.has("--unambiguous")) {
+            (false, false) => Ok(Matching::CaseIgnored),
+            (true, false) => Ok(Matching::AsWritten),
+            (false, true) => Ok(Matching::Unambiguous),
+            (true, true) => Err(Failure::usage("--as-written and --unambiguous are two choices, of which one can be taken")),
+        }
+    }
+
+    /// A path as it was typed.
+    fn path(&self, word: OsString) -> Result<Vec<u8>, Failure> {
+        let bytes = word.into_vec();
+        if self.has("--raw") { Ok(bytes) } else { names::read(&bytes).map_err(Failure::usage) }
+    }
+
+    /// What is asked for, where there may be no path.
+    fn wanted(&self, words: &mut impl Iterator<Item = OsString>) -> Result<Option<Wanted>, Failure> {
+        match self.icb {
+            Some(icb) => Ok(Some(Wanted::Icb(icb))),
+            None => words.next().map(|word| self.path(word).map(Wanted::Path)).transpose(),
+        }
+    }
 }
 
 pub fn parse(given: impl IntoIterator<Item = OsString>) -> Result<Args, Failure> {
-    let (mut sectors, mut copy, mut drive, mut help, mut words) = (false, false, false, false, Vec::new());
-    let (mut as_written, mut unambiguous) = (false, false);
-    let (mut how, mut more, mut wait) = (How::default(), More::default(), None);
+    let (mut options, mut words) = (Options::default(), Vec::new());
     let mut given = given.into_iter();
     while let Some(word) = given.next() {
         match word.as_bytes() {
             b"--" => words.extend(given.by_ref()),
-            b"--sectors" => sectors = true,
-            b"--copy" => copy = true,
-            b"--drive" => drive = true,
-            b"--as-written" => as_written = true,
-            b"--unambiguous" => unambiguous = true,
-            b"--highest" => how.highest = true,
-            b"--checked" => how.checked = true,
-            b"--maps" => how.maps = true,
-            b"-o" => more.folder = Some(given.next().ok_or_else(|| Failure::usage("-o needs TO, a folder"))?),
-            b"-R" => more.is_deep = true,
-            b"--levels" => {
-                more.levels = Some(number(given.next(), "--levels needs a number, 1 to 16", Bounds::MOST_LEVELS as u64)? as usize)
-            }
-            b"--limit" => more.entries = Some(number(given.next(), "--limit needs a number, of 1 or more", u64::MAX)?),
-            b"--wait" => wait = Some(seconds(given.next())?),
-            b"--help" | b"-h" => help = true,
-            [b'-', _, ..] => return Err(Failure::usage(format!("there is no option {}", shown(word.as_bytes())))),
+            [b'-', _, ..] => options.take(&word, &mut given)?,
             _ => words.push(word),
         }
     }
-    if help {
-        return Ok(Args { command: Command::Help, sectors, copy, drive, how, matching: Matching::default(), wait });
-    }
-    let (command, matching) = (command(words, more)?, matching(as_written, unambiguous)?);
-    if matching != Matching::default() && !command.has_path() {
-        return Err(Failure::usage("--as-written and --unambiguous are for a PATH: that of ls, tree, cat, get or stat"));
+    let command = if options.help {
+        Command::Help(words.first().map(|word| word.to_string_lossy().into_owned()))
+    } else if options.version {
+        Command::Version
+    } else {
+        command(words, &options)?
+    };
+    let style = Style { is_json: options.has("--json"), is_raw: options.has("-0"), has_icbs: options.has("-i") };
+    let (sectors, copy, drive) = (options.sectors, options.has("--copy"), options.has("--drive"));
+    let (how, wait) = (options.how, options.wait);
+    if options.help || options.version {
+        return Ok(Args { command, sectors, copy, drive, how, matching: Matching::default(), wait, style });
     }
     if wait.is_some() && !command.can_wait() {
-        return Err(Failure::usage("--wait is for one file: that of cat or get, without -o"));
+        return Err(Failure::usage(FOR_ONE_FILE));
     }
-    let args = Args { command, sectors, copy, drive, how, matching, wait };
+    let args = Args { command, sectors, copy, drive, how, matching: options.matching()?, wait, style };
     if drive {
         see_drive(&args)?;
     }
@@ -141,7 +256,7 @@ pub fn parse(given: impl IntoIterator<Item = OsString>) -> Result<Args, Failure>
 /// Fails where a drive is asked for something that needs the image whole.
 fn see_drive(args: &Args) -> Result<(), Failure> {
     if !args.command.can_drive() {
-        return Err(Failure::usage("--drive is for label, ls, tree, cat, stat, and get without -o"));
+        return Err(Failure::usage(FOR_DRIVES));
     }
     if args.copy || args.wait.is_some() {
         return Err(Failure::usage("--drive reads what is there now, a sector at a time: it goes with neither --copy nor --wait"));
@@ -157,35 +272,9 @@ fn seconds(word: Option<OsString>) -> Result<u32, Failure> {
     number.ok_or_else(|| Failure::usage("--wait needs N, a number of seconds"))
 }
 
-/// The options of single commands.
-#[derive(Default)]
-struct More {
-    folder: Option<OsString>,
-    is_deep: bool,
-    levels: Option<usize>,
-    entries: Option<u64>,
-}
-
-impl More {
-    /// Fails where there is one of another command.
-    fn see(&self, name: Option<&[u8]>) -> Result<(), Failure> {
-        let is_tree = name == Some(b"tree") || name == Some(b"ls") && self.is_deep;
-        if self.folder.is_some() && name != Some(b"get") {
-            return Err(Failure::usage("-o is for get"));
-        }
-        if self.is_deep && name != Some(b"ls") {
-            return Err(Failure::usage("-R is for ls"));
-        }
-        if (self.levels.is_some() || self.entries.is_some()) && !is_tree {
-            return Err(Failure::usage("--levels and --limit are for tree and ls -R"));
-        }
-        Ok(())
-    }
-
-    fn bounds(&self) -> Bounds {
-        let usual = Bounds::default();
-        Bounds { levels: self.levels.unwrap_or(usual.levels), entries: self.entries.unwrap_or(usual.entries) }
-    }
+fn icb(word: Option<OsString>) -> Result<Icb, Failure> {
+    let icb = word.as_ref().and_then(|word| word.to_str()).and_then(Icb::parse);
+    icb.ok_or_else(|| Failure::usage("--icb needs BLOCK or BLOCK:REF, two numbers as ls -i shows them"))
 }
 
 /// A number of 1 to `most`.
@@ -194,28 +283,19 @@ fn number(word: Option<OsString>, needs: &str, most: u64) -> Result<u64, Failure
     number.ok_or_else(|| Failure::usage(needs))
 }
 
-fn matching(as_written: bool, unambiguous: bool) -> Result<Matching, Failure> {
-    match (as_written, unambiguous) {
-        (false, false) => Ok(Matching::CaseIgnored),
-        (true, false) => Ok(Matching::AsWritten),
-        (false, true) => Ok(Matching::Unambiguous),
-        (true, true) => Err(Failure::usage("--as-written and --unambiguous are two choices, of which one can be taken")),
-    }
-}
-
-fn command(words: Vec<OsString>, more: More) -> Result<Command, Failure> {
+fn command(words: Vec<OsString>, options: &Options) -> Result<Command, Failure> {
     let mut words = words.into_iter();
     let name = words.next();
-    more.see(name.as_deref().map(OsStr::as_bytes))?;
+    options.see(name.as_deref())?;
     let Some(name) = name else {
         return Ok(Command::Tour);
     };
     let command = match name.as_bytes() {
         b"sample" => Command::Sample { file: take(&mut words, &name, "FILE")? },
         b"make" => Command::Make { image: take(&mut words, &name, "IMAGE")?, files: words.by_ref().collect() },
-        b"label" | b"ls" | b"tree" | b"cat" | b"get" | b"stat" | b"probe" | b"check" => {
+        b"label" | b"info" | b"ls" | b"tree" | b"cat" | b"get" | b"stat" | b"probe" | b"check" => {
             let image = take(&mut words, &name, "IMAGE")?;
-            Command::Ask { image, question: question(&name, &mut words, more)? }
+            Command::Ask { image, question: question(&name, &mut words, options)? }
         }
         other => return Err(Failure::usage(format!("there is no command {}", shown(other)))),
     };
@@ -225,38 +305,46 @@ fn command(words: Vec<OsString>, more: More) -> Result<Command, Failure> {
     }
 }
 
-fn question(name: &OsStr, words: &mut impl Iterator<Item = OsString>, more: More) -> Result<Question, Failure> {
-    if name == "label" {
-        return Ok(Question::Label);
-    }
-    if name == "probe" {
-        return Ok(Question::Probe);
-    }
-    if name == "check" {
-        return Ok(Question::Check);
-    }
-    if name == "tree" || more.is_deep {
-        let (path, form) = (words.next().unwrap_or_default().into_vec(), if name == "tree" { Form::Drawn } else { Form::Paths });
-        return Ok(Question::Tree { path, form, bounds: more.bounds() });
-    }
-    if name == "ls" {
-        return Ok(Question::Ls { path: words.next().unwrap_or_default().into_vec() });
-    }
-    if name == "stat" {
-        return Ok(words.next().map_or(Question::Descriptors, |path| Question::Stat { path: path.into_vec() }));
-    }
-    let path = take(words, name, "PATH")?.into_vec();
-    if let Some(folder) = more.folder {
-        return Ok(Question::GetAll { paths: [path].into_iter().chain(words.map(OsString::into_vec)).collect(), folder });
-    }
+fn question(name: &OsStr, words: &mut impl Iterator<Item = OsString>, options: &Options) -> Result<Question, Failure> {
+    let root = || Wanted::Path(Vec::new());
     Ok(match name.as_bytes() {
-        b"get" => Question::Get { path, file: take(words, name, "FILE")? },
-        _ => Question::Cat { path },
+        b"label" => Question::Label,
+        b"info" => Question::Info,
+        b"probe" => Question::Probe,
+        b"check" => Question::Check,
+        b"tree" | b"ls" if name == "tree" || options.has("-R") => {
+            let (wanted, form) = (options.wanted(words)?.unwrap_or_else(root), if name == "tree" { Form::Drawn } else { Form::Paths });
+            Question::Tree { wanted, form, bounds: options.bounds() }
+        }
+        b"ls" => Question::Ls { wanted: options.wanted(words)?.unwrap_or_else(root) },
+        b"stat" => options.wanted(words)?.map_or(Question::Descriptors, |wanted| Question::Stat { wanted }),
+        b"get" if options.folder.is_some() => many(name, words, options)?,
+        _ => {
+            let wanted = options.wanted(words)?.ok_or_else(|| needs(name, "PATH"))?;
+            if name == "cat" { Question::Cat { wanted } } else { Question::Get { wanted, file: take(words, name, "FILE")? } }
+        }
     })
 }
 
+/// What goes to a folder.
+fn many(name: &OsStr, words: &mut impl Iterator<Item = OsString>, options: &Options) -> Result<Question, Failure> {
+    let (folder, paths) =
+        (options.folder.clone().unwrap_or_default(), words.map(|word| options.path(word)).collect::<Result<Vec<_>, _>>()?);
+    if options.has("-r") {
+        return Ok(Question::GetTree { paths, folder, limit: options.limit.unwrap_or(MOST_TAKEN) });
+    }
+    if paths.is_empty() { Err(needs(name, "PATH")) } else { Ok(Question::GetAll { paths, folder }) }
+}
+
+/// So many entries are taken by `get -r` where nothing else is said: a disc that was made to do harm may have more than can be written.
+const MOST_TAKEN: u64 = 1_000_000;
+
+fn needs(name: &OsStr, what: &str) -> Failure {
+    Failure::usage(format!("{} needs {what}", name.display()))
+}
+
 fn take(words: &mut impl Iterator<Item = OsString>, name: &OsStr, what: &str) -> Result<OsString, Failure> {
-    words.next().ok_or_else(|| Failure::usage(format!("{} needs {what}", name.display())))
+    words.next().ok_or_else(|| needs(name, what))
 }
 
 #[cfg(test)]
@@ -268,16 +356,10 @@ mod tests {
     }
 
     #[test]
-    fn the_help_fits_a_screen() {
-        assert!(HELP.lines().count() < 24);
-        assert!(HELP.lines().all(|line| line.chars().count() < 80));
-    }
-
-    #[test]
     fn options_stand_anywhere() {
         let label = |image: &str| Command::Ask { image: image.into(), question: Question::Label };
         let (how, matching, wait) = (How::default(), Matching::CaseIgnored, None);
-        let asked = |sectors, copy| Args { command: label("a"), sectors, copy, drive: false, how, matching, wait };
+        let asked = |sectors, copy| Args { command: label("a"), sectors, copy, drive: false, how, matching, wait, style: Style::default() };
         assert_eq!(parsed("label a").unwrap(), asked(false, false));
         assert_eq!(parsed("--sectors label a").unwrap(), asked(true, false));
         assert_eq!(parsed("label a --sectors").unwrap(), asked(true, false));
@@ -292,7 +374,9 @@ mod tests {
         ] {
             assert_eq!(parsed(words).unwrap(), Args { how, ..asked(false, false) });
         }
-        assert_eq!(parsed("label a --help").unwrap().command, Command::Help);
+        assert_eq!(parsed("label a --help").unwrap().command, Command::Help(Some("label".to_string())));
+        assert_eq!(parsed("-h").unwrap().command, Command::Help(None));
+        assert_eq!((parsed("--version").unwrap().command, parsed("ls -V").unwrap().command), (Command::Version, Command::Version));
         assert_eq!(parsed("label -- --help").unwrap().command, label("--help"));
         assert_eq!(parsed("").unwrap().command, Command::Tour);
     }
@@ -343,8 +427,57 @@ mod tests {
             ("--limit 7 ls a b -R", "b", Form::Paths, Bounds { entries: 7, ..usual }),
             ("tree --levels 16 --limit 18446744073709551615 a", "", Form::Drawn, Bounds { levels: 16, entries: u64::MAX }),
         ] {
-            let question = Question::Tree { path: path.into(), form, bounds };
+            let question = Question::Tree { wanted: Wanted::Path(path.into()), form, bounds };
             assert_eq!(parsed(line).unwrap().command, Command::Ask { image: "a".into(), question }, "{line}");
+        }
+    }
+
+    #[test]
+    fn a_path_is_read_as_ls_writes_it() {
+        let path = |line: &str| match parsed(line).unwrap().command {
+            Command::Ask { question: Question::Cat { wanted: Wanted::Path(path) }, .. } => path,
+            other => panic!("{other:?}"),
+        };
+        assert_eq!(path("cat a b\\u{1b}\\\\\\xff"), b"b\x1b\\\xff");
+        assert_eq!(path("cat a b\\u{1b} --raw"), b"b\\u{1b}");
+    }
+
+    #[test]
+    fn an_icb_stands_for_a_path() {
+        let icb = |word| Wanted::Icb(Icb::parse(word).unwrap());
+        for (line, question) in [
+            ("cat a --icb 7", Question::Cat { wanted: icb("7") }),
+            ("get --icb 7:5 a b", Question::Get { wanted: icb("7:5"), file: "b".into() }),
+            ("ls a --icb 7:5", Question::Ls { wanted: icb("7:5") }),
+            ("stat a --icb 0", Question::Stat { wanted: icb("0") }),
+        ] {
+            assert_eq!(parsed(line).unwrap().command, Command::Ask { image: "a".into(), question }, "{line}");
+        }
+    }
+
+    #[test]
+    fn all_of_a_disc_goes_to_a_folder() {
+        for (line, paths, limit) in [
+            ("get -r a -o d", &[][..], MOST_TAKEN),
+            ("get a -o d -r b c --limit 7", &["b", "c"], 7),
+            ("get a -o d -r --drive", &[], MOST_TAKEN),
+        ] {
+            let paths = paths.iter().map(|path| path.as_bytes().to_vec()).collect();
+            let question = Question::GetTree { paths, folder: "d".into(), limit };
+            assert_eq!(parsed(line).unwrap().command, Command::Ask { image: "a".into(), question }, "{line}");
+        }
+    }
+
+    #[test]
+    fn entries_have_a_style() {
+        let style = |is_json, is_raw, has_icbs| Style { is_json, is_raw, has_icbs };
+        for (line, style) in [
+            ("ls a", style(false, false, false)),
+            ("ls a -0 -i", style(false, true, true)),
+            ("ls -R -i a", style(false, false, true)),
+            ("--json check a", style(true, false, false)),
+        ] {
+            assert_eq!(parsed(line).unwrap().style, style, "{line}");
         }
     }
 
@@ -360,13 +493,38 @@ mod tests {
         ] {
             assert_eq!(parsed(line).unwrap().matching, matching, "{line}");
         }
-        assert_eq!(parsed("--help --as-written").unwrap().command, Command::Help);
+        assert_eq!(parsed("--help --as-written").unwrap().command, Command::Help(None));
     }
 
     #[test]
     fn wrong_words_are_usage() {
         for line in [
             "lable a",
+            "cat a b\\",
+            "cat a b\\n",
+            "cat a b\\u{2f}c",
+            "cat a b --icb 7",
+            "cat a --icb",
+            "cat a --icb x",
+            "cat a --icb 7 --as-written",
+            "get a --icb 7",
+            "get a -o d --icb 7",
+            "label a --icb 7",
+            "label a --raw",
+            "check a --as-written",
+            "tree a -0",
+            "tree a -i",
+            "cat a b --json",
+            "ls a --json -0",
+            "get a b c -r",
+            "get -r a b",
+            "get -r a -o d --levels 3",
+            "get -r a -o d --wait 3",
+            "get a -o d b --limit 3",
+            "info",
+            "info a b",
+            "info a --drive",
+            "make a b --copy",
             "label",
             "label a b",
             "ls",

@@ -5,6 +5,7 @@ use crate::failure::Failure;
 use crate::log::Log;
 use crate::records;
 use crate::report::{Place, Report};
+use crate::style::Style;
 use crate::walk::{Walk, sector};
 use std::io::Write;
 use strandlodge::{How, Kind, LbAddr, Matching, volume_descriptors};
@@ -13,8 +14,8 @@ const ANCHOR: u64 = 256;
 const SECTOR: u32 = 2048;
 const TERMINATOR: u16 = 8;
 
-pub fn check(image: &[u8], how: How, name: &str, out: &mut impl Write, log: &mut Log) -> Result<(), Failure> {
-    let mut report = Report::new(out);
+pub fn check(image: &[u8], how: How, name: &str, style: Style, out: &mut impl Write, log: &mut Log) -> Result<(), Failure> {
+    let mut report = Report::new(out, style);
     volume(image, &mut report)?;
     let vault = Disc::open(image, how, name, Matching::default(), log)?.volume;
     let mut walk = Walk::new(image, vault, &mut report);

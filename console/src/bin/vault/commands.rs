@@ -4,62 +4,76 @@ use crate::args::Question;
 use crate::bar::Word;
 use crate::check;
 use crate::disc::{Disc, Found, Volume};
-use crate::failure::Failure;
+use crate::failure::{Failure, WRONG};
 use crate::file::Target;
+use crate::folder;
+use crate::info;
+use crate::json::{Json, Rows};
 use crate::log::Log;
 use crate::many;
 use crate::maps;
-use crate::names::shown;
+use crate::names::{shown, shown_name};
+use crate::style::{Style, listed};
 use crate::tree;
+use crate::wanted::Wanted;
 use std::ffi::OsStr;
 use std::io::{self, Write};
 use std::os::unix::ffi::OsStrExt;
 use std::path::Path;
-use strandlodge::{AllocExtent, DirEntry, How, LongAd, Matching, Vault, VolumeDescriptor};
-use strandlodge::{map_table, probe_vrs, read_volume_label_as, volume_descriptors};
+use strandlodge::{AllocExtent, Counted, How, LongAd, Matching, VolumeDescriptor};
+use strandlodge::{map_table, probe_vrs, volume_descriptors};
 
-/// Answers a question on an image, which goes by `name` and is opened as it is chosen.
-pub fn ask(
-    question: &Question,
-    how: How,
-    matching: Matching,
-    image: &[u8],
-    name: &OsStr,
-    out: &mut impl Write,
-    log: &mut Log,
-) -> Result<(), Failure> {
-    let (file, name) = (name, &shown(name.as_bytes()));
+/// How a question is asked: how the image is opened, how names are matched, and how the answer is printed.
+#[derive(Clone, Copy)]
+pub struct Manner {
+    pub how: How,
+    pub matching: Matching,
+    pub style: Style,
+}
+
+/// Answers a question on an image, which goes by `name`.
+pub fn ask(question: &Question, manner: Manner, image: &[u8], name: &OsStr, out: &mut impl Write, log: &mut Log) -> Result<(), Failure> {
+    let (file, name, Manner { how, matching, style }) = (name, &shown(name.as_bytes()), manner);
+    let open = |log| Disc::open(image, how, name, matching, log);
     match question {
-        Question::Probe => line(out, if probe_vrs(image) { "yes" } else { "no" }),
+        Question::Probe => probe(image, out),
         Question::Label => {
-            let label = log.count("label", read_volume_label_as(image, how)).map_err(|refused| maps::refused(image, how, name, refused))?;
+            let label = log.count("label", Counted::label_of(image, how)).map_err(|refused| maps::refused(image, how, name, refused))?;
             line(out, &shown(label.as_bytes()))
         }
-        Question::Ls { path } => ls(&mut Disc::open(image, how, name, matching, log)?, path, out),
-        Question::Tree { path, form, bounds } => tree::show(&mut Disc::open(image, how, name, matching, log)?, path, *form, *bounds, out),
-        Question::Stat { path } => stat(&mut Disc::open(image, how, name, matching, log)?, path, out),
+        Question::Info => info::info(image, how, name, style, out, log),
+        Question::Ls { wanted } => ls(&mut open(log)?, wanted, style, out),
+        Question::Tree { wanted, form, bounds } => tree::show(&mut open(log)?, wanted, *form, *bounds, style, out),
+        Question::Stat { wanted } => stat(&mut open(log)?, wanted, style, out),
+        Question::Descriptors if style.is_json => descriptors_json(image, how, &mut open(log)?, out),
         Question::Descriptors => {
             // Before opening: where it is refused, what it was refused for may be seen in them.
             volume_descriptors(image, how).iter().try_for_each(|one| line(out, &standing(one)))?;
             map_table(image, how).iter().flat_map(maps::lines).try_for_each(|text| line(out, &text))?;
-            volume(&mut Disc::open(image, how, name, matching, log)?, out)
+            volume(&mut open(log)?, out)
         }
-        Question::Check => check::check(image, how, name, out, log),
-        Question::Cat { path } => {
-            let bytes = cat(&mut Disc::open(image, how, name, matching, log)?, path)?;
+        Question::Check => check::check(image, how, name, style, out, log),
+        Question::Cat { wanted } => {
+            let bytes = cat(&mut open(log)?, wanted)?;
             out.write_all(&bytes).map_err(Failure::output)
         }
-        Question::Get { path, file } => {
+        Question::Get { wanted, file } => {
             let target = Target::at(file)?;
             let word = Word::new("reading");
-            let bytes = cat(&mut Disc::open(image, how, name, matching, log)?, path)?;
+            let bytes = cat(&mut open(log)?, wanted)?;
             drop(word);
             target.write(&bytes)
         }
-        Question::GetAll { paths, folder } => {
-            many::get(&mut Disc::open(image, how, name, matching, log)?, paths, Path::new(folder), file, out)
-        }
+        Question::GetAll { paths, folder } => many::get(&mut open(log)?, paths, Path::new(folder), file, out),
+        Question::GetTree { paths, folder, limit } => folder::get(&mut open(log)?, paths, Path::new(folder), *limit, file, out),
     }
+}
+
+/// Prints whether there is a recognition sequence, and ends so that a script can tell.
+fn probe(image: &[u8], out: &mut impl Write) -> Result<(), Failure> {
+    let found = probe_vrs(image);
+    line(out, if found { "yes" } else { "no" })?;
+    if found { Ok(()) } else { Err(Failure { status: WRONG, says: None }) }
 }
 
 pub fn line(out: &mut impl Write, text: &str) -> Result<(), Failure> {
@@ -67,34 +81,34 @@ pub fn line(out: &mut impl Write, text: &str) -> Result<(), Failure> {
 }
 
 /// A file's bytes.
-fn cat(disc: &mut Disc<Vault>, path: &[u8]) -> Result<Vec<u8>, Failure> {
-    let found = disc.find_file(path)?;
-    disc.read(path, found.icb)
+fn cat(disc: &mut Disc<Counted>, wanted: &Wanted) -> Result<Vec<u8>, Failure> {
+    let found = disc.find_file(wanted)?;
+    disc.read(&wanted.text(), found.icb)
 }
 
 /// A directory's entries, or a file's own.
-pub fn ls<V: Volume>(disc: &mut Disc<V>, path: &[u8], out: &mut impl Write) -> Result<(), Failure> {
-    let found = disc.find(path)?;
+pub fn ls<V: Volume>(disc: &mut Disc<V>, wanted: &Wanted, style: Style, out: &mut impl Write) -> Result<(), Failure> {
+    let found = disc.find(wanted)?;
     let entries = match found.entry {
         Some(entry) if !entry.is_directory => vec![entry],
-        _ => disc.list(path, found.icb)?,
+        _ => disc.list(&wanted.text(), found.icb)?,
     };
-    entries.iter().try_for_each(|entry| line(out, &listed(entry)))
-}
-
-pub fn listed(entry: &DirEntry) -> String {
-    let mark = if entry.is_directory { "/" } else { "" };
-    shown(entry.name.as_bytes()) + mark
+    if style.is_json {
+        let mut rows = Rows::new(out);
+        entries.iter().try_for_each(|entry| rows.row(&Json::Object(Json::entry(entry))))?;
+        return rows.end();
+    }
+    entries.iter().try_for_each(|entry| style.line(entry, entry.name.as_bytes(), &shown_name(&entry.name), out))
 }
 
 /// A descriptor of the volume, with its number.
-fn standing(one: &VolumeDescriptor) -> String {
+pub fn standing(one: &VolumeDescriptor) -> String {
     let prevails = if one.prevails { ", prevails" } else { "" };
     format!("found    sector {}, {}, number {}{prevails}", one.sector, one.kind, one.number)
 }
 
 /// What the descriptors that prevail lead to.
-fn volume(disc: &mut Disc<Vault>, out: &mut impl Write) -> Result<(), Failure> {
+fn volume(disc: &mut Disc<Counted>, out: &mut impl Write) -> Result<(), Failure> {
     let label = disc.count(b"", "label", disc.volume.label())?;
     let vault = disc.volume;
     say_volume(&label, vault.partition_start_sector(), vault.partition_number(), vault.root_directory_icb(), out)?;
@@ -109,28 +123,79 @@ pub fn say_volume(label: &str, start: u64, number: u16, root: LongAd, out: &mut 
     line(out, &format!("root     block {}, partition {}, {length} bytes, type {kind}", place.block, place.partition_ref))
 }
 
-fn stat(disc: &mut Disc<Vault>, path: &[u8], out: &mut impl Write) -> Result<(), Failure> {
-    let found = disc.find(path)?;
-    let part = disc.count(path, "part", disc.volume.part(found.icb))?;
-    let extents = disc.count(path, "extents", disc.volume.extents(found.icb))?;
-    say_found(&found, path, out)
+fn stat(disc: &mut Disc<Counted>, wanted: &Wanted, style: Style, out: &mut impl Write) -> Result<(), Failure> {
+    let (found, path) = (disc.find(wanted)?, wanted.text());
+    let part = disc.count(&path, "part", disc.volume.part(found.icb))?;
+    let extents = disc.count(&path, "extents", disc.volume.extents(found.icb))?;
+    if style.is_json {
+        let mut all = found_json(&found, &path);
+        all.extend(extents_json(disc.volume, found.icb, part.len(), &extents));
+        all.push(("sectors", disc.log.json()));
+        return Json::Object(all).print(out);
+    }
+    say_found(&found, &path, out)
         .and_then(|()| say_extents(disc.volume, found.icb, part.len(), &extents, out))
         .and_then(|()| writeln!(out, "sectors  {}", disc.log.sectors()))
         .map_err(Failure::output)
 }
 
+/// What was found, as a document has it. The path is as `cat` takes it.
+pub fn found_json(found: &Found, path: &[u8]) -> Vec<(&'static str, Json)> {
+    let entry = Json::maybe(found.entry.as_ref(), |entry| Json::text(&entry.name));
+    vec![("path", Json::text(shown(path))), ("entry", entry), ("kind", Json::kind(found.is_directory)), ("icb", Json::icb(found.icb))]
+}
+
+fn extents_json(vault: Counted, icb: LongAd, embedded: usize, extents: &[AllocExtent]) -> Vec<(&'static str, Json)> {
+    let one = |extent: &AllocExtent| {
+        Json::Object(vec![
+            ("length", Json::number(extent.length)),
+            ("type", Json::number(extent.extent_type)),
+            ("block", Json::number(extent.block)),
+            ("partition", Json::maybe(extent.partition_ref, Json::number)),
+            ("sector", Json::maybe(vault.extent_sector(icb, extent), Json::number)),
+        ])
+    };
+    vec![("embedded", Json::number(embedded as u64)), ("extents", Json::List(extents.iter().map(one).collect()))]
+}
+
+/// What `stat` prints without a path, as a document.
+fn descriptors_json(image: &[u8], how: How, disc: &mut Disc<Counted>, out: &mut impl Write) -> Result<(), Failure> {
+    let label = disc.count(b"", "label", disc.volume.label())?;
+    let maps = map_table(image, how).map_or(Json::Null, |table| maps::json(&table));
+    Json::Object(vec![
+        ("descriptors", Json::List(volume_descriptors(image, how).iter().map(descriptor_json).collect())),
+        ("maps", maps),
+        ("label", Json::text(label)),
+        ("start", Json::number(disc.volume.partition_start_sector())),
+        ("partition", Json::number(disc.volume.partition_number())),
+        ("root", Json::icb(disc.volume.root_directory_icb())),
+        ("sectors", disc.log.json()),
+    ])
+    .print(out)
+}
+
+pub fn descriptor_json(one: &VolumeDescriptor) -> Json {
+    Json::Object(vec![
+        ("sector", Json::number(one.sector)),
+        ("kind", Json::text(one.kind.to_string())),
+        ("number", Json::number(one.number)),
+        ("prevails", Json::Bool(one.prevails)),
+    ])
+}
+
 pub fn say_found(found: &Found, path: &[u8], out: &mut impl Write) -> io::Result<()> {
     let icb = found.icb;
     writeln!(out, "path     {}", shown(path))?;
-    writeln!(out, "entry    {}", found.entry.as_ref().map_or("none, this is the root".to_string(), listed))?;
-    writeln!(out, "kind     {}", if found.is_directory() { "directory" } else { "file" })?;
+    let none = if path.starts_with(b"--icb") { "not known, it was asked for by its place" } else { "none, this is the root" };
+    writeln!(out, "entry    {}", found.entry.as_ref().map_or(none.to_string(), listed))?;
+    writeln!(out, "kind     {}", if found.is_directory { "directory" } else { "file" })?;
     let place = icb.location;
     writeln!(out, "icb      block {}, partition {}, {} bytes, type {}", place.block, place.partition_ref, icb.length, icb.extent_type)
 }
 
 /// How the bytes are stored: in the entry itself, which has then no extents, or in extents. Where each begins is said of a volume with maps: else
 /// that is the block and the start that `stat` says without a path.
-fn say_extents(vault: Vault, icb: LongAd, embedded: usize, extents: &[AllocExtent], out: &mut impl Write) -> io::Result<()> {
+fn say_extents(vault: Counted, icb: LongAd, embedded: usize, extents: &[AllocExtent], out: &mut impl Write) -> io::Result<()> {
     if extents.is_empty() {
         let storage = if embedded > 0 { format!("embedded, {embedded} bytes") } else { "no bytes, no extents".to_string() };
         return writeln!(out, "storage  {storage}");

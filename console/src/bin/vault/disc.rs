@@ -2,37 +2,75 @@
 
 use crate::failure::{Failure, NO_IMAGE, USAGE};
 use crate::log::Log;
+use crate::map::copied;
 use crate::maps;
 use crate::names::shown;
+use crate::records::{self, FileEntry};
 use crate::steps::{Step, names, quoted};
+use crate::walk::sector;
+use crate::wanted::Wanted;
 use std::fs::File;
-use strandlodge::{DirEntry, Drive, How, LongAd, Matching, Refusal, Refused, Vault};
+use std::io::{self, Write};
+use std::os::unix::fs::FileExt;
+use strandlodge::{Answer, Counted, CountedDrive, DirEntry, How, LongAd, Matching, Refusal, Refused, SECTOR_SIZE, Uncopied};
+
+/// The file type of a directory's entry (ECMA-167 4/14.6.6).
+const DIRECTORY: u8 = 4;
 
 /// What a path is walked on: an image in memory, or a drive.
 pub trait Volume {
     fn root_directory_icb(&self) -> LongAd;
-    fn lookup_as(&mut self, path: &[u8], matching: Matching) -> strandlodge::Result<LongAd>;
-    fn failed_as<'p>(&mut self, path: &'p [u8], matching: Matching) -> strandlodge::Result<Option<&'p [u8]>>;
-    fn read_directory(&mut self, icb: LongAd) -> strandlodge::Result<Vec<DirEntry>>;
+    fn lookup_as(&mut self, path: &[u8], matching: Matching) -> strandlodge::Answered<LongAd>;
+    fn failed_as<'p>(&mut self, path: &'p [u8], matching: Matching) -> strandlodge::Answered<Option<&'p [u8]>>;
+    fn read_directory(&mut self, icb: LongAd) -> strandlodge::Answered<Vec<DirEntry>>;
+    /// A file's bytes, to a writer.
+    fn copy_file(&mut self, icb: LongAd, to: &mut impl Write) -> Result<Answer<u64>, Uncopied>;
+    /// Where the entry of an ICB stands, whatever reference leads there.
+    fn icb_sector(&self, icb: LongAd) -> Option<u64>;
+    /// The entry of an ICB, looked at beside the calls; none where there is none.
+    fn entry(&mut self, icb: LongAd) -> Option<FileEntry>;
+    /// The front of a file, looked at beside the calls: of what isn't embedded up to a sector or more.
+    fn front(&mut self, icb: LongAd) -> Vec<u8>;
     /// Of the last call, which sector couldn't be had, where more is known of it than that it isn't there.
     fn missed(&self) -> Option<String>;
 }
 
-impl Volume for Vault<'_> {
+impl Volume for Counted<'_> {
     fn root_directory_icb(&self) -> LongAd {
-        Vault::root_directory_icb(self)
+        Counted::root_directory_icb(self)
     }
 
-    fn lookup_as(&mut self, path: &[u8], matching: Matching) -> strandlodge::Result<LongAd> {
-        Vault::lookup_as(self, path, matching)
+    fn lookup_as(&mut self, path: &[u8], matching: Matching) -> strandlodge::Answered<LongAd> {
+        Counted::lookup_as(self, path, matching)
     }
 
-    fn failed_as<'p>(&mut self, path: &'p [u8], matching: Matching) -> strandlodge::Result<Option<&'p [u8]>> {
-        Vault::failed_as(self, path, matching)
+    fn failed_as<'p>(&mut self, path: &'p [u8], matching: Matching) -> strandlodge::Answered<Option<&'p [u8]>> {
+        Counted::failed_as(self, path, matching)
     }
 
-    fn read_directory(&mut self, icb: LongAd) -> strandlodge::Result<Vec<DirEntry>> {
-        Vault::read_directory(self, icb)
+    fn read_directory(&mut self, icb: LongAd) -> strandlodge::Answered<Vec<DirEntry>> {
+        Counted::read_directory(self, icb)
+    }
+
+    fn copy_file(&mut self, icb: LongAd, to: &mut impl Write) -> Result<Answer<u64>, Uncopied> {
+        let read = self.read_file(icb).map_err(|refused| Uncopied::Refused { refused, written: 0 })?;
+        to.write_all(&read).map_err(Uncopied::Output)?;
+        Ok(read.map(|bytes| bytes.len() as u64))
+    }
+
+    fn icb_sector(&self, icb: LongAd) -> Option<u64> {
+        Counted::icb_sector(self, icb)
+    }
+
+    fn entry(&mut self, icb: LongAd) -> Option<FileEntry> {
+        records::file_entry(sector(self.image(), self.icb_sector(icb)?)?)
+    }
+
+    fn front(&mut self, icb: LongAd) -> Vec<u8> {
+        let embedded = self.part(icb).map_or(&[][..], |part| part.value);
+        let extents = self.extents(icb).map_or(Vec::new(), |extents| extents.value);
+        let first = extents.first().and_then(|extent| sector(self.image(), self.extent_sector(icb, extent)?));
+        copied(first.unwrap_or(embedded))
     }
 
     fn missed(&self) -> Option<String> {
@@ -40,25 +78,63 @@ impl Volume for Vault<'_> {
     }
 }
 
-impl Volume for Drive<File> {
+impl Volume for CountedDrive<File> {
     fn root_directory_icb(&self) -> LongAd {
-        Drive::root_directory_icb(self)
+        CountedDrive::root_directory_icb(self)
     }
 
-    fn lookup_as(&mut self, path: &[u8], matching: Matching) -> strandlodge::Result<LongAd> {
-        Drive::lookup_as(self, path, matching)
+    fn lookup_as(&mut self, path: &[u8], matching: Matching) -> strandlodge::Answered<LongAd> {
+        CountedDrive::lookup_as(self, path, matching)
     }
 
-    fn failed_as<'p>(&mut self, path: &'p [u8], matching: Matching) -> strandlodge::Result<Option<&'p [u8]>> {
-        Drive::failed_as(self, path, matching)
+    fn failed_as<'p>(&mut self, path: &'p [u8], matching: Matching) -> strandlodge::Answered<Option<&'p [u8]>> {
+        CountedDrive::failed_as(self, path, matching)
     }
 
-    fn read_directory(&mut self, icb: LongAd) -> strandlodge::Result<Vec<DirEntry>> {
-        Drive::read_directory(self, icb)
+    fn read_directory(&mut self, icb: LongAd) -> strandlodge::Answered<Vec<DirEntry>> {
+        CountedDrive::read_directory(self, icb)
+    }
+
+    fn copy_file(&mut self, icb: LongAd, to: &mut impl Write) -> Result<Answer<u64>, Uncopied> {
+        CountedDrive::copy_file(self, icb, to)
+    }
+
+    fn icb_sector(&self, icb: LongAd) -> Option<u64> {
+        Some(self.partition_start_sector() + u64::from(icb.location.block))
+    }
+
+    fn entry(&mut self, icb: LongAd) -> Option<FileEntry> {
+        let mut bytes = [0; SECTOR_SIZE as usize];
+        self.get_ref().read_exact_at(&mut bytes, self.icb_sector(icb)? * SECTOR_SIZE).ok()?;
+        records::file_entry(&bytes)
+    }
+
+    fn front(&mut self, icb: LongAd) -> Vec<u8> {
+        let mut front = Front(Vec::new());
+        // It takes the first bytes that come, and no more.
+        let _ = CountedDrive::copy_file(self, icb, &mut front);
+        front.0
     }
 
     fn missed(&self) -> Option<String> {
-        Drive::missed(self).map(ToString::to_string)
+        CountedDrive::missed(self).map(ToString::to_string)
+    }
+}
+
+/// A writer that takes what comes first.
+struct Front(Vec<u8>);
+
+impl Write for Front {
+    fn write(&mut self, bytes: &[u8]) -> io::Result<usize> {
+        if self.0.is_empty() {
+            self.0.extend_from_slice(bytes);
+            return Ok(bytes.len());
+        }
+        Err(io::ErrorKind::StorageFull.into())
+    }
+
+    fn flush(&mut self) -> io::Result<()> {
+        Ok(())
     }
 }
 
@@ -73,19 +149,14 @@ pub struct Disc<'l, V> {
 /// What a path gives.
 pub struct Found {
     pub icb: LongAd,
-    /// As its directory lists it; the root has none.
+    /// As its directory lists it; the root has none, nor has what was asked for by its place.
     pub entry: Option<DirEntry>,
+    pub is_directory: bool,
 }
 
-impl Found {
-    pub fn is_directory(&self) -> bool {
-        self.entry.as_ref().is_none_or(|entry| entry.is_directory)
-    }
-}
-
-impl<'a, 'l> Disc<'l, Vault<'a>> {
+impl<'a, 'l> Disc<'l, Counted<'a>> {
     pub fn open(image: &'a [u8], how: How, name: &'l str, matching: Matching, log: &'l mut Log) -> Result<Self, Failure> {
-        let volume = log.count("open", Vault::open_as(image, how)).map_err(|refused| maps::refused(image, how, name, refused))?;
+        let volume = log.count("open", Counted::open_as(image, how)).map_err(|refused| maps::refused(image, how, name, refused))?;
         Ok(Disc { volume, log, name, matching })
     }
 
@@ -96,7 +167,7 @@ impl<'a, 'l> Disc<'l, Vault<'a>> {
 
 impl<V: Volume> Disc<'_, V> {
     /// Notes the count of a call on what a path gave, and gives its value.
-    pub fn count<T>(&mut self, path: &[u8], call: &'static str, answer: strandlodge::Result<T>) -> Result<T, Failure> {
+    pub fn count<T>(&mut self, path: &[u8], call: &'static str, answer: strandlodge::Answered<T>) -> Result<T, Failure> {
         self.log.count(call, answer).map_err(|refused| self.refused(path, refused))
     }
 
@@ -113,14 +184,33 @@ impl<V: Volume> Disc<'_, V> {
         self.count(path, "read_directory", listed)
     }
 
+    /// Whether an entry is a directory's: by its type, or where that says something else, as on some discs, since it begins as a directory does.
+    fn is_directory(&mut self, icb: LongAd) -> bool {
+        let Some(entry) = self.volume.entry(icb) else {
+            return false;
+        };
+        entry.icb_tag.file_type == DIRECTORY || records::file_identifier(&self.volume.front(icb)).is_some()
+    }
+
+    /// What is asked for. A place is that of an entry, or the call that reads it refuses it.
+    pub fn find(&mut self, wanted: &Wanted) -> Result<Found, Failure> {
+        match wanted {
+            Wanted::Path(path) => self.find_path(path),
+            Wanted::Icb(icb) => {
+                let icb = icb.long_ad();
+                Ok(Found { icb, entry: None, is_directory: self.is_directory(icb) })
+            }
+        }
+    }
+
     /// Looks a path up, and then walks it over the directories' listings: for the entry that it gives, and for what has to be remarked of each
     /// name. Both go by one rule, so they give the same entry of an image that stands still.
-    pub fn find(&mut self, path: &[u8]) -> Result<Found, Failure> {
+    pub fn find_path(&mut self, path: &[u8]) -> Result<Found, Failure> {
         let found = self.volume.lookup_as(path, self.matching);
         let icb = self.log.count("lookup", found).map_err(|refused| self.lost(path, refused))?;
         let steps = self.steps(path)?;
         let Some(last) = steps.last() else {
-            return Ok(Found { icb, entry: None });
+            return Ok(Found { icb, entry: None, is_directory: true });
         };
         let entry = last.taken(self.matching).filter(|entry| entry.icb == icb && names(path).count() == steps.len());
         let Some(entry) = entry.cloned() else {
@@ -128,14 +218,15 @@ impl<V: Volume> Disc<'_, V> {
             return Err(Failure::new(NO_IMAGE, says));
         };
         self.log.remarks.extend(steps.iter().filter_map(|step| step.remark(self.matching)));
-        Ok(Found { icb, entry: Some(entry) })
+        Ok(Found { icb, is_directory: entry.is_directory, entry: Some(entry) })
     }
 
     /// The same, for what must be a file.
-    pub fn find_file(&mut self, path: &[u8]) -> Result<Found, Failure> {
-        let found = self.find(path)?;
-        if found.is_directory() {
-            return Err(Failure::new(USAGE, format!("{}: {} is a directory: `vault ls` lists it", self.name, quoted(path))));
+    pub fn find_file(&mut self, wanted: &Wanted) -> Result<Found, Failure> {
+        let found = self.find(wanted)?;
+        if found.is_directory {
+            let says = "is a directory: `vault ls` lists it, and `vault get -r` takes all of it";
+            return Err(Failure::new(USAGE, format!("{}: {} {says}", self.name, quoted(&wanted.text()))));
         }
         Ok(found)
     }

@@ -1,46 +1,59 @@
 //! `--drive`: a device, or a file that isn't to be mapped, read a sector at a time.
 
 use crate::args::Question;
-use crate::bar::Count;
-use crate::commands::{line, ls, say_found, say_volume};
-use crate::disc::Disc;
+use crate::bar::{Bar, Count};
+use crate::commands::{Manner, found_json, line, ls, say_found, say_volume};
+use crate::disc::{Disc, Volume};
 use crate::failure::Failure;
-use crate::file::Target;
+use crate::file::{PIECE, Target};
+use crate::folder;
 use crate::image;
+use crate::json::Json;
 use crate::log::Log;
 use crate::names::shown;
+use crate::style::Style;
 use crate::tree;
+use crate::wanted::Wanted;
 use std::ffi::OsStr;
 use std::fs::File;
 use std::io::{self, Write};
 use std::os::unix::ffi::OsStrExt;
-use strandlodge::{Drive, LongAd, Matching, Uncopied};
+use std::path::Path;
+use strandlodge::{CountedDrive, LongAd, Matching, Uncopied};
 
 /// Answers a question on a drive. Nothing of it is kept in memory but the directories on the way, one at a time.
-pub fn ask(question: &Question, matching: Matching, name: &OsStr, out: &mut impl Write, log: &mut Log) -> Result<(), Failure> {
-    let shown = shown(name.as_bytes());
-    let mut disc = open(name, &shown, matching, log)?;
+pub fn ask(question: &Question, manner: Manner, name: &OsStr, out: &mut impl Write, log: &mut Log) -> Result<(), Failure> {
+    let (shown, style) = (shown(name.as_bytes()), manner.style);
+    let mut disc = open(name, &shown, manner.matching, log)?;
     match question {
         Question::Label => line(out, &label(&mut disc)?),
-        Question::Ls { path } => ls(&mut disc, path, out),
-        Question::Tree { path, form, bounds } => tree::show(&mut disc, path, *form, *bounds, out),
-        Question::Stat { path } => stat(&mut disc, path, out),
-        Question::Descriptors => volume(&mut disc, out),
-        Question::Cat { path } => {
-            let icb = disc.find_file(path)?.icb;
-            copy(&mut disc, path, icb, Counted::new(out, Count::new("MiB")), Failure::output)
+        Question::Ls { wanted } => ls(&mut disc, wanted, style, out),
+        Question::Tree { wanted, form, bounds } => tree::show(&mut disc, wanted, *form, *bounds, style, out),
+        Question::Stat { wanted } => stat(&mut disc, wanted, style, out),
+        Question::Descriptors => volume(&mut disc, style, out),
+        Question::Cat { wanted } => {
+            let icb = disc.find_file(wanted)?.icb;
+            copy(&mut disc, &wanted.text(), icb, &mut Metered::new(out, Count::new("MiB")), Failure::output).map(|_| ())
         }
-        Question::Get { path, file } => {
-            let (target, icb) = (Target::at(file)?, disc.find_file(path)?.icb);
-            target.fill(|to| copy(&mut disc, path, icb, Counted::new(to, Count::alone("MiB")), |error| target.unwritten(error)))
+        Question::Get { wanted, file } => {
+            let (target, icb) = (Target::at(file)?, disc.find_file(wanted)?.icb);
+            let mut bar = Bar::new(disc.volume.entry(icb).map_or(0, |entry| entry.information_length));
+            let write = |to: &mut File| {
+                let mut to = Drawn { to, bar: &mut bar };
+                copy(&mut disc, &wanted.text(), icb, &mut to, |error| target.unwritten(error)).map(|_| ())
+            };
+            target.fill(write)
         }
-        Question::GetAll { .. } | Question::Probe | Question::Check => Err(Failure::usage("--drive isn't for this command")),
+        Question::GetTree { paths, folder, limit } => folder::get(&mut disc, paths, Path::new(folder), *limit, name, out),
+        Question::GetAll { .. } | Question::Probe | Question::Check | Question::Info => {
+            Err(Failure::usage("--drive isn't for this command"))
+        }
     }
 }
 
-fn open<'l>(name: &OsStr, shown: &'l str, matching: Matching, log: &'l mut Log) -> Result<Disc<'l, Drive<File>>, Failure> {
+fn open<'l>(name: &OsStr, shown: &'l str, matching: Matching, log: &'l mut Log) -> Result<Disc<'l, CountedDrive<File>>, Failure> {
     let mut missed = None;
-    let opened = Drive::open(image::file(name)?).map_err(|unopened| {
+    let opened = CountedDrive::open(image::file(name)?).map_err(|unopened| {
         missed = unopened.missed;
         unopened.refused
     });
@@ -52,56 +65,90 @@ fn open<'l>(name: &OsStr, shown: &'l str, matching: Matching, log: &'l mut Log) 
     Ok(Disc { volume, log, name: shown, matching })
 }
 
-fn label(disc: &mut Disc<Drive<File>>) -> Result<String, Failure> {
+fn label(disc: &mut Disc<CountedDrive<File>>) -> Result<String, Failure> {
     let label = disc.volume.label().map_err(|refused| disc.refused(b"", refused))?;
     Ok(shown(label.as_bytes()))
 }
 
 /// What was opened. Volume descriptors that don't prevail, and maps, are shown of an image.
-fn volume(disc: &mut Disc<Drive<File>>, out: &mut impl Write) -> Result<(), Failure> {
+fn volume(disc: &mut Disc<CountedDrive<File>>, style: Style, out: &mut impl Write) -> Result<(), Failure> {
     let label = disc.volume.label().map_err(|refused| disc.refused(b"", refused))?;
     let drive = &disc.volume;
+    if style.is_json {
+        return Json::Object(vec![
+            ("label", Json::text(label.value)),
+            ("start", Json::number(drive.partition_start_sector())),
+            ("partition", Json::number(drive.partition_number())),
+            ("root", Json::icb(drive.root_directory_icb())),
+            ("sectors", disc.log.json()),
+        ])
+        .print(out);
+    }
     say_volume(&label, drive.partition_start_sector(), drive.partition_number(), drive.root_directory_icb(), out)?;
     line(out, &format!("sectors  {}", disc.log.sectors()))
 }
 
 /// What a directory has of an entry. Where its bytes stand is shown of an image.
-fn stat(disc: &mut Disc<Drive<File>>, path: &[u8], out: &mut impl Write) -> Result<(), Failure> {
-    let found = disc.find(path)?;
-    say_found(&found, path, out).map_err(Failure::output)?;
+fn stat(disc: &mut Disc<CountedDrive<File>>, wanted: &Wanted, style: Style, out: &mut impl Write) -> Result<(), Failure> {
+    let (found, path) = (disc.find(wanted)?, wanted.text());
+    if style.is_json {
+        let mut all = found_json(&found, &path);
+        all.push(("sectors", disc.log.json()));
+        return Json::Object(all).print(out);
+    }
+    say_found(&found, &path, out).map_err(Failure::output)?;
     line(out, &format!("sectors  {}", disc.log.sectors()))
 }
 
-/// Copies a file as its sectors arrive.
-fn copy(
-    disc: &mut Disc<Drive<File>>,
+/// Copies a file, from a drive as its sectors arrive, and gives how many bytes it has.
+pub fn copy<V: Volume>(
+    disc: &mut Disc<V>,
     path: &[u8],
     icb: LongAd,
-    mut to: impl Write,
+    to: &mut impl Write,
     unwritten: impl FnOnce(io::Error) -> Failure,
-) -> Result<(), Failure> {
-    let counted = match disc.volume.copy_file(icb, &mut to) {
-        Ok(copied) => Ok(copied.map(|_| ())),
+) -> Result<u64, Failure> {
+    let counted = match disc.volume.copy_file(icb, to) {
+        Ok(copied) => Ok(copied),
         Err(Uncopied::Refused { refused, .. }) => Err(refused),
         Err(Uncopied::Output(error)) => return Err(unwritten(error)),
     };
     disc.count(path, "read_file", counted)
 }
 
+/// A writer whose bytes fill a bar.
+pub struct Drawn<'b, W> {
+    pub to: W,
+    pub bar: &'b mut Bar,
+}
+
+impl<W: Write> Write for Drawn<'_, W> {
+    fn write(&mut self, bytes: &[u8]) -> io::Result<usize> {
+        // Not all at once, so that the bar is seen to move.
+        let n = self.to.write(&bytes[..bytes.len().min(PIECE)])?;
+        self.bar.add(n as u64);
+        Ok(n)
+    }
+
+    fn flush(&mut self) -> io::Result<()> {
+        self.to.flush()
+    }
+}
+
 /// A writer whose bytes are counted on a terminal.
-struct Counted<W> {
+struct Metered<W> {
     to: W,
     bytes: u64,
     count: Count,
 }
 
-impl<W: Write> Counted<W> {
-    fn new(to: W, count: Count) -> Counted<W> {
-        Counted { to, bytes: 0, count }
+impl<W: Write> Metered<W> {
+    fn new(to: W, count: Count) -> Metered<W> {
+        Metered { to, bytes: 0, count }
     }
 }
 
-impl<W: Write> Write for Counted<W> {
+impl<W: Write> Write for Metered<W> {
     fn write(&mut self, bytes: &[u8]) -> io::Result<usize> {
         let n = self.to.write(bytes)?;
         self.bytes += n as u64;

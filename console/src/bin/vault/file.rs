@@ -3,18 +3,32 @@
 use crate::bar::Bar;
 use crate::failure::{Failure, NO_OUTPUT, USAGE};
 use crate::map::MapMut;
+use crate::signals::Unfinished;
 use std::ffi::OsStr;
-use std::fs::{self, File};
+use std::fs::{self, File, Metadata, Permissions};
+use std::hash::{BuildHasher, RandomState};
 use std::io::{self, Write};
-use std::os::unix::fs::MetadataExt;
+use std::os::fd::AsFd;
+use std::os::unix::fs::{MetadataExt, PermissionsExt, fchown};
 use std::path::{Path, PathBuf};
 
 /// Written at a time, between two looks of the bar.
-const PIECE: usize = 1 << 20;
+pub const PIECE: usize = 1 << 20;
+
+/// A chain of links is followed no further by the system either.
+const LINKS: usize = 40;
+
+/// The bits of a mode that are kept: who may read, write and run it.
+const MODE: u32 = 0o777;
+
+/// What a file is, whatever its name: its device, and its number there.
+pub fn identity(about: &Metadata) -> (u64, u64) {
+    (about.dev(), about.ino())
+}
 
 /// Whether both names are of one file that is there.
 fn is_same(one: &OsStr, other: &OsStr) -> bool {
-    let which = |name| fs::metadata(name).map(|file| (file.dev(), file.ino()));
+    let which = |name| fs::metadata(name).map(|file| identity(&file));
     matches!((which(one), which(other)), (Ok(one), Ok(other)) if one == other)
 }
 
@@ -35,29 +49,43 @@ pub fn see_folder(name: &OsStr) -> Result<(), Failure> {
     }
 }
 
-/// A file to be made or replaced.
+/// A file to be made or replaced, or standard output.
 pub struct Target<'a> {
     name: &'a OsStr,
-    place: PathBuf,
+    /// None is standard output, which is written to and never replaced.
+    place: Option<PathBuf>,
 }
 
 impl<'a> Target<'a> {
-    /// Refuses what a file can't take the place of: a directory, a device, a pipe. A link is followed.
+    /// Refuses what a file can't take the place of: a directory, a device, a pipe. A link is followed, and one that leads to nothing refused.
     pub fn at(name: &'a OsStr) -> Result<Target<'a>, Failure> {
+        let refused = |says: &str| Err(Failure::file(NO_OUTPUT, name, says));
         match fs::metadata(name) {
-            Ok(there) if there.is_dir() => return Err(Failure::file(NO_OUTPUT, name, "this is a directory: name the file to be written")),
-            Ok(there) if !there.is_file() => return Err(Failure::file(NO_OUTPUT, name, "this is no ordinary file: use `vault cat`")),
+            Ok(there) if there.is_dir() => return refused("this is a directory: name the file to be written"),
+            Ok(there) if is_output(&there) => return Ok(Target { name, place: None }),
+            Ok(there) if !there.is_file() || is_open(name) => return refused("this is no ordinary file: use `vault cat`"),
+            Err(_) if fs::symlink_metadata(name).is_ok() => return refused("this is a link that leads to nothing: name the file itself"),
             _ => {}
         }
         let place = fs::canonicalize(name).unwrap_or_else(|_| PathBuf::from(name));
         if place.file_name().is_none() {
-            return Err(Failure::file(NO_OUTPUT, name, "this names no file"));
+            return refused("this names no file");
         }
-        Ok(Target { name, place })
+        Ok(Target { name, place: Some(place) })
+    }
+
+    /// The same where no link is followed: what is written stands in its folder, or isn't written.
+    pub fn inside(name: &'a OsStr) -> Result<Target<'a>, Failure> {
+        match fs::symlink_metadata(name) {
+            Ok(there) if there.is_symlink() => Err(Failure::file(NO_OUTPUT, name, "this is a link, which isn't followed here")),
+            Ok(there) if !there.is_file() => Err(Failure::file(NO_OUTPUT, name, "this is there, and is no ordinary file")),
+            _ => Ok(Target { name, place: Some(PathBuf::from(name)) }),
+        }
     }
 
     pub fn write(&self, bytes: &[u8]) -> Result<(), Failure> {
-        self.fill(|file| pieces(file, bytes).map_err(|error| self.unwritten(error)))
+        let mut bar = Bar::new(bytes.len() as u64);
+        self.fill(|file| pieces(file, bytes, &mut bar).map_err(|error| self.unwritten(error)))
     }
 
     /// The same of a file of `length` bytes that is mapped, and put there by `put`.
@@ -65,25 +93,26 @@ impl<'a> Target<'a> {
         self.fill(|file| put(&mut self.mapped(file, length)?))
     }
 
-    /// Has a temporary name beside the file written, which then takes the file's name; where that fails nothing is left behind.
+    /// Has a temporary name beside the file written, which then takes the file's name; where that fails nothing is left behind. Standard output is
+    /// written as it comes.
     pub fn fill(&self, write: impl FnOnce(&mut File) -> Result<(), Failure>) -> Result<(), Failure> {
-        let beside = self.beside("new");
-        let mut file = created(&beside).map_err(|error| self.unwritten(error))?;
-        let ended = write(&mut file).and_then(|()| {
-            // Before the name is taken, so that a power cut or a pulled stick leaves the old file or the new one.
-            file.sync_all().and_then(|()| fs::rename(&beside, &self.place)).map_err(|error| self.unwritten(error))
-        });
-        if ended.is_err() {
-            // What can't be taken away either is told of by the first error.
-            let _ = fs::remove_file(&beside);
-        }
-        ended
+        let Some(place) = &self.place else {
+            return write(&mut output().map_err(|error| self.unwritten(error))?);
+        };
+        let (unfinished, mut file) = created(place, "new").map_err(|error| self.unwritten(error))?;
+        write(&mut file)?;
+        // Before the name is taken, so that a power cut or a pulled stick leaves the old file or the new one.
+        let named = keep(&file, place).and_then(|()| file.sync_all()).and_then(|()| fs::rename(unfinished.path(), place));
+        named.map_err(|error| self.unwritten(error))
     }
 
     /// Memory of `length` bytes, all zero, that is kept in a file beside this one. The file has no name any more, and goes with the map.
     pub fn space(&self, length: usize) -> Result<MapMut, Failure> {
-        let beside = self.beside("space");
-        let file = created(&beside).and_then(|file| fs::remove_file(&beside).map(|()| file)).map_err(|error| self.unwritten(error))?;
+        let Some(place) = &self.place else {
+            return Err(Failure::file(NO_OUTPUT, self.name, "a vault is written to a file, and not to standard output"));
+        };
+        let (unfinished, file) = created(place, "space").map_err(|error| self.unwritten(error))?;
+        drop(unfinished);
         self.mapped(&file, length)
     }
 
@@ -91,27 +120,65 @@ impl<'a> Target<'a> {
         MapMut::new(file, length).map_err(|error| self.unwritten(error))
     }
 
+    /// What can't be written. A reader of standard output that has had enough is no failure.
     pub fn unwritten(&self, error: io::Error) -> Failure {
-        Failure::file(NO_OUTPUT, self.name, format!("the file can't be written: {error}"))
-    }
-
-    fn beside(&self, what: &str) -> PathBuf {
-        self.place.with_file_name(format!(".vault-{}-{what}", std::process::id()))
+        match self.place {
+            None => Failure::output(error),
+            Some(_) => Failure::file(NO_OUTPUT, self.name, format!("the file can't be written: {error}")),
+        }
     }
 }
 
-/// A new file, to be read too: a map needs both.
-fn created(place: &Path) -> io::Result<File> {
-    File::options().read(true).write(true).create_new(true).open(place)
+/// Standard output, without a buffer.
+fn output() -> io::Result<File> {
+    Ok(File::from(io::stdout().as_fd().try_clone_to_owned()?))
 }
 
-fn pieces(file: &mut File, bytes: &[u8]) -> io::Result<()> {
-    let mut bar = Bar::new(bytes.len());
-    let mut done = 0;
+fn is_output(there: &Metadata) -> bool {
+    output().and_then(|output| output.metadata()).is_ok_and(|output| identity(&output) == identity(there))
+}
+
+/// Whether a name leads through /proc to a file that is open: it would be replaced under whoever has it open.
+fn is_open(name: &OsStr) -> bool {
+    let mut at = PathBuf::from(name);
+    for _ in 0..LINKS {
+        let folder = at.parent().filter(|folder| !folder.as_os_str().is_empty()).unwrap_or(Path::new("."));
+        let Ok(folder) = fs::canonicalize(folder) else {
+            return false;
+        };
+        if folder.starts_with("/proc") && folder.ends_with("fd") {
+            return true;
+        }
+        match fs::read_link(&at) {
+            Ok(to) => at = folder.join(to),
+            Err(_) => return false,
+        }
+    }
+    false
+}
+
+/// Gives a new file the mode of the one that it takes the place of, and its owner where that may be.
+fn keep(file: &File, place: &Path) -> io::Result<()> {
+    let Ok(old) = fs::symlink_metadata(place) else {
+        return Ok(());
+    };
+    // Only root may give a file away.
+    let _ = fchown(file, Some(old.uid()), Some(old.gid()));
+    file.set_permissions(Permissions::from_mode(old.mode() & MODE))
+}
+
+/// A new file beside another, to be read too: a map needs both. Its name is one that nobody else has.
+fn created(place: &Path, what: &str) -> io::Result<(Unfinished, File)> {
+    let chance = RandomState::new().hash_one(std::process::id());
+    let unfinished = Unfinished::at(place.with_file_name(format!(".vault-{chance:016x}-{what}")))?;
+    let file = File::options().read(true).write(true).create_new(true).open(unfinished.path())?;
+    Ok((unfinished, file))
+}
+
+fn pieces(file: &mut File, bytes: &[u8], bar: &mut Bar) -> io::Result<()> {
     for piece in bytes.chunks(PIECE) {
         file.write_all(piece)?;
-        done += piece.len();
-        bar.at(done);
+        bar.add(piece.len() as u64);
     }
     Ok(())
 }

@@ -1,7 +1,8 @@
 //! What goes to standard error beside the answer: the sectors that each call asked for, and remarks.
 
+use crate::json::Json;
 use std::io::{self, Write};
-use strandlodge::{Refused, Result};
+use strandlodge::{Answered, Refused};
 
 #[derive(Default)]
 pub struct Log {
@@ -11,7 +12,7 @@ pub struct Log {
 
 impl Log {
     /// Notes a call's count, refused or not, and gives its value.
-    pub fn count<T>(&mut self, call: &'static str, answer: Result<T>) -> std::result::Result<T, Refused> {
+    pub fn count<T>(&mut self, call: &'static str, answer: Answered<T>) -> std::result::Result<T, Refused> {
         self.calls.push((call, answer.as_ref().map_or_else(|refused| refused.sectors, |answer| answer.sectors)));
         answer.map(|answer| answer.value)
     }
@@ -28,6 +29,14 @@ impl Log {
         }
         let calls: Vec<String> = self.calls.iter().map(|(call, count)| format!("{call} {count}")).collect();
         calls.join(", ")
+    }
+}
+
+impl Log {
+    /// The same, for a document.
+    pub fn json(&self) -> Json {
+        let one = |(call, count): &(&'static str, u64)| Json::Object(vec![("call", Json::text(*call)), ("sectors", Json::number(*count))]);
+        Json::List(self.calls.iter().map(one).collect())
     }
 }
 

@@ -8,7 +8,11 @@ mod disc;
 mod drive;
 mod failure;
 mod file;
+mod folder;
+mod help;
 mod image;
+mod info;
+mod json;
 mod log;
 mod make;
 mod many;
@@ -17,13 +21,17 @@ mod maps;
 mod names;
 mod records;
 mod report;
+mod signals;
 mod steps;
+mod style;
 mod tour;
 mod tree;
 mod wait;
 mod walk;
+mod wanted;
 
-use args::{Args, Command, HELP, Question};
+use args::{Args, Command, Question};
+use commands::Manner;
 use failure::Failure;
 use image::Image;
 use log::{Log, say};
@@ -53,7 +61,8 @@ fn run() -> Result<(), Failure> {
 
 fn answer(args: &Args, out: &mut impl Write, log: &mut Log) -> Result<(), Failure> {
     match &args.command {
-        Command::Help => out.write_all(HELP.as_bytes()).map_err(Failure::output),
+        Command::Help(command) => help::print(command.as_deref(), out),
+        Command::Version => help::version(out),
         Command::Tour => tour::give(out),
         Command::Sample { file } => file::Target::at(file)?.write(&tour::sample()?),
         Command::Make { image, files } => make::make(image, files, out),
@@ -61,16 +70,17 @@ fn answer(args: &Args, out: &mut impl Write, log: &mut Log) -> Result<(), Failur
             if let Question::Get { file, .. } = question {
                 file::apart(image, file)?;
             }
-            if let Question::GetAll { folder, .. } = question {
+            if let Question::GetAll { folder, .. } | Question::GetTree { folder, .. } = question {
                 file::see_folder(folder)?;
             }
+            let manner = Manner { how: args.how, matching: args.matching, style: args.style };
             if args.drive {
-                return drive::ask(question, args.matching, image, out, log);
+                return drive::ask(question, manner, image, out, log);
             }
-            let mut ask = |shown: &[u8], log: &mut Log| commands::ask(question, args.how, args.matching, shown, image, out, log);
+            let mut ask = |shown: &[u8], log: &mut Log| commands::ask(question, manner, shown, image, out, log);
             match (args.wait, question) {
-                (Some(seconds), Question::Cat { path } | Question::Get { path, .. }) => {
-                    let missing = |shown: &[u8]| wait::missing(shown, args.how, args.matching, path);
+                (Some(seconds), Question::Cat { wanted } | Question::Get { wanted, .. }) => {
+                    let missing = |shown: &[u8]| wait::missing(shown, args.how, args.matching, wanted);
                     wait::until(seconds, image, args.copy, missing, |shown| {
                         // What is told of is the last look.
                         *log = Log::default();

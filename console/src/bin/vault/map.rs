@@ -1,5 +1,5 @@
 //! A file in memory: mapped, so that a disc of 25 GB opens at once and costs what is looked at; or made, of a given length, and mapped to be
-//! written. With the library's calls and those of `records` this is the only module with `unsafe` in it.
+//! written. With the library's calls, `records` and `signals` this is the only module with `unsafe` in it.
 //!
 //! # What is relied on
 //!
@@ -21,6 +21,7 @@
 #![allow(unsafe_code)]
 
 use crate::failure::NO_IMAGE;
+use crate::signals;
 use std::ffi::{c_int, c_void};
 use std::fs::File;
 use std::io;
@@ -38,7 +39,6 @@ unsafe extern "C" {
     fn mmap(at: *mut c_void, length: usize, protection: c_int, flags: c_int, file: c_int, offset: i64) -> *mut c_void;
     fn munmap(at: *mut c_void, length: usize) -> c_int;
     fn posix_fallocate(file: c_int, offset: i64, length: i64) -> c_int;
-    fn signal(number: c_int, handler: extern "C" fn(c_int)) -> usize;
     fn write(file: c_int, bytes: *const u8, length: usize) -> isize;
     fn _exit(status: c_int) -> !;
 }
@@ -65,8 +65,7 @@ impl Map {
         if at as isize == -1 {
             return Err(io::Error::last_os_error());
         }
-        // SAFETY: `gone` is of the form that the system calls, and does nothing that a handler may not.
-        unsafe { signal(SIGBUS, gone) };
+        signals::on(SIGBUS, gone);
         Ok(Map { at, length })
     }
 }
@@ -130,8 +129,15 @@ impl DerefMut for MapMut {
     }
 }
 
+/// Bytes of a map in memory of this program's own, each looked at once.
+pub fn copied(bytes: &[u8]) -> Vec<u8> {
+    // SAFETY: each is a byte of the slice.
+    bytes.iter().map(|byte| unsafe { ptr::from_ref(byte).read_volatile() }).collect()
+}
+
 /// A mapped sector that can't be had: the drive can't read it, or the file was cut short after it was mapped.
 extern "C" fn gone(_: c_int) {
+    signals::take_away();
     let says = b"vault: the image can't be read any more: the drive gave no data, or the file was cut short\n";
     // SAFETY: both may be called from a handler, and the bytes are there for good.
     unsafe {

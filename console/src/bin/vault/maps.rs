@@ -1,8 +1,9 @@
 //! What is said of a volume's partition maps.
 
 use crate::failure::Failure;
+use crate::json::Json;
 use crate::names::shown;
-use strandlodge::{How, MapForm, MapTable, Refusal, Refused, Vault};
+use strandlodge::{Counted, How, MapForm, MapTable, Refusal, Refused};
 
 /// The lines of a map table: how many maps there are, and each with its reference.
 pub fn lines(table: &MapTable) -> Vec<String> {
@@ -32,10 +33,32 @@ fn said(form: &MapForm) -> String {
     }
 }
 
+/// The maps of a table, for a document: those of another form have no partition.
+pub fn json(table: &MapTable) -> Json {
+    let one = |form: &MapForm| {
+        Json::Object(match form {
+            MapForm::Plain { volume, number, start } => vec![
+                ("type", Json::number(1u8)),
+                ("volume", Json::number(*volume)),
+                ("partition", Json::number(*number)),
+                ("sector", Json::maybe(*start, Json::number)),
+            ],
+            MapForm::Other { kind, length, identifier } => {
+                vec![("type", Json::number(*kind)), ("length", Json::number(*length)), ("identifier", Json::text(shown(identifier)))]
+            }
+        })
+    };
+    Json::Object(vec![
+        ("count", Json::number(table.maps)),
+        ("bytes", Json::number(table.length)),
+        ("found", Json::List(table.found.iter().map(one).collect())),
+    ])
+}
+
 /// An opening that was refused, with what to try where the maps would have led on.
 pub fn refused(image: &[u8], how: How, name: &str, refused: Refused) -> Failure {
     let mut failure = Failure::refused(name, refused);
-    let mapped = || Vault::open_as(image, How { maps: true, ..how }).is_ok();
+    let mapped = || Counted::open_as(image, How { maps: true, ..how }).is_ok();
     if refused.why == Refusal::Unsupported && !how.maps && mapped() {
         failure.says.iter_mut().for_each(|says| *says += "; its partition is found through its maps, with --maps");
     }

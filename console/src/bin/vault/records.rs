@@ -1,4 +1,4 @@
-//! The calls of include/records.h that `check` makes, wrapped.
+//! The calls of include/records.h that `check` and `info` make, wrapped.
 //!
 //! Why they are sound: the header asks that the lent pieces don't overlap and that their pointers aren't null, which holds of a shared slice
 //! and of an array of this module's own; and the calls stay within the lengths that they are given, whatever the bytes are. So the Rust of
@@ -40,6 +40,12 @@ pub fn anchor(bytes: &[u8]) -> Option<(Tag, u32, u32)> {
 pub fn file_set(bytes: &[u8]) -> Option<(u32, u16)> {
     let place = parsed(records_parse_logical_volume, bytes)?.file_set_descriptor_location.location;
     Some((place.block, place.partition_ref))
+}
+
+/// A partition's number, its first sector and how many it has.
+pub fn partition(bytes: &[u8]) -> Option<(u16, u32, u32)> {
+    let partition = parsed(records_parse_partition, bytes)?;
+    Some((partition.partition_number, partition.partition_starting_location, partition.partition_length))
 }
 
 pub fn file_entry(bytes: &[u8]) -> Option<FileEntry> {
@@ -90,6 +96,15 @@ pub fn name(recorded: &[u8]) -> Vec<u8> {
     // SAFETY: the head of this module; the array is this function's.
     let written = unsafe { records_decode_dstring(recorded.as_ptr(), recorded.len(), name.as_mut_ptr(), name.len()) };
     name.get(..written.length as usize).unwrap_or_default().to_vec()
+}
+
+/// The name in a d-string field; none where it is refused.
+pub fn field(bytes: &[u8]) -> Option<String> {
+    let mut name = [0; NAME];
+    // SAFETY: the head of this module; the array is this function's.
+    let written = unsafe { records_decode_dstring_field(bytes.as_ptr(), bytes.len(), name.as_mut_ptr(), name.len()) };
+    let name = name.get(..written.length as usize).filter(|_| written.answer == DONE)?;
+    Some(String::from_utf8_lossy(name).into_owned())
 }
 
 /// The body check, as it is proved: `bytes` are those at hand from the descriptor on.

@@ -2,7 +2,9 @@
 
 use crate::bar::Word;
 use crate::failure::{Failure, UNREAD, WRONG};
+use crate::json::Json;
 use crate::records::{Tag, crc, has_right_body, is_in_place};
+use crate::style::Style;
 use std::fmt;
 use std::io::Write;
 use strandlodge::Refusal;
@@ -61,11 +63,14 @@ pub struct Report<'o, W> {
     misplaced: u64,
     ruined: u64,
     unread: u64,
+    /// What was found, where it is printed as a document.
+    findings: Option<Vec<Json>>,
 }
 
 impl<'o, W: Write> Report<'o, W> {
-    pub fn new(out: &'o mut W) -> Report<'o, W> {
-        Report { out, word: Some(Word::new("checking")), descriptors: 0, misplaced: 0, ruined: 0, unread: 0 }
+    pub fn new(out: &'o mut W, style: Style) -> Report<'o, W> {
+        let findings = style.is_json.then(Vec::new);
+        Report { out, word: Some(Word::new("checking")), descriptors: 0, misplaced: 0, ruined: 0, unread: 0, findings }
     }
 
     /// A descriptor's tag, where it stands, and the bytes at hand from it on; `of` is what the descriptor is of.
@@ -74,11 +79,11 @@ impl<'o, W: Write> Report<'o, W> {
         let (what, id) = (named(tag.id), tag.id);
         if !at.holds(tag) {
             self.misplaced += 1;
-            self.line(&format!("{}: {what} (id {id}) says {}, stands in {at}", of(), tag.location))?;
+            self.line("misplaced", format!("{}: {what} (id {id}) says {}, stands in {at}", of(), tag.location))?;
         }
         if !has_right_body(tag, bytes) {
             self.ruined += 1;
-            self.line(&format!("{}: {what} (id {id}) in {at} has a wrong body: {}", of(), ruin(tag, bytes)))?;
+            self.line("ruined", format!("{}: {what} (id {id}) in {at} has a wrong body: {}", of(), ruin(tag, bytes)))?;
         }
         Ok(())
     }
@@ -86,12 +91,32 @@ impl<'o, W: Write> Report<'o, W> {
     /// What can't be read, and so isn't checked.
     pub fn unread(&mut self, what: &str, why: Refusal) -> Result<(), Failure> {
         self.unread += 1;
-        self.line(&format!("{what}: can't be read: {why} (refusal {})", why.number()))
+        self.line("unread", format!("{what}: can't be read: {why} (refusal {})", why.number()))
     }
 
-    fn line(&mut self, text: &str) -> Result<(), Failure> {
+    fn line(&mut self, kind: &'static str, text: String) -> Result<(), Failure> {
+        if let Some(findings) = &mut self.findings {
+            findings.push(Json::Object(vec![("kind", Json::text(kind)), ("says", Json::text(text))]));
+            return Ok(());
+        }
         self.word = None;
         writeln!(self.out, "{text}").map_err(Failure::output)
+    }
+
+    /// All that was found, where it is printed as a document.
+    fn document(&mut self) -> Result<(), Failure> {
+        let Some(findings) = self.findings.take() else {
+            return Ok(());
+        };
+        self.word = None;
+        Json::Object(vec![
+            ("descriptors", Json::number(self.descriptors)),
+            ("misplaced", Json::number(self.misplaced)),
+            ("ruined", Json::number(self.ruined)),
+            ("unread", Json::number(self.unread)),
+            ("findings", Json::List(findings)),
+        ])
+        .print(self.out)
     }
 
     /// The last line, or how the command fails.
@@ -99,8 +124,11 @@ impl<'o, W: Write> Report<'o, W> {
         let Report { descriptors, misplaced, ruined, unread, .. } = self;
         let wrong = format!("not in place: {misplaced}, with a wrong body: {ruined}; places that can't be read: {unread}");
         let says = || format!("{name}: descriptors: {descriptors}, {wrong}");
+        let is_document = self.findings.is_some();
+        self.document()?;
         match (misplaced + ruined, unread) {
-            (0, 0) => self.line(&format!("{descriptors} descriptors, each in place and with a right body")),
+            (0, 0) if is_document => Ok(()),
+            (0, 0) => self.line("sound", format!("{descriptors} descriptors, each in place and with a right body")),
             (0, _) => Err(Failure::new(UNREAD, says())),
             _ => Err(Failure::new(WRONG, says())),
         }

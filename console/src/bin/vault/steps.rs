@@ -6,6 +6,9 @@ use strandlodge::{DirEntry, Matching};
 /// So many entries are named in one line.
 const NAMED: usize = 8;
 
+/// What a choice does of which every remark speaks.
+const WRITTEN: &str = "--as-written takes the very name alone";
+
 /// A name on a path, and the entries of its directory that are equal to it with case ignored, in the disc's order.
 pub struct Step<'p> {
     /// What stands in front of it.
@@ -43,12 +46,13 @@ impl<'p> Step<'p> {
         let (given, others) = matches.split_first()?;
         if others.is_empty() {
             let says = format!("{} gives \"{}\", in another case", self.asked(), shown(given.name.as_bytes()));
-            return (!self.is_written(given)).then(|| says + " (--as-written takes the very name alone)");
+            return (!self.is_written(given)).then(|| says + &format!(" ({WRITTEN}, --unambiguous refuses where several match)"));
         }
         // Of entries that all have the very name no choice gives another than the first.
-        let cure = if matches.iter().all(|entry| self.is_written(entry)) { "" } else { "--as-written takes the very name alone, " };
+        let is_told = !matches.iter().all(|entry| self.is_written(entry));
+        let cure = if is_told { WRITTEN } else { "--as-written doesn't tell them apart and --icb does" };
         let (count, given, others) = (matches.len(), placed(given), listed(others));
-        Some(format!("{} gives {given}, the first of {count} that match, and not {others} ({cure}--unambiguous refuses)", self.asked()))
+        Some(format!("{} gives {given}, the first of {count} that match, and not {others} ({cure}, --unambiguous refuses)", self.asked()))
     }
 
     /// Which entries match, where that is more than one.
@@ -146,7 +150,8 @@ mod tests {
     #[test]
     fn another_case_is_remarked() {
         for matching in [Matching::CaseIgnored, Matching::Unambiguous] {
-            let says = "\"10.1A\" under \"SHOW\" gives \"10.1a\", in another case (--as-written takes the very name alone)";
+            let says = "\"10.1A\" under \"SHOW\" gives \"10.1a\", in another case \
+                        (--as-written takes the very name alone, --unambiguous refuses where several match)";
             assert_eq!(step("10.1A", &["9", "10.1a"]).remark(matching).as_deref(), Some(says));
         }
         assert_eq!(step("10.1A", &["9", "10.1a"]).remark(Matching::AsWritten), None);
@@ -160,10 +165,10 @@ mod tests {
                 format!("\"{name}\" under \"SHOW\" gives \"A\" in block 1, the first of 2 that match, and not \"a\" in block 2 {cure}");
             assert_eq!(step(name, &entries).remark(Matching::CaseIgnored), Some(says));
         }
-        let says =
-            "\"a\" under \"SHOW\" gives \"a\" in block 2, the first of 2 that match, and not \"a\" in block 3 (--unambiguous refuses)";
-        assert_eq!(step("a", &["b", "a", "a"]).remark(Matching::CaseIgnored).as_deref(), Some(says));
-        assert_eq!(step("a", &["A", "a", "a"]).remark(Matching::AsWritten).as_deref(), Some(says));
+        let cure = "(--as-written doesn't tell them apart and --icb does, --unambiguous refuses)";
+        let says = format!("\"a\" under \"SHOW\" gives \"a\" in block 2, the first of 2 that match, and not \"a\" in block 3 {cure}");
+        assert_eq!(step("a", &["b", "a", "a"]).remark(Matching::CaseIgnored).as_ref(), Some(&says));
+        assert_eq!(step("a", &["A", "a", "a"]).remark(Matching::AsWritten), Some(says));
     }
 
     #[test]

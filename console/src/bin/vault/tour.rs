@@ -1,12 +1,14 @@
 //! The tour of the sample show, and of a vault that is made.
 
 use crate::args::Question;
-use crate::commands;
+use crate::commands::{self, Manner};
 use crate::disc::Disc;
 use crate::failure::{Failure, NO_IMAGE, NO_OUTPUT};
 use crate::log::Log;
 use crate::make;
 use crate::names::shown;
+use crate::style::Style;
+use crate::wanted::Wanted;
 use std::ffi::OsStr;
 use std::io::Write;
 use strandlodge::{How, Matching, SECTOR_SIZE};
@@ -31,10 +33,10 @@ pub fn sample() -> Result<Vec<u8>, Failure> {
 pub fn give(out: &mut impl Write) -> Result<(), Failure> {
     use Matching::{AsWritten, CaseIgnored, Unambiguous};
     let image = sample()?;
-    let cat = |path: &[u8]| Question::Cat { path: path.into() };
+    let cat = |path: &[u8]| Question::Cat { wanted: Wanted::Path(path.into()) };
     text(out, BEGIN)?;
     step(&image, Question::Label, CaseIgnored, "label show.img", out)?;
-    step(&image, Question::Ls { path: DIRECTORY.into() }, CaseIgnored, "ls show.img SHOW", out)?;
+    step(&image, Question::Ls { wanted: Wanted::Path(DIRECTORY.into()) }, CaseIgnored, "ls show.img SHOW", out)?;
     text(out, "Two cues have names that differ in case alone. They are two entries:\n\n")?;
     looks(&image, out)?;
     text(out, MATCHING)?;
@@ -44,7 +46,7 @@ pub fn give(out: &mut impl Write) -> Result<(), Failure> {
     step(&image, cat(LOWER), Unambiguous, "cat --unambiguous show.img SHOW/10.1a", out)?;
     text(out, WRITTEN)?;
     step(&image, cat(LOWER), AsWritten, "cat --as-written show.img SHOW/10.1a", out)?;
-    step(&image, Question::Stat { path: LOWER.into() }, AsWritten, "stat --as-written show.img SHOW/10.1a", out)?;
+    step(&image, Question::Stat { wanted: Wanted::Path(LOWER.into()) }, AsWritten, "stat --as-written show.img SHOW/10.1a", out)?;
     text(out, CONSOLE)?;
     text(out, MAKING)?;
     made(&image, out)
@@ -102,7 +104,7 @@ fn made(image: &[u8], out: &mut impl Write) -> Result<(), Failure> {
     let vault = strandlodge::write(&files).map_err(|why| Failure::refused(NEW, why))?;
     let says = make::made(OsStr::new(NEW), files.len(), vault.len() as u64 / SECTOR_SIZE);
     text(out, &format!("\n$ vault make {NEW} {}\n{says}\n\n", STAGED.join(" ")))?;
-    step(&vault, Question::Ls { path: Vec::new() }, Matching::CaseIgnored, &format!("ls {NEW}"), out)
+    step(&vault, Question::Ls { wanted: Wanted::Path(Vec::new()) }, Matching::CaseIgnored, &format!("ls {NEW}"), out)
 }
 
 fn text(out: &mut impl Write, text: &str) -> Result<(), Failure> {
@@ -111,9 +113,9 @@ fn text(out: &mut impl Write, text: &str) -> Result<(), Failure> {
 
 /// A command as it is typed, its answer, and what it would say on standard error.
 fn step(image: &[u8], question: Question, matching: Matching, typed: &str, out: &mut impl Write) -> Result<(), Failure> {
-    let mut log = Log::default();
+    let (mut log, manner) = (Log::default(), Manner { how: How::default(), matching, style: Style::default() });
     text(out, &format!("$ vault {typed}\n"))?;
-    let refused = match commands::ask(&question, How::default(), matching, image, OsStr::new(NAME), out, &mut log) {
+    let refused = match commands::ask(&question, manner, image, OsStr::new(NAME), out, &mut log) {
         // What is written is the tour itself.
         Err(failure) if failure.status == NO_OUTPUT || failure.says.is_none() => return Err(failure),
         asked => asked.err().and_then(|failure| failure.says),
@@ -128,7 +130,7 @@ fn step(image: &[u8], question: Question, matching: Matching, typed: &str, out: 
 fn looks(image: &[u8], out: &mut impl Write) -> Result<(), Failure> {
     let mut log = Log::default();
     let mut disc = Disc::open(image, How::default(), NAME, Matching::CaseIgnored, &mut log)?;
-    let directory = disc.find(DIRECTORY)?.icb;
+    let directory = disc.find_path(DIRECTORY)?.icb;
     for entry in disc.list(DIRECTORY, directory)?.iter().filter(|entry| entry.name.eq_ignore_ascii_case("10.1a")) {
         let cue = disc.read(DIRECTORY, entry.icb)?;
         let look = cue.trim_ascii_end().rsplit(|byte| *byte == b'\n').next().unwrap_or_default();

@@ -5,11 +5,14 @@
 //! into, and the rest goes on.
 
 use crate::bar::Count;
-use crate::commands::{line, listed};
+use crate::commands::line;
 use crate::disc::{Disc, Volume};
 use crate::failure::{Failure, STOPPED};
-use crate::names::shown;
+use crate::json::{Json, Rows};
+use crate::names::{shown, shown_name};
 use crate::steps::quoted;
+use crate::style::{Style, listed};
+use crate::wanted::Wanted;
 use std::io::Write;
 use strandlodge::{DirEntry, Refusal};
 
@@ -45,8 +48,61 @@ pub enum Form {
 /// The entries of a directory that are still to come.
 struct Level {
     entries: std::vec::IntoIter<DirEntry>,
-    /// How long the path of the directory is, with a slash behind it.
-    path: usize,
+    /// How long the path of the directory is, with a slash behind it: as it is recorded, and as it is shown.
+    path: (usize, usize),
+}
+
+/// The path of an entry, as it is recorded and as it is shown.
+struct Path {
+    raw: Vec<u8>,
+    text: String,
+}
+
+impl Path {
+    /// Of a directory, with a slash behind it.
+    fn of(path: &[u8]) -> Path {
+        let slash = if path.is_empty() || path.ends_with(b"/") { &b""[..] } else { b"/" };
+        let raw = [path, slash].concat();
+        Path { text: shown(&raw), raw }
+    }
+
+    fn len(&self) -> (usize, usize) {
+        (self.raw.len(), self.text.len())
+    }
+
+    /// Makes it that of an entry of the directory whose path is so long.
+    fn set(&mut self, (raw, text): (usize, usize), name: &str) {
+        self.raw.truncate(raw);
+        self.text.truncate(text);
+        self.raw.extend_from_slice(name.as_bytes());
+        self.text.push_str(&shown_name(name));
+    }
+
+    fn go_in(&mut self) {
+        self.raw.push(b'/');
+        self.text.push('/');
+    }
+}
+
+/// Where entries are written.
+enum Output<'o, W: Write> {
+    Lines(&'o mut W, Form, Style),
+    Document(Rows<'o, W>),
+}
+
+impl<W: Write> Output<'_, W> {
+    /// The levels are those of the directories that the entry stands in, from the outermost on.
+    fn entry(&mut self, levels: &[Level], entry: &DirEntry, path: &Path) -> Result<(), Failure> {
+        match self {
+            Output::Lines(out, Form::Drawn, _) => line(*out, &drawn(levels, entry)),
+            Output::Lines(out, Form::Paths, style) => style.line(entry, &path.raw, &path.text, *out),
+            Output::Document(rows) => {
+                let mut all = vec![("level", Json::number(levels.len() as u64)), ("path", Json::text(&path.text))];
+                all.extend(Json::entry(entry));
+                rows.row(&Json::Object(all))
+            }
+        }
+    }
 }
 
 /// What was seen so far.
@@ -67,22 +123,40 @@ impl Seen {
     }
 }
 
-/// Writes all that stands below what a path gives.
-pub fn show<V: Volume>(disc: &mut Disc<V>, path: &[u8], form: Form, bounds: Bounds, out: &mut impl Write) -> Result<(), Failure> {
-    let found = disc.find(path)?;
+/// Writes all that stands below what is asked for. The paths below a place that was asked for begin there.
+pub fn show<V: Volume>(
+    disc: &mut Disc<V>,
+    wanted: &Wanted,
+    form: Form,
+    bounds: Bounds,
+    style: Style,
+    out: &mut impl Write,
+) -> Result<(), Failure> {
+    let (found, path) = (disc.find(wanted)?, wanted.text());
     if let Some(entry) = found.entry.filter(|entry| !entry.is_directory) {
-        return line(out, &listed(&entry));
+        return match style.is_json {
+            true => Json::List(vec![Json::Object(Json::entry(&entry))]).print(out),
+            false => line(out, &listed(&entry)),
+        };
     }
-    if form == Form::Drawn {
-        line(out, &format!("{}/", shown(path.strip_suffix(b"/").unwrap_or(path))))?;
+    let is_drawn = form == Form::Drawn && !style.is_json;
+    if is_drawn {
+        line(out, &format!("{}/", shown(path.strip_suffix(b"/").unwrap_or(&path))))?;
     }
     let mut seen = Seen::default();
-    let below = list(disc, path, found.icb, &mut seen);
-    let done = below.and_then(|entries| walk(disc, path, entries, form, bounds, &mut seen, out));
+    let below = list(disc, &path, found.icb, &mut seen);
+    let from = Path::of(if let Wanted::Path(path) = wanted { path } else { b"" });
+    let mut to = if style.is_json { Output::Document(Rows::new(out)) } else { Output::Lines(out, form, style) };
+    let done = below.and_then(|entries| walk(disc, from, entries, bounds, &mut seen, &mut to));
     disc.log.sums([("read_directory", seen.sectors)]);
-    done?;
-    if form == Form::Drawn {
-        line(out, &format!("{}, {}", counted(seen.directories, "directory", "directories"), counted(seen.files, "file", "files")))?;
+    if let Output::Document(rows) = to {
+        rows.end()?;
+        done?;
+    } else {
+        done?;
+        if is_drawn {
+            line(out, &format!("{}, {}", counted(seen.directories, "directory", "directories"), counted(seen.files, "file", "files")))?;
+        }
     }
     too_deep(disc.name, &seen, bounds)
 }
@@ -100,19 +174,14 @@ fn list<V: Volume>(disc: &mut Disc<V>, path: &[u8], icb: strandlodge::LongAd, se
 }
 
 /// Goes over the entries of the directory at a path, each before what stands under it.
-fn walk<V: Volume>(
+fn walk<V: Volume, W: Write>(
     disc: &mut Disc<V>,
-    path: &[u8],
+    mut path: Path,
     entries: Vec<DirEntry>,
-    form: Form,
     bounds: Bounds,
     seen: &mut Seen,
-    out: &mut impl Write,
+    out: &mut Output<W>,
 ) -> Result<(), Failure> {
-    let mut path = path.to_vec();
-    if !path.is_empty() && !path.ends_with(b"/") {
-        path.push(b'/');
-    }
     let (mut count, mut levels) = (Count::new("entries"), vec![Level { entries: entries.into_iter(), path: path.len() }]);
     while let Some(level) = levels.last_mut() {
         let Some(entry) = level.entries.next() else {
@@ -122,9 +191,8 @@ fn walk<V: Volume>(
         if seen.entries() == bounds.entries {
             return Err(stopped(disc.name, bounds));
         }
-        path.truncate(level.path);
-        path.extend_from_slice(entry.name.as_bytes());
-        line(out, &written(form, &levels, &entry, &path))?;
+        path.set(level.path, &entry.name);
+        out.entry(&levels, &entry, &path)?;
         count.at(seen.entries() + 1);
         if !entry.is_directory {
             seen.files += 1;
@@ -133,23 +201,20 @@ fn walk<V: Volume>(
         seen.directories += 1;
         if levels.len() == bounds.levels {
             if seen.deep == 0 {
-                seen.first.clone_from(&path);
+                seen.first.clone_from(&path.raw);
             }
             seen.deep += 1;
             continue;
         }
-        let entries = list(disc, &path, entry.icb, seen)?;
-        path.push(b'/');
+        let entries = list(disc, &path.raw, entry.icb, seen)?;
+        path.go_in();
         levels.push(Level { entries: entries.into_iter(), path: path.len() });
     }
     Ok(())
 }
 
-/// The line of an entry; the levels are those of the directories that it stands in, from the outermost on.
-fn written(form: Form, levels: &[Level], entry: &DirEntry, path: &[u8]) -> String {
-    if form == Form::Paths {
-        return shown(path) + if entry.is_directory { "/" } else { "" };
-    }
+/// The line of an entry, behind those that lead to it.
+fn drawn(levels: &[Level], entry: &DirEntry) -> String {
     let mut text = String::new();
     for (n, level) in levels.iter().enumerate() {
         let (is_last, is_own) = (level.entries.as_slice().is_empty(), n + 1 == levels.len());

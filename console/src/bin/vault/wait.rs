@@ -8,9 +8,10 @@ use crate::bar::Line;
 use crate::failure::{Failure, NO_IMAGE};
 use crate::image::{self, Image};
 use crate::steps::{Step, names};
+use crate::wanted::Wanted;
 use std::ffi::OsStr;
 use std::time::{Duration, Instant};
-use strandlodge::{How, Matching, SECTOR_SIZE, Vault};
+use strandlodge::{Counted, How, Matching, SECTOR_SIZE};
 
 /// Between two looks at the image's length.
 const PAUSE: Duration = Duration::from_millis(50);
@@ -91,13 +92,16 @@ fn state(there: usize, missing: Option<u64>) -> String {
     format!("{} sectors are there, and {what} isn't yet", there as u64 / SECTOR_SIZE)
 }
 
-/// The sector for want of which the file that a path names is refused by 1, where it can be named.
-pub fn missing(image: &[u8], how: How, matching: Matching, path: &[u8]) -> Option<u64> {
-    let vault = match Vault::open_as(image, how) {
+/// The sector for want of which the file that is asked for is refused by 1, where it can be named.
+pub fn missing(image: &[u8], how: How, matching: Matching, wanted: &Wanted) -> Option<u64> {
+    let vault = match Counted::open_as(image, how) {
         Ok(vault) => vault.value,
         Err(refused) => return (refused.may_pass() && refused.sectors == 1).then_some(ANCHOR),
     };
-    let mut icb = vault.root_directory_icb();
+    let (mut icb, path) = match wanted {
+        Wanted::Path(path) => (vault.root_directory_icb(), &path[..]),
+        Wanted::Icb(icb) => (icb.long_ad(), &b""[..]),
+    };
     for name in names(path) {
         icb = match vault.read_directory(icb) {
             Ok(entries) => Step::new(name, entries.value).taken(matching)?.icb,

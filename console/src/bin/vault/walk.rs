@@ -10,7 +10,7 @@ use crate::records::{self, Descriptor, FileEntry, FileIdentifier};
 use crate::report::{Place, Report};
 use std::collections::HashSet;
 use std::io::Write;
-use strandlodge::{AllocExtent, LbAddr, LongAd, Refusal, SECTOR_SIZE, Vault};
+use strandlodge::{AllocExtent, Counted, LbAddr, LongAd, Refusal, SECTOR_SIZE};
 
 /// Of a file identifier (ECMA-167 4/14.4).
 const IDENTIFIER: usize = 38;
@@ -62,7 +62,7 @@ struct Name {
 
 pub struct Walk<'a, 'r, 'o, W> {
     image: &'a [u8],
-    vault: Vault<'a>,
+    vault: Counted<'a>,
     report: &'r mut Report<'o, W>,
     names: Vec<Name>,
     /// Blocks to be looked at or looked at already, each with whether it is as a directory's.
@@ -76,14 +76,14 @@ pub struct Walk<'a, 'r, 'o, W> {
 }
 
 impl<'a, 'r, 'o, W: Write> Walk<'a, 'r, 'o, W> {
-    pub fn new(image: &'a [u8], vault: Vault<'a>, report: &'r mut Report<'o, W>) -> Self {
+    pub fn new(image: &'a [u8], vault: Counted<'a>, report: &'r mut Report<'o, W>) -> Self {
         let sectors = [("part", 0), ("read_file", 0), ("extents", 0)];
         let (taken, entries, continuations) = Default::default();
         Walk { image, vault, report, names: Vec::new(), taken, entries, continuations, pending: Vec::new(), sectors }
     }
 
     /// Notes a call's count, refused or not.
-    fn count<T>(&mut self, call: usize, answer: strandlodge::Result<T>) -> Result<T, Refusal> {
+    fn count<T>(&mut self, call: usize, answer: strandlodge::Answered<T>) -> Result<T, Refusal> {
         let sectors = answer.as_ref().map_or_else(|refused| refused.sectors, |answer| answer.sectors);
         self.sectors[call].1 = self.sectors[call].1.saturating_add(sectors);
         answer.map(|answer| answer.value).map_err(|refused| refused.why)

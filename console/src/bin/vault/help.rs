@@ -1,0 +1,164 @@
+//! What there is, on one screen; and what there is of each command, on another.
+
+use crate::failure::Failure;
+use crate::names::shown;
+use std::io::Write;
+use strandlodge_sys::vault;
+
+pub const HELP: &str = "\
+vault: look into a UDF disc. An image is a file or a drive, and is only read.
+  vault label IMAGE            the volume's name
+  vault info IMAGE             label, revision, partitions, maps, free space
+  vault ls IMAGE [PATH]        what a directory holds; with -R all below it too
+  vault tree IMAGE [PATH]      the same as ls -R, drawn as a tree
+  vault cat IMAGE PATH         a file's bytes; PATH is names between slashes
+  vault get IMAGE PATH FILE    a file's bytes, to FILE, which is replaced
+  vault get IMAGE -o TO PATH.. many files, each to its own name in folder TO
+  vault get -r IMAGE -o TO     all of the disc, or with PATH.. all below these
+  vault stat IMAGE [PATH]      ICB, kind, extents; or volume descriptors, maps
+  vault probe IMAGE            whether it has a recognition sequence: yes or no
+  vault check IMAGE            descriptors out of place, or with a ruined body
+  vault make IMAGE FILE..      writes a vault of up to 64 files, by their names
+  vault sample FILE            writes a sample show; vault alone gives a tour
+  --as-written    take a name on PATH byte for byte; else ASCII case is ignored
+  --unambiguous   refuse a name that several entries match; else take the first
+  --icb BLOCK[:REF]      what stands there, in place of PATH: ls -i shows it
+  --checked, --highest, --maps   how the disc is opened; else as the original
+  --copy, --drive   read to memory first, or a sector at a time; else mapped
+  --json, --sectors      for other programs; the sectors that each call wanted
+vault COMMAND --help has the rest of a command, and vault --version what it is.
+Status: 0 done, 1 to 14 refused by that number, 64 wrong usage, 65 wrong, or a
+no, 66 no image, 67 not all read, 68 limit, 70 unknown, 74 no output.
+";
+
+/// Of a name on a path; for each command that takes one.
+const PATHS: &str = "
+PATH is names between slashes, as ls writes them: \\\\ is a backslash, \\u{..} a
+character, \\x.. a byte. ASCII case is ignored and the first entry taken, with a
+line on standard error where that gave another name, or one of several.
+  --as-written       take each name byte for byte
+  --unambiguous      refuse a name that several entries match
+  --raw              take PATH as it is, a backslash too
+  --icb BLOCK[:REF]  the entry in that block, in place of PATH: for a name with
+                     a slash in it, and the second of two entries of one name
+";
+
+/// Of the image; for each command that reads one.
+const IMAGES: &str = "
+  --checked  refuse a descriptor whose body is ruined: its tag has another CRC
+  --highest  of several descriptors the one with the highest number counts
+  --maps     partitions are found through the volume's maps
+  --copy     read it into memory first: a mapped image must stand still
+  --sectors  say how many sectors each call asked for
+";
+
+const DRIVES: &str = "  --drive    read it sector by sector, as they are wanted, without a map\n";
+
+/// A command, what it says of itself, and whether it has paths, reads an image, and can be asked of a drive.
+const COMMANDS: [(&str, &str, [bool; 3]); 12] = [
+    ("label", "vault label IMAGE\nPrints the volume's name.\n", [false, true, true]),
+    (
+        "info",
+        "vault info IMAGE\nPrints the volume's names, its UDF revision, partitions, maps, the descriptors\n\
+         that prevail; and free space, files and directories where these are recorded.\n  --json     as one document\n",
+        [false, true, false],
+    ),
+    (
+        "ls",
+        "vault ls IMAGE [PATH]\nPrints what a directory holds, a line to an entry, with a slash behind one that\n\
+         is a directory.\n  -R         all below it too, by paths: --levels N (16), --limit N (100000)\n\
+         \x20 -i         with the ICB of each, BLOCK:REF, for --icb\n\
+         \x20 -0         as they are recorded, with a zero byte behind each\n  --json     as one document\n",
+        [true, true, true],
+    ),
+    (
+        "tree",
+        "vault tree IMAGE [PATH]\nDraws all that stands below a directory.\n\
+         \x20 --levels N, --limit N   down N levels, 1 to 16 (16); N entries (100000)\n  --json     as one document\n",
+        [true, true, true],
+    ),
+    (
+        "cat",
+        "vault cat IMAGE PATH\nWrites a file's bytes to standard output.\n\
+         \x20 --wait N   up to N seconds for a file of an image copied front to back\n",
+        [true, true, true],
+    ),
+    ("get", GET, [true, true, true]),
+    (
+        "stat",
+        "vault stat IMAGE [PATH]\nPrints the ICB of what PATH gives, its kind and its extents. Without PATH: the\n\
+         volume's descriptors, its maps, and what they lead to.\n  --json     as one document\n",
+        [true, true, true],
+    ),
+    (
+        "probe",
+        "vault probe IMAGE\nPrints yes where the image has a volume recognition sequence, and no where it\n\
+         has none; the status is then 0 or 65. Opening doesn't depend on it.\n  --copy     read it into memory first\n",
+        [false, false, false],
+    ),
+    (
+        "check",
+        "vault check IMAGE\nPrints each descriptor that isn't where its tag says, or whose body isn't the\n\
+         one that its tag has the CRC of, and what can't be read: status 65, 67.\n  --json     as one document\n",
+        [false, true, false],
+    ),
+    (
+        "make",
+        "vault make IMAGE FILE..\nWrites a vault of up to 64 files to IMAGE, each under the last part of its\n\
+         path, and prints how many sectors it has.\n",
+        [false, false, false],
+    ),
+    ("sample", "vault sample FILE\nWrites the image of a sample show, that of the tour.\n", [false, false, false]),
+    ("tour", "vault\nGives a short tour of a sample show.\n", [false, false, false]),
+];
+
+const GET: &str = "\
+vault get IMAGE PATH FILE        a file to FILE: whole, or as it was
+vault get IMAGE -o TO PATH..     each to its own name in TO, a folder
+vault get -r IMAGE -o TO [PATH..]  all below each PATH, or all of the disc
+  --wait N   of one file: up to N seconds for an image copied front to back
+  --limit N  of -r: so many entries at most (1000000)
+An old FILE keeps its mode. A link is followed, but not by -r. /dev/stdout is
+written to.
+";
+
+/// The help of a command, where there is such a command.
+fn of(command: &str) -> Option<String> {
+    let (_, says, [paths, image, drive]) = COMMANDS.iter().find(|(name, ..)| *name == command)?;
+    let part = |is: &bool, text: &'static str| if *is { text } else { "" };
+    Some([says, part(paths, PATHS), part(image, IMAGES), part(drive, DRIVES)].concat())
+}
+
+pub fn print(command: Option<&str>, out: &mut impl Write) -> Result<(), Failure> {
+    let text = match command {
+        None => HELP.to_string(),
+        Some(name) => of(name).ok_or_else(|| Failure::usage(format!("there is no command {}", shown(name.as_bytes()))))?,
+    };
+    out.write_all(text.as_bytes()).map_err(Failure::output)
+}
+
+pub fn version(out: &mut impl Write) -> Result<(), Failure> {
+    let text = format!("vault {} (include/vault.h {})\n", env!("CARGO_PKG_VERSION"), vault::VERSION);
+    out.write_all(text.as_bytes()).map_err(Failure::output)
+}
+
+#[cfg(test)]
+mod tests {
+    use super::*;
+
+    #[test]
+    fn the_help_fits_a_screen() {
+        let all = COMMANDS.iter().filter_map(|(name, ..)| of(name));
+        for text in all.chain([HELP.to_string()]) {
+            assert!(text.lines().count() < 24, "{text}");
+            assert!(text.lines().all(|line| line.chars().count() < 80), "{text}");
+        }
+    }
+
+    #[test]
+    fn every_command_has_help() {
+        let named = |line: &str| line.trim().strip_prefix("vault ").map(|rest| rest.split(' ').next().unwrap().to_string());
+        let listed: Vec<String> = HELP.lines().filter(|line| line.starts_with("  vault")).filter_map(named).collect();
+        assert!(listed.len() > 10 && listed.iter().all(|name| of(name).is_some()), "{listed:?}");
+    }
+}

@@ -1,0 +1,134 @@
+//! What a signal that ends the command leaves behind: nothing. A file that isn't whole yet stands under a temporary name, which is taken away first.
+//!
+//! Why it is sound: a handler makes calls alone that may be made from one (`unlink`, `signal`, `raise`), and reads one pointer, which is null or a name
+//! that nobody frees while it stands there. The command has one thread, and the handler doesn't come back, so that a name which it has read stays.
+#![allow(unsafe_code)]
+
+use std::ffi::{CString, c_char, c_int};
+use std::os::unix::ffi::OsStrExt;
+use std::path::{Path, PathBuf};
+use std::sync::Once;
+use std::sync::atomic::{AtomicPtr, Ordering};
+use std::{fs, io, ptr};
+
+/// Hang-up, interrupt, quit, termination, too much time, too long a file.
+const ENDING: [c_int; 6] = [1, 2, 3, 15, 24, 25];
+
+const DEFAULT: usize = 0;
+const IGNORED: usize = 1;
+
+unsafe extern "C" {
+    fn signal(number: c_int, handler: usize) -> usize;
+    fn raise(number: c_int) -> c_int;
+    fn unlink(name: *const c_char) -> c_int;
+}
+
+/// The name of the file that isn't whole yet.
+static UNFINISHED: AtomicPtr<c_char> = AtomicPtr::new(ptr::null_mut());
+
+/// Has a signal handled. One that was ignored when the command was started, as by nohup, stays ignored.
+pub fn on(number: c_int, handler: extern "C" fn(c_int)) {
+    // SAFETY: the handler is of the form that the system calls; that it does nothing which a handler may not is for who wrote it.
+    unsafe {
+        if signal(number, handler as *const () as usize) == IGNORED {
+            signal(number, IGNORED);
+        }
+    }
+}
+
+/// Takes the file away that isn't whole yet. May be called from a handler.
+pub fn take_away() {
+    let name = UNFINISHED.load(Ordering::SeqCst);
+    if !name.is_null() {
+        // SAFETY: a name that ends in a zero byte, and stays: the head of this module.
+        unsafe { unlink(name) };
+    }
+}
+
+/// Ends the command as the signal would have, without the file.
+extern "C" fn end(number: c_int) {
+    take_away();
+    // SAFETY: both may be called from a handler.
+    unsafe {
+        signal(number, DEFAULT);
+        raise(number);
+    }
+}
+
+/// A temporary name, of which nothing is left where this is dropped or a signal ends the command. There is one at a time.
+pub struct Unfinished(PathBuf);
+
+impl Unfinished {
+    /// Before the file is made: a name that nobody else has.
+    pub fn at(path: PathBuf) -> io::Result<Unfinished> {
+        static HANDLED: Once = Once::new();
+        HANDLED.call_once(|| ENDING.into_iter().for_each(|number| on(number, end)));
+        let name = CString::new(path.as_os_str().as_bytes())?;
+        release(UNFINISHED.swap(name.into_raw(), Ordering::SeqCst));
+        Ok(Unfinished(path))
+    }
+
+    pub fn path(&self) -> &Path {
+        &self.0
+    }
+}
+
+impl Drop for Unfinished {
+    fn drop(&mut self) {
+        // Where it was renamed there is nothing. What can't be taken away either is told of by the first error.
+        let _ = fs::remove_file(&self.0);
+        release(UNFINISHED.swap(ptr::null_mut(), Ordering::SeqCst));
+    }
+}
+
+fn release(name: *mut c_char) {
+    if !name.is_null() {
+        // SAFETY: it came from `into_raw`, and stands in no other place any more.
+        drop(unsafe { CString::from_raw(name) });
+    }
+}
+
+#[cfg(test)]
+mod tests {
+    use super::*;
+    use std::os::unix::process::ExitStatusExt;
+    use std::process::{Command, Stdio};
+    use std::time::{Duration, Instant};
+
+    const AT: &str = "VAULT_TEST_UNFINISHED";
+
+    /// The test's program runs itself, since the process is ended.
+    #[test]
+    fn a_signal_leaves_no_file() {
+        if let Some(name) = std::env::var_os(AT) {
+            let unfinished = Unfinished::at(PathBuf::from(name)).unwrap();
+            fs::write(unfinished.path(), b"half").unwrap();
+            std::thread::sleep(Duration::from_secs(60));
+            return;
+        }
+        for number in [1, 2, 15] {
+            let name = std::env::temp_dir().join(format!("vault-unfinished-{}-{number}", std::process::id()));
+            let this = "signals::tests::a_signal_leaves_no_file";
+            let mut child = Command::new(std::env::current_exe().unwrap());
+            let mut child = child.args([this, "--exact"]).env(AT, &name).stdout(Stdio::null()).spawn().unwrap();
+            let since = Instant::now();
+            while !name.exists() && since.elapsed() < Duration::from_secs(50) {
+                std::thread::sleep(Duration::from_millis(5));
+            }
+            assert!(name.exists());
+            let kill = Command::new("kill").args([format!("-{number}"), child.id().to_string()]).status().unwrap();
+            assert!(kill.success());
+            assert_eq!(child.wait().unwrap().signal(), Some(number));
+            assert!(!name.exists());
+        }
+    }
+
+    #[test]
+    fn what_is_dropped_is_taken_away() {
+        let name = std::env::temp_dir().join(format!("vault-dropped-{}", std::process::id()));
+        let unfinished = Unfinished::at(name.clone()).unwrap();
+        fs::write(&name, b"half").unwrap();
+        drop(unfinished);
+        assert!(!name.exists());
+    }
+}

@@ -1,0 +1,35 @@
+//! How entries are printed.
+
+use crate::failure::Failure;
+use crate::names::shown_name;
+use crate::wanted::typed;
+use std::io::Write;
+use strandlodge::DirEntry;
+
+#[derive(Debug, Clone, Copy, PartialEq, Eq, Default)]
+pub struct Style {
+    /// One document, for other programs.
+    pub is_json: bool,
+    /// As it is recorded, with a zero byte behind it.
+    pub is_raw: bool,
+    /// Each with the place of its entry in front of it.
+    pub has_icbs: bool,
+}
+
+impl Style {
+    /// A line for an entry, which goes by this path: as it is recorded, and as it is shown.
+    pub fn line(self, entry: &DirEntry, raw: &[u8], text: &str, out: &mut impl Write) -> Result<(), Failure> {
+        let icb = if self.has_icbs { typed(entry.icb) + " " } else { String::new() };
+        let mark = if entry.is_directory { "/" } else { "" };
+        let written = match self.is_raw {
+            true => out.write_all(&[icb.as_bytes(), raw, mark.as_bytes(), b"\0"].concat()),
+            false => writeln!(out, "{icb}{text}{mark}"),
+        };
+        written.map_err(Failure::output)
+    }
+}
+
+/// An entry by its name.
+pub fn listed(entry: &DirEntry) -> String {
+    shown_name(&entry.name) + if entry.is_directory { "/" } else { "" }
+}

@@ -1,0 +1,368 @@
+//! The calls with their counts, over a borrowed image.
+
+use crate::answer::{Answer, Answered, Refusal, Refused};
+use crate::calls;
+use crate::how::How;
+use crate::maps::{PartitionMap, maps, place_of, started};
+use crate::matching::Matching;
+use crate::records::{AllocExtent, DirEntry, LbAddr, LongAd, entries, text};
+use crate::room::{AT_ONCE, FIRST, MOST_DIRECTORY, MOST_SHOW, Room, most_file, retry};
+use crate::stack::{Item, List, Stack, copied, too_many};
+use crate::tree::Show;
+use std::fmt;
+use strandlodge_sys::vault::{Extent, Volume};
+
+/// The bytes of a sector, and of a block.
+pub const SECTOR_SIZE: u64 = 2048;
+
+/// The slots that are lent at first for an extent list.
+const FIRST_SLOTS: usize = 256;
+
+/// No extent list is longer: 32 continuations of at most 2^20 bytes, and an entry of 2,048, with 8 bytes for each descriptor.
+const MOST_SLOTS: usize = 32 * ((1 << 20) / 8) + 2048 / 8;
+
+/// A label has at most 30 recorded bytes of one or two bytes of UTF-8 each, or 15 pairs of at most three.
+const LABEL: usize = 64;
+
+/// Opens an image as it is chosen, and gives its label.
+fn label(image: &[u8], how: How) -> Answered<String> {
+    let mut out = Room::new(LABEL, LABEL);
+    let answer = calls::label(image, how.number(), &mut out.lent)?;
+    kept(answer, Refusal::NoRoom, |()| text(&out.lent))
+}
+
+/// The answer's value made into another, for which there may be no memory.
+fn kept<T, U>(answer: Answer<T>, full: Refusal, make: impl FnOnce(T) -> Option<U>) -> Answered<U> {
+    let sectors = answer.sectors;
+    let value = make(answer.value).ok_or(Refused { why: full, sectors })?;
+    Ok(Answer { value, sectors })
+}
+
+/// A [`Vault`](crate::Vault) over a borrowed image whose calls say how many sectors they asked for. It has the same calls, and each gives an [`Answer`]:
+/// [`Vault::counted`](crate::Vault::counted) gives it of a vault. It is small and holds nothing but a borrow: copy it, share it between threads.
+///
+/// ```
+/// # fn main() -> std::result::Result<(), Box<dyn std::error::Error>> {
+/// let image = strandlodge::write(&[("9", b"cue 9")])?;
+/// let vault = strandlodge::Counted::open(&image)?;
+/// let look = vault.read_path("9")?;
+/// println!("{} sectors to open it, {} to read {} bytes", vault.sectors, look.sectors, look.len());
+/// # Ok(())
+/// # }
+/// ```
+#[derive(Clone, Copy)]
+pub struct Counted<'a> {
+    image: &'a [u8],
+    volume: Volume,
+    how: How,
+}
+
+impl fmt::Debug for Counted<'_> {
+    /// Without the image, which may have many gigabytes.
+    fn fmt(&self, f: &mut fmt::Formatter<'_>) -> fmt::Result {
+        f.debug_struct("Counted")
+            .field("partition_start_sector", &self.partition_start_sector())
+            .field("partition_number", &self.partition_number())
+            .field("root_directory_icb", &self.root_directory_icb())
+            .finish_non_exhaustive()
+    }
+}
+
+impl<'a> Counted<'a> {
+    /// Opens the volume of an image.
+    pub fn open(image: &'a [u8]) -> Answered<Counted<'a>> {
+        Counted::open_as(image, How::default())
+    }
+
+    /// The same, as it is chosen: which of several descriptors of one kind counts, whether the bodies of descriptors are checked, here and in
+    /// every call on what is opened, and whether partition references go through the volume's maps.
+    pub fn open_as(image: &'a [u8], how: How) -> Answered<Counted<'a>> {
+        Ok(calls::open(image, how.number())?.map(|volume| Counted { image, volume, how }))
+    }
+
+    /// The image.
+    pub fn image(&self) -> &'a [u8] {
+        self.image
+    }
+
+    /// Opens an image as it is chosen, and gives its label.
+    pub fn label_of(image: &[u8], how: How) -> Answered<String> {
+        label(image, how)
+    }
+
+    /// What was opened, by the record that opening gave.
+    pub(crate) fn over(image: &'a [u8], volume: Volume, how: How) -> Counted<'a> {
+        Counted { image, volume, how }
+    }
+
+    pub(crate) fn volume(&self) -> Volume {
+        self.volume
+    }
+
+    /// What it was opened with.
+    pub fn how(&self) -> How {
+        self.how
+    }
+
+    /// The sector in which the partition starts; of a volume that was opened through its maps, the file set's.
+    pub fn partition_start_sector(&self) -> u64 {
+        self.volume.mount.start.into()
+    }
+
+    /// The partition's number.
+    pub fn partition_number(&self) -> u16 {
+        self.volume.mount.partition
+    }
+
+    /// The partition maps through which references are resolved, in their order: one that was opened without [`How::maps`](How) has none. A
+    /// reference is an index into them.
+    pub fn maps(&self) -> Vec<PartitionMap> {
+        maps(self.volume.mount)
+    }
+
+    /// The sector of a block, by the reference that a descriptor on the disc gives with it: through the maps, or without them where the
+    /// reference is the partition's number. None where it is of no partition of this volume, which calls refuse by 4.
+    pub fn sector_of(&self, place: LbAddr) -> Option<u64> {
+        place_of(self.volume.mount, place)
+    }
+
+    /// The sector in which the entry stands that an ICB names. Without maps an ICB's reference isn't looked at.
+    pub fn icb_sector(&self, icb: impl Into<LongAd>) -> Option<u64> {
+        let (icb, mount) = (icb.into(), self.volume.mount);
+        Some(started(mount, icb)? + u64::from(icb.location.block))
+    }
+
+    /// The first sector of an extent that [`Counted::extents`] gives of the file that an ICB names: one that names no partition stands in that of
+    /// the file's entry. The extent's bytes are the first of that sector and of those behind it. None where a read that comes to this extent is
+    /// refused by 4; what an extent's type says isn't looked at.
+    pub fn extent_sector(&self, icb: impl Into<LongAd>, extent: &AllocExtent) -> Option<u64> {
+        match extent.partition_ref {
+            Some(partition_ref) => self.sector_of(LbAddr { block: extent.block, partition_ref }),
+            None => Some(started(self.volume.mount, icb.into())? + u64::from(extent.block)),
+        }
+    }
+
+    /// The sector for want of which [`Counted::read_file`] or [`Counted::read_directory`] of this ICB was refused by 1: the first of the file's sectors,
+    /// in the order in which they are read, that isn't there. None where the refusal isn't by 1, and where the sector is one of the chain that
+    /// stands behind the file's entry: no call gives its place.
+    ///
+    /// The count of a refusal by 1 is the place of the missing sector among those that the call asked for. [`Counted::extents`] asks for the
+    /// entry's and the chain's alone, which come first; so the rest of the count is the place among the sectors of the extents in turn.
+    pub fn missing_sector(&self, icb: impl Into<LongAd>, refused: &Refused) -> Option<u64> {
+        let icb = icb.into();
+        if !refused.may_pass() {
+            return None;
+        }
+        if refused.sectors == 1 {
+            return self.icb_sector(icb);
+        }
+        let extents = self.extents(icb).ok()?;
+        // How many of the extents' sectors are there in front of it.
+        let mut before = refused.sectors.checked_sub(extents.sectors)?.checked_sub(1)?;
+        for extent in &extents.value {
+            let sectors = u64::from(extent.length).div_ceil(SECTOR_SIZE);
+            if before < sectors {
+                return Some(self.extent_sector(icb, extent)? + before);
+            }
+            before -= sectors;
+        }
+        None
+    }
+
+    /// The root directory.
+    pub fn root_directory_icb(&self) -> LongAd {
+        LongAd::of_c(self.volume.root)
+    }
+
+    /// The volume's name. The count is that of opening: the call opens the image again.
+    pub fn label(&self) -> Answered<String> {
+        label(self.image, self.how)
+    }
+
+    /// The ICB that a path names. Components stand between slashes and empty ones are dropped; of a directory's entries the first is
+    /// taken that is equal with ASCII case ignored. The empty path names the root.
+    ///
+    /// What it gives may have another name than was asked for: [`Counted::lookup_as`] is for cues whose names differ in case alone.
+    pub fn lookup(&self, path: impl AsRef<[u8]>) -> Answered<LongAd> {
+        self.lookup_as(path, Matching::CaseIgnored)
+    }
+
+    /// The same, with components matched as is said.
+    pub fn lookup_as(&self, path: impl AsRef<[u8]>, matching: Matching) -> Answered<LongAd> {
+        let path = path.as_ref();
+        retry::<u8, _>(&mut Room::none(), &mut work_space(), |_, work| calls::lookup(self.volume, self.image, path, matching, work))
+    }
+
+    /// The component at which [`Counted::lookup`] finds nothing, as a part of the path; none where the path is there.
+    pub fn failed<'p>(&self, path: &'p (impl AsRef<[u8]> + ?Sized)) -> Answered<Option<&'p [u8]>> {
+        self.failed_as(path, Matching::CaseIgnored)
+    }
+
+    /// The same for [`Counted::lookup_as`]. A component that is ambiguous isn't one at which nothing is found: the call is then refused as the
+    /// lookup is.
+    pub fn failed_as<'p>(&self, path: &'p (impl AsRef<[u8]> + ?Sized), matching: Matching) -> Answered<Option<&'p [u8]>> {
+        let path = path.as_ref();
+        retry::<u8, _>(&mut Room::none(), &mut work_space(), |_, work| calls::failed(self.volume, self.image, path, matching, work))
+    }
+
+    /// The entries of a directory in the disc's order, without those that are deleted and the parent.
+    pub fn read_directory(&self, icb: impl Into<LongAd>) -> Answered<Vec<DirEntry>> {
+        let icb = icb.into();
+        // A name of 8 bits a letter may have twice as many bytes as recorded, so a listing is at most twice as long as its directory.
+        let mut out = Room::new(FIRST, 2 * MOST_DIRECTORY);
+        let answer = retry(&mut out, &mut work_space(), |out, work| calls::list(self.volume, self.image, icb, out, work))?;
+        kept(answer, Refusal::NoRoom, |()| entries(&out.lent))
+    }
+
+    /// All that stands on the volume, down to so many levels, 1 to 16: an entry for each path, each before what stands under it, and those of a
+    /// directory in the disc's order, without those that are deleted and the parent.
+    ///
+    /// It is all or nothing. A directory at the last level, even an empty one, is refused by 11, as is any other number of levels; one that holds itself
+    /// is found there. Whatever is refused on the way refuses the show. The call takes as long as there are paths, however few directories they lead to.
+    ///
+    /// ```no_run
+    /// # fn main() -> std::result::Result<(), Box<dyn std::error::Error>> {
+    /// let image = std::fs::read("show.img")?;
+    /// let vault = strandlodge::Counted::open(&image)?;
+    /// for one in vault.show(16)? {
+    ///     println!("{}{}", one.path, if one.entry.is_directory { "/" } else { "" });
+    /// }
+    /// # Ok(())
+    /// # }
+    /// ```
+    pub fn show(&self, levels: u32) -> Answered<Show> {
+        let mut out = Room::new(FIRST, MOST_SHOW);
+        let answer = retry(&mut out, &mut work_space(), |out, work| calls::show(self.volume, self.image, levels, out, work))?;
+        out.lent.shrink_to_fit();
+        Ok(answer.map(|()| Show::of(out.lent)))
+    }
+
+    /// A file's bytes, or a directory's own.
+    pub fn read_file(&self, icb: impl Into<LongAd>) -> Answered<Vec<u8>> {
+        let icb = icb.into();
+        self.fitted(|| self.held(icb), |out| calls::read(self.volume, self.image, icb, out))
+    }
+
+    /// Looks a path up and reads what it names; the count is that of both.
+    pub fn read_path(&self, path: impl AsRef<[u8]>) -> Answered<Vec<u8>> {
+        self.read_path_as(path, Matching::CaseIgnored)
+    }
+
+    /// The same, with components matched as is said.
+    pub fn read_path_as(&self, path: impl AsRef<[u8]>, matching: Matching) -> Answered<Vec<u8>> {
+        let path = path.as_ref();
+        let held = || self.lookup_as(path, matching).map_or(0, |icb| self.held(icb.value));
+        self.fitted(held, |out| {
+            let call = |_: &mut Vec<u8>, work: &mut Vec<u8>| calls::read_path(self.volume, self.image, path, matching, out, work);
+            retry(&mut Room::none(), &mut work_space(), call)
+        })
+    }
+
+    /// Reads what each of many paths names: for each, in their order, its bytes or why there are none, as [`Counted::read_path`] gives them. One that
+    /// is refused keeps none of the others back. The count is that of all together, each path's sectors once.
+    ///
+    /// Up to 1,024 paths are read by one call of the archive; a file that doesn't fit the room that is left of what is lent to it is read by
+    /// itself. A path with a zero byte in it, which the archive's list can't have, is read by itself too. (No name has that byte, so that such a
+    /// path is refused, by 3 where nothing in front of it is.) The call itself is refused, by 12, only where there is no memory for the list.
+    ///
+    /// ```no_run
+    /// # fn main() -> std::result::Result<(), Box<dyn std::error::Error>> {
+    /// let image = std::fs::read("show.img")?;
+    /// let vault = strandlodge::Counted::open(&image)?;
+    /// let cues = ["SHOW/9", "SHOW/10.1A", "SHOW/11"];
+    /// for (cue, look) in cues.iter().zip(vault.read_all(&cues)?) {
+    ///     match look {
+    ///         Ok(bytes) => println!("{cue}: {} bytes", bytes.len()),
+    ///         Err(why) => println!("{cue}: {why}"),
+    ///     }
+    /// }
+    /// # Ok(())
+    /// # }
+    /// ```
+    pub fn read_all(&self, paths: &[impl AsRef<[u8]>]) -> Answered<Vec<Item>> {
+        self.read_all_as(paths, Matching::CaseIgnored)
+    }
+
+    /// The same, with the components of every path matched as is said.
+    pub fn read_all_as(&self, paths: &[impl AsRef<[u8]>], matching: Matching) -> Answered<Vec<Item>> {
+        let (mut all, mut work) = (Answer { value: Vec::new(), sectors: 0 }, work_space());
+        all.value.try_reserve_exact(paths.len()).map_err(|_| too_many())?;
+        for paths in paths.chunks(AT_ONCE) {
+            let list = List::of(paths).ok_or_else(too_many)?;
+            let mut stack = Stack::read(self.volume, self.image, &list, matching, &mut work)?;
+            all.sectors = all.sectors.saturating_add(stack.sectors);
+            for path in paths.iter().map(AsRef::as_ref) {
+                let came = if List::can_have(path) { stack.next() } else { None };
+                let (item, sectors) = match came {
+                    Some(Ok(bytes)) => (copied(bytes), 0),
+                    // Its sectors are counted already: 5 comes behind all of them.
+                    Some(Err(Refusal::NoRoom)) => (self.alone(path, matching).0, 0),
+                    Some(Err(why)) => (Err(why), 0),
+                    None => self.alone(path, matching),
+                };
+                all.value.push(item);
+                all.sectors = all.sectors.saturating_add(sectors);
+            }
+        }
+        Ok(all)
+    }
+
+    /// A path of a list that is read by itself, and its sectors.
+    fn alone(&self, path: &[u8], matching: Matching) -> (Item, u64) {
+        match self.read_path_as(path, matching) {
+            Ok(answer) => (Ok(answer.value), answer.sectors),
+            Err(refused) => (Err(refused.why), refused.sectors),
+        }
+    }
+
+    /// A read, and again with room for all that the file's extents hold where there was too little: that is exact, and doubling isn't.
+    fn fitted(&self, held: impl FnOnce() -> usize, mut read: impl FnMut(&mut Vec<u8>) -> Answered<()>) -> Answered<Vec<u8>> {
+        let mut out = Room::new(FIRST, most_file(self.image));
+        let mut answer = read(&mut out.lent);
+        if matches!(answer, Err(Refused { why: Refusal::NoRoom, .. })) && out.reach(held()) {
+            answer = read(&mut out.lent);
+        }
+        let answer = answer?;
+        out.lent.shrink_to_fit();
+        Ok(answer.map(|()| out.lent))
+    }
+
+    /// The bytes in all of a file's extents: a read gives no more.
+    fn held(&self, icb: LongAd) -> usize {
+        let lengths = self.extents(icb).map_or(0, |list| list.iter().map(|extent| u64::from(extent.length)).sum());
+        usize::try_from(lengths).unwrap_or(usize::MAX)
+    }
+
+    /// Where a file stands on the disc, its whole chain followed; an embedded file has no extents.
+    pub fn extents(&self, icb: impl Into<LongAd>) -> Answered<Vec<AllocExtent>> {
+        let icb = icb.into();
+        let mut row = Room::new(FIRST_SLOTS, MOST_SLOTS);
+        let answer = retry(&mut row, &mut Room::none(), |row, _| calls::extents(self.volume, self.image, icb, row))?;
+        kept(answer, Refusal::NoSlot, |()| {
+            let mut extents = Vec::new();
+            extents.try_reserve_exact(row.lent.len()).ok()?;
+            extents.extend(row.lent.iter().map(extent));
+            Some(extents)
+        })
+    }
+
+    /// An embedded file's bytes where they stand in the image; none for any other file that can be read.
+    pub fn part(&self, icb: impl Into<LongAd>) -> Answered<&'a [u8]> {
+        calls::part(self.volume, self.image, icb.into())
+    }
+}
+
+/// Work space for the directories on a path.
+fn work_space() -> Room<u8> {
+    Room::new(FIRST, MOST_DIRECTORY)
+}
+
+/// A partition of 65,536 is none, and a type is at most 3.
+fn extent(slot: &Extent) -> AllocExtent {
+    AllocExtent {
+        length: slot.length,
+        extent_type: slot.extent_type as u8,
+        block: slot.block,
+        partition_ref: u16::try_from(slot.partition).ok(),
+    }
+}

@@ -1,0 +1,196 @@
+//! `Vault` and `Drive` as a console uses them: lines that were written for the original, and the same answers as where the sectors are counted.
+
+mod common;
+
+use common::show;
+use std::collections::HashSet;
+use std::io::Cursor;
+use std::sync::Arc;
+use strandlodge::{Counted, CountedDrive, DirEntry, Drive, How, LongAd, Matching, Refusal, Result, Vault};
+use strandlodge::{read_volume_label, read_volume_label_as};
+
+/// As it stood over the original, but for the type of the disc.
+fn load(disc: &mut Drive<Cursor<Vec<u8>>>, cue: &str) -> Result<Vec<u8>> {
+    let show: LongAd = disc.lookup("SHOW")?;
+    for entry in &disc.read_directory(show)? {
+        if entry.name == cue {
+            return disc.read_file(entry.icb);
+        }
+    }
+    Ok(disc.read_path(cue)?)
+}
+
+/// The same over an image.
+fn load_from(disc: &Vault<impl AsRef<[u8]>>, cue: &str) -> Result<Vec<u8>> {
+    let show: LongAd = disc.lookup("SHOW")?;
+    let entries: Vec<DirEntry> = disc.read_directory(show)?;
+    for entry in &entries {
+        if entry.name == cue {
+            return disc.read_file(entry.icb);
+        }
+    }
+    for entry in disc.read_directory(disc.root_directory_icb())? {
+        assert!(entry.is_directory);
+    }
+    Ok(disc.read_path(cue)?)
+}
+
+#[test]
+fn lines_for_the_original_stand() {
+    let mut drive = Drive::open(Cursor::new(show())).unwrap();
+    let vault = Vault::open(show()).unwrap();
+    for cue in ["9", "10.1A", "10.1a", "11", "SHOW/11"] {
+        let look = load(&mut drive, cue).unwrap();
+        assert_eq!(look, load_from(&vault, cue).unwrap());
+        assert!(String::from_utf8(look).unwrap().starts_with("cue "));
+    }
+    assert_eq!(load(&mut drive, "12").unwrap_err().why, Refusal::NotBluray);
+    assert_eq!(load_from(&vault, "12").unwrap_err().why, Refusal::NotBluray);
+    let name: String = vault.label().unwrap();
+    assert_eq!((name.as_str(), drive.label().unwrap().as_str()), ("SHOW 1", "SHOW 1"));
+}
+
+/// A disc that goes from where it is opened to where it is read.
+struct Console {
+    disc: Vault<Vec<u8>>,
+}
+
+#[test]
+fn an_image_is_owned_or_borrowed() {
+    let image = show();
+    let opened = || -> Result<Console> { Ok(Console { disc: Vault::open(show())? }) };
+    let console = std::thread::spawn(opened).join().unwrap().unwrap();
+    assert!(console.disc.read_path("SHOW/11").unwrap().starts_with(b"cue 11\n"));
+    assert_eq!(console.disc.image(), &image[..]);
+    assert_eq!(console.disc.into_inner(), image);
+    // Borrowed it can be copied.
+    let vault = Vault::open(&image).unwrap();
+    let (one, other) = (vault, vault);
+    assert_eq!(one.lookup("SHOW").unwrap(), other.lookup("SHOW").unwrap());
+    let shared: Arc<[u8]> = image.clone().into();
+    let vault = Vault::open(shared.clone()).unwrap();
+    std::thread::scope(|scope| {
+        for cue in ["SHOW/9", "SHOW/11"] {
+            let vault = vault.clone();
+            scope.spawn(move || assert!(vault.read_path(cue).is_ok()));
+        }
+    });
+    assert_eq!(Vault::open(image.clone().into_boxed_slice()).unwrap().sectors(), 6);
+    assert_eq!(Vault::open(&image[..100]).unwrap_err().why, Refusal::Io);
+    assert_eq!(Vault::open([0; 0]).unwrap_err().sectors, 1);
+    assert!(format!("{vault:?}").starts_with("Vault { partition_start_sector: 288, partition_number: 5, root_directory_icb: "));
+}
+
+/// Every call gives the value, or the refusal, that the counted one gives.
+#[test]
+fn plain_answers_are_the_counted_ones() {
+    let image = show();
+    for how in [How::default(), How { checked: true, ..How::default() }, How { highest: true, ..How::default() }] {
+        let (vault, counted) = (Vault::open_as(image.clone(), how).unwrap(), Counted::open_as(&image, how).unwrap());
+        assert_eq!((vault.sectors(), vault.how(), vault.counted().how()), (counted.sectors, how, how));
+        assert_eq!((vault.partition_start_sector(), vault.partition_number()), (288, 5));
+        assert_eq!((vault.maps(), vault.root_directory_icb()), (counted.maps(), counted.root_directory_icb()));
+        assert_eq!((vault.label(), read_volume_label_as(&image, how)), (Ok("SHOW 1".to_string()), Ok("SHOW 1".to_string())));
+        for path in ["", "SHOW", "SHOW/9", "show/10.1a", "SHOW/12", "SHOW/9/x"] {
+            assert_eq!(vault.lookup(path), counted.lookup(path).map(|answer| answer.value), "{path}");
+            assert_eq!(vault.failed(path), counted.failed(path).map(|answer| answer.value), "{path}");
+            assert_eq!(vault.read_path(path), counted.read_path(path).map(|answer| answer.value), "{path}");
+            for matching in [Matching::CaseIgnored, Matching::AsWritten, Matching::Unambiguous] {
+                assert_eq!(vault.lookup_as(path, matching), counted.lookup_as(path, matching).map(|answer| answer.value));
+                assert_eq!(vault.failed_as(path, matching), counted.failed_as(path, matching).map(|answer| answer.value));
+                assert_eq!(vault.read_path_as(path, matching), counted.read_path_as(path, matching).map(|answer| answer.value));
+                assert_eq!(vault.read_all_as(&[path], matching), counted.read_all_as(&[path], matching).map(|answer| answer.value));
+            }
+            let Ok(icb) = vault.lookup(path) else { continue };
+            assert_eq!(vault.read_file(icb), counted.read_file(icb).map(|answer| answer.value));
+            assert_eq!(vault.read_directory(icb), counted.read_directory(icb).map(|answer| answer.value));
+            assert_eq!(vault.extents(icb), counted.extents(icb).map(|answer| answer.value));
+            assert_eq!(vault.part(icb), counted.part(icb).map(|answer| answer.value));
+            assert_eq!((vault.icb_sector(icb), vault.sector_of(icb.location)), (counted.icb_sector(icb), counted.sector_of(icb.location)));
+            for extent in &vault.extents(icb).unwrap() {
+                assert_eq!(vault.extent_sector(icb, extent), counted.extent_sector(icb, extent));
+            }
+        }
+        assert_eq!(vault.read_all(&["SHOW/9", "x"]), counted.read_all(&["SHOW/9", "x"]).map(|answer| answer.value));
+        for levels in [0, 1, 2, 16] {
+            let (show, other) = (vault.show(levels), counted.show(levels));
+            assert_eq!(show.map(Iterator::collect::<Vec<_>>), other.map(|answer| answer.value.collect::<Vec<_>>()));
+        }
+    }
+    assert_eq!(read_volume_label(&image), Ok("SHOW 1".to_string()));
+    let cut = Vault::open(&image[..300 * 2048]).unwrap();
+    let (icb, counted) = (cut.lookup("SHOW/11").unwrap(), cut.counted());
+    let refused = cut.read_file(icb).unwrap_err();
+    assert_eq!((cut.missing_sector(icb, &refused), counted.missing_sector(icb, &refused)), (Some(300), Some(300)));
+}
+
+#[test]
+fn a_drive_s_plain_answers_are_the_counted_ones() {
+    let (mut drive, mut counted) = (Drive::open(Cursor::new(show())).unwrap(), CountedDrive::open(Cursor::new(show())).unwrap());
+    assert_eq!((drive.sectors(), drive.partition_start_sector(), drive.partition_number()), (counted.sectors, 288, 5));
+    assert_eq!((drive.label(), drive.root_directory_icb()), (Ok("SHOW 1".to_string()), counted.root_directory_icb()));
+    for path in ["", "SHOW", "SHOW/9", "show/10.1a", "SHOW/12"] {
+        assert_eq!(drive.lookup(path), counted.lookup(path).map(|answer| answer.value));
+        assert_eq!(drive.failed(path), counted.failed(path).map(|answer| answer.value));
+        assert_eq!(drive.read_path(path), counted.read_path(path).map(|answer| answer.value));
+        for matching in [Matching::AsWritten, Matching::Unambiguous] {
+            assert_eq!(drive.lookup_as(path, matching), counted.lookup_as(path, matching).map(|answer| answer.value));
+            assert_eq!(drive.failed_as(path, matching), counted.failed_as(path, matching).map(|answer| answer.value));
+            assert_eq!(drive.read_path_as(path, matching), counted.read_path_as(path, matching).map(|answer| answer.value));
+        }
+        let Ok(icb) = drive.lookup(path) else { continue };
+        assert_eq!(drive.read_file(icb), counted.read_file(icb).map(|answer| answer.value));
+        assert_eq!(drive.read_directory(icb), counted.read_directory(icb).map(|answer| answer.value));
+        let mut copy = Vec::new();
+        assert_eq!(drive.copy_file(icb, &mut copy).unwrap(), copy.len() as u64);
+        assert_eq!(Ok(copy), drive.read_file(icb));
+        assert_eq!(drive.counted().read_path(path), counted.read_path(path));
+    }
+    assert!(drive.missed().is_none() && drive.get_ref().get_ref() == &show() && drive.into_inner().into_inner() == show());
+    let cut = Drive::open(Cursor::new(show()[..100_000].to_vec())).unwrap_err();
+    assert_eq!((cut.refused.why, cut.missed.unwrap().sector, cut.reader.into_inner().len()), (Refusal::Io, 256, 100_000));
+}
+
+/// An answer with its count is taken where its value is.
+#[test]
+fn a_counted_answer_stands_for_its_value() {
+    let image = show();
+    let vault = Counted::open(&image).unwrap();
+    let entries = vault.read_directory(vault.root_directory_icb()).unwrap();
+    for entry in &entries {
+        assert_eq!(entry.name, "SHOW");
+    }
+    let icb: LongAd = vault.lookup("SHOW").unwrap().into();
+    assert_eq!(icb, vault.lookup("SHOW").unwrap().value);
+}
+
+#[test]
+fn places_can_be_kept_in_a_set() {
+    let vault = Vault::open(show()).unwrap();
+    let icbs: HashSet<LongAd> = ["SHOW/9", "SHOW/10.1A", "show/10.1a", "SHOW/9"].iter().map(|path| vault.lookup(path).unwrap()).collect();
+    assert_eq!(icbs.len(), 2);
+    let entries: HashSet<DirEntry> = vault.read_directory(vault.lookup("SHOW").unwrap()).unwrap().into_iter().collect();
+    assert_eq!(entries.len(), 4);
+}
+
+/// Every call has an example in its documentation, which the tests compile.
+#[test]
+fn every_call_has_an_example() {
+    let mut calls = 0;
+    for source in [include_str!("../src/vault.rs"), include_str!("../src/drive.rs"), include_str!("../src/writer.rs")] {
+        let mut documented = String::new();
+        for line in source.lines().map(str::trim_start) {
+            if line.starts_with("///") {
+                documented += line;
+            } else if line.starts_with("pub fn ") {
+                // What can be refused is a call; a number or a record that is kept is none.
+                assert!(!line.contains("Result<") || documented.contains("```"), "{line}");
+                calls += usize::from(line.contains("Result<"));
+                documented.clear();
+            } else if !line.starts_with("#[") {
+                documented.clear();
+            }
+        }
+    }
+    assert!(calls > 25, "{calls}");
+}
