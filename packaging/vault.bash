@@ -1,0 +1,41 @@
+# Completion of vault for bash.
+_vault() {
+    local word=${COMP_WORDS[COMP_CWORD]} before=${COMP_WORDS[COMP_CWORD-1]} command= image= i
+    local commands="label info ls tree cat get stat probe check make sample"
+    for ((i = 1; i < COMP_CWORD; i++)); do
+        case ${COMP_WORDS[i]} in
+            -o | --icb | --levels | --limit | --wait) ((i++)) ;;
+            -*) ;;
+            *) if [ -z "$command" ]; then command=${COMP_WORDS[i]}; elif [ -z "$image" ]; then image=${COMP_WORDS[i]}; fi ;;
+        esac
+    done
+    case $before in
+        -o) COMPREPLY=($(compgen -d -- "$word")); return ;;
+        --icb | --levels | --limit | --wait) return ;;
+    esac
+    if [[ $word == -* ]]; then
+        local options="--help --sectors --checked --highest --maps --copy --drive"
+        case $command in
+            ls) options+=" -R -i -0 --json --levels --limit --as-written --unambiguous --raw --icb" ;;
+            tree) options+=" --json --levels --limit --as-written --unambiguous --raw --icb" ;;
+            cat) options+=" --wait --as-written --unambiguous --raw --icb" ;;
+            get) options+=" -o -r --limit --wait --as-written --unambiguous --raw --icb" ;;
+            stat) options+=" --json --as-written --unambiguous --raw --icb" ;;
+            info | check) options+=" --json" ;;
+            "") options+=" --version" ;;
+        esac
+        COMPREPLY=($(compgen -W "$options" -- "$word"))
+    elif [ -z "$command" ]; then
+        COMPREPLY=($(compgen -W "$commands" -- "$word"))
+    elif [ -z "$image" ] || [ "$command" = make ]; then
+        compopt -o filenames 2>/dev/null
+        COMPREPLY=($(compgen -f -- "$word"))
+    else
+        # What stands on the disc under the folder that is typed so far, where its names need no quoting.
+        local folder= IFS=$'\n'
+        [[ $word == */* ]] && folder=${word%/*}/
+        compopt -o nospace 2>/dev/null
+        COMPREPLY=($(compgen -W "$(vault ls "$image" "$folder" 2>/dev/null | grep -v '[\\[:space:]$`"]' | sed "s|^|$folder|")" -- "$word"))
+    fi
+}
+complete -F _vault vault
