@@ -5,7 +5,7 @@ mod common;
 use common::command::{Folder, Said, left_out, tool};
 use common::show;
 use std::fs::{self, Permissions};
-use std::os::unix::fs::PermissionsExt;
+use std::os::unix::fs::{PermissionsExt, symlink};
 use std::path::{Path, PathBuf};
 use std::process::Command;
 
@@ -58,7 +58,12 @@ fn everything_is_installed_and_taken_away() {
     assert_eq!(said(Command::new(root().join("install")).arg("relative")).status, 64);
 }
 
-/// README.md has it, with its line for the compiler, and it is compiled so.
+/// The lines for the compiler that README.md has under the example, as they stand.
+fn link_lines(readme: &str) -> Vec<&str> {
+    readme.lines().filter_map(|line| line.strip_prefix("    ")).filter(|line| line.starts_with("cc cue.c ")).collect()
+}
+
+/// README.md has it, with its lines for the compiler, and it is compiled so.
 #[test]
 fn the_example_in_c_runs() {
     let source = fs::read_to_string(root().join("packaging/example.c")).unwrap();
@@ -71,26 +76,28 @@ fn the_example_in_c_runs() {
     let at = installed(&folder);
     folder.write("show.img", &show());
     folder.write("cue.c", source.as_bytes());
-    let mut flags = vec![format!("-I{}", at.join("include").display()), format!("-L{}", at.join("lib").display()), "-lvault_c".to_string()];
-    if let Some(config) = tool("pkg-config") {
-        let mut config = Command::new(config);
-        config.args([
-            "--define-variable=prefix=".to_string() + at.to_str().unwrap(),
-            "--cflags".into(),
-            "--libs".into(),
-            "strandlodge".into(),
-        ]);
-        let found = said(config.env("PKG_CONFIG_PATH", at.join("lib/pkgconfig")));
-        assert_eq!(found.status, 0, "{found:?}");
-        flags = found.out.split_whitespace().map(String::from).collect();
+    fs::create_dir(folder.at("target")).unwrap();
+    symlink(root().join("include").canonicalize().unwrap(), folder.at("include")).unwrap();
+    symlink(archives().canonicalize().unwrap(), folder.at("target/staticlib")).unwrap();
+    let lines = link_lines(&readme);
+    assert_eq!(lines.len(), 2, "{lines:?}");
+    for line in lines {
+        if line.contains("pkg-config") && tool("pkg-config").is_none() {
+            left_out("the example in C as an installed one", "pkg-config");
+            continue;
+        }
+        let mut build = Command::new("sh");
+        let strict = format!("{line}\n{} -std=c11 -Wall -Wextra -Werror -Iinclude -fsyntax-only cue.c", cc.display());
+        build.args(["-ec", &strict]).env("PKG_CONFIG_PATH", at.join("lib/pkgconfig"));
+        // What is installed into a folder is not where it says that it is.
+        build.env("PKG_CONFIG_SYSROOT_DIR", folder.at("at")).current_dir(&folder.0);
+        let built = said(&mut build);
+        assert_eq!(built.status, 0, "{line} {built:?}");
+        let run = said(Command::new(folder.at("cue")).args(["show.img", "SHOW/10.1a"]).current_dir(&folder.0));
+        assert!(run.status == 0 && run.out.starts_with("cue 10.1a\n") && run.error == "54 bytes, 4 sectors\n", "{run:?}");
+        assert_eq!(said(Command::new(folder.at("cue")).args(["show.img", "SHOW/12"]).current_dir(&folder.0)).status, 3);
+        fs::remove_file(folder.at("cue")).unwrap();
     }
-    let mut build = Command::new(cc);
-    build.args(["-std=c11", "-Wall", "-Wextra", "-Werror", "cue.c", "-o", "cue"]).args(flags).current_dir(&folder.0);
-    let built = said(&mut build);
-    assert_eq!(built.status, 0, "{built:?}");
-    let run = said(Command::new(folder.at("cue")).args(["show.img", "SHOW/10.1a"]).current_dir(&folder.0));
-    assert!(run.status == 0 && run.out.starts_with("cue 10.1a\n") && run.error == "54 bytes, 4 sectors\n", "{run:?}");
-    assert_eq!(said(Command::new(folder.at("cue")).args(["show.img", "SHOW/12"]).current_dir(&folder.0)).status, 3);
 }
 
 /// Every option that the command takes is in the man page, and in the completions.
@@ -155,6 +162,8 @@ fn built() -> Folder {
         folder.write(name, b"#!/bin/sh\necho ran \"$@\"\n");
     }
     fs::set_permissions(folder.at("console/target/release/vault"), Permissions::from_mode(0o755)).unwrap();
+    let archives = folder.0.canonicalize().unwrap().join("target/staticlib");
+    folder.write("console/target/release/vault.archives", archives.as_os_str().as_encoded_bytes());
     age(&folder, "console/target/release/vault", "now + 10 seconds");
     folder
 }
@@ -165,11 +174,17 @@ fn age(folder: &Folder, name: &str, time: &str) {
 
 /// The script with neither cargo nor rt at hand.
 fn alone(folder: &Folder, words: &[&str]) -> Said {
+    said(alone_with(folder, words).env_remove("VAULT_ARCHIVE"))
+}
+
+fn alone_with(folder: &Folder, words: &[&str]) -> Command {
     fs::create_dir_all(folder.at("bin")).unwrap();
     for name in ["sh", "dirname", "readlink", "uname", "find", "head", "touch", "mkdir", "cat"] {
         let _ = std::os::unix::fs::symlink(tool(name).unwrap(), folder.at("bin").join(name));
     }
-    said(Command::new(folder.at("vault")).args(words).env("PATH", folder.at("bin")).env_remove("VAULT_ARCHIVE").current_dir(&folder.0))
+    let mut command = Command::new(folder.at("vault"));
+    command.args(words).env("PATH", folder.at("bin")).current_dir(&folder.0);
+    command
 }
 
 #[test]
@@ -184,6 +199,9 @@ fn what_is_built_is_not_built_again() {
         assert!(run.status == 69 && run.error.contains("cargo is missing"), "{newer} {run:?}");
         age(&folder, newer, "2001-01-01");
     }
+    // Built with the archives of another folder, however old these are.
+    let run = said(alone_with(&folder, &["ls"]).env("VAULT_ARCHIVE", folder.at("console")));
+    assert!(run.status == 69 && run.error.contains("cargo is missing"), "{run:?}");
     age(&folder, "target/staticlib/libvault_c.a", "now");
     age(&folder, "crates/a.rt", "now + 20 seconds");
     let run = alone(&folder, &["ls"]);

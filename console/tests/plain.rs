@@ -9,7 +9,40 @@ use std::sync::Arc;
 use strandlodge::{Counted, CountedDrive, DirEntry, Drive, How, LongAd, Matching, Refusal, Result, Vault};
 use strandlodge::{read_volume_label, read_volume_label_as};
 
+/// The lines that were promised to stand, word for word; and the disc is either kind.
+macro_rules! as_they_stood {
+    ($disc:ident, $p:expr) => {{
+        let icb: LongAd = $disc.lookup("SHOW")?;
+        for e in &$disc.read_directory(icb)? {
+            if e.name == $p {
+                return $disc.read_file(e.icb);
+            }
+        }
+        Ok($disc.read_path($p)?)
+    }};
+}
+
+#[allow(clippy::needless_question_mark)]
+fn from_image(disc: &Vault<Vec<u8>>, p: &str) -> Result<Vec<u8>> {
+    as_they_stood!(disc, p)
+}
+
+#[allow(clippy::needless_question_mark)]
+fn from_reader(disc: &mut Drive<Cursor<Vec<u8>>>, p: &str) -> Result<Vec<u8>> {
+    as_they_stood!(disc, p)
+}
+
+#[test]
+fn the_lines_that_were_promised_stand() {
+    let (vault, mut drive) = (Vault::open(show()).unwrap(), Drive::open(Cursor::new(show())).unwrap());
+    for p in ["9", "10.1a", "SHOW/11", "none"] {
+        assert_eq!(from_image(&vault, p), from_reader(&mut drive, p));
+    }
+    assert!(from_image(&vault, "10.1a").unwrap().starts_with(b"cue 10.1a\n"));
+}
+
 /// As it stood over the original, but for the type of the disc.
+#[allow(clippy::needless_question_mark)]
 fn load(disc: &mut Drive<Cursor<Vec<u8>>>, cue: &str) -> Result<Vec<u8>> {
     let show: LongAd = disc.lookup("SHOW")?;
     for entry in &disc.read_directory(show)? {
@@ -21,6 +54,7 @@ fn load(disc: &mut Drive<Cursor<Vec<u8>>>, cue: &str) -> Result<Vec<u8>> {
 }
 
 /// The same over an image.
+#[allow(clippy::needless_question_mark)]
 fn load_from(disc: &Vault<impl AsRef<[u8]>>, cue: &str) -> Result<Vec<u8>> {
     let show: LongAd = disc.lookup("SHOW")?;
     let entries: Vec<DirEntry> = disc.read_directory(show)?;

@@ -473,3 +473,125 @@ fn each_command_has_its_help() {
     let said = folder.vault(&["--version"]);
     answers(&said, &format!("vault {} (include/vault.h {})\n", env!("CARGO_PKG_VERSION"), strandlodge_sys::vault::VERSION));
 }
+
+/// What was planted in the folder beforehand: links to files and folders, a pipe, a folder where a file goes, a file where a folder goes.
+#[test]
+fn what_was_planted_is_neither_followed_nor_written() {
+    let folder = with_folder();
+    folder.write("outside", b"as it was");
+    fs::create_dir_all(folder.at("to/SHOW/9")).unwrap();
+    symlink("../../outside", folder.at("to/SHOW/10.1A")).unwrap();
+    symlink("nothing", folder.at("to/SHOW/10.1a")).unwrap();
+    assert!(Command::new("mkfifo").arg(folder.at("to/SHOW/11")).status().unwrap().success());
+    for drive in [&[][..], &["--drive"]] {
+        let said = folder.vault(&[&["get", "-r", "show.img", "-o", "to"], drive].concat());
+        assert_eq!((said.status, said.out.as_str()), (74, ""), "{said:?}");
+        for (name, why) in [("9", "no ordinary file"), ("10.1A", "isn't followed"), ("10.1a", "isn't followed"), ("11", "no ordinary file")]
+        {
+            assert!(said.error.lines().any(|line| line.contains(&format!("to/SHOW/{name}: ")) && line.contains(why)), "{name} {said:?}");
+        }
+        assert!(said.error.ends_with("4 of 5 files and folders not written\n"), "{said:?}");
+    }
+    assert_eq!(below(&folder, "to"), ["SHOW/", "SHOW/10.1A", "SHOW/10.1a", "SHOW/11", "SHOW/9/"]);
+    assert_eq!(fs::read(folder.at("outside")).unwrap(), b"as it was");
+    // A file where the folder goes; and TO itself may be a link: it is what was typed.
+    fs::remove_dir_all(folder.at("to/SHOW")).unwrap();
+    folder.write("to/SHOW", b"a file");
+    symlink("to", folder.at("link")).unwrap();
+    let said = folder.vault(&["get", "-r", "show.img", "-o", "link"]);
+    assert!(said.status == 74 && said.error.contains("link/SHOW: this is there, and is no folder"), "{said:?}");
+    fs::remove_file(folder.at("to/SHOW")).unwrap();
+    assert_eq!(folder.vault(&["get", "-r", "show.img", "-o", "link"]).status, 0);
+    assert_eq!(below(&folder, "to"), ["SHOW/", "SHOW/10.1A", "SHOW/10.1a", "SHOW/11", "SHOW/9"]);
+    assert_eq!(folder.names(), ["link", "outside", "show.img", "to"]);
+}
+
+/// Files that are there are replaced, with their mode; and another name of one keeps its bytes.
+#[test]
+fn a_file_in_the_folder_is_replaced_as_get_does() {
+    let folder = with_folder();
+    fs::create_dir(folder.at("to/SHOW")).unwrap();
+    folder.write("to/SHOW/11", b"old");
+    fs::hard_link(folder.at("to/SHOW/11"), folder.at("other")).unwrap();
+    fs::set_permissions(folder.at("to/SHOW/11"), fs::Permissions::from_mode(0o4751)).unwrap();
+    assert_eq!(folder.vault(&["get", "-r", "show.img", "-o", "to"]).status, 0);
+    // Who may read it stays, and what it may do as its owner doesn't.
+    assert_eq!(fs::metadata(folder.at("to/SHOW/11")).unwrap().mode() & 0o7777, 0o751);
+    assert_eq!((fs::read(folder.at("to/SHOW/11")).unwrap(), fs::read(folder.at("other")).unwrap()), (BLACKOUT.into(), b"old".to_vec()));
+}
+
+/// Names that differ on the disc, and are one when they are made safe or cut.
+#[test]
+fn names_that_become_one_are_told_apart() {
+    let long = ["x".repeat(126), "x".repeat(127)];
+    // In a name of 8 bits a letter these have two bytes each.
+    let wide = ["é".repeat(125), "é".repeat(126)];
+    let names = ["a/b", "a\\u{2f}b", "a\\u{2f}b~2", "..", "\\u{2e}\\u{2e}", "", "unnamed", &wide[0], &wide[1], &long[0], &long[1]];
+    let recorded = |name: &str| -> Vec<u8> { std::iter::once(8).chain(name.chars().map(|c| c as u8)).collect() };
+    let (folder, mut disc) = (with_folder(), Disc::new());
+    let files: Vec<u32> = (0..names.len()).map(|i| disc.file(i.to_string().as_bytes())).collect();
+    let entries: Vec<Vec<u8>> = names.iter().zip(files).map(|(name, block)| identifier(&recorded(name), block, false)).collect();
+    let root = disc.directory(&entries);
+    disc.root(root);
+    folder.write("a.img", &disc.0);
+    let said = folder.vault(&["get", "-r", "a.img", "-o", "to"]);
+    assert_eq!((said.status, said.out.lines().count()), (0, names.len()), "{said:?}");
+    let cut = "é".repeat(120);
+    let mut safe = vec!["a\\u{2f}b", "a\\u{2f}b~2", "a\\u{2f}b~2~2", "\\u{2e}\\u{2e}", "\\u{2e}\\u{2e}~2", "unnamed", "unnamed~2"];
+    let second = format!("{cut}~2");
+    safe.extend([&cut, &second, &long[0], &long[1]].map(String::as_str));
+    for (i, name) in safe.iter().enumerate() {
+        assert_eq!(fs::read_to_string(folder.at("to").join(name)).unwrap(), i.to_string(), "{name}");
+    }
+    safe.sort();
+    assert_eq!(below(&folder, "to"), safe);
+}
+
+/// Names of every byte and of every 16-bit unit that is hard to write, in every document.
+#[test]
+fn documents_are_json_whatever_the_names_are() {
+    let Some(python) = tool("python3") else {
+        return left_out("documents read by another program", "python3");
+    };
+    let mut recorded: Vec<Vec<u8>> = (0..=255).map(|byte| vec![8, b'a', byte, b'b']).collect();
+    let units = [0, 0x22, 0x5c, 0x7f, 0x85, 0x2028, 0x202e, 0xd7ff, 0xd800, 0xdbff, 0xdc00, 0xdfff, 0xe000, 0xfeff, 0xfffe, 0xffff];
+    recorded.extend(units.map(|unit: u16| [&[16, 0, b'a'][..], &unit.to_be_bytes(), &[0, b'b']].concat()));
+    recorded.extend([vec![], vec![8], vec![16], vec![254, 1], vec![255, 1]]);
+    let (folder, mut disc) = (Folder::new(), Disc::new());
+    let files: Vec<u32> = recorded.iter().map(|name| disc.file(name)).collect();
+    let entry = |(name, block): (&Vec<u8>, &u32)| identifier(name, *block, false);
+    let inner = disc.directory(&recorded.iter().zip(&files).map(entry).collect::<Vec<_>>());
+    let root = disc.directory(&[identifier(&[8, 27, b'"', b'\\', 10], inner, true), named("plain", files[0], false)]);
+    disc.root(root);
+    // The label, and the body of each file's entry: its path is told of.
+    disc.0[32 * SECTOR + 24..][..8].copy_from_slice(&[8, b'"', 27, b'\\', 10, 127, 200, b'x']);
+    disc.0[32 * SECTOR + 55] = 8;
+    for block in files {
+        disc.0[(288 + block as usize) * SECTOR + 100] ^= 1;
+    }
+    folder.write("a.img", &disc.0);
+    let listed = folder.vault(&["ls", "--json", "a.img", "\\u{1b}\"\\\\\\u{a}"]);
+    assert_eq!((listed.status, listed.out.lines().count()), (0, recorded.len()), "{listed:?}");
+    for words in [
+        &["ls", "a.img"][..],
+        &["ls", "a.img", "\\u{1b}\"\\\\\\u{a}"],
+        &["ls", "-R", "a.img"],
+        &["tree", "a.img"],
+        &["stat", "a.img"],
+        &["stat", "a.img", "\\u{1b}\"\\\\\\u{a}"],
+        &["stat", "a.img", "\\u{1b}\"\\\\\\u{a}/a\\u{7f}b"],
+        &["info", "a.img"],
+        &["check", "a.img"],
+    ] {
+        let said = folder.vault(&[words, &["--json"]].concat());
+        folder.write("document", &said.bytes);
+        let mut read = Command::new(&python);
+        read.args(["-m", "json.tool", "document"]).current_dir(&folder.0).env("PYTHONUTF8", "1");
+        let read = Said::of(read.output().unwrap());
+        assert!(
+            read.status == 0 && read.out.len() > 20 && said.status == i32::from(words[0] == "check") * 65,
+            "{words:?} {read:?} {said:?}"
+        );
+        assert!(said.bytes.iter().all(|byte| *byte >= b' ' && *byte != 127 || *byte == b'\n'), "{words:?}");
+    }
+}

@@ -266,7 +266,8 @@ fn safe(name: &str) -> String {
         "." => "\\u{2e}".to_string(),
         ".." => "\\u{2e}\\u{2e}".to_string(),
         _ => {
-            text.truncate(text.floor_char_boundary(LONGEST));
+            let cut = (0..=text.len().min(LONGEST)).rfind(|at| text.is_char_boundary(*at));
+            text.truncate(cut.unwrap_or(0));
             text
         }
     }

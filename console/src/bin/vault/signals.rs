@@ -11,8 +11,8 @@ use std::sync::Once;
 use std::sync::atomic::{AtomicPtr, Ordering};
 use std::{fs, io, ptr};
 
-/// Hang-up, interrupt, quit, termination, too much time, too long a file.
-const ENDING: [c_int; 6] = [1, 2, 3, 15, 24, 25];
+/// Hang-up, interrupt, quit, the two of a user's own, alarm, termination, too much time, too long a file.
+const ENDING: [c_int; 9] = [1, 2, 3, 10, 12, 14, 15, 24, 25];
 
 const DEFAULT: usize = 0;
 const IGNORED: usize = 1;
@@ -106,7 +106,7 @@ mod tests {
             std::thread::sleep(Duration::from_secs(60));
             return;
         }
-        for number in [1, 2, 15] {
+        for number in [1, 2, 10, 14, 15] {
             let name = std::env::temp_dir().join(format!("vault-unfinished-{}-{number}", std::process::id()));
             let this = "signals::tests::a_signal_leaves_no_file";
             let mut child = Command::new(std::env::current_exe().unwrap());
