@@ -1,4 +1,4 @@
-//! The calls of include/vault.h, wrapped. This, and the command's file map and its calls of include/records.h, are the only modules with
+//! The calls of include/vault.h, wrapped. This, `parsing` with those of include/records.h and `mapped` are the only modules of the library with
 //! `unsafe` in them.
 //!
 //! Why the calls are sound. The header asks two things of a caller: that the lent pieces don't overlap, and that their pointers aren't

@@ -66,12 +66,16 @@
 //! # The image stands still
 //!
 //! A `&[u8]` says that nobody writes to its bytes while it is borrowed. Memory of one's own is such a slice by itself. A map of a file is one
-//! only if nobody writes to the file, which no map can see to: whoever makes one, with `unsafe` in their own code or through a crate that
-//! has it, takes that duty over, and hands it on with the slice. Of an image that changes all the same an answer may be that of no image,
+//! only if nobody writes to the file, which no map can see to: whoever makes one, by [`Mapped::open`], which is `unsafe` for this reason, or
+//! otherwise, takes that duty over, and hands it on with the slice. Of an image that changes all the same an answer may be that of no image,
 //! neither as it was nor as it is, with bytes in it that were never written; and [`Vault::part`] gives bytes of the image itself, which go on
 //! changing under whoever looks at them.
 //! Where the duty can't be kept, for an image that is written to in its midst or a drive that may read a sector twice, read the image into memory
 //! first, as `std::fs::read` does, or use [`Drive`], which looks at each sector once. A file that only grows at its end keeps it, for a map of the bytes that it has by then.
+//!
+//! # Records
+//!
+//! [`udf`] has the original's records, `FileEntry`, `DescriptorTag` and the like, over the calls of include/records.h.
 //!
 //! # Memory
 //!
@@ -89,9 +93,12 @@ mod calls;
 mod counted;
 mod counted_drive;
 mod drive;
+mod entries;
 mod how;
+mod mapped;
 mod maps;
 mod matching;
+mod parsing;
 mod records;
 mod room;
 mod sequence;
@@ -99,6 +106,7 @@ mod source;
 mod stack;
 mod table;
 mod tree;
+pub mod udf;
 mod vault;
 mod writer;
 
@@ -113,6 +121,7 @@ pub use counted::{Counted, SECTOR_SIZE};
 pub use counted_drive::{CountedDrive, Uncopied, Unopened};
 pub use drive::Drive;
 pub use how::How;
+pub use mapped::Mapped;
 pub use maps::PartitionMap;
 pub use matching::Matching;
 pub use records::{AllocExtent, DirEntry, LbAddr, LongAd, ShowEntry};

@@ -2,11 +2,12 @@
 
 mod common;
 
+use common::command::Folder;
 use common::show;
 use std::collections::HashSet;
 use std::io::Cursor;
 use std::sync::Arc;
-use strandlodge::{Counted, CountedDrive, DirEntry, Drive, How, LongAd, Matching, Refusal, Result, Vault};
+use strandlodge::{Counted, CountedDrive, DirEntry, Drive, How, LongAd, Mapped, Matching, Refusal, Result, Vault};
 use strandlodge::{read_volume_label, read_volume_label_as};
 
 /// The lines that were promised to stand, word for word; and the disc is either kind.
@@ -113,6 +114,21 @@ fn an_image_is_owned_or_borrowed() {
     assert_eq!(Vault::open(&image[..100]).unwrap_err().why, Refusal::Io);
     assert_eq!(Vault::open([0; 0]).unwrap_err().sectors, 1);
     assert!(format!("{vault:?}").starts_with("Vault { partition_start_sector: 288, partition_number: 5, root_directory_icb: "));
+}
+
+#[test]
+#[allow(unsafe_code)]
+fn an_image_may_be_a_map_of_a_file() {
+    let folder = Folder::new();
+    folder.write("show.img", &show());
+    folder.write("empty", b"");
+    // SAFETY: nobody else knows these files.
+    let map = |name| unsafe { Mapped::open(folder.at(name)) };
+    let opened = || -> Result<Vault<Mapped>> { Vault::open(map("show.img").unwrap()) };
+    let vault = std::thread::scope(|scope| scope.spawn(opened).join().unwrap()).unwrap();
+    assert!(vault.read_path("SHOW/11").unwrap().starts_with(b"cue 11\n"));
+    assert_eq!((vault.image().to_vec(), format!("{:?}", vault.into_inner())), (show(), "Mapped { length: 622592, .. }".to_string()));
+    assert_eq!((map("empty").unwrap().len(), map("none").unwrap_err().kind()), (0, std::io::ErrorKind::NotFound));
 }
 
 /// Every call gives the value, or the refusal, that the counted one gives.

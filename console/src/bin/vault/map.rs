@@ -1,5 +1,5 @@
 //! A file in memory: mapped, so that a disc of 25 GB opens at once and costs what is looked at; or made, of a given length, and mapped to be
-//! written. With the library's calls, `records` and `signals` this is the only module with `unsafe` in it.
+//! written. With `records` and `signals` this is the only module of the command with `unsafe` in it.
 //!
 //! # What is relied on
 //!
@@ -28,11 +28,11 @@ use std::io;
 use std::ops::{Deref, DerefMut};
 use std::os::fd::AsRawFd;
 use std::ptr;
+use strandlodge::Mapped;
 
 const PROT_READ: c_int = 1;
 const PROT_WRITE: c_int = 2;
 const MAP_SHARED: c_int = 1;
-const MAP_PRIVATE: c_int = 2;
 const SIGBUS: c_int = 7;
 
 unsafe extern "C" {
@@ -44,29 +44,14 @@ unsafe extern "C" {
 }
 
 /// A mapped file, or device.
-pub struct Map {
-    at: *mut c_void,
-    length: usize,
-}
+pub struct Map(Mapped);
 
 impl Map {
     /// A map of a file's first `length` bytes. A byte that the file doesn't have ends the command when it is looked at.
     pub fn new(file: &File, length: usize) -> io::Result<Map> {
-        Map::of(file, length, PROT_READ, MAP_PRIVATE)
-    }
-
-    fn of(file: &File, length: usize, protection: c_int, flags: c_int) -> io::Result<Map> {
-        if length == 0 {
-            // An empty map is refused by the system.
-            return Ok(Map { at: ptr::null_mut(), length });
-        }
-        // SAFETY: a new map where the system puts it; no memory of this program is touched.
-        let at = unsafe { mmap(ptr::null_mut(), length, protection, flags, file.as_raw_fd(), 0) };
-        if at as isize == -1 {
-            return Err(io::Error::last_os_error());
-        }
         signals::on(SIGBUS, gone);
-        Ok(Map { at, length })
+        // SAFETY: that no other program writes to the file is relied on: the head of this module.
+        unsafe { Mapped::front(file, length) }.map(Map)
     }
 }
 
@@ -74,39 +59,36 @@ impl Deref for Map {
     type Target = [u8];
 
     fn deref(&self) -> &[u8] {
-        if self.length == 0 {
-            return &[];
-        }
-        // SAFETY: `length` bytes are mapped from `at` on until this is dropped, and nobody in this program can write there. That no other
-        // program writes to the file is relied on: the head of this module.
-        unsafe { std::slice::from_raw_parts(self.at.cast(), self.length) }
-    }
-}
-
-impl Drop for Map {
-    fn drop(&mut self) {
-        if self.length > 0 {
-            // SAFETY: this map, whole, and nothing borrows from it any more.
-            unsafe { munmap(self.at, self.length) };
-        }
+        &self.0
     }
 }
 
 /// A file that is made, mapped to be written: what is put here stands in the file.
-pub struct MapMut(Map);
+pub struct MapMut {
+    at: *mut c_void,
+    length: usize,
+}
 
 impl MapMut {
     /// A map of a new file, which is given `length` bytes, all zero. Its blocks are taken at once.
     pub fn new(file: &File, length: usize) -> io::Result<MapMut> {
         let size = i64::try_from(length).map_err(|_| io::ErrorKind::FileTooLarge)?;
-        if length > 0 {
-            // SAFETY: a call on an open file; no memory of this program is touched.
-            match unsafe { posix_fallocate(file.as_raw_fd(), 0, size) } {
-                0 => {}
-                error => return Err(io::Error::from_raw_os_error(error)),
-            }
+        if length == 0 {
+            // An empty map is refused by the system.
+            return Ok(MapMut { at: ptr::null_mut(), length });
         }
-        Map::of(file, length, PROT_READ | PROT_WRITE, MAP_SHARED).map(MapMut)
+        // SAFETY: a call on an open file; no memory of this program is touched.
+        match unsafe { posix_fallocate(file.as_raw_fd(), 0, size) } {
+            0 => {}
+            error => return Err(io::Error::from_raw_os_error(error)),
+        }
+        // SAFETY: a new map where the system puts it; no memory of this program is touched.
+        let at = unsafe { mmap(ptr::null_mut(), length, PROT_READ | PROT_WRITE, MAP_SHARED, file.as_raw_fd(), 0) };
+        if at as isize == -1 {
+            return Err(io::Error::last_os_error());
+        }
+        signals::on(SIGBUS, gone);
+        Ok(MapMut { at, length })
     }
 }
 
@@ -114,18 +96,32 @@ impl Deref for MapMut {
     type Target = [u8];
 
     fn deref(&self) -> &[u8] {
-        &self.0
+        if self.length == 0 {
+            return &[];
+        }
+        // SAFETY: `length` bytes are mapped from `at` on until this is dropped. That no other program writes to the file is relied on: the head of
+        // this module.
+        unsafe { std::slice::from_raw_parts(self.at.cast(), self.length) }
     }
 }
 
 impl DerefMut for MapMut {
     fn deref_mut(&mut self) -> &mut [u8] {
-        if self.0.length == 0 {
+        if self.length == 0 {
             return &mut [];
         }
         // SAFETY: `length` bytes are mapped from `at` on to be written until this is dropped, and this borrow is the only one. That no other
         // program writes to the file is relied on: the head of this module.
-        unsafe { std::slice::from_raw_parts_mut(self.0.at.cast(), self.0.length) }
+        unsafe { std::slice::from_raw_parts_mut(self.at.cast(), self.length) }
+    }
+}
+
+impl Drop for MapMut {
+    fn drop(&mut self) {
+        if self.length > 0 {
+            // SAFETY: this map, whole, and nothing borrows from it any more.
+            unsafe { munmap(self.at, self.length) };
+        }
     }
 }
 

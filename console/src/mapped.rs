@@ -1,0 +1,108 @@
+//! A file in memory without a copy: a disc of 25 GB opens at once, and costs what is looked at.
+#![allow(unsafe_code)]
+
+use std::ffi::{c_int, c_void};
+use std::fs::File;
+use std::io::{self, Seek, SeekFrom};
+use std::ops::Deref;
+use std::os::fd::AsRawFd;
+use std::path::Path;
+use std::ptr::{self, NonNull};
+use std::{fmt, slice};
+
+const PROT_READ: c_int = 1;
+const MAP_PRIVATE: c_int = 2;
+
+unsafe extern "C" {
+    fn mmap(at: *mut c_void, length: usize, protection: c_int, flags: c_int, file: c_int, offset: i64) -> *mut c_void;
+    fn munmap(at: *mut c_void, length: usize) -> c_int;
+}
+
+/// A file or a device, mapped to be read: an image that a [`Vault`](crate::Vault) can own.
+///
+/// ```no_run
+/// use strandlodge::{Mapped, Vault};
+///
+/// # fn main() -> Result<(), Box<dyn std::error::Error>> {
+/// // SAFETY: nobody writes to this file, or cuts it short, while the vault is there.
+/// let vault = Vault::open(unsafe { Mapped::open("show.img")? })?;
+/// println!("{}", vault.label()?);
+/// # Ok(())
+/// # }
+/// ```
+pub struct Mapped {
+    /// None where the file is empty: an empty map is refused by the system.
+    at: Option<NonNull<u8>>,
+    length: usize,
+}
+
+// SAFETY: it is memory that is only read, and nothing of it belongs to a thread.
+unsafe impl Send for Mapped {}
+// SAFETY: the same.
+unsafe impl Sync for Mapped {}
+
+impl Mapped {
+    /// Maps all of a file or device.
+    ///
+    /// # Safety
+    ///
+    /// Nobody writes to the file while it is mapped: a `&[u8]` says so of its bytes, and no map can see to it. Who can't keep that reads the
+    /// file into memory, or uses [`Drive`](crate::Drive). A file that is cut short meanwhile, and a drive that can't read a sector, end the program
+    /// by SIGBUS where what is gone is looked at; bytes that are added at a file's end aren't in the map.
+    pub unsafe fn open(path: impl AsRef<Path>) -> io::Result<Mapped> {
+        let mut file = File::open(path)?;
+        // Where the end is: a device has no length in its metadata.
+        let length = usize::try_from(file.seek(SeekFrom::End(0))?).map_err(|_| io::ErrorKind::FileTooLarge)?;
+        // SAFETY: handed on.
+        unsafe { Mapped::front(&file, length) }
+    }
+
+    /// Maps the first `length` bytes of a file. A byte that the file doesn't have ends the program when it is looked at.
+    ///
+    /// # Safety
+    ///
+    /// As for [`Mapped::open`].
+    pub unsafe fn front(file: &File, length: usize) -> io::Result<Mapped> {
+        if length == 0 {
+            return Ok(Mapped { at: None, length });
+        }
+        // SAFETY: a new map where the system puts it; no memory of this program is touched.
+        let at = unsafe { mmap(ptr::null_mut(), length, PROT_READ, MAP_PRIVATE, file.as_raw_fd(), 0) };
+        if at as isize == -1 {
+            return Err(io::Error::last_os_error());
+        }
+        Ok(Mapped { at: NonNull::new(at.cast()), length })
+    }
+}
+
+impl Deref for Mapped {
+    type Target = [u8];
+
+    fn deref(&self) -> &[u8] {
+        // SAFETY: `length` bytes are mapped there until this is dropped, and nobody in this program can write there. That no other program writes to
+        // the file is what its maker saw to.
+        self.at.map_or(&[], |at| unsafe { slice::from_raw_parts(at.as_ptr(), self.length) })
+    }
+}
+
+impl AsRef<[u8]> for Mapped {
+    fn as_ref(&self) -> &[u8] {
+        self
+    }
+}
+
+impl fmt::Debug for Mapped {
+    /// Without the bytes, which may be many gigabytes.
+    fn fmt(&self, f: &mut fmt::Formatter<'_>) -> fmt::Result {
+        f.debug_struct("Mapped").field("length", &self.length).finish_non_exhaustive()
+    }
+}
+
+impl Drop for Mapped {
+    fn drop(&mut self) {
+        if let Some(at) = self.at {
+            // SAFETY: this map, whole, and nothing borrows from it any more.
+            unsafe { munmap(at.as_ptr().cast(), self.length) };
+        }
+    }
+}
