@@ -71,6 +71,16 @@ pub fn peek<const N: usize>(image: &[u8], at: usize) -> Option<[u8; N]> {
     Some(std::array::from_fn(|i| unsafe { from.add(i).read_volatile() }))
 }
 
+/// Copies the front of some bytes, as many as there is room for, each looked at once, and gives how many.
+pub fn copy(from: &[u8], to: &mut [u8]) -> usize {
+    let n = from.len().min(to.len());
+    for (byte, to) in from[..n].iter().zip(&mut *to) {
+        // SAFETY: a byte of the slice.
+        *to = unsafe { std::ptr::from_ref(byte).read_volatile() };
+    }
+    n
+}
+
 pub fn probe(image: &[u8]) -> bool {
     see_version();
     // SAFETY: the head of this module; nothing is lent for writing.

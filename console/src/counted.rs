@@ -2,11 +2,14 @@
 
 use crate::answer::{Answer, Answered, Refusal, Refused};
 use crate::calls;
+use crate::counted_drive::CountedDrive;
+use crate::diagnosis::{Asked, Diagnosis, is_of_the_disc};
 use crate::how::How;
 use crate::maps::{PartitionMap, maps, place_of, started};
 use crate::matching::Matching;
 use crate::records::{AllocExtent, DirEntry, LbAddr, LongAd, entries, text};
 use crate::room::{AT_ONCE, FIRST, MOST_DIRECTORY, MOST_SHOW, Room, most_file, retry};
+use crate::source::Copied;
 use crate::stack::{Item, List, Stack, copied, too_many};
 use crate::tree::Show;
 use std::fmt;
@@ -167,6 +170,15 @@ impl<'a> Counted<'a> {
             before -= sectors;
         }
         None
+    }
+
+    /// Where a call on this volume was refused, and why: `refused` is what it gave. It goes over the call again.
+    pub fn diagnose(&self, asked: Asked, refused: &Refused) -> Diagnosis {
+        let mut again = CountedDrive::over(Copied::new(self.image), self.volume);
+        if !is_of_the_disc(refused.why) || again.replay(asked) != Some(refused.why) {
+            return Diagnosis::bare(*refused);
+        }
+        again.diagnose(refused)
     }
 
     /// The root directory.

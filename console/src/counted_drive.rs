@@ -6,7 +6,10 @@
 
 use crate::answer::{Answer, Answered, Refusal, Refused};
 use crate::calls::{self, Row};
+use crate::cause::{Cause, of_reading};
 use crate::counted::SECTOR_SIZE;
+use crate::diagnosis::{Asked, Diagnosis, Sought, is_of_the_disc, opening};
+use crate::how::How;
 use crate::matching::Matching;
 use crate::records::{DirEntry, LongAd, entries};
 use crate::room::{MOST_DIRECTORY, SOME_FILE};
@@ -40,6 +43,16 @@ const WINDOW: usize = TOGETHER as usize * SECTOR;
 pub struct CountedDrive<R> {
     source: Source<R>,
     volume: Volume,
+    trail: Trail,
+}
+
+/// Where the last call has been.
+#[derive(Default)]
+struct Trail {
+    /// The last sector that it asked for, and what for.
+    last: Option<(u64, Sought)>,
+    /// The last ICB that it read.
+    icb: Option<LongAd>,
 }
 
 impl<R> fmt::Debug for CountedDrive<R> {
@@ -105,10 +118,69 @@ impl<R> CountedDrive<R> {
 }
 
 impl<R: Read + Seek> CountedDrive<R> {
-    /// Of a volume that was made by hand.
-    #[cfg(test)]
-    pub fn over(reader: R, volume: Volume) -> CountedDrive<R> {
-        CountedDrive { source: Source::new(reader), volume }
+    /// Of a volume that is known already.
+    pub(crate) fn over(reader: R, volume: Volume) -> CountedDrive<R> {
+        CountedDrive { source: Source::new(reader), volume, trail: Trail::default() }
+    }
+
+    /// Where the last call was refused, and why: `refused` is what it gave. A call that is made in between leaves its own place. The sectors that are looked at
+    /// for it are asked of the reader again.
+    pub fn diagnose(&mut self, refused: &Refused) -> Diagnosis {
+        if !is_of_the_disc(refused.why) {
+            return Diagnosis::bare(*refused);
+        }
+        let mut diagnosis = Diagnosis::at(*refused, self.trail.last, &mut self.source);
+        diagnosis.cause = self.trail.icb.and_then(|icb| match refused.why {
+            Refusal::Unsupported => of_reading(&mut self.source, self.volume.mount, icb),
+            Refusal::Malformed => (icb.length == 0).then_some(Cause::EmptyIcb),
+            _ => None,
+        });
+        diagnosis
+    }
+
+    /// Makes a call on an image again, and gives how it was refused.
+    pub(crate) fn replay(&mut self, asked: Asked) -> Option<Refusal> {
+        match asked {
+            Asked::Lookup(path, matching) => self.lookup_as(path, matching).err().map(Refusal::from),
+            Asked::ReadPath(path, matching) => match self.lookup_as(path, matching) {
+                Ok(icb) => self.passed(icb.value),
+                Err(refused) => Some(refused.why),
+            },
+            Asked::ReadDirectory(icb) => self.read_directory(icb).err().map(Refusal::from),
+            Asked::ReadFile(icb) => self.passed(icb),
+            Asked::Show(levels) => self.walked(levels),
+        }
+    }
+
+    /// Reads a file whose bytes go nowhere, behind what the trail has.
+    fn passed(&mut self, icb: LongAd) -> Option<Refusal> {
+        match self.copied(icb, &mut io::sink()) {
+            Err(Uncopied::Refused { refused, .. }) => Some(refused.why),
+            _ => None,
+        }
+    }
+
+    /// Goes over the directories of a show, in its order, to where it was refused.
+    fn walked(&mut self, levels: u32) -> Option<Refusal> {
+        self.trail = Trail::default();
+        if !(1..=16).contains(&levels) {
+            return Some(Refusal::TooDeep);
+        }
+        let mut pending = match self.read_directory(self.root_directory_icb()) {
+            Ok(entries) => vec![entries.value.into_iter()],
+            Err(refused) => return Some(refused.why),
+        };
+        while let Some(entries) = pending.last_mut() {
+            match entries.find(|entry| entry.is_directory) {
+                None => drop(pending.pop()),
+                Some(_) if pending.len() == levels as usize => return Some(Refusal::TooDeep),
+                Some(entry) => match self.read_directory(entry.icb) {
+                    Ok(entries) => pending.push(entries.value.into_iter()),
+                    Err(refused) => return Some(refused.why),
+                },
+            }
+        }
+        None
     }
 
     /// Opens the volume of a disc, as [`Counted::open`](crate::Counted::open) does.
@@ -120,7 +192,7 @@ impl<R: Read + Seek> CountedDrive<R> {
             opening = calls::opening_step(opening, source.take(wanted));
         }
         match calls::opening_ended(&opening) {
-            Ok(opened) => Ok(opened.map(|volume| CountedDrive { source, volume })),
+            Ok(opened) => Ok(opened.map(|volume| CountedDrive { source, volume, trail: Trail::default() })),
             Err(refused) => Err(Unopened { refused, missed: source.missed, reader: source.reader }),
         }
     }
@@ -153,14 +225,21 @@ impl<R: Read + Seek> CountedDrive<R> {
 
     /// The entries of a directory in the disc's order, without those that are deleted and the parent.
     pub fn read_directory(&mut self, icb: impl Into<LongAd>) -> Answered<Vec<DirEntry>> {
+        self.trail = Trail::default();
         let read = self.directory(icb.into())?;
         self.listed(&read, read.sectors)
     }
 
     /// A file's bytes, or a directory's own.
     pub fn read_file(&mut self, icb: impl Into<LongAd>) -> Answered<Vec<u8>> {
+        self.trail = Trail::default();
+        self.file(icb.into())
+    }
+
+    /// The same, behind what the trail has.
+    fn file(&mut self, icb: LongAd) -> Answered<Vec<u8>> {
         let (mut most, mut known) = (SOME_FILE, false);
-        let mut read = self.whole(icb.into(), |source, needed| {
+        let mut read = self.whole(icb, |source, needed| {
             // Only a file whose extents overlap has more bytes than its disc. The end is sought where it matters.
             if needed > most && !known {
                 let length = source.length().map_or(usize::MAX, |length| usize::try_from(length).unwrap_or(usize::MAX));
@@ -181,7 +260,7 @@ impl<R: Read + Seek> CountedDrive<R> {
     pub fn read_path_as(&mut self, path: impl AsRef<[u8]>, matching: Matching) -> Answered<Vec<u8>> {
         let icb = self.lookup_as(path, matching)?;
         let both = |sectors: u64| sectors.saturating_add(icb.sectors);
-        match self.read_file(icb) {
+        match self.file(icb.value) {
             Ok(read) => Ok(Answer { sectors: both(read.sectors), ..read }),
             Err(refused) => Err(Refused { sectors: both(refused.sectors), ..refused }),
         }
@@ -192,13 +271,19 @@ impl<R: Read + Seek> CountedDrive<R> {
     /// What had arrived is written also where the read is refused in the end. Nothing bounds it but the descriptors of the file: a disc that was made to do
     /// harm may give more bytes than it has, and a writer that has had enough fails.
     pub fn copy_file(&mut self, icb: impl Into<LongAd>, to: &mut impl Write) -> std::result::Result<Answer<u64>, Uncopied> {
+        self.trail = Trail::default();
+        self.copied(icb.into(), to)
+    }
+
+    /// The same, behind what the trail has.
+    fn copied(&mut self, icb: LongAd, to: &mut impl Write) -> std::result::Result<Answer<u64>, Uncopied> {
         let (mut window, mut written) = (Vec::with_capacity(WINDOW), 0);
         let mut write = |window: &mut Vec<u8>| {
             written += window.len() as u64;
             to.write_all(window).map(|()| window.clear())
         };
         // A read goes on in an empty window as it would behind what was there: where its bytes go depends on the room alone.
-        let reading = self.read(icb.into(), &mut window, |_, window, more| {
+        let reading = self.read(icb, &mut window, |_, window, more| {
             if window.capacity() - window.len() < more {
                 write(window)?;
             }
@@ -238,8 +323,9 @@ impl<R: Read + Seek> CountedDrive<R> {
         out: &mut Vec<u8>,
         mut lend: impl FnMut(&mut Source<R>, &mut Vec<u8>, usize) -> std::result::Result<usize, E>,
     ) -> std::result::Result<Reading, E> {
-        let (source, mut row, mut most) = (&mut self.source, Row::new(), 0);
+        let (source, trail, mut row, mut most) = (&mut self.source, &mut self.trail, Row::new(), 0);
         source.begin();
+        trail.icb = Some(icb);
         let mut reading = calls::reading_start(self.volume, icb, &mut row);
         while let Some(wanted) = calls::reading_wants(&reading) {
             if !source.is_full() {
@@ -250,6 +336,7 @@ impl<R: Read + Seek> CountedDrive<R> {
                 source.fetch(wanted, sectors.min((room / SECTOR) as u64 + 1));
             }
             lengthen(&mut row, reading.scan.listed);
+            trail.last = Some((wanted, Sought::of_reading(reading.phase)));
             reading = calls::reading_step(reading, source.take(wanted), &mut row, out, most);
         }
         Ok(reading)
@@ -260,6 +347,7 @@ impl<R: Read + Seek> CountedDrive<R> {
         let (mut at, mut sectors) = ((self.root_directory_icb(), true), 0u64);
         let (mut rest, ended) = (0, |came, lost, sectors| Walked { came, lost, sectors });
         self.source.begin();
+        self.trail = Trail::default();
         while let Some((component, end)) = calls::next_component(path, rest) {
             let (icb, is_directory) = at;
             if !is_directory {
@@ -341,6 +429,13 @@ impl<R> fmt::Display for Unopened<R> {
 }
 
 impl<R> error::Error for Unopened<R> {}
+
+impl<R: Read + Seek> Unopened<R> {
+    /// Where it was refused, and why. The sectors that are looked at for it are asked of the reader again.
+    pub fn diagnose(&mut self) -> Diagnosis {
+        opening(&mut Source::new(&mut self.reader), How::default(), self.refused)
+    }
+}
 
 impl<R> From<Unopened<R>> for Refused {
     fn from(unopened: Unopened<R>) -> Refused {

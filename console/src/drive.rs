@@ -1,7 +1,8 @@
 //! The calls, over a reader.
 
-use crate::answer::{Answer, Result};
+use crate::answer::{Answer, Refused, Result};
 use crate::counted_drive::{CountedDrive, Uncopied, Unopened};
+use crate::diagnosis::Diagnosis;
 use crate::matching::Matching;
 use crate::records::{DirEntry, LongAd};
 use crate::source::Missed;
@@ -102,6 +103,22 @@ impl<R> Drive<R> {
 }
 
 impl<R: Read + Seek> Drive<R> {
+    /// Where the last call was refused, and why: `refused` is what it gave. A call that is made in between leaves its own place. The sectors that are looked at
+    /// for it are asked of the reader again.
+    ///
+    /// ```no_run
+    /// # fn main() -> Result<(), Box<dyn std::error::Error>> {
+    /// # let mut drive = strandlodge::Drive::open(std::fs::File::open("/dev/sr0")?)?;
+    /// if let Err(refused) = drive.read_path("SHOW/9") {
+    ///     println!("{}", drive.diagnose(&refused));
+    /// }
+    /// # Ok(())
+    /// # }
+    /// ```
+    pub fn diagnose(&mut self, refused: &Refused) -> Diagnosis {
+        self.inner.diagnose(refused)
+    }
+
     /// Opens the volume of a disc, as [`Vault::open`](crate::Vault::open) does.
     ///
     /// ```no_run

@@ -182,7 +182,7 @@ impl FileEntry {
             return Ok(());
         }
         for one in Area::new(kind, area) {
-            match one? {
+            match one.map_err(Unread::refused)? {
                 Descriptor::Short(ad) => self.short_ads.push(ad),
                 Descriptor::Long(ad) => self.long_ads.push(ad),
                 Descriptor::Extended(ad) => self.ext_ads.push(ad),
@@ -259,6 +259,22 @@ impl Descriptor {
     }
 }
 
+/// A descriptor that isn't read.
+#[derive(Debug, Clone, Copy, PartialEq, Eq)]
+pub(crate) enum Unread {
+    /// Its recorded length isn't its information length.
+    Compressed(ExtAd),
+    /// It isn't one.
+    Malformed,
+}
+
+impl Unread {
+    fn refused(self) -> Refused {
+        let why = if self == Unread::Malformed { Refusal::Malformed } else { Refusal::Unsupported };
+        Refused { why, sectors: 0 }
+    }
+}
+
 /// The descriptors of an area in turn (docs/RULES.md, part 6): a length of 0 ends it, a continuation is the last, and a compressed extent is refused by 4.
 pub(crate) struct Area<'a> {
     kind: AdType,
@@ -272,9 +288,9 @@ impl<'a> Area<'a> {
 }
 
 impl Iterator for Area<'_> {
-    type Item = Result<Descriptor>;
+    type Item = std::result::Result<Descriptor, Unread>;
 
-    fn next(&mut self) -> Option<Result<Descriptor>> {
+    fn next(&mut self) -> Option<Self::Item> {
         let size = match self.kind {
             AdType::Short => ShortAd::SIZE,
             AdType::Long => LongAd::SIZE,
@@ -285,11 +301,9 @@ impl Iterator for Area<'_> {
         self.rest = behind;
         let one = match Descriptor::parse(self.kind, front) {
             Ok((0, _)) => None,
-            Ok((_, Descriptor::Extended(ad))) if ad.recorded_length != ad.information_length => {
-                Some(Err(Refused { why: Refusal::Unsupported, sectors: 0 }))
-            }
+            Ok((_, Descriptor::Extended(ad))) if ad.recorded_length != ad.information_length => Some(Err(Unread::Compressed(ad))),
             Ok((_, one)) => Some(Ok(one)),
-            Err(refused) => Some(Err(refused)),
+            Err(_) => Some(Err(Unread::Malformed)),
         };
         if !matches!(one, Some(Ok(Descriptor::Short(_) | Descriptor::Long(_) | Descriptor::Extended(_)))) {
             self.rest = &[];

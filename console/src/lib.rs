@@ -26,6 +26,12 @@
 //! each descriptor that is parsed, by this call and by every later one on the volume, and refuses by 10 where it is another. The bytes of a
 //! file have no CRC.
 //!
+//! # Where a call was refused
+//!
+//! A refusal is a number and a count. [`Vault::diagnose`], [`Drive::diagnose`] and, of an opening, [`diagnose()`] and [`Unopened::diagnose`] go over the
+//! refused call again and name the last sector that it asked for, what for and what stands there ([`Place`]), and which of its causes the refusal had
+//! ([`Cause`]): another block size, a partition map of another form, an extent that isn't recorded.
+//!
 //! # Several partitions
 //!
 //! By ECMA-167 a partition reference is an index into the logical volume's partition maps. The original compares it with the partition's number
@@ -90,14 +96,17 @@ compile_error!("the archive is x86-64 code for Linux");
 
 mod answer;
 mod calls;
+mod cause;
 mod counted;
 mod counted_drive;
+mod diagnosis;
 mod drive;
 mod entries;
 mod how;
 mod mapped;
 mod maps;
 mod matching;
+mod opening;
 mod parsing;
 mod records;
 mod room;
@@ -117,8 +126,10 @@ mod input;
 mod replays;
 
 pub use answer::{Answer, Answered, Refusal, Refused, Result};
+pub use cause::Cause;
 pub use counted::{Counted, SECTOR_SIZE};
 pub use counted_drive::{CountedDrive, Uncopied, Unopened};
+pub use diagnosis::{Asked, Diagnosis, Place, Sought, Standing, diagnose};
 pub use drive::Drive;
 pub use how::How;
 pub use mapped::Mapped;

@@ -1,5 +1,6 @@
 //! A reader that is asked for sectors: for each once, and for those that stand in a row together.
 
+use crate::calls;
 use crate::counted::SECTOR_SIZE;
 use std::fmt;
 use std::io::{self, Read, Seek, SeekFrom};
@@ -98,10 +99,53 @@ impl<R: Read + Seek> Source<R> {
         &[]
     }
 
+    /// A sector, looked at beside a call's list: what the last call left is kept but for what it had not taken.
+    pub fn look(&mut self, number: u64) -> Option<Vec<u8>> {
+        number.checked_mul(SECTOR_SIZE)?;
+        let missed = self.missed.take();
+        self.fetch(number, 1);
+        let bytes = self.take(number).to_vec();
+        self.begin();
+        self.missed = missed;
+        (bytes.len() == SECTOR).then_some(bytes)
+    }
+
     /// How many bytes the reader has, where it can tell.
     pub fn length(&mut self) -> Option<u64> {
         self.stands = None;
         self.reader.seek(SeekFrom::End(0)).ok()
+    }
+}
+
+/// An image as a reader: what is read is copied, each byte looked at once, also where the image is a map that someone writes to.
+pub struct Copied<'a> {
+    image: &'a [u8],
+    at: u64,
+}
+
+impl<'a> Copied<'a> {
+    pub fn new(image: &'a [u8]) -> Copied<'a> {
+        Copied { image, at: 0 }
+    }
+}
+
+impl Read for Copied<'_> {
+    fn read(&mut self, to: &mut [u8]) -> io::Result<usize> {
+        let from = usize::try_from(self.at).ok().and_then(|at| self.image.get(at..)).unwrap_or_default();
+        let n = calls::copy(from, to);
+        self.at += n as u64;
+        Ok(n)
+    }
+}
+
+impl Seek for Copied<'_> {
+    fn seek(&mut self, to: SeekFrom) -> io::Result<u64> {
+        self.at = match to {
+            SeekFrom::Start(at) => at,
+            SeekFrom::End(by) => (self.image.len() as u64).saturating_add_signed(by),
+            SeekFrom::Current(by) => self.at.saturating_add_signed(by),
+        };
+        Ok(self.at)
     }
 }
 

@@ -2,7 +2,7 @@
 
 use crate::calls;
 use crate::how::How;
-use crate::sequence::{Kind, SECTOR, number, partition, partition_start, volume_descriptors};
+use crate::sequence::{Kind, SECTOR, partition, partition_start, volume_descriptors};
 
 /// Where in a logical volume descriptor the length of the table, the number of maps and the table itself stand (ECMA-167 3/10.6).
 const LENGTH: usize = 264;
@@ -62,35 +62,41 @@ pub fn map_table(image: &[u8], how: How) -> Option<MapTable> {
     let prevailing = |kind| descriptors.iter().filter(move |one| one.prevails && one.kind == kind);
     let logical = prevailing(Kind::LogicalVolume).next()?.sector as usize;
     let partitions: Vec<_> = prevailing(Kind::Partition).map(|one| (partition(image, one), partition_start(image, one))).collect();
-    let (length, maps) = (number(image, logical, LENGTH), number(image, logical, MAPS));
+    let start = |number| partitions.iter().find(|(of, _)| *of == number).map(|(_, start)| *start);
+    Some(table(image.get(logical * SECTOR..)?, start))
+}
+
+/// The table of the logical volume descriptor at the front of these bytes; `start` says where a partition of a number starts, if there is one.
+pub(crate) fn table(logical: &[u8], start: impl Fn(u16) -> Option<u32>) -> MapTable {
+    let number = |at| calls::peek(logical, at).map_or(0, u32::from_le_bytes);
+    let (length, maps) = (number(LENGTH), number(MAPS));
     let (mut found, mut at) = (Vec::new(), TABLE);
     let end = TABLE.saturating_add(length as usize).min(SECTOR);
     while found.len() < maps as usize
-        && let Some(map) = map_at(image, logical * SECTOR, at, end)
+        && let Some(map) = map_at(logical, at, end)
     {
         at += map.len();
-        found.push(form(&map, &partitions));
+        found.push(form(&map, &start));
     }
-    Some(MapTable { maps, length, found })
+    MapTable { maps, length, found }
 }
 
 /// The bytes of the map at a place of a sector, where it ends in front of `end`. Each is looked at once.
-fn map_at(image: &[u8], sector: usize, at: usize, end: usize) -> Option<Vec<u8>> {
-    let [kind, length] = calls::peek(image, sector + at).filter(|_| at + PLAIN.len() <= end)?;
+fn map_at(sector: &[u8], at: usize, end: usize) -> Option<Vec<u8>> {
+    let [kind, length] = calls::peek(sector, at).filter(|_| at + PLAIN.len() <= end)?;
     if usize::from(length) < PLAIN.len() || at + usize::from(length) > end {
         return None;
     }
-    let rest = (PLAIN.len()..length.into()).map(|i| calls::peek::<1>(image, sector + at + i).map_or(0, |[byte]| byte));
+    let rest = (PLAIN.len()..length.into()).map(|i| calls::peek::<1>(sector, at + i).map_or(0, |[byte]| byte));
     Some([kind, length].into_iter().chain(rest).collect())
 }
 
-/// A map by its bytes; `partitions` are the numbers of those that there are, each with its start.
-fn form(map: &[u8], partitions: &[(u16, u32)]) -> MapForm {
+/// A map by its bytes.
+fn form(map: &[u8], start: impl Fn(u16) -> Option<u32>) -> MapForm {
     match *map {
         [kind, length, v, w, n, m] if [kind, length] == PLAIN => {
             let number = u16::from_le_bytes([n, m]);
-            let start = partitions.iter().find(|(of, _)| *of == number).map(|(_, start)| (*start).into());
-            MapForm::Plain { volume: u16::from_le_bytes([v, w]), number, start }
+            MapForm::Plain { volume: u16::from_le_bytes([v, w]), number, start: start(number).map(u64::from) }
         }
         _ => {
             // Two bytes are reserved, and flags stand in front of the identifier (OSTA UDF 2.2.8).

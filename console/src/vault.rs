@@ -3,6 +3,7 @@
 use crate::answer::{Answer, Answered, Refused, Result};
 use crate::calls;
 use crate::counted::Counted;
+use crate::diagnosis::{Asked, Diagnosis};
 use crate::how::How;
 use crate::maps::PartitionMap;
 use crate::matching::Matching;
@@ -205,6 +206,22 @@ impl<B: AsRef<[u8]>> Vault<B> {
     /// stands behind the file's entry: no call gives its place.
     pub fn missing_sector(&self, icb: impl Into<LongAd>, refused: &Refused) -> Option<u64> {
         self.counted().missing_sector(icb, refused)
+    }
+
+    /// Where a call on this volume was refused, and why: `refused` is what it gave. It goes over the call again, a sector at a time.
+    ///
+    /// ```no_run
+    /// # fn main() -> Result<(), Box<dyn std::error::Error>> {
+    /// # let disc = strandlodge::Vault::open(std::fs::read("show.img")?)?;
+    /// let icb = disc.lookup("SHOW/9")?;
+    /// if let Err(refused) = disc.read_file(icb) {
+    ///     println!("{}", disc.diagnose(strandlodge::Asked::ReadFile(icb), &refused));
+    /// }
+    /// # Ok(())
+    /// # }
+    /// ```
+    pub fn diagnose(&self, asked: Asked, refused: &Refused) -> Diagnosis {
+        self.counted().diagnose(asked, refused)
     }
 
     /// The root directory.

@@ -267,7 +267,8 @@ fn a_check_may_stop_at_a_wrong_body() {
     let folder = Folder::new();
     folder.write("a.img", &planted);
     let said = folder.vault(&["check", "--checked", "a.img"]);
-    let unread = "/b: can't be read: a descriptor's body isn't the one that its tag has the CRC of: it is scratched, or was written so (refusal 10)\n";
+    let unread = "/b: can't be read: a descriptor's body isn't the one that its tag has the CRC of: it is scratched, or was written so (refusal 10); \
+                  the last sector asked for was 307, for a file entry: it has tag 261 (file entry)\n";
     assert_eq!((said.status, said.out), (65, one.ruined_in(&planted) + unread));
     assert_eq!(said.error, sentence(all.len() - 2, 0, 1, 1));
     folder.write("a.img", &all[0].flipped(&image));
@@ -298,13 +299,14 @@ fn what_cannot_be_read_is_said() {
     let mut image = show();
     image[at(5) + 4] ^= 1;
     let said = check(&image);
-    assert_eq!((said.status, said.out), (67, format!("/SHOW/9: {malformed}\n")));
+    let untagged = "the last sector asked for was 293, for a file entry: it has no tag";
+    assert_eq!((said.status, said.out), (67, format!("/SHOW/9: {malformed}; {untagged}\n")));
     assert_eq!(said.error, sentence(18, 0, 0, 1));
     // And beside it a wrong location, of cue 11's entry.
     locate(&mut image, at(11), 12);
     let said = check(&image);
     let misplaced = "/SHOW/11: file entry (id 261) says 12, stands in block 11 (sector 299)\n";
-    assert_eq!((said.status, said.out), (65, format!("/SHOW/9: {malformed}\n{misplaced}")));
+    assert_eq!((said.status, said.out), (65, format!("/SHOW/9: {malformed}; {untagged}\n{misplaced}")));
     // The last identifier of SHOW, whose directory is then refused behind it; its cue isn't come to.
     let mut image = show();
     let last = image[at(4)..at(5)].windows(2).rposition(|two| two == 257u16.to_le_bytes()).unwrap();
@@ -313,7 +315,8 @@ fn what_cannot_be_read_is_said() {
     let length = usize::from(u16::from_le_bytes([image[at(4) + 10], image[at(4) + 11]]));
     seal(&mut image[at(4)..], length);
     let said = check(&image);
-    assert_eq!((said.status, said.out), (67, format!("/SHOW, from byte {} on: {malformed}\n", last - 176)));
+    let place = "the last sector asked for was 292, for a file entry: it has tag 261 (file entry)";
+    assert_eq!((said.status, said.out), (67, format!("/SHOW, from byte {} on: {malformed}; {place}\n", last - 176)));
     // An ICB outside the image, and one of length 0.
     let mut disc = Disc::new();
     let mut none = named("not", 0, false);
@@ -325,7 +328,7 @@ fn what_cannot_be_read_is_said() {
     }
     let said = check(&disc.0);
     assert!(said.status == 67 && said.out.starts_with("/far: can't be read: a sector that was asked for"), "{said:?}");
-    assert_eq!(said.out.lines().nth(1), Some(format!("/not: {malformed}").as_str()));
+    assert_eq!(said.out.lines().nth(1), Some("/not: can't be read: its ICB has a length of 0, and names nothing (refusal 2)"));
 }
 
 /// A descriptor of type 3, of this kind: 0 short_ad, 1 long_ad, 2 ext_ad.
@@ -354,8 +357,8 @@ fn continuations_of_every_kind_are_checked() {
         }
         let said = check(&disc.0);
         if partition == 6 {
-            let refused = said.out.starts_with("/file: can't be read: the disc has a form that isn't read");
-            assert!(said.status == 67 && refused && said.out.ends_with("(refusal 4)\n"), "{kind} {said:?}");
+            let why = "/file: can't be read: partition reference 6 isn't the number of the volume's partition, which is 5 (refusal 4); ";
+            assert!(said.status == 67 && said.out.starts_with(why) && said.out.lines().count() == 1, "{kind} {said:?}");
             continue;
         }
         let stands = format!("block {header} (sector {})", START as u32 + header);

@@ -161,7 +161,8 @@ fn a_tree_names_what_it_cannot_read() {
     let said = folder.vault(&["tree", "a.img"]);
     assert_eq!((said.status, said.out.as_str()), (1, "/\n├── a\n├── d/\n│   ├── x\n│   ├── gone/\n"));
     assert!(
-        said.error.starts_with("vault: a.img: \"d/gone\": a sector that was asked for") && said.error.ends_with("(refusal 1)\n"),
+        said.error.starts_with("vault: a.img: \"d/gone\": a sector that was asked for")
+            && said.error.ends_with("(refusal 1); the last sector asked for was 900288, for a file entry: it isn't there\n"),
         "{said:?}"
     );
 }
@@ -500,7 +501,8 @@ fn many_files_go_on_past_a_refused_one() {
     assert_eq!(said.status, 67, "{said:?}");
     assert!(said.out.starts_with("SHOW/11: 16 bytes, to to/11\nSHOW/9: ") && said.out.lines().count() == 2, "{said:?}");
     let errors: Vec<&str> = said.error.lines().collect();
-    assert_eq!(errors[0], "vault: show.img: there is nothing named \"12\" under \"SHOW\" (refusal 3)");
+    let place = "the last sector asked for was 292, for a file entry: it has tag 261 (file entry)";
+    assert_eq!(errors[0], format!("vault: show.img: there is nothing named \"12\" under \"SHOW\" (refusal 3); {place}"));
     assert!(errors[1].contains("\"SHOW\" is a directory") && errors[2].contains("\"no\" under the root"), "{said:?}");
     assert_eq!(errors[3..], ["vault: show.img: 3 of 5 files not written"]);
     assert_eq!(taken(&folder), ["11", "9"]);

@@ -184,8 +184,11 @@ fn the_time_that_is_waited_has_an_end() {
         folder.write("disc.img", &image[..length]);
         let began = Instant::now();
         let said = folder.vault(&["get", "disc.img", "cue", "file", "--wait", seconds]);
-        let says = format!("(refusal 1); waited for {seconds} s: {} sectors are there, and {missing} isn't yet\n", length / SECTOR);
-        assert!(said.status == 1 && said.error.ends_with(&says), "{said:?}");
+        let says = format!(": it isn't there; waited for {seconds} s: {} sectors are there, and {missing} isn't yet\n", length / SECTOR);
+        assert!(
+            said.status == 1 && said.error.ends_with(&says) && said.error.contains("(refusal 1); the last sector asked for was "),
+            "{said:?}"
+        );
         assert!(began.elapsed() >= Duration::from_secs(seconds.parse().unwrap()));
     };
     // The extents in turn: the first one stands behind the second.

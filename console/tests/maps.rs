@@ -5,7 +5,7 @@ mod common;
 
 use common::command::Folder;
 use common::{SECTOR, VOLUME_BODY, continued, noise, seal, sealed, short_ad, show};
-use strandlodge::{Counted, How, Kind, LbAddr, LongAd, MapForm, PartitionMap, Refusal, map_table, volume_descriptors};
+use strandlodge::{Asked, Cause, Counted, How, Kind, LbAddr, LongAd, MapForm, PartitionMap, Refusal, map_table, volume_descriptors};
 
 const MAPS: How = How { highest: false, checked: false, maps: true };
 
@@ -262,7 +262,7 @@ fn every_command_that_opens_goes_through_the_maps() {
         // Without, the file set isn't in the partition.
         let plain = folder.vault(words);
         assert_eq!(plain.status, 4, "{words:?}");
-        assert!(plain.error.ends_with("(refusal 4); its partition is found through its maps, with --maps\n"), "{plain:?}");
+        assert!(plain.error.contains("(refusal 4); its partition is found through its maps, with --maps; the last sector"), "{plain:?}");
     };
     says(&["label", "a.img"], "SHOW 1\n");
     says(&["ls", "a.img"], "near\nfar\nFOLDER/\nlost\n");
@@ -299,8 +299,11 @@ fn the_maps_of_a_volume_are_shown() {
     let said = folder.vault(&["stat", "a.img", "--maps"]);
     assert!(said.out.ends_with("map      1, type 2 (*UDF Virtual Partition), 64 bytes: a form that isn't read\n"), "{said:?}");
     // No way out is said where the maps are none either.
-    assert!(said.status == 4 && said.error.ends_with("(refusal 4)\n"), "{said:?}");
-    assert!(folder.vault(&["ls", "a.img"]).error.ends_with("(refusal 4)\n"));
+    for said in [said, folder.vault(&["ls", "a.img"])] {
+        let why =
+            "partition map 1 is of type 2 (*UDF Virtual Partition), and type 1 is read (refusal 4); the last sector asked for was 36,";
+        assert!(said.status == 4 && said.error.contains(why) && !said.error.contains("--maps"), "{said:?}");
+    }
 }
 
 #[test]
@@ -312,11 +315,24 @@ fn a_partition_whose_number_is_not_its_reference() {
     assert_eq!(folder.vault(&["check", "--maps", "a.img"]).out, "10 descriptors, each in place and with a right body\n");
 }
 
+/// Through the maps a reference that none has is the cause: of an ICB, of an extent, and of a continuation.
+#[test]
+fn a_reference_that_no_map_has_is_the_cause() {
+    let mut disc = two();
+    disc.entry((4, 0), 1, &[long_ad(2048, (5, 0)), long_ad(952, (9, 7))].concat(), 3000);
+    disc.entry((1, 1), 1, &long_ad(32 | 3 << 30, (3, 8)), 3000);
+    let vault = Counted::open_as(&disc.0, MAPS).unwrap();
+    for (path, reference, sector) in [("lost", 2, None), ("near", 7, Some(293)), ("far", 8, Some(401))] {
+        let icb = vault.lookup(path).unwrap().value;
+        let why = vault.diagnose(Asked::ReadFile(icb), &vault.read_file(icb).unwrap_err());
+        assert_eq!((why.cause, why.place.map(|place| place.sector)), (Some(Cause::NoMap { reference, maps: 2 }), sector), "{path}");
+    }
+}
+
 #[test]
 fn check_walks_through_the_maps() {
     let disc = two();
-    let lost = "/lost: can't be read: the disc has a form that isn't read: another block size or partition, \
-                a compressed or an unrecorded extent (refusal 4)\n";
+    let lost = "/lost: can't be read: partition reference 2 leads to no partition map, of which there are 2 (refusal 4)\n";
     let sentence = |misplaced: u32, ruined: u32| {
         format!("vault: a.img: descriptors: 20, not in place: {misplaced}, with a wrong body: {ruined}; places that can't be read: 1\n")
     };

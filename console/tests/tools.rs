@@ -114,7 +114,7 @@ fn genisoimage() {
     // By its number the partition isn't found any more, and by its map it is.
     folder.write("other.iso", &renumbered(std::fs::read(folder.at("disc.iso")).unwrap()));
     let lost = folder.vault(&["ls", "other.iso"]);
-    assert!(lost.status == 4 && lost.error.ends_with("with --maps\n"), "{lost:?}");
+    assert!(lost.status == 4 && lost.error.contains("found through its maps, with --maps; "), "{lost:?}");
     assert_eq!(folder.vault(&["ls", "--maps", "other.iso", "wide"]).out, folder.vault(&["ls", "disc.iso", "wide"]).out);
     assert_eq!(all_right(&folder, &["check", "--maps", "--checked", "other.iso"]), all_right(&folder, &["check", "disc.iso"]));
     assert!(folder.vault(&["cat", "--maps", "other.iso", "of 3000000"]).bytes == noise(3_000_000));
@@ -228,12 +228,18 @@ fn mkudffs_in_forms_that_are_not_read() {
         return left_out("images of mkudffs that are refused", "mkudffs");
     };
     for (media, revision) in [("cdr", "1.50"), ("dvdr", "2.01"), ("bdr", "2.50"), ("bdr", "2.60")] {
-        let (_folder, label, root) = mkudffs(&tool, &["-b", "2048", "-m", media, "-r", revision]);
+        let (folder, label, root) = mkudffs(&tool, &["-b", "2048", "-m", media, "-r", revision]);
         assert_eq!((label, root), (4, 4), "{media} {revision}");
+        let said = folder.vault(&["ls", "disc.img"]);
+        assert!(said.error.contains("partition map 1 is of type 2 (*UDF Virtual Partition), and type 1 is read"), "{said:?}");
     }
     for block in ["512", "1024", "4096"] {
-        let (_folder, label, root) = mkudffs(&tool, &["-b", block]);
+        let (folder, label, root) = mkudffs(&tool, &["-b", block]);
         assert_eq!((label, root), (2, 2), "{block}");
+        for words in [&["ls", "disc.img"][..], &["ls", "disc.img", "--drive"]] {
+            let said = folder.vault(words);
+            assert!(said.error.starts_with(&format!("vault: disc.img: the disc has blocks of {block} bytes, and ")), "{said:?}");
+        }
     }
 }
 

@@ -20,7 +20,7 @@ use std::ffi::OsStr;
 use std::io::{self, Write};
 use std::os::unix::ffi::OsStrExt;
 use std::path::Path;
-use strandlodge::{AllocExtent, Counted, How, LongAd, Matching, VolumeDescriptor};
+use strandlodge::{AllocExtent, Asked, Counted, How, LongAd, Matching, VolumeDescriptor};
 use strandlodge::{map_table, probe_vrs, volume_descriptors};
 
 /// How a question is asked: how the image is opened, how names are matched, and how the answer is printed.
@@ -109,7 +109,7 @@ pub fn standing(one: &VolumeDescriptor) -> String {
 
 /// What the descriptors that prevail lead to.
 fn volume(disc: &mut Disc<Counted>, out: &mut impl Write) -> Result<(), Failure> {
-    let label = disc.count(b"", "label", disc.volume.label())?;
+    let label = disc.label()?;
     let vault = disc.volume;
     say_volume(&label, vault.partition_start_sector(), vault.partition_number(), vault.root_directory_icb(), out)?;
     line(out, &format!("sectors  {}", disc.log.sectors()))
@@ -125,8 +125,9 @@ pub fn say_volume(label: &str, start: u64, number: u16, root: LongAd, out: &mut 
 
 fn stat(disc: &mut Disc<Counted>, wanted: &Wanted, style: Style, out: &mut impl Write) -> Result<(), Failure> {
     let (found, path) = (disc.find(wanted)?, wanted.text());
-    let part = disc.count(&path, "part", disc.volume.part(found.icb))?;
-    let extents = disc.count(&path, "extents", disc.volume.extents(found.icb))?;
+    let asked = Asked::ReadFile(found.icb);
+    let part = disc.count(&path, asked, "part", disc.volume.part(found.icb))?;
+    let extents = disc.count(&path, asked, "extents", disc.volume.extents(found.icb))?;
     if style.is_json {
         let mut all = found_json(&found, &path);
         all.extend(extents_json(disc.volume, found.icb, part.len(), &extents));
@@ -160,7 +161,7 @@ fn extents_json(vault: Counted, icb: LongAd, embedded: usize, extents: &[AllocEx
 
 /// What `stat` prints without a path, as a document.
 fn descriptors_json(image: &[u8], how: How, disc: &mut Disc<Counted>, out: &mut impl Write) -> Result<(), Failure> {
-    let label = disc.count(b"", "label", disc.volume.label())?;
+    let label = disc.label()?;
     let maps = map_table(image, how).map_or(Json::Null, |table| maps::json(&table));
     Json::Object(vec![
         ("descriptors", Json::List(volume_descriptors(image, how).iter().map(descriptor_json).collect())),

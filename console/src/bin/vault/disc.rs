@@ -12,7 +12,9 @@ use crate::wanted::Wanted;
 use std::fs::File;
 use std::io::{self, Write};
 use std::os::unix::fs::FileExt;
-use strandlodge::{Answer, Counted, CountedDrive, DirEntry, How, LongAd, Matching, Refusal, Refused, SECTOR_SIZE, Uncopied};
+use strandlodge::{
+    Answer, Asked, Counted, CountedDrive, Diagnosis, DirEntry, How, LongAd, Matching, Refusal, Refused, SECTOR_SIZE, Uncopied,
+};
 
 /// The file type of a directory's entry (ECMA-167 4/14.6.6).
 const DIRECTORY: u8 = 4;
@@ -33,6 +35,8 @@ pub trait Volume {
     fn front(&mut self, icb: LongAd) -> Vec<u8>;
     /// Of the last call, which sector couldn't be had, where more is known of it than that it isn't there.
     fn missed(&self) -> Option<String>;
+    /// Where the last call was refused, and why.
+    fn diagnose(&mut self, asked: Asked, refused: &Refused) -> Diagnosis;
 }
 
 impl Volume for Counted<'_> {
@@ -75,6 +79,10 @@ impl Volume for Counted<'_> {
 
     fn missed(&self) -> Option<String> {
         None
+    }
+
+    fn diagnose(&mut self, asked: Asked, refused: &Refused) -> Diagnosis {
+        Counted::diagnose(self, asked, refused)
     }
 }
 
@@ -119,6 +127,11 @@ impl Volume for CountedDrive<File> {
     fn missed(&self) -> Option<String> {
         CountedDrive::missed(self).map(ToString::to_string)
     }
+
+    /// A drive knows what it was asked.
+    fn diagnose(&mut self, _: Asked, refused: &Refused) -> Diagnosis {
+        CountedDrive::diagnose(self, refused)
+    }
 }
 
 /// A writer that takes what comes first.
@@ -160,28 +173,35 @@ impl<'a, 'l> Disc<'l, Counted<'a>> {
         Ok(Disc { volume, log, name, matching })
     }
 
+    /// The volume's name. Opening is gone over again for it.
+    pub fn label(&mut self) -> Result<String, Failure> {
+        let (image, how) = (self.volume.image(), self.volume.how());
+        self.log.count("label", self.volume.label()).map_err(|refused| maps::refused(image, how, self.name, refused))
+    }
+
     pub fn read(&mut self, path: &[u8], icb: LongAd) -> Result<Vec<u8>, Failure> {
-        self.count(path, "read_file", self.volume.read_file(icb))
+        self.count(path, Asked::ReadFile(icb), "read_file", self.volume.read_file(icb))
     }
 }
 
 impl<V: Volume> Disc<'_, V> {
     /// Notes the count of a call on what a path gave, and gives its value.
-    pub fn count<T>(&mut self, path: &[u8], call: &'static str, answer: strandlodge::Answered<T>) -> Result<T, Failure> {
-        self.log.count(call, answer).map_err(|refused| self.refused(path, refused))
+    pub fn count<T>(&mut self, path: &[u8], asked: Asked, call: &'static str, answer: strandlodge::Answered<T>) -> Result<T, Failure> {
+        self.log.count(call, answer).map_err(|refused| self.refused(path, asked, refused))
     }
 
-    pub fn refused(&self, path: &[u8], refused: impl Into<Refusal>) -> Failure {
-        let (about, why) = (format!("{}: {}", self.name, quoted(path)), refused.into());
-        match self.volume.missed().filter(|_| why == Refusal::Io) {
-            Some(missed) => Failure::with_number(why, format!("{about}: {missed}")),
-            None => Failure::refused(about, why),
+    /// The last call, which was asked for what a path gave, was refused.
+    pub fn refused(&mut self, path: &[u8], asked: Asked, refused: Refused) -> Failure {
+        let about = format!("{}: {}", self.name, quoted(path));
+        match self.volume.missed().filter(|_| refused.why == Refusal::Io) {
+            Some(missed) => Failure::with_number(refused, format!("{about}: {missed}")),
+            None => Failure::diagnosed(about, &self.volume.diagnose(asked, &refused)),
         }
     }
 
     pub fn list(&mut self, path: &[u8], icb: LongAd) -> Result<Vec<DirEntry>, Failure> {
         let listed = self.volume.read_directory(icb);
-        self.count(path, "read_directory", listed)
+        self.count(path, Asked::ReadDirectory(icb), "read_directory", listed)
     }
 
     /// Whether an entry is a directory's: by its type, or where that says something else, as on some discs, since it begins as a directory does.
@@ -245,12 +265,18 @@ impl<V: Volume> Disc<'_, V> {
 
     /// A lookup that was refused: where nothing was found, with the name that isn't there, and where too much was, with the entries.
     fn lost(&mut self, path: &[u8], refused: Refused) -> Failure {
+        let asked = Asked::Lookup(path, self.matching);
+        if !matches!(refused.why, Refusal::NotBluray | Refusal::Ambiguous) {
+            return self.refused(path, asked, refused);
+        }
+        // Before any other call is made.
+        let diagnosis = self.volume.diagnose(asked, &refused);
         let says = match refused.why {
             Refusal::NotBluray => self.not_there(path),
-            Refusal::Ambiguous => self.steps(path).ok().and_then(|steps| steps.last()?.ambiguity()),
-            _ => None,
+            _ => self.steps(path).ok().and_then(|steps| steps.last()?.ambiguity()),
         };
-        says.map_or_else(|| self.refused(path, refused), |says| Failure::with_number(refused, format!("{}: {says}", self.name)))
+        let says = says.unwrap_or_else(|| format!("{}: {refused}", quoted(path)));
+        Failure::with_number(refused, format!("{}: {says}", self.name)).at(&diagnosis)
     }
 
     /// Which name isn't there, and what is in another case where that was not enough.

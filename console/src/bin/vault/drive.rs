@@ -10,7 +10,7 @@ use crate::folder;
 use crate::image;
 use crate::json::Json;
 use crate::log::Log;
-use crate::names::shown;
+use crate::names::{self, shown};
 use crate::style::Style;
 use crate::tree;
 use crate::wanted::Wanted;
@@ -19,14 +19,14 @@ use std::fs::File;
 use std::io::{self, Write};
 use std::os::unix::ffi::OsStrExt;
 use std::path::Path;
-use strandlodge::{CountedDrive, LongAd, Matching, Uncopied};
+use strandlodge::{Asked, CountedDrive, LongAd, Matching, Uncopied, Unopened};
 
 /// Answers a question on a drive. Nothing of it is kept in memory but the directories on the way, one at a time.
 pub fn ask(question: &Question, manner: Manner, name: &OsStr, out: &mut impl Write, log: &mut Log) -> Result<(), Failure> {
     let (shown, style) = (shown(name.as_bytes()), manner.style);
     let mut disc = open(name, &shown, manner.matching, log)?;
     match question {
-        Question::Label => line(out, &label(&mut disc)?),
+        Question::Label => line(out, &names::shown(label(&mut disc)?.as_bytes())),
         Question::Ls { wanted } => ls(&mut disc, wanted, style, out),
         Question::Tree { wanted, form, bounds } => tree::show(&mut disc, wanted, *form, *bounds, style, out),
         Question::Stat { wanted } => stat(&mut disc, wanted, style, out),
@@ -52,31 +52,42 @@ pub fn ask(question: &Question, manner: Manner, name: &OsStr, out: &mut impl Wri
 }
 
 fn open<'l>(name: &OsStr, shown: &'l str, matching: Matching, log: &'l mut Log) -> Result<Disc<'l, CountedDrive<File>>, Failure> {
-    let mut missed = None;
+    let mut failed = None;
     let opened = CountedDrive::open(image::file(name)?).map_err(|unopened| {
-        missed = unopened.missed;
-        unopened.refused
+        let refused = unopened.refused;
+        failed = Some(unopened);
+        refused
     });
-    let volume = log.count("open", opened).map_err(|refused| match missed {
-        Some(missed) if missed.error.kind() == io::ErrorKind::NotSeekable => image::unopened(name, missed.error),
-        Some(missed) => Failure::with_number(refused, format!("{shown}: {missed}")),
+    let volume = log.count("open", opened).map_err(|refused| match failed {
+        Some(failed) => unopened(name, shown, failed),
         None => Failure::refused(shown, refused),
     })?;
     Ok(Disc { volume, log, name: shown, matching })
 }
 
+/// Why a disc wasn't opened: which sector can't be had, or what there is in the last one.
+fn unopened(name: &OsStr, shown: &str, mut failed: Unopened<File>) -> Failure {
+    let diagnosis = failed.diagnose();
+    match failed.missed {
+        Some(missed) if missed.error.kind() == io::ErrorKind::NotSeekable => image::unopened(name, missed.error),
+        Some(missed) if diagnosis.cause.is_none() => Failure::with_number(failed.refused, format!("{shown}: {missed}")),
+        _ => Failure::diagnosed(shown, &diagnosis),
+    }
+}
+
+/// The volume's name, which opening has kept: no sector is asked for.
 fn label(disc: &mut Disc<CountedDrive<File>>) -> Result<String, Failure> {
-    let label = disc.volume.label().map_err(|refused| disc.refused(b"", refused))?;
-    Ok(shown(label.as_bytes()))
+    let label = disc.volume.label().map_err(|refused| Failure::refused(disc.name, refused))?;
+    Ok(label.value)
 }
 
 /// What was opened. Volume descriptors that don't prevail, and maps, are shown of an image.
 fn volume(disc: &mut Disc<CountedDrive<File>>, style: Style, out: &mut impl Write) -> Result<(), Failure> {
-    let label = disc.volume.label().map_err(|refused| disc.refused(b"", refused))?;
+    let label = label(disc)?;
     let drive = &disc.volume;
     if style.is_json {
         return Json::Object(vec![
-            ("label", Json::text(label.value)),
+            ("label", Json::text(label)),
             ("start", Json::number(drive.partition_start_sector())),
             ("partition", Json::number(drive.partition_number())),
             ("root", Json::icb(drive.root_directory_icb())),
@@ -113,7 +124,7 @@ pub fn copy<V: Volume>(
         Err(Uncopied::Refused { refused, .. }) => Err(refused),
         Err(Uncopied::Output(error)) => return Err(unwritten(error)),
     };
-    disc.count(path, "read_file", counted)
+    disc.count(path, Asked::ReadFile(icb), "read_file", counted)
 }
 
 /// A writer whose bytes fill a bar.

@@ -4,7 +4,7 @@ use crate::names::shown;
 use std::ffi::OsStr;
 use std::io;
 use std::os::unix::ffi::OsStrExt;
-use strandlodge::Refusal;
+use strandlodge::{Diagnosis, Refusal};
 
 /// Wrong usage.
 pub const USAGE: u8 = 64;
@@ -44,6 +44,19 @@ impl Failure {
     pub fn refused(about: impl AsRef<str>, refused: impl Into<Refusal>) -> Failure {
         let why = refused.into();
         Failure::with_number(why, format!("{}: {why}", about.as_ref()))
+    }
+
+    /// A refusal with its cause, as far as that is known, and the last sector that was asked for.
+    pub fn diagnosed(about: impl AsRef<str>, diagnosis: &Diagnosis) -> Failure {
+        Failure::with_number(diagnosis.refused, format!("{}: {}", about.as_ref(), diagnosis.what())).at(diagnosis)
+    }
+
+    /// With the last sector that was asked for behind what is said.
+    pub fn at(mut self, diagnosis: &Diagnosis) -> Failure {
+        if let (Some(says), Some(place)) = (&mut self.says, diagnosis.place) {
+            *says += &format!("; {place}");
+        }
+        self
     }
 
     /// A refusal with its number behind the sentence, and what to try. The number is the status, where it is one of the table.

@@ -20,7 +20,7 @@ use std::fs;
 use std::io::Write;
 use std::os::unix::ffi::OsStrExt;
 use std::path::{Path, PathBuf};
-use strandlodge::{DirEntry, LongAd};
+use strandlodge::{Asked, DirEntry, LongAd};
 
 /// A name has no more bytes on most systems, and room is left for a number.
 const LONGEST: usize = 240;
@@ -113,7 +113,7 @@ impl Plan {
             match disc.volume.read_directory(icb) {
                 // The last one pushed is the next one looked at.
                 Ok(entries) => pending.extend(self.entries(disc, &path, &entries, &to)?.into_iter().rev()),
-                Err(refused) => self.missed.tell(disc.refused(&path, refused), disc),
+                Err(refused) => self.missed.tell(disc.refused(&path, Asked::ReadDirectory(icb), refused), disc),
             }
         }
         Ok(())

@@ -67,7 +67,7 @@ struct Partition {
 
 pub fn info(image: &[u8], how: How, name: &str, style: Style, out: &mut impl Write, log: &mut Log) -> Result<(), Failure> {
     let volume = Volume::of(image, how);
-    let opened = Disc::open(image, how, name, Matching::default(), log).and_then(|mut disc| disc.count(b"", "label", disc.volume.label()));
+    let opened = Disc::open(image, how, name, Matching::default(), log).and_then(|mut disc| disc.label());
     let sectors = image.len() as u64 / SECTOR_SIZE;
     // Where it can't be opened, what there is is printed all the same, and then why.
     let label = opened.as_ref().ok();

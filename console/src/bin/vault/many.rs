@@ -14,7 +14,7 @@ use std::fs;
 use std::io::Write;
 use std::os::unix::ffi::OsStrExt;
 use std::path::{Path, PathBuf};
-use strandlodge::Counted;
+use strandlodge::{Asked, Counted, Refused};
 
 /// Files are read together up to so many bytes; a larger one is read by itself, so that no more is in memory at once than that takes.
 const TOGETHER: u64 = 64 << 20;
@@ -119,7 +119,8 @@ fn write(
     drop(word);
     for (file, item) in files.iter().zip(read.map_err(|refused| Failure::refused(disc.name, refused))?) {
         let to = file.to.as_os_str();
-        let item = match item.map_err(|why| disc.refused(file.path, why)) {
+        let asked = Asked::ReadPath(file.path, disc.matching);
+        let item = match item.map_err(|why| disc.refused(file.path, asked, Refused { why, sectors: 0 })) {
             Ok(_) if written.has(&file.to) => Err(Failure::file(USAGE, to, "this is the same file as one that was written before")),
             item => item,
         };

@@ -3,7 +3,7 @@
 use crate::failure::Failure;
 use crate::json::Json;
 use crate::names::shown;
-use strandlodge::{Counted, How, MapForm, MapTable, Refusal, Refused};
+use strandlodge::{Counted, How, MapForm, MapTable, Refusal, Refused, diagnose};
 
 /// The lines of a map table: how many maps there are, and each with its reference.
 pub fn lines(table: &MapTable) -> Vec<String> {
@@ -57,12 +57,13 @@ pub fn json(table: &MapTable) -> Json {
 
 /// An opening that was refused, with what to try where the maps would have led on.
 pub fn refused(image: &[u8], how: How, name: &str, refused: Refused) -> Failure {
-    let mut failure = Failure::refused(name, refused);
+    let diagnosis = diagnose(image, how, &refused);
+    let mut failure = Failure::with_number(refused, format!("{name}: {}", diagnosis.what()));
     let mapped = || Counted::open_as(image, How { maps: true, ..how }).is_ok();
     if refused.why == Refusal::Unsupported && !how.maps && mapped() {
         failure.says.iter_mut().for_each(|says| *says += "; its partition is found through its maps, with --maps");
     }
-    failure
+    failure.at(&diagnosis)
 }
 
 #[cfg(test)]

@@ -7,7 +7,7 @@ use crate::records::{Tag, crc, has_right_body, is_in_place};
 use crate::style::Style;
 use std::fmt;
 use std::io::Write;
-use strandlodge::Refusal;
+use strandlodge::Diagnosis;
 
 /// The bytes of a tag.
 const TAG: usize = 16;
@@ -89,9 +89,10 @@ impl<'o, W: Write> Report<'o, W> {
     }
 
     /// What can't be read, and so isn't checked.
-    pub fn unread(&mut self, what: &str, why: Refusal) -> Result<(), Failure> {
+    pub fn unread(&mut self, what: &str, why: &Diagnosis) -> Result<(), Failure> {
         self.unread += 1;
-        self.line("unread", format!("{what}: can't be read: {why} (refusal {})", why.number()))
+        let place = why.place.map_or(String::new(), |place| format!("; {place}"));
+        self.line("unread", format!("{what}: can't be read: {} (refusal {}){place}", why.what(), why.refused.number()))
     }
 
     fn line(&mut self, kind: &'static str, text: String) -> Result<(), Failure> {

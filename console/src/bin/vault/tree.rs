@@ -14,7 +14,7 @@ use crate::steps::quoted;
 use crate::style::{Style, listed};
 use crate::wanted::Wanted;
 use std::io::Write;
-use strandlodge::{DirEntry, Refusal};
+use strandlodge::{Asked, DirEntry, Refusal};
 
 /// How far it goes.
 #[derive(Debug, Clone, Copy, PartialEq, Eq)]
@@ -170,7 +170,7 @@ fn list<V: Volume>(disc: &mut Disc<V>, path: &[u8], icb: strandlodge::LongAd, se
     let answer = disc.volume.read_directory(icb);
     let sectors = answer.as_ref().map_or_else(|refused| refused.sectors, |answer| answer.sectors);
     seen.sectors = seen.sectors.saturating_add(sectors);
-    answer.map(|answer| answer.value).map_err(|refused| disc.refused(path, refused))
+    answer.map(|answer| answer.value).map_err(|refused| disc.refused(path, Asked::ReadDirectory(icb), refused))
 }
 
 /// Goes over the entries of the directory at a path, each before what stands under it.

@@ -10,7 +10,7 @@ use crate::records::{self, Descriptor, FileEntry, FileIdentifier};
 use crate::report::{Place, Report};
 use std::collections::HashSet;
 use std::io::Write;
-use strandlodge::{AllocExtent, Counted, LbAddr, LongAd, Refusal, SECTOR_SIZE};
+use strandlodge::{AllocExtent, Asked, Counted, Diagnosis, LbAddr, LongAd, Refusal, Refused, SECTOR_SIZE};
 
 /// Of a file identifier (ECMA-167 4/14.4).
 const IDENTIFIER: usize = 38;
@@ -111,7 +111,7 @@ impl<'a, 'r, 'o, W: Write> Walk<'a, 'r, 'o, W> {
     fn meet(&mut self, icb: LongAd, is_directory: bool, above: Option<usize>, name: Option<Vec<u8>>) -> Result<(), Failure> {
         let place = match self.standing(icb) {
             Ok(place) => place,
-            Err(why) => return self.report.unread(&path(&self.names, above, name.as_deref()), why),
+            Err(why) => return self.report.unread(&path(&self.names, above, name.as_deref()), &self.refused(icb, why)),
         };
         if self.taken.insert((place, is_directory)) {
             let name = name.map(|name| {
@@ -147,7 +147,16 @@ impl<'a, 'r, 'o, W: Write> Walk<'a, 'r, 'o, W> {
                 return self.directory(visit, &entry);
             }
         }
-        read.map_or_else(|why| self.report.unread(&path(&self.names, visit.name, None), why), |_| Ok(()))
+        read.map_or_else(|why| self.unread(visit, why), |_| Ok(()))
+    }
+
+    /// Where the file that an ICB names can't be read, and why.
+    fn refused(&self, icb: LongAd, why: Refusal) -> Diagnosis {
+        self.vault.diagnose(Asked::ReadFile(icb), &Refused { why, sectors: 0 })
+    }
+
+    fn unread(&mut self, visit: &Visit, why: Refusal) -> Result<(), Failure> {
+        self.report.unread(&path(&self.names, visit.name, None), &self.refused(visit.icb, why))
     }
 
     /// The headers of an entry's continuations, as far as they can be followed, or up to one that was come to already.
@@ -187,7 +196,7 @@ impl<'a, 'r, 'o, W: Write> Walk<'a, 'r, 'o, W> {
         let both = read.and_then(|bytes| Ok((bytes, self.count(2, self.vault.extents(visit.icb))?)));
         let (bytes, extents) = match both {
             Ok(both) => both,
-            Err(why) => return self.report.unread(&path(&self.names, visit.name, None), why),
+            Err(why) => return self.unread(visit, why),
         };
         let embedded = (entry.kind == EMBEDDED).then_some(visit.place);
         let places: Vec<_> = extents.iter().map(|extent| (self.begins(visit.icb, extent), extent.length.into())).collect();
@@ -196,7 +205,8 @@ impl<'a, 'r, 'o, W: Write> Walk<'a, 'r, 'o, W> {
         while let Some(rest) = bytes.get(at..).filter(|rest| rest.len() >= IDENTIFIER) {
             let Some(found) = records::file_identifier(rest) else {
                 let what = format!("{}, from byte {at} on", path(&self.names, visit.name, None));
-                self.report.unread(&what, Refusal::Malformed)?;
+                let refused = Refused { why: Refusal::Malformed, sectors: 0 };
+                self.report.unread(&what, &self.vault.diagnose(Asked::ReadDirectory(visit.icb), &refused))?;
                 break;
             };
             self.identifier(visit, &found, rest, blocks.at(at as u64))?;

@@ -1,0 +1,199 @@
+//! Where a refused call stood, and which cause the refusal had: worked out on demand, by going over the call again.
+
+use crate::answer::{Refusal, Refused};
+use crate::cause::{Cause, of_opening};
+use crate::how::How;
+use crate::matching::Matching;
+use crate::opening::Sequence;
+use crate::records::LongAd;
+use crate::source::{Copied, Source};
+use crate::udf::DescriptorTag;
+use std::fmt;
+use std::io::{Read, Seek};
+
+/// A call that was refused, to be gone over again.
+#[derive(Debug, Clone, Copy, PartialEq, Eq)]
+pub enum Asked<'p> {
+    /// A lookup of a path, or which component of it failed.
+    Lookup(&'p [u8], Matching),
+    /// A read of what a path names, by itself or as one of many.
+    ReadPath(&'p [u8], Matching),
+    /// A listing of a directory.
+    ReadDirectory(LongAd),
+    /// A read of a file; and its extents, or its part of the image, which ask for the first of the same sectors.
+    ReadFile(LongAd),
+    /// A show of so many levels.
+    Show(u32),
+}
+
+/// What a sector was asked for.
+#[derive(Debug, Clone, Copy, PartialEq, Eq, Hash)]
+pub enum Sought {
+    /// The anchor, in sector 256.
+    Anchor,
+    /// A sector of the main volume descriptor sequence.
+    VolumeDescriptor,
+    /// The file set descriptor.
+    FileSet,
+    /// The entry of a file or a directory.
+    Entry,
+    /// The descriptors of a file, where they go on elsewhere.
+    Continuation,
+    /// The bytes of a file or a directory.
+    Bytes,
+}
+
+impl Sought {
+    /// By the phase of a read.
+    pub(crate) fn of_reading(phase: u8) -> Sought {
+        match phase {
+            0 => Sought::Entry,
+            1 | 2 => Sought::Continuation,
+            _ => Sought::Bytes,
+        }
+    }
+}
+
+impl fmt::Display for Sought {
+    fn fmt(&self, f: &mut fmt::Formatter<'_>) -> fmt::Result {
+        f.write_str(match self {
+            Sought::Anchor => "the anchor",
+            Sought::VolumeDescriptor => "a volume descriptor",
+            Sought::FileSet => "the file set descriptor",
+            Sought::Entry => "a file entry",
+            Sought::Continuation => "more of a file's descriptors",
+            Sought::Bytes => "a file's bytes",
+        })
+    }
+}
+
+/// What stands in a sector.
+#[derive(Debug, Clone, Copy, PartialEq, Eq, Hash)]
+pub enum Standing {
+    /// It isn't wholly there, or can't be read.
+    Missing,
+    /// Nothing but zeros.
+    Zeros,
+    /// Bytes without a tag at their front, as those of most files.
+    Untagged,
+    /// A descriptor, or what has its tag.
+    Tagged(DescriptorTag),
+}
+
+impl Standing {
+    fn of(bytes: Option<Vec<u8>>) -> Standing {
+        match bytes {
+            None => Standing::Missing,
+            Some(bytes) if bytes.iter().all(|byte| *byte == 0) => Standing::Zeros,
+            Some(bytes) => DescriptorTag::parse(&bytes).map_or(Standing::Untagged, Standing::Tagged),
+        }
+    }
+}
+
+impl fmt::Display for Standing {
+    fn fmt(&self, f: &mut fmt::Formatter<'_>) -> fmt::Result {
+        match self {
+            Standing::Missing => f.write_str("it isn't there"),
+            Standing::Zeros => f.write_str("it has no tag, only zeros"),
+            Standing::Untagged => f.write_str("it has no tag"),
+            Standing::Tagged(tag) => write!(f, "it has tag {} ({})", tag.id as u16, tag.id.name()),
+        }
+    }
+}
+
+/// The last sector that a refused call asked for.
+#[derive(Debug, Clone, Copy, PartialEq, Eq, Hash)]
+pub struct Place {
+    /// Counted from the disc's start.
+    pub sector: u64,
+    /// What it was asked for.
+    pub sought: Sought,
+    /// What stands there.
+    pub standing: Standing,
+}
+
+impl fmt::Display for Place {
+    fn fmt(&self, f: &mut fmt::Formatter<'_>) -> fmt::Result {
+        let Place { sector, sought, standing } = self;
+        write!(f, "the last sector asked for was {sector}, for {sought}: {standing}")
+    }
+}
+
+/// A refusal with where it came about and, as far as that can be told, its cause.
+///
+/// It is worked out on demand, by going over the call again a sector at a time; calls that aren't asked for one cost nothing. `Display` gives the cause, or
+/// what the number means, and then the place.
+///
+/// ```
+/// use strandlodge::{Asked, How, Matching, Vault, diagnose};
+///
+/// # fn main() -> Result<(), Box<dyn std::error::Error>> {
+/// let image = strandlodge::write(&[("9", b"cue 9")])?;
+/// let vault = Vault::open(&image)?;
+/// let refused = vault.lookup("10").unwrap_err();
+/// let why = vault.diagnose(Asked::Lookup(b"10", Matching::CaseIgnored), &refused);
+/// println!("{why}: {:?}", why.place.map(|place| place.sector));
+///
+/// let refused = Vault::open(&image[..9000]).unwrap_err();
+/// println!("{}", diagnose(&image[..9000], How::default(), &refused)); // sector 256 isn't there
+/// # Ok(())
+/// # }
+/// ```
+#[derive(Debug, Clone, PartialEq, Eq)]
+pub struct Diagnosis {
+    /// The refusal.
+    pub refused: Refused,
+    /// The last sector that was asked for. None where there was none, where memory was too little (5, 6, 7 and 12), and where the image has
+    /// changed since.
+    pub place: Option<Place>,
+    /// Which of its causes the refusal had: that of 4 always, and that of the others where it can be told.
+    pub cause: Option<Cause>,
+}
+
+impl Diagnosis {
+    /// What is known without a second look.
+    pub(crate) fn bare(refused: Refused) -> Diagnosis {
+        Diagnosis { refused, place: None, cause: None }
+    }
+
+    /// With the sector that was asked for last, looked at again.
+    pub(crate) fn at<R: Read + Seek>(refused: Refused, last: Option<(u64, Sought)>, source: &mut Source<R>) -> Diagnosis {
+        let place = last.map(|(sector, sought)| Place { sector, sought, standing: Standing::of(source.look(sector)) });
+        Diagnosis { place, ..Diagnosis::bare(refused) }
+    }
+
+    /// What was wrong, without where: the cause, or what the number means.
+    pub fn what(&self) -> String {
+        self.cause.as_ref().map_or_else(|| self.refused.to_string(), Cause::to_string)
+    }
+}
+
+impl fmt::Display for Diagnosis {
+    fn fmt(&self, f: &mut fmt::Formatter<'_>) -> fmt::Result {
+        f.write_str(&self.what())?;
+        self.place.map_or(Ok(()), |place| write!(f, "; {place}"))
+    }
+}
+
+/// Whether a refusal is for what the disc holds, and not for the memory that was lent.
+pub(crate) fn is_of_the_disc(why: Refusal) -> bool {
+    !matches!(why, Refusal::NoRoom | Refusal::NoWork | Refusal::NoSlot | Refusal::TooMany | Refusal::Unknown(_))
+}
+
+/// Where an opening was refused, and why: of [`Vault::open_as`](crate::Vault::open_as) and [`read_volume_label_as`](crate::read_volume_label_as) with
+/// these choices.
+pub fn diagnose(image: &[u8], how: How, refused: &Refused) -> Diagnosis {
+    opening(&mut Source::new(Copied::new(image)), how, *refused)
+}
+
+/// The same of a disc that is read by a reader.
+pub(crate) fn opening<R: Read + Seek>(source: &mut Source<R>, how: How, refused: Refused) -> Diagnosis {
+    if !is_of_the_disc(refused.why) {
+        return Diagnosis::bare(refused);
+    }
+    let sequence = Sequence::read(source);
+    let last = sequence.asked(how, refused.sectors);
+    let mut diagnosis = Diagnosis::at(refused, last, source);
+    diagnosis.cause = of_opening(source, &sequence, how, &diagnosis);
+    diagnosis
+}
