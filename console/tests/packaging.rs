@@ -5,6 +5,7 @@ mod common;
 use common::command::{Folder, Said, left_out, tool};
 use common::show;
 use std::fs::{self, Permissions};
+use std::io::{self, Write};
 use std::os::unix::fs::{PermissionsExt, symlink};
 use std::path::{Path, PathBuf};
 use std::process::Command;
@@ -206,6 +207,18 @@ fn what_is_built_is_not_built_again() {
     age(&folder, "crates/a.rt", "now + 20 seconds");
     let run = alone(&folder, &["ls"]);
     assert!(run.status == 69 && run.error.contains("rt is missing"), "{run:?}");
+}
+
+/// The whole way of someone who has just come to it: packaging/first-hour has its steps.
+#[test]
+fn a_stranger_s_first_hour() {
+    let mut script = Command::new(root().join("packaging/first-hour"));
+    script.env("BUILT", env!("CARGO_BIN_EXE_vault")).env("ARCHIVES", archives().canonicalize().unwrap());
+    let done = said(script.env_remove("DESTDIR"));
+    assert!(done.status == 0 && done.out.ends_with("\nfirst hour: done\n"), "{done:?}");
+    let steps = ["what is built is installed", "the sample show", "a cue by its very name", "all files of a disc"];
+    assert!(steps.iter().all(|step| done.out.contains(&format!("first hour: {step}\n"))), "{done:?}");
+    let _ = done.out.lines().filter(|line| line.contains("left out")).try_for_each(|line| writeln!(io::stderr(), "{line}"));
 }
 
 /// The version and the licence are said where they are looked for.
