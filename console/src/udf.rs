@@ -50,7 +50,7 @@ macro_rules! ids {
 
 ids! {
     PrimaryVolume = 1, "primary volume descriptor";
-    AnchorVolumeDescriptorPointer = 2, "anchor volume descriptor pointer";
+    AnchorVolumeDescriptorPointer = 2, "anchor";
     VolumeDescriptorPointer = 3, "volume descriptor pointer";
     ImplementationUseVolume = 4, "implementation use volume descriptor";
     Partition = 5, "partition descriptor";
@@ -59,7 +59,7 @@ ids! {
     Terminating = 8, "terminating descriptor";
     LogicalVolumeIntegrity = 9, "logical volume integrity descriptor";
     FileSet = 256, "file set descriptor";
-    FileIdentifier = 257, "file identifier descriptor";
+    FileIdentifier = 257, "file identifier";
     AllocationExtent = 258, "allocation extent descriptor";
     Indirect = 259, "indirect entry";
     Terminal = 260, "terminal entry";

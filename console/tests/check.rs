@@ -286,7 +286,7 @@ fn a_block_outside_the_partition_is_none() {
         locate(&mut image, 35 * SECTOR, location);
         locate(&mut image, 36 * SECTOR, 36);
         let said = check(&image);
-        assert_eq!((said.status, said.out), (65, format!("the volume: descriptor (id 259) says {location}, stands in sector 35\n")));
+        assert_eq!((said.status, said.out), (65, format!("the volume: indirect entry (id 259) says {location}, stands in sector 35\n")));
     }
 }
 

@@ -87,6 +87,9 @@ fn stored_volumes_that_are_not_opened() {
     assert!(refusals[1] > 3 && refusals[2] > 10 && refusals[3] > 2 && refusals[4] > 2, "{refusals:?}");
 }
 
+/// The same call on a drive, and how it was refused.
+type Again<'a> = &'a dyn Fn(&mut CountedDrive<Watched>) -> Option<Refused>;
+
 #[test]
 fn stored_volumes_whose_files_are_not_read() {
     let (mut all, mut refusals) = (Input(include_bytes!("../../crates/vault_cases/data/images")), [0; 15]);
@@ -97,32 +100,29 @@ fn stored_volumes_whose_files_are_not_read() {
         let Ok(vault) = Counted::open(&image) else { continue };
         let (reader, last) = Watched::of(&image);
         let mut drive = CountedDrive::open(reader).unwrap().value;
-        let mut hold =
-            |asked: Asked, refused: Option<Refused>, diagnosed: &mut dyn FnMut(&mut CountedDrive<Watched>) -> Option<Refused>| {
-                let Some(refused) = refused else { return };
-                last.set(u64::MAX);
-                assert_eq!(diagnosed(&mut drive), Some(refused), "{name}");
-                let asked_last = Some(last.get()).filter(|last| *last != u64::MAX);
-                let why = vault.diagnose(asked, &refused);
-                assert_eq!((&why, why.place.map(|place| place.sector)), (&drive.diagnose(&refused), asked_last), "{name} {asked:?}");
-                sound(&why, &image, &name);
-                refusals[refused.number() as usize] += 1;
-            };
+        let mut hold = |asked: Asked, refused: Option<Refused>, again: Again| {
+            let Some(refused) = refused else { return };
+            last.set(u64::MAX);
+            assert_eq!(again(&mut drive), Some(refused), "{name}");
+            let sector = Some(last.get()).filter(|last| *last != u64::MAX);
+            let why = vault.diagnose(asked, &refused);
+            assert_eq!((&why, why.place.map(|place| place.sector)), (&drive.diagnose(&refused), sector), "{name} {asked:?}");
+            sound(&why, &image, &name);
+            refusals[refused.number() as usize] += 1;
+        };
         while !queries.0.is_empty() {
             let (what, _room, _work) = (queries.number(2), queries.number(4), queries.number(4));
             match (what, queries.sized(2)) {
                 (0, _) => {}
                 (1, path) => {
-                    let matching = Matching::Unambiguous;
-                    hold(Asked::Lookup(path, matching), vault.lookup_as(path, matching).err(), &mut |d| d.lookup_as(path, matching).err());
-                    hold(Asked::ReadPath(path, matching), vault.read_path_as(path, matching).err(), &mut |d| {
-                        d.read_path_as(path, matching).err()
-                    });
+                    let by = Matching::Unambiguous;
+                    hold(Asked::Lookup(path, by), vault.lookup_as(path, by).err(), &|d| d.lookup_as(path, by).err());
+                    hold(Asked::ReadPath(path, by), vault.read_path_as(path, by).err(), &|d| d.read_path_as(path, by).err());
                 }
                 (_, icb) => {
                     let icb = long_ad(icb);
-                    hold(Asked::ReadFile(icb), vault.read_file(icb).err(), &mut |d| d.read_file(icb).err());
-                    hold(Asked::ReadDirectory(icb), vault.read_directory(icb).err(), &mut |d| d.read_directory(icb).err());
+                    hold(Asked::ReadFile(icb), vault.read_file(icb).err(), &|d| d.read_file(icb).err());
+                    hold(Asked::ReadDirectory(icb), vault.read_directory(icb).err(), &|d| d.read_directory(icb).err());
                     if let (Err(refused), Err(read)) = (vault.extents(icb), vault.read_file(icb)) {
                         assert_eq!(vault.diagnose(Asked::ReadFile(icb), &refused).place, vault.diagnose(Asked::ReadFile(icb), &read).place);
                     }
@@ -287,37 +287,46 @@ fn each_cause_of_a_read() {
         let why = vault.diagnose(Asked::ReadFile(icb), &refused);
         assert_eq!((why.refused.why, why.cause.as_ref()), (Refusal::Unsupported, Some(&cause)), "{why:?}");
         assert_eq!(why.place.map(|place| place.sought), Some(sought), "{why:?}");
-        // The same along a path, in a show, and from a drive.
-        let matching = Matching::AsWritten;
-        let refused = vault.read_path_as("file", matching).unwrap_err();
-        assert_eq!(vault.diagnose(Asked::ReadPath(b"file", matching), &refused).to_string(), why.to_string());
-        let refused = vault.lookup_as("folder/x", matching).unwrap_err();
-        assert_eq!(vault.diagnose(Asked::Lookup(b"folder/x", matching), &refused).to_string(), why.to_string());
-        let refused = vault.show(16).unwrap_err();
-        assert_eq!(vault.diagnose(Asked::Show(16), &refused).to_string(), why.to_string());
-        let mut drive = Drive::open(Cursor::new(disc.0.clone())).unwrap();
-        let refused = drive.read_path("file").unwrap_err();
-        assert_eq!(drive.diagnose(&refused).to_string(), why.to_string());
-        let folder = Folder::new();
-        folder.write("a.img", &disc.0);
-        std::fs::create_dir(folder.at("to")).unwrap();
-        for words in [
-            &["cat", "a.img", "file"][..],
-            &["cat", "a.img", "file", "--drive"],
-            &["get", "a.img", "file", "to/file"],
-            &["get", "a.img", "-o", "to", "file"],
-            &["get", "-r", "a.img", "-o", "to"],
-            &["ls", "a.img", "folder"],
-            &["tree", "a.img"],
-        ] {
-            let said = folder.vault(words);
-            assert!(said.error.contains(&format!(": {cause} (refusal 4); {}\n", why.place.unwrap())), "{words:?} {said:?}");
-        }
-        let said = folder.vault(&["check", "a.img"]);
+        by_every_call(&vault, &why);
         let is_read = matches!(cause, Cause::NotRecorded { .. }) || kind == 1 && area[3] >> 6 == 0 || kind == 2 && area.len() == 20;
-        // A file whose entry and chain are read isn't read by check, and a directory is.
-        assert_eq!(said.out.matches(&cause.to_string()).count(), if is_read { 1 } else { 2 }, "{said:?}");
+        by_every_command(&disc.0, &why, if is_read { 1 } else { 2 });
     }
+}
+
+/// The same along a path, in a show, and from a drive.
+fn by_every_call(vault: &Vault<Vec<u8>>, why: &Diagnosis) {
+    let (why, matching) = (why.to_string(), Matching::AsWritten);
+    let refused = vault.read_path_as("file", matching).unwrap_err();
+    assert_eq!(vault.diagnose(Asked::ReadPath(b"file", matching), &refused).to_string(), why);
+    let refused = vault.lookup_as("folder/x", matching).unwrap_err();
+    assert_eq!(vault.diagnose(Asked::Lookup(b"folder/x", matching), &refused).to_string(), why);
+    let refused = vault.show(16).unwrap_err();
+    assert_eq!(vault.diagnose(Asked::Show(16), &refused).to_string(), why);
+    let mut drive = Drive::open(Cursor::new(vault.image().to_vec())).unwrap();
+    let refused = drive.read_path("file").unwrap_err();
+    assert_eq!(drive.diagnose(&refused).to_string(), why);
+}
+
+/// And by every command; `unread` of the file and the folder, which have one entry, are told of by check: a file whose entry and chain are read isn't read
+/// by it, and a directory is.
+fn by_every_command(image: &[u8], why: &Diagnosis, unread: usize) {
+    let folder = Folder::new();
+    folder.write("a.img", image);
+    std::fs::create_dir(folder.at("to")).unwrap();
+    for words in [
+        &["cat", "a.img", "file"][..],
+        &["cat", "a.img", "file", "--drive"],
+        &["get", "a.img", "file", "to/file"],
+        &["get", "a.img", "-o", "to", "file"],
+        &["get", "-r", "a.img", "-o", "to"],
+        &["ls", "a.img", "folder"],
+        &["tree", "a.img"],
+    ] {
+        let said = folder.vault(words);
+        assert!(said.error.contains(&format!(": {} (refusal 4); {}\n", why.what(), why.place.unwrap())), "{words:?} {said:?}");
+    }
+    let said = folder.vault(&["check", "a.img"]);
+    assert_eq!(said.out.matches(&why.what()).count(), unread, "{said:?}");
 }
 
 /// A chain: its last continuation has the compressed extent, or one that isn't recorded.

@@ -396,10 +396,16 @@ fn the_show_says_what_it_is() {
     assert_eq!(said.error.lines().count(), 1);
 }
 
+/// The show, in which the body of a cue's entry is wrong.
+fn ruined() -> Vec<u8> {
+    let mut image = show();
+    image[293 * SECTOR + 40] ^= 1;
+    image
+}
+
 #[test]
 fn documents_are_json() {
     let folder = with_show();
-    folder.write("tricks.img", &disc_of(&["q\"uote", "back\\slash", "new\nline", "日\u{202e}"]).0);
     let icb = |block| format!("{{\"block\": {block}, \"partition\": 5, \"length\": 2048, \"type\": 0}}");
     answers(
         &folder.vault(&["ls", "--json", "show.img"]),
@@ -421,18 +427,23 @@ fn documents_are_json() {
     );
     let check = "{\"descriptors\": 19, \"misplaced\": 0, \"ruined\": 0, \"unread\": 0, \"findings\": []}\n";
     answers(&folder.vault(&["check", "--json", "show.img"]), check);
-    let mut image = show();
-    image[293 * SECTOR + 40] ^= 1;
-    folder.write("ruined.img", &image);
+    folder.write("ruined.img", &ruined());
     let said = folder.vault(&["check", "--json", "ruined.img"]);
     assert!(
         said.status == 65
             && said.out.contains("\"ruined\": 1, \"unread\": 0, \"findings\": [{\"kind\": \"ruined\", \"says\": \"/SHOW/9: file entry"),
         "{said:?}"
     );
+}
+
+#[test]
+fn documents_are_read_by_another_program() {
     let Some(python) = tool("python3") else {
         return left_out("documents read by another program", "python3");
     };
+    let folder = with_show();
+    folder.write("tricks.img", &disc_of(&["q\"uote", "back\\slash", "new\nline", "日\u{202e}"]).0);
+    folder.write("ruined.img", &ruined());
     for words in [
         &["ls", "tricks.img"][..],
         &["ls", "-R", "show.img"],
@@ -547,31 +558,36 @@ fn names_that_become_one_are_told_apart() {
     assert_eq!(below(&folder, "to"), safe);
 }
 
-/// Names of every byte and of every 16-bit unit that is hard to write, in every document.
-#[test]
-fn documents_are_json_whatever_the_names_are() {
-    let Some(python) = tool("python3") else {
-        return left_out("documents read by another program", "python3");
-    };
+/// A disc with names of every byte and of every 16-bit unit that is hard to write, and how many there are: in a folder of such a name itself, with a label
+/// that is one, and with entries that have wrong bodies, so that their paths are told of.
+fn hostile() -> (Vec<u8>, usize) {
     let mut recorded: Vec<Vec<u8>> = (0..=255).map(|byte| vec![8, b'a', byte, b'b']).collect();
     let units = [0, 0x22, 0x5c, 0x7f, 0x85, 0x2028, 0x202e, 0xd7ff, 0xd800, 0xdbff, 0xdc00, 0xdfff, 0xe000, 0xfeff, 0xfffe, 0xffff];
     recorded.extend(units.map(|unit: u16| [&[16, 0, b'a'][..], &unit.to_be_bytes(), &[0, b'b']].concat()));
     recorded.extend([vec![], vec![8], vec![16], vec![254, 1], vec![255, 1]]);
-    let (folder, mut disc) = (Folder::new(), Disc::new());
+    let mut disc = Disc::new();
     let files: Vec<u32> = recorded.iter().map(|name| disc.file(name)).collect();
     let entry = |(name, block): (&Vec<u8>, &u32)| identifier(name, *block, false);
     let inner = disc.directory(&recorded.iter().zip(&files).map(entry).collect::<Vec<_>>());
     let root = disc.directory(&[identifier(&[8, 27, b'"', b'\\', 10], inner, true), named("plain", files[0], false)]);
     disc.root(root);
-    // The label, and the body of each file's entry: its path is told of.
     disc.0[32 * SECTOR + 24..][..8].copy_from_slice(&[8, b'"', 27, b'\\', 10, 127, 200, b'x']);
     disc.0[32 * SECTOR + 55] = 8;
     for block in files {
         disc.0[(288 + block as usize) * SECTOR + 100] ^= 1;
     }
-    folder.write("a.img", &disc.0);
+    (disc.0, recorded.len())
+}
+
+#[test]
+fn documents_are_json_whatever_the_names_are() {
+    let Some(python) = tool("python3") else {
+        return left_out("documents read by another program", "python3");
+    };
+    let (folder, (image, names)) = (Folder::new(), hostile());
+    folder.write("a.img", &image);
     let listed = folder.vault(&["ls", "--json", "a.img", "\\u{1b}\"\\\\\\u{a}"]);
-    assert_eq!((listed.status, listed.out.lines().count()), (0, recorded.len()), "{listed:?}");
+    assert_eq!((listed.status, listed.out.lines().count()), (0, names), "{listed:?}");
     for words in [
         &["ls", "a.img"][..],
         &["ls", "a.img", "\\u{1b}\"\\\\\\u{a}"],

@@ -13,7 +13,7 @@ use crate::file::{Target, apart};
 use crate::many::{Missed, Written};
 use crate::names::{is_tricky, shown};
 use crate::records::FileEntry;
-use crate::steps::quoted;
+use crate::steps::{quoted, trimmed};
 use std::collections::{HashMap, HashSet};
 use std::ffi::OsStr;
 use std::fs;
@@ -71,7 +71,7 @@ pub fn get<V: Volume>(
     for path in paths {
         match disc.find_path(path) {
             Ok(found) => match found.entry {
-                Some(entry) => plan.add(disc, trimmed(path), &entry, folder.join(names.take(&entry.name)))?,
+                Some(entry) => plan.add(disc, trimmed(path).to_vec(), &entry, folder.join(names.take(&entry.name)))?,
                 None => plan.below(disc, Vec::new(), found.icb, folder.to_path_buf())?,
             },
             Err(failure) => plan.missed.tell(failure, disc),
@@ -85,12 +85,6 @@ pub fn get<V: Volume>(
         return Err(Failure::new(missed.status, format!("{}: {} of {all} files and folders not written", disc.name, missed.files)));
     }
     Ok(())
-}
-
-/// Without the slashes at its end.
-fn trimmed(path: &[u8]) -> Vec<u8> {
-    let end = path.iter().rposition(|byte| *byte != b'/').map_or(0, |at| at + 1);
-    path[..end].to_vec()
 }
 
 impl Plan {

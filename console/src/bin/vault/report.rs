@@ -8,6 +8,7 @@ use crate::style::Style;
 use std::fmt;
 use std::io::Write;
 use strandlodge::Diagnosis;
+use strandlodge::udf::TagId;
 
 /// The bytes of a tag.
 const TAG: usize = 16;
@@ -76,7 +77,7 @@ impl<'o, W: Write> Report<'o, W> {
     /// A descriptor's tag, where it stands, and the bytes at hand from it on; `of` is what the descriptor is of.
     pub fn descriptor(&mut self, of: impl Fn() -> String, tag: Tag, at: Place, bytes: &[u8]) -> Result<(), Failure> {
         self.descriptors += 1;
-        let (what, id) = (named(tag.id), tag.id);
+        let (what, id) = (TagId::from_raw(tag.id).map_or("descriptor", TagId::name), tag.id);
         if !at.holds(tag) {
             self.misplaced += 1;
             self.line("misplaced", format!("{}: {what} (id {id}) says {}, stands in {at}", of(), tag.location))?;
@@ -142,26 +143,5 @@ fn ruin(tag: Tag, bytes: &[u8]) -> String {
     match body.get(..length.into()) {
         Some(summed) => format!("its tag has the CRC {:04x}, and its {length} bytes have {:04x}", tag.crc, crc(summed)),
         None => format!("its tag has the CRC of {length} bytes, and {} are there", body.len()),
-    }
-}
-
-/// What an id stands for (ECMA-167 3/7.2.1, 4/7.2.1).
-fn named(id: u16) -> &'static str {
-    match id {
-        1 => "primary volume descriptor",
-        2 => "anchor",
-        3 => "volume descriptor pointer",
-        4 => "implementation use volume descriptor",
-        5 => "partition descriptor",
-        6 => "logical volume descriptor",
-        7 => "unallocated space descriptor",
-        8 => "terminating descriptor",
-        9 => "logical volume integrity descriptor",
-        256 => "file set descriptor",
-        257 => "file identifier",
-        258 => "allocation extent descriptor",
-        261 => "file entry",
-        266 => "extended file entry",
-        _ => "descriptor",
     }
 }

@@ -106,7 +106,7 @@ pub fn quoted(path: &[u8]) -> String {
 }
 
 /// Without the slashes at its end.
-fn trimmed(mut path: &[u8]) -> &[u8] {
+pub fn trimmed(mut path: &[u8]) -> &[u8] {
     while let [front @ .., b'/'] = path {
         path = front;
     }
