@@ -3,13 +3,13 @@
 use crate::answer::{Answer, Answered, Refusal, Refused};
 use crate::calls;
 use crate::counted_drive::CountedDrive;
-use crate::diagnosis::{Asked, Diagnosis, is_of_the_disc};
+use crate::diagnosis::{Asked, Diagnosis, Sought, is_of_the_disc};
 use crate::how::How;
 use crate::maps::{PartitionMap, maps, place_of, started};
 use crate::matching::Matching;
 use crate::records::{AllocExtent, DirEntry, LbAddr, LongAd, entries, text};
 use crate::room::{AT_ONCE, FIRST, MOST_DIRECTORY, MOST_SHOW, Room, most_file, retry};
-use crate::source::Copied;
+use crate::source::{Copied, Source};
 use crate::stack::{Item, List, Stack, copied, too_many};
 use crate::tree::Show;
 use std::fmt;
@@ -174,6 +174,13 @@ impl<'a> Counted<'a> {
 
     /// Where a call on this volume was refused, and why: `refused` is what it gave. It goes over the call again.
     pub fn diagnose(&self, asked: Asked, refused: &Refused) -> Diagnosis {
+        if let Asked::ReadFile(icb) = asked
+            && let Some(sector) = self.missing_sector(icb, refused)
+        {
+            // A file may have many gigabytes in front of it, which needn't be gone over.
+            let sought = if refused.sectors == 1 { Sought::Entry } else { Sought::Bytes };
+            return Diagnosis::at(*refused, Some((sector, sought)), &mut Source::new(Copied::new(self.image)));
+        }
         let mut again = CountedDrive::over(Copied::new(self.image), self.volume);
         if !is_of_the_disc(refused.why) || again.replay(asked) != Some(refused.why) {
             return Diagnosis::bare(*refused);

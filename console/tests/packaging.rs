@@ -147,6 +147,7 @@ fn built() -> Folder {
         "console/src/a.rs",
         "console/Cargo.toml",
         "console/Cargo.lock",
+        "console/build.rs",
         "face/src/a.rs",
         "face/Cargo.toml",
         "face/build.rs",
@@ -194,7 +195,14 @@ fn what_is_built_is_not_built_again() {
     let run = alone(&folder, &["ls", "a b"]);
     assert_eq!((run.status, run.out.as_str(), run.error.as_str()), (0, "ran ls a b\n", ""));
     assert_eq!(alone(&folder, &["--build"]).out, "");
-    for newer in ["console/src/a.rs", "console/Cargo.toml", "face/src/a.rs", "crates/first_cue/stdin", "target/staticlib/libvault_c.a"] {
+    for newer in [
+        "console/src/a.rs",
+        "console/Cargo.toml",
+        "console/build.rs",
+        "face/src/a.rs",
+        "crates/first_cue/stdin",
+        "target/staticlib/libvault_c.a",
+    ] {
         age(&folder, newer, "now + 20 seconds");
         let run = alone(&folder, &["ls"]);
         assert!(run.status == 69 && run.error.contains("cargo is missing"), "{newer} {run:?}");

@@ -9,7 +9,7 @@ use std::fs::{self, File, Metadata, Permissions};
 use std::hash::{BuildHasher, RandomState};
 use std::io::{self, Write};
 use std::os::fd::AsFd;
-use std::os::unix::fs::{MetadataExt, PermissionsExt, fchown};
+use std::os::unix::fs::{MetadataExt, OpenOptionsExt, PermissionsExt, fchown};
 use std::path::{Path, PathBuf};
 
 /// Written at a time, between two looks of the bar.
@@ -20,6 +20,9 @@ const LINKS: usize = 40;
 
 /// The bits of a mode that are kept: who may read, write and run it.
 const MODE: u32 = 0o777;
+
+/// The mode of a new file, less what the system's mask takes from it.
+const NEW: u32 = 0o666;
 
 /// What a file is, whatever its name: its device, and its number there.
 pub fn identity(about: &Metadata) -> (u64, u64) {
@@ -167,11 +170,13 @@ fn keep(file: &File, place: &Path) -> io::Result<()> {
     file.set_permissions(Permissions::from_mode(old.mode() & MODE))
 }
 
-/// A new file beside another, to be read too: a map needs both. Its name is one that nobody else has.
+/// A new file beside another, to be read too: a map needs both. Its name is one that nobody else has. Where the other is there, nobody may read it meanwhile
+/// who may not read that.
 fn created(place: &Path, what: &str) -> io::Result<(Unfinished, File)> {
     let chance = RandomState::new().hash_one(std::process::id());
     let unfinished = Unfinished::at(place.with_file_name(format!(".vault-{chance:016x}-{what}")))?;
-    let file = File::options().read(true).write(true).create_new(true).open(unfinished.path())?;
+    let mode = fs::symlink_metadata(place).map_or(NEW, |old| old.mode() & MODE);
+    let file = File::options().read(true).write(true).create_new(true).mode(mode).open(unfinished.path())?;
     Ok((unfinished, file))
 }
 
@@ -181,4 +186,25 @@ fn pieces(file: &mut File, bytes: &[u8], bar: &mut Bar) -> io::Result<()> {
         bar.add(piece.len() as u64);
     }
     Ok(())
+}
+
+#[cfg(test)]
+mod tests {
+    use super::*;
+
+    #[test]
+    fn what_is_written_is_no_more_open_than_the_old_file() {
+        let folder = std::env::temp_dir().join(format!("vault-modes-{}", std::process::id()));
+        fs::create_dir(&folder).unwrap();
+        let place = folder.join("cue");
+        let mode = || created(&place, "new").unwrap().1.metadata().unwrap().mode() & MODE;
+        let new = mode();
+        assert!(new & 0o600 == 0o600 && new & 0o111 == 0, "{new:o}");
+        fs::write(&place, b"old").unwrap();
+        for kept in [0o600, 0o640, 0o400] {
+            fs::set_permissions(&place, Permissions::from_mode(kept)).unwrap();
+            assert_eq!(mode() & !kept, 0);
+        }
+        fs::remove_dir_all(&folder).unwrap();
+    }
 }
