@@ -1,5 +1,5 @@
 -- What a cursor stands for, one step at a time. Assumes nothing.
-use mathlib.Core.Path.{_≡_, refl, _∙_}
+use mathlib.Core.Path.{_≡_, refl, sym, _∙_}
 use mathlib.Core.List.{List, [], _∷_}
 use mathlib.Core.Option.{Option, none, some}
 use Prim.Native.Nat.{ℕ, zero, suc, _+_, _-_, _*_, _≤_, _<_, _^_}
@@ -119,3 +119,26 @@ module _ (image : List ℕ) (m : Mount) (kind : ℕ) where
       told (Refuses r) q = rw (walks-refused kind image (here c) q) (beyond-refused (c .hops) r)
       told (Extent e k) q = record { list = rw (walks-extent kind image (here c) q); less = omega (arith, walks-less kind image (here c) q) }
       told (Continues a) q = hopped a q (c .hops) refl
+
+-- ---- the same of what `advance` answered
+
+module _ (image : List ℕ) (m : Mount) (kind : ℕ) (c : ChainCursor) {r : ChainStep} (p : r ≡ stepOf image m kind c) (b : Bytes image) where
+  pub steps-to : {x : ChainStep} → r ≡ x → Stepped image m kind c x
+  steps-to e = rw (sym p ∙ e) at (steps image m kind b c)
+
+  pub ended : r ≡ Ends → left image m kind c ≡ []
+  ended e = steps-to e
+
+  module _ {c′ : ChainCursor} where
+    pub hopped : r ≡ Hops c′ → Hopped image m kind c c′
+    hopped e = steps-to e
+
+    pub hop-less : r ≡ Hops c′ → weight c′ < weight c
+    hop-less e = hopped e .less
+
+    module _ {x : AllocExtent} where
+      pub taken : r ≡ Takes x c′ → Taken image m kind c x c′
+      taken e = steps-to e
+
+      pub take-less : r ≡ Takes x c′ → weight c′ < weight c
+      take-less e = taken e .less

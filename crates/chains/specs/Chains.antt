@@ -56,6 +56,18 @@ continued m kind (suc n) (Continuation a) =
     then (continued m kind n (x .ending)) (λ more.
     done (x .extents ++ more)))
 
+-- how many continuations are followed behind an area
+unfoldable pub hops : Mount → ℕ → ℕ → AdEnding → Ask ℕ
+hops m kind zero End = done 0
+hops m kind zero (Refused r) = refuse r
+hops m kind zero (Continuation a) = refuse Malformed
+hops m kind (suc n) End = done 0
+hops m kind (suc n) (Refused r) = refuse r
+hops m kind (suc n) (Continuation a) =
+    then (nextArea m kind a) (λ x.
+    then (hops m kind n (x .ending)) (λ more.
+    done (suc more)))
+
 -- the extents of an area and of those that continue it
 abbrev pub chain : Mount → ℕ → ℕ → Area → Ask (List AllocExtent)
 chain m kind n x = then (continued m kind n (x .ending)) (λ more. done (x .extents ++ more))

@@ -1,26 +1,31 @@
 -- Laws of refusals. Assumes nothing.
 use mathlib.Core.Path.{_≡_}
-use Prim.Native.Nat.{_<_, _^_}
+use Prim.Native.Nat.{_≤_, _<_, _^_}
 use native.Mathlib.Omega.{arith}
 use Rattle.disc.specs.Refusals.{number}
 use Rattle.disc.specs.declared.refusals.Refusal.{Refusal}
-use Rattle.disc.specs.declared.refusals.Refusal.the-variants.{Io, Malformed, NotBluray, Unsupported, NoRoom, NoWork, NoSlot, Ambiguous, BadCrc, TooDeep, TooMany, BadName, BadFiles}
+use Rattle.disc.specs.declared.refusals.Refusal.the-variants.{Io, Malformed, NotBluray, Unsupported, NoRoom, NoWork, NoSlot, Ambiguous, BadCrc, TooDeep, TooMany, BadName, BadFiles, BadShelf}
 
--- each number fits in 32 bits
+-- no number is over 15
+pub refusal-listed : (why : Refusal) → number why ≤ 15
+refusal-listed Io = omega arith
+refusal-listed Malformed = omega arith
+refusal-listed NotBluray = omega arith
+refusal-listed Unsupported = omega arith
+refusal-listed NoRoom = omega arith
+refusal-listed NoWork = omega arith
+refusal-listed NoSlot = omega arith
+refusal-listed Ambiguous = omega arith
+refusal-listed BadCrc = omega arith
+refusal-listed TooDeep = omega arith
+refusal-listed TooMany = omega arith
+refusal-listed BadName = omega arith
+refusal-listed BadFiles = omega arith
+refusal-listed BadShelf = omega arith
+
+-- so each fits in 32 bits
 pub refusal-small : (why : Refusal) → number why < 2 ^ 32
-refusal-small Io = omega arith
-refusal-small Malformed = omega arith
-refusal-small NotBluray = omega arith
-refusal-small Unsupported = omega arith
-refusal-small NoRoom = omega arith
-refusal-small NoWork = omega arith
-refusal-small NoSlot = omega arith
-refusal-small Ambiguous = omega arith
-refusal-small BadCrc = omega arith
-refusal-small TooDeep = omega arith
-refusal-small TooMany = omega arith
-refusal-small BadName = omega arith
-refusal-small BadFiles = omega arith
+refusal-small why = omega (arith, refusal-listed why)
 
 -- no refusal has number 0, which is "done"
 pub refusal-numbered : (why : Refusal) → number why ≡ 0 → ⊥
@@ -37,3 +42,4 @@ refusal-numbered TooDeep e = omega arith
 refusal-numbered TooMany e = omega arith
 refusal-numbered BadName e = omega arith
 refusal-numbered BadFiles e = omega arith
+refusal-numbered BadShelf e = omega arith

@@ -1,7 +1,7 @@
 -- The answer number of each refusal: the table of RULES 1.1.
 use Prim.Native.Nat.{ℕ}
 use Rattle.disc.specs.declared.refusals.Refusal.{Refusal}
-use Rattle.disc.specs.declared.refusals.Refusal.the-variants.{Io, Malformed, NotBluray, Unsupported, NoRoom, NoWork, NoSlot, Ambiguous, BadCrc, TooDeep, TooMany, BadName, BadFiles}
+use Rattle.disc.specs.declared.refusals.Refusal.the-variants.{Io, Malformed, NotBluray, Unsupported, NoRoom, NoWork, NoSlot, Ambiguous, BadCrc, TooDeep, TooMany, BadName, BadFiles, BadShelf}
 
 -- 0 is kept for "done", and 8 is struck
 abbrev pub number : Refusal → ℕ
@@ -18,3 +18,4 @@ number TooDeep = 11
 number TooMany = 12
 number BadName = 13
 number BadFiles = 14
+number BadShelf = 15

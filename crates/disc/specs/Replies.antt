@@ -39,6 +39,14 @@ replyBy full room count (answered b) =
 abbrev pub replyOf : {A : Type 0} → Refusal → ℕ → Ran (List A) → Reply
 replyOf full room r = replyBy full room (reported (r .count)) (r .outcome)
 
+-- where none is lent, and room is taken as enough: the length alone
+abbrev pub measuredBy : {A : Type 0} → ℕ → Outcome (List A) → Reply
+measuredBy count (refused r) = record { answer = number r; count = count; length = 0 }
+measuredBy count (answered b) = record { answer = 0; count = count; length = length b }
+
+abbrev pub measuredOf : {A : Type 0} → Ran (List A) → Reply
+measuredOf r = measuredBy (reported (r .count)) (r .outcome)
+
 -- what was lent, with the answer over its front; a refusal changes nothing
 abbrev pub leftBy : {A : Type 0} → List A → Outcome (List A) → List A
 leftBy lent (refused r) = lent

@@ -41,3 +41,6 @@ pub const BAD_NAME: u64 = 13;
 
 // The files of a vault that is to be written: too many, names and lengths unlike in number, one too long, or lengths that pass the staging area.
 pub const BAD_FILES: u64 = 14;
+
+// The lengths of a shelf's images pass the bytes lent, or there are too few places for the figures of each and of the shelf.
+pub const BAD_SHELF: u64 = 15;

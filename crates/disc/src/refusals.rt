@@ -5,6 +5,7 @@ use crate::answers::AMBIGUOUS;
 use crate::answers::BAD_CRC;
 use crate::answers::BAD_FILES;
 use crate::answers::BAD_NAME;
+use crate::answers::BAD_SHELF;
 use crate::answers::IO;
 use crate::answers::MALFORMED;
 use crate::answers::NO_ROOM;
@@ -39,6 +40,8 @@ pub enum Refusal {
     BadName,
     // The files of a vault that is to be written aren't what can be written.
     BadFiles,
+    // The lengths of a shelf's images pass its bytes, or there are too few places for the figures.
+    BadShelf,
 }
 
 impl Refusal {
@@ -60,6 +63,7 @@ impl Refusal {
             Refusal::TooMany => TOO_MANY,
             Refusal::BadName => BAD_NAME,
             Refusal::BadFiles => BAD_FILES,
+            Refusal::BadShelf => BAD_SHELF,
         }
     }
 }

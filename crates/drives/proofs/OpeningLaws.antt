@@ -21,7 +21,7 @@ use Rattle.disc.specs.declared.places.PartitionRef.the-variants.{Named}
 use Rattle.disc.specs.declared.places.Placed.{Placed}
 use Rattle.disc.specs.declared.places.Placed.the-variants.{At, Nowhere}
 use Rattle.disc.specs.declared.refusals.Refusal.{Refusal}
-use Rattle.disc.specs.declared.refusals.Refusal.the-variants.{Io, Malformed, NotBluray, Unsupported, NoRoom, NoWork, NoSlot, Ambiguous, BadCrc, TooDeep, TooMany, BadName, BadFiles}
+use Rattle.disc.specs.declared.refusals.Refusal.the-variants.{Io, Malformed, NotBluray, Unsupported, NoRoom, NoWork, NoSlot, Ambiguous, BadCrc, TooDeep, TooMany, BadName, BadFiles, BadShelf}
 use Rattle.disc.proofs.RefusalLaws.{refusal-numbered}
 use Rattle.disc.proofs.PlaceLaws.{stands-nowhere, stands-at, stands-low}
 use Rattle.disc.proofs.AskLaws.{then-then}
@@ -87,6 +87,7 @@ refusal-known TooDeep = refl
 refusal-known TooMany = refl
 refusal-known BadName = refl
 refusal-known BadFiles = refl
+refusal-known BadShelf = refl
 
 -- as the code makes an end
 abbrev pub Ended : Opening → Opened → Type 0

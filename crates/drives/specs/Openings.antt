@@ -10,7 +10,7 @@ use Rattle.disc.specs.Refusals.{number}
 use Rattle.disc.specs.Ask.{Ask, then, ended}
 use Rattle.disc.specs.Ask.Ask.{done, refuse, ask}
 use Rattle.disc.specs.declared.refusals.Refusal.{Refusal}
-use Rattle.disc.specs.declared.refusals.Refusal.the-variants.{Io, Malformed, NotBluray, Unsupported, NoRoom, NoWork, NoSlot, Ambiguous, BadCrc, TooDeep, TooMany, BadName, BadFiles}
+use Rattle.disc.specs.declared.refusals.Refusal.the-variants.{Io, Malformed, NotBluray, Unsupported, NoRoom, NoWork, NoSlot, Ambiguous, BadCrc, TooDeep, TooMany, BadName, BadFiles, BadShelf}
 use Rattle.volumes.specs.Sequences.{anyPartition, orderOf, keptOf, Says, saysIn, goOn, scan}
 use Rattle.descriptors.specs.Volumes.{readAnchor}
 use Rattle.descriptors.specs.FileSets.{readFileSet}
@@ -39,7 +39,8 @@ refusalOf n =
     (pick (eqb n 12) TooMany
     (pick (eqb n 13) BadName
     (pick (eqb n 14) BadFiles
-    Io)))))))))))
+    (pick (eqb n 15) BadShelf
+    Io))))))))))))
 
 -- behind what was kept of the descriptors so far
 abbrev pub mountingFrom : Kept → Ask VolumeRecord

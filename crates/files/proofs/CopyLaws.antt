@@ -105,7 +105,7 @@ module _ (image : List ℕ) (m : Mount) (kind want : ℕ) (out₀ : List ℕ) (c
     pub copy-end : t ≡ End → Copied (rest c₀ want) want out₀ out
     copy-end e =
         let q : Turned image m kind c (want - filled) End = rw e at p in
-        ended (λ a. rw q at (i .stores a .same))
+        ended (λ a. rw (q .runs) at (i .stores a .same))
 
     pub copy-refused : {a : Refusal} {n : ℕ} → t ≡ Stopped a n → Copied (rest c₀ want) want out₀ out
     copy-refused {a} {n} e =

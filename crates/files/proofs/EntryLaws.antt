@@ -16,7 +16,7 @@ use Rattle.disc.specs.Ask.{Ask, bytesIn}
 use Rattle.disc.specs.Ask.Held.{holds, lacks}
 use Rattle.disc.specs.Ask.Ask.{done}
 use Rattle.disc.specs.Ask.Outcome.{answered, refused}
-use Rattle.disc.specs.Ran.{ran, after, followed}
+use Rattle.disc.specs.Ran.{Ran, ran, after, followed}
 use Rattle.disc.specs.Images.{there, disc, heldFrom}
 use Rattle.disc.specs.Places.{icbPlaced, isChecked, standing, StandsIn}
 use Rattle.disc.specs.declared.places.Mount.{Mount}
@@ -29,22 +29,24 @@ use Rattle.disc.proofs.RanLaws.{ran-done, ran-refuse, ran-there, ran-missing, r
 use Rattle.disc.proofs.ImageLaws.{held, missing}
 use Rattle.disc.proofs.PlaceLaws.{in-nowhere, in-at}
 use Rattle.records.specs.declared.allocations.LongAd.{LongAd}
+use Rattle.areas.specs.declared.AllocExtent.{AllocExtent}
 use Rattle.areas.proofs.PartLaws.{area-in-part}
 use Rattle.entries.specs.FileEntries.{readEntry}
 use Rattle.entries.specs.declared.«file_entries».FileEntry.{FileEntry}
 use Rattle.entries.specs.declared.«file_entries».EntryRead.{EntryRead}
 use Rattle.entries.specs.declared.«file_entries».EntryRead.the-variants.{Read, Refused as NoEntry}
 use Rattle.entries.proofs.EntryLaws.{read-entry}
-use Rattle.chains.specs.inner.Walks.{left}
+use Rattle.chains.specs.inner.Walks.{left, hopsAt}
 use Rattle.chains.specs.Follows.{chainAt, WholeChain, BrokenChain, Followed}
 use Rattle.chains.specs.declared.cursors.ChainCursor.{ChainCursor}
 use Rattle.chains.specs.declared.follows.Chain.{Chain}
 use Rattle.chains.specs.declared.follows.Chain.the-variants.{Whole, Refused as BrokenOff}
+use Rattle.chains.proofs.CountLaws.{whole-hops}
 use Rattle.chains.proofs.AskedLaws.{AtMost, done-asks, refuse-asks, pick-asks, ask-asks, standing-asks}
 use Rattle.files.specs.declared.icbs.Place.{Place}
 use Rattle.files.specs.declared.icbs.PlaceRead.{PlaceRead}
 use Rattle.files.specs.declared.icbs.PlaceRead.the-variants.{Found, Refused}
-use Rattle.files.specs.Files.{Located, located, entryIn, entryAt, entryMount, resolved, fileAt}
+use Rattle.files.specs.Files.{Located, located, entryIn, entryAt, entryMount, isEmbedded, hopsOf, resolved, fileAt, fileHops}
 use Rattle.files.specs.Files.File.{chained}
 use Rattle.files.specs.inner.Places.{placeAt, placeBy, placeOn, placeFrom, placeOf}
 use Rattle.files.specs.inner.Wholes.{readBy, placeIn, frontOf, FoundPlace, Finds, Locates, EmbeddedFile, Resolves}
@@ -226,6 +228,10 @@ module _ (image : List ℕ) (m : Mount) (icb : LongAd) {p : Place} (q : FoundPla
   unfolding fileAt
   found-goes = rw (ran-then, q .runs)
 
+  found-hops : ran (disc image) (fileHops m icb) ≡ after 1 (ran (disc image) (pick (isEmbedded (q .entry)) (done 0) (hopsOf (entryMount m icb) (q .entry))))
+  unfolding fileHops
+  found-hops = rw (ran-then, q .runs)
+
   pub found-embedded : p .kind ≡ 3 → EmbeddedFile image m icb p
   found-embedded k = record {
     entry = q .entry;
@@ -233,6 +239,7 @@ module _ (image : List ℕ) (m : Mount) (icb : LongAd) {p : Place} (q : FoundPla
     is = q .is;
     bytes = q .bytes;
     inside = q .inside;
+    hops = ap (λ (x : Ran ℕ). x .outcome) found-hops ∙ rw (← found-kind, eq-eqb (p .kind) 3 k, ran-done);
   }
 
 -- ---- the entry and the chain: r is what `locate` found, and c what `follow` did
@@ -255,12 +262,12 @@ module _ (image : List ℕ) (m : Mount) (icb : LongAd) {r : PlaceRead} (y : r �
     resolve-embedded k = found-embedded image m icb found k
 
     module _ (k : p .kind ≡ 3 → ⊥) {own : Mount} (o : own ≡ entryMount m icb) {front : ChainCursor} (g : front ≡ frontOf p) (c : Chain) (w : Followed image own (p .kind) front c) where
+      found-size : p .size ≡ found .entry .entry .«area_length»
+      found-size = ap (λ (x : Place). x .size) (found .is)
+
       -- the chain in the sector is the chain in the image
       follows : ran (disc image) (fileAt m icb) ≡ after 1 (followed (chainAt image (entryMount m icb) (p .kind) (frontOf p)) (λ es. ran (disc image) (done (chained (found .entry) es))))
-      follows = found-goes image m icb found ∙ rw (← found-kind image m icb found, ne-eqb (p .kind) 3 k, ran-then, ← sizes, found .area)
-        where
-          sizes : p .size ≡ found .entry .entry .«area_length»
-          sizes = ap (λ (x : Place). x .size) (found .is)
+      follows = found-goes image m icb found ∙ rw (← found-kind image m icb found, ne-eqb (p .kind) 3 k, ran-then, ← found-size, found .area)
 
       module _ {why : Refusal} {n : ℕ} (f : c ≡ BrokenOff why n) where
         broken : BrokenChain image (entryMount m icb) (p .kind) (frontOf p) why n
@@ -279,6 +286,12 @@ module _ (image : List ℕ) (m : Mount) (icb : LongAd) {r : PlaceRead} (y : r �
         pub whole-fits : Fits w64 (n + 1)
         whole-fits = omega (arith, whole .few)
 
+        whole-goes : ran (disc image) (fileHops m icb) .outcome ≡ answered (hopsAt image (entryMount m icb) (p .kind) (frontOf p))
+        whole-goes =
+            ap (λ (x : Ran ℕ). x .outcome) (found-hops image m icb found)
+            ∙ rw (← found-kind image m icb found, ne-eqb (p .kind) 3 k, ← found-size, found .area)
+            (whole-hops image (entryMount m icb) (p .kind) (frontOf p) _ (ap (λ (x : Ran (List AllocExtent)). x .outcome) (whole .runs)))
+
         pub resolve-whole : Resolves image m icb (Chained p (n + 1))
         resolve-whole = record {
           entry = found .entry;
@@ -286,4 +299,5 @@ module _ (image : List ℕ) (m : Mount) (icb : LongAd) {r : PlaceRead} (y : r �
           is = found .is;
           small = found .small;
           few = omega (arith, whole .few);
+          hops = whole-goes;
         }

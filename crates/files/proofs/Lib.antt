@@ -6,6 +6,7 @@ pub mod MeasureLaws
 pub mod CopyLaws
 pub mod EntryLaws
 pub mod ReadLaws
+pub mod MeasuredLaws
 pub mod ResolveLaws
 pub mod Promises
 pub mod ContentLaws

@@ -7,8 +7,10 @@ use Prim.Native.Nat.{ℕ, _+_, _-_, _*_, _/_, _≤_, _<_, min}
 use native.Mathlib.Omega.{arith}
 use lib.ListN.{length, take, drop, length-drop}
 use lib.Seq.{take-all, length-take-le}
+use lib.Dec.{leb}
 use borrow.Author.Tests.{eq-eqb, ne-eqb, le-leb, lt-leb}
 use Rattle.disc.proofs.ByteLaws.{Bytes}
+use Rattle.disc.specs.Choice.{pick}
 use Rattle.disc.specs.Ask.{Disc, Ask, Outcome}
 use Rattle.disc.specs.Ask.Ask.{done}
 use Rattle.disc.specs.Ask.Outcome.{answered, refused}
@@ -21,15 +23,16 @@ use Rattle.disc.specs.declared.refusals.Refusal.the-variants.{Io, Unsupported}
 use Rattle.disc.proofs.RanLaws.{ran-done, ran-refuse, ran-then}
 use Rattle.disc.proofs.ImageLaws.{split, same-answer}
 use Rattle.areas.specs.declared.AllocExtent.{AllocExtent}
-use Rattle.chains.specs.inner.Walks.{stepOf}
+use Rattle.chains.specs.inner.Walks.{left, stepOf}
 use Rattle.chains.specs.declared.cursors.ChainCursor.{ChainCursor}
 use Rattle.chains.specs.declared.cursors.ChainStep.{ChainStep}
 use Rattle.chains.specs.declared.cursors.ChainStep.the-variants.{Takes, Hops, Ends}
-use Rattle.chains.proofs.WalkLaws.{Stepped, steps}
+use Rattle.chains.proofs.WalkLaws.{ended, hopped, taken}
+use Rattle.chains.proofs.CountLaws.{hop-level, take-level}
 use Rattle.files.specs.declared.pieces.Piece.{Piece}
 use Rattle.files.specs.declared.pieces.Piece.the-variants.{Held, Refused}
 use Rattle.files.specs.declared.pieces.Turn.the-variants.{Piece as APiece, Hop, Refused as Stopped, End}
-use Rattle.files.specs.Reads.{joining, extentsBytes}
+use Rattle.files.specs.Reads.{joining, extentsBytes, visited}
 use Rattle.files.specs.inner.Pieces.{sectorsRead, inFront, joined, restOf, Lies, weighedAt, Weighed, Turned}
 use Rattle.files.proofs.ExtentLaws.{extentRuns, extent-runs}
 
@@ -79,6 +82,7 @@ module _ (image : List ℕ) (m : Mount) (e : AllocExtent) (want : ℕ) where
           record {
             runs = λ es. extent-first es ∙ rw (le-leb (sectorsRead (e .length) want) (heldFrom image s) k) (joined-runs (disc image) _ (min (e .length) want) (part-long image (2048 * s) (min (e .length) want) want y) (sectorsRead (e .length) want) want (y .small) (extentsBytes m es));
             lies = y;
+            cut = refl;
           }
 
       pub weigh-there : {w : Piece} → w ≡ weighedAt image s (e .length) want → Weighed image m e want w
@@ -98,27 +102,38 @@ module _ (image : List ℕ) (s size want : ℕ) {n : ℕ} (e : n ≡ sectorsRead
 
 -- ---- a turn: r is what `advance` found, and w what `weigh` did
 
-module _ (image : List ℕ) (m : Mount) (kind : ℕ) (c : ChainCursor) (want : ℕ) {r : ChainStep} (p : r ≡ stepOf image m kind c) (b : Bytes image) where
-  -- what the step leaves
-  steps-to : {x : ChainStep} → r ≡ x → Stepped image m kind c x
-  steps-to e = rw (sym p ∙ e) at (steps image m kind b c)
+-- a read goes on behind an extent where it has less than is wanted
+begins : (e : AllocExtent) (es : List AllocExtent) (want k : ℕ) → k ≡ min (e .length) want → visited (e ∷ es) want ≡ 1 + pick (leb want k) 0 (visited es (want - k))
+unfolding visited
+begins e es want k h = ⊎-elim
+    (λ (g : want ≤ e .length). rw (le-leb want (e .length) g, le-leb want k (omega arith)))
+    (λ (g : e .length < want). let f : k ≡ e .length = omega arith in rw (lt-leb want (e .length) g, f, lt-leb want (e .length) g))
+    (split want (e .length))
 
+module _ (image : List ℕ) (m : Mount) (kind : ℕ) (c : ChainCursor) (want : ℕ) {r : ChainStep} (p : r ≡ stepOf image m kind c) (b : Bytes image) where
   pub turn-end : r ≡ Ends → Turned image m kind c want End
   unfolding extentsBytes
-  turn-end e = let q : Stepped image m kind c Ends = steps-to e in rw q (ran-done (disc image) [])
+  turn-end e = let q = ended image m kind c p b e in record { runs = rw q (ran-done (disc image) []); list = q }
 
   pub turn-hop : {c′ : ChainCursor} → r ≡ Hops c′ → Turned image m kind c want (Hop c′)
-  turn-hop {c′} e = let q : Stepped image m kind c (Hops c′) = steps-to e in record { runs = rw (q .list); less = q .less }
+  turn-hop e = let q = hopped image m kind c p b e in record { runs = rw (q .list); list = q .list; gone = hop-level image m kind c p e .even; less = q .less }
 
   module _ {x : AllocExtent} {c′ : ChainCursor} (e : r ≡ Takes x c′) (w : Piece) (v : Weighed image m x want w) where
     pub turn-refused : {why : Refusal} {n : ℕ} → w ≡ Refused why n → Turned image m kind c want (Stopped why n)
     turn-refused {why} {n} f =
-        let q : Stepped image m kind c (Takes x c′) = steps-to e in
+        let q = taken image m kind c p b e in
         let u : Weighed image m x want (Refused why n) = rw f at v in
         rw (q .list) (u _)
 
     pub turn-piece : {from n k : ℕ} → w ≡ Held from n k → Turned image m kind c want (APiece from n k c′)
     turn-piece {from} {n} {k} f =
-        let q : Stepped image m kind c (Takes x c′) = steps-to e in
+        let q = taken image m kind c p b e in
         let u : Weighed image m x want (Held from n k) = rw f at v in
-        record { runs = rw (q .list) (u .runs _); lies = u .lies; less = q .less }
+        record {
+          runs = rw (q .list) (u .runs _);
+          lies = u .lies;
+          begun = rw (q .list) (begins x (left image m kind c′) want k (u .cut));
+          long = rw (q .list) (omega arith);
+          gone = take-level image m kind c p e .even;
+          less = q .less;
+        }

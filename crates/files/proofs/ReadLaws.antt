@@ -23,11 +23,13 @@ use Rattle.records.specs.declared.allocations.LongAd.{LongAd}
 use Rattle.chains.specs.inner.Walks.{left}
 use Rattle.chains.specs.declared.cursors.ChainCursor.{ChainCursor}
 use Rattle.files.specs.declared.icbs.Place.{Place}
+use Rattle.files.specs.declared.extents.Sizes.{Sizes}
 use Rattle.files.specs.declared.extents.Measured.{Measured}
 use Rattle.files.specs.declared.extents.Measured.the-variants.{Sized, Refused}
 use Rattle.files.specs.Files.{entryMount, fileBytes}
 use Rattle.files.specs.inner.Pieces.{restAt}
-use Rattle.files.specs.inner.Passes.{sizedBy, sized, Copied}
+use Rattle.files.specs.inner.Passes.{sizedBy, sized, Measures, Copied}
+use Rattle.files.specs.inner.Passes.Came.{comes, stops}
 use Rattle.files.specs.inner.Wholes.{embeddedIn, embeddedRun, frontOf, EmbeddedFile, ChainedFile, Resolves}
 use Rattle.files.specs.declared.resolves.Resolved.{Resolved}
 use Rattle.files.specs.declared.resolves.Resolved.the-variants.{Embedded, Chained, Refused as Unresolved}
@@ -56,23 +58,23 @@ module _ (full : Refusal) (image : List ℕ) (p : Place) (h : p .at + p .size �
 
 -- ---- the bytes of extents that were measured
 
-record Told (r : Ran (List ℕ)) (size m : ℕ) : Type 0 where
-  answers : isAnswered (r .outcome) ≡ true
-  is : size ≡ length (bytesOf (r .outcome))
-  count : m ≡ reported (r .count)
+pub record Told (r : Ran (List ℕ)) (size m : ℕ) : Type 0 where
+  pub answers : isAnswered (r .outcome) ≡ true
+  pub is : size ≡ length (bytesOf (r .outcome))
+  pub count : m ≡ reported (r .count)
 
-told-sized : (o : Outcome (List ℕ)) (j size m : ℕ) → Sized size m ≡ sizedBy 0 (reported (0 + j)) o → Told (record { outcome = o; count = j }) size m
+told-sized : (o : Outcome (List ℕ)) (j size m : ℕ) → comes size m ≡ sizedBy 0 (reported (0 + j)) o → Told (record { outcome = o; count = j }) size m
 told-sized (answered b) j size m e =
     let p : size ≡ 0 + length b = cc in
     let q : m ≡ reported (0 + j) = cc in
     record { answers = refl; is = omega arith; count = omega arith }
 told-sized (refused a) j size m e = absurd (let z : _≡_ {A = ℕ} 0 1 = cc in omega arith)
 
-record ToldRefused (r : Ran (List ℕ)) (a : Refusal) (m : ℕ) : Type 0 where
-  outcome : r .outcome ≡ refused a
-  count : m ≡ reported (r .count)
+pub record ToldRefused (r : Ran (List ℕ)) (a : Refusal) (m : ℕ) : Type 0 where
+  pub outcome : r .outcome ≡ refused a
+  pub count : m ≡ reported (r .count)
 
-told-refused : (o : Outcome (List ℕ)) (j : ℕ) (a : Refusal) (m : ℕ) → Refused a m ≡ sizedBy 0 (reported (0 + j)) o → ToldRefused (record { outcome = o; count = j }) a m
+told-refused : (o : Outcome (List ℕ)) (j : ℕ) (a : Refusal) (m : ℕ) → stops a m ≡ sizedBy 0 (reported (0 + j)) o → ToldRefused (record { outcome = o; count = j }) a m
 told-refused (answered b) j a m e = absurd (let z : _≡_ {A = ℕ} 0 1 = cc in omega arith)
 told-refused (refused b) j a m e =
     let q : m ≡ reported (0 + j) = cc in
@@ -98,51 +100,54 @@ too-many full r before h k = by (r .outcome) h k
     by (answered b) h k = record { says = rw (lt-leb _ _ k); leaves = rw (lt-leb _ _ k) }
     by (refused a) h k = absurd (let z : _≡_ {A = ℕ} 0 1 = cc in omega arith)
 
-module _ (full : Refusal) (rest : Ran (List ℕ)) (n : ℕ) {m : Measured} (q : m ≡ sized 0 0 rest) (out : List ℕ) where
-  module _ {why : Refusal} {j : ℕ} (f : m ≡ Refused why j) where
-    told-no : ToldRefused rest why j
-    unfolding sized
-    told-no = told-refused (rest .outcome) (rest .count) why j (sym f ∙ q)
-
-    pub whole-refused : {a : ℕ} → a ≡ number why → {k : ℕ} → k ≡ reported (n + j) → {x : Reply} → x ≡ record { answer = a; count = k; length = 0 } → Replied full (after n rest) out out x
-    whole-refused g {k} h e =
-        let t = told-no in
-        rw (t .outcome) (reply-refused why (n + rest .count) k (omega (arith, t .count)) (e ∙ rw g))
-
-  module _ {size j : ℕ} (f : m ≡ Sized size j) where
-    told-yes : Told rest size j
-    unfolding sized
-    told-yes = told-sized (rest .outcome) (rest .count) size j (sym f ∙ q)
-
-    module _ {k : ℕ} (g : k ≡ reported (n + j)) where
-      counted : reported (n + rest .count) ≡ k
-      counted = let t = told-yes in omega (arith, t .count)
-
-      pub whole-full : length out < size → {a : ℕ} → a ≡ number full → {x : Reply} → x ≡ record { answer = a; count = k; length = 0 } → Replied full (after n rest) out out x
-      whole-full h d y =
-          let t = told-yes in
-          rw (y, d, ← counted) (too-many full (after n rest) out (t .answers) (omega (arith, t .is)))
-
--- the copy wants as many bytes as were measured, which is all that the read answers
-module _ (image : List ℕ) (m : Mount) (kind : ℕ) (first : ChainCursor) (want : ℕ) where
+-- t is what `measure` found
+module _ (image : List ℕ) (v : Mount) (kind : ℕ) (first : ChainCursor) (want : ℕ) (t : Measured) (q : Measures image v kind first want t) where
   abbrev rest : ℕ → Ran (List ℕ)
-  rest w = restAt image m kind first w
+  rest w = restAt image v kind first w
 
-  same-outcome : {size j : ℕ} → Told (rest want) size j → rest size .outcome ≡ rest want .outcome
-  same-outcome {size} {j} t = by (rest want .outcome) refl (t .answers) (t .is)
-    where
-      by : (o : Outcome (List ℕ)) → rest want .outcome ≡ o → isAnswered o ≡ true → size ≡ length (bytesOf o) → rest size .outcome ≡ o
-      by (answered b) e a i = rw i (same-bytes image m (left image m kind first) want b e)
-      by (refused r) e a i = absurd (let z : _≡_ {A = ℕ} 0 1 = cc in omega arith)
+  pub told-no : {why : Refusal} {j : ℕ} → t ≡ Refused why j → ToldRefused (rest want) why j
+  unfolding sized
+  told-no {why} {j} f =
+      let p : Measures image v kind first want (Refused why j) = rw f at q in
+      told-refused (rest want .outcome) (rest want .count) why j p
 
-  pub whole-done : (full : Refusal) (n : ℕ) (out : List ℕ) {told : Measured} → told ≡ sized 0 0 (rest want) → {size j : ℕ} → told ≡ Sized size j → {k : ℕ} → k ≡ reported (n + j) → size ≤ length out → {z : List ℕ} → Copied (rest size) size out z
-      → Replied full (after n (rest want)) out z (record { answer = 0; count = k; length = size })
-  whole-done full n out q {size} {j} f {k} g h {z} w =
-      let t = told-yes full (rest want) n q out f in
-      let e = same-outcome t in
-      let a : isAnswered (rest size .outcome) ≡ true = rw e (t .answers) in
-      let b : z ≡ bytesOf (rest want .outcome) ++ drop (length (bytesOf (rest want .outcome))) out = rw (← e) (w .bytes a) in
-      rw (← counted full (rest want) n q out f g, t .is) (fits full (after n (rest want)) out z (t .answers) (omega (arith, t .is)) b)
+  pub told-yes : {s : Sizes} → t ≡ Sized s → Told (rest want) (s .size) (s .count)
+  unfolding sized
+  told-yes {s} f =
+      let p : Measures image v kind first want (Sized s) = rw f at q in
+      told-sized (rest want .outcome) (rest want .count) (s .size) (s .count) (p .came)
+
+  module _ (full : Refusal) (n : ℕ) (out : List ℕ) where
+    pub whole-refused : {why : Refusal} {j : ℕ} → t ≡ Refused why j → {a : ℕ} → a ≡ number why → {k : ℕ} → k ≡ reported (n + j) → {x : Reply} → x ≡ record { answer = a; count = k; length = 0 }
+        → Replied full (after n (rest want)) out out x
+    whole-refused {why} f g {k} h e =
+        let d = told-no f in
+        rw (d .outcome) (reply-refused why (n + rest want .count) k (omega (arith, d .count)) (e ∙ rw g))
+
+    module _ {s : Sizes} (f : t ≡ Sized s) {k : ℕ} (g : k ≡ reported (n + s .count)) where
+      counted : reported (n + rest want .count) ≡ k
+      counted = let d = told-yes f in omega (arith, d .count)
+
+      pub whole-full : length out < s .size → {a : ℕ} → a ≡ number full → {x : Reply} → x ≡ record { answer = a; count = k; length = 0 } → Replied full (after n (rest want)) out out x
+      whole-full h d y =
+          let c = told-yes f in
+          rw (y, d, ← counted) (too-many full (after n (rest want)) out (c .answers) (omega (arith, c .is)))
+
+      -- the copy wants as many bytes as were measured, which is all that the read answers
+      same-outcome : rest (s .size) .outcome ≡ rest want .outcome
+      same-outcome = by (rest want .outcome) refl (told-yes f .answers) (told-yes f .is)
+        where
+          by : (o : Outcome (List ℕ)) → rest want .outcome ≡ o → isAnswered o ≡ true → s .size ≡ length (bytesOf o) → rest (s .size) .outcome ≡ o
+          by (answered b) e a i = rw i (same-bytes image v (left image v kind first) want b e)
+          by (refused r) e a i = absurd (let z : _≡_ {A = ℕ} 0 1 = cc in omega arith)
+
+      pub whole-done : s .size ≤ length out → {z : List ℕ} → Copied (rest (s .size)) (s .size) out z → Replied full (after n (rest want)) out z (record { answer = 0; count = k; length = s .size })
+      whole-done h {z} w =
+          let c = told-yes f in
+          let e = same-outcome in
+          let a : isAnswered (rest (s .size) .outcome) ≡ true = rw e (c .answers) in
+          let b : z ≡ bytesOf (rest want .outcome) ++ drop (length (bytesOf (rest want .outcome))) out = rw (← e) (w .bytes a) in
+          rw (← counted, c .is) (fits full (after n (rest want)) out z (c .answers) (omega (arith, c .is)) b)
 
 -- ---- a file: r is what `resolve` found
 
@@ -178,3 +183,6 @@ module _ (full : Refusal) (image : List ℕ) (m : Mount) (icb : LongAd) (out : L
 -- the entry's area, or the embedded file, lies in the image
 pub place-inside : (image : List ℕ) (m : Mount) (icb : LongAd) (r : Resolved) → Resolves image m icb r → {p : Place} → r ≡ Embedded p → p .at + p .size ≤ length image
 place-inside image m icb r y {p} e = let q : EmbeddedFile image m icb p = rw e at y in q .inside
+
+pub chain-little : (image : List ℕ) (m : Mount) (icb : LongAd) (r : Resolved) → Resolves image m icb r → {p : Place} {n : ℕ} → r ≡ Chained p n → {front : ChainCursor} → front ≡ frontOf p → front .left ≤ 2048
+chain-little image m icb r y {p} {n} e g = let q : ChainedFile image m icb p n = rw e at y in rw g (q .small)

@@ -18,7 +18,7 @@ use Rattle.entries.specs.FileEntries.{readEntry}
 use Rattle.entries.specs.declared.«file_entries».FileEntry.{FileEntry}
 use Rattle.entries.specs.declared.«file_entries».EntryRead.{EntryRead}
 use Rattle.entries.specs.declared.«file_entries».EntryRead.the-variants.{Read, Refused}
-use Rattle.chains.specs.Chains.{mostContinuations, chain}
+use Rattle.chains.specs.Chains.{mostContinuations, hops, chain}
 use Rattle.files.specs.Reads.{extentsBytes, visited}
 
 -- ---- the entry
@@ -61,6 +61,10 @@ embeddedBytes x = take (min (x .entry .«area_length») (x .entry .«information
 -- its extents, through 32 continuations at most
 abbrev pub chainOf : Mount → Located → Ask (List AllocExtent)
 chainOf m x = chain m (x .entry .kind) mostContinuations (areaAt (x .entry .kind) (x .sector) (x .entry .«area_at») (x .entry .«area_length»))
+
+-- its length: how many continuations are followed
+abbrev pub hopsOf : Mount → Located → Ask ℕ
+hopsOf m x = hops m (x .entry .kind) mostContinuations (areaAt (x .entry .kind) (x .sector) (x .entry .«area_at») (x .entry .«area_length») .ending)
 
 -- a file: embedded in its entry, or the extents of its chain
 pub data File : Type 0 where
@@ -105,6 +109,10 @@ extentsOf (chained x es) = es
 
 unfoldable pub fileExtents : Mount → LongAd → Ask (List AllocExtent)
 fileExtents m icb = then (fileAt m icb) (λ f. done (extentsOf f))
+
+-- the length of its chain: an embedded file has none
+unfoldable pub fileHops : Mount → LongAd → Ask ℕ
+fileHops m icb = then (entryAt m icb) (λ x. pick (isEmbedded x) (done 0) (hopsOf (entryMount m icb) x))
 
 -- how many extents a read visits: none of an embedded file
 abbrev pub visitsOf : File → ℕ

@@ -1,4 +1,5 @@
 -- What the contracts cite, lowest first.
 pub mod Reads
 pub mod Files
+pub mod Sizes
 pub mod inner

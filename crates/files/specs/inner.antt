@@ -4,3 +4,4 @@ pub mod Wholes
 pub mod Pieces
 pub mod Passes
 pub mod Places
+pub mod Weighings

@@ -4,7 +4,8 @@ ghost use mathlib.Core.List.{_++_};
 ghost use Prim.Native.Nat.{_-_, _≤_};
 ghost use lib.ListN.{length, take, drop};
 ghost use Rattle.files.specs.inner.Pieces.{restAt};
-ghost use Rattle.files.specs.inner.Passes.{sized, Copied};
+ghost use Rattle.files.specs.declared.extents.Measured.the-variants.{Sized};
+ghost use Rattle.files.specs.inner.Passes.{Measures, Copied};
 use crate::pieces::Turn;
 use crate::pieces::next_piece;
 use chains::cursors::ChainCursor;
@@ -12,10 +13,29 @@ use disc::counts::add_counts;
 use disc::places::Mount;
 use disc::refusals::Refusal;
 
-// What the extents come to: their bytes and the sectors asked for, or a refusal and the sectors asked for.
+// What extents come to: their bytes, the sectors asked for, how many extents were begun, and the cursor behind the last of them.
+pub(crate) struct Sizes {
+    pub size: u64,
+    pub count: u64,
+    pub visits: u64,
+    pub behind: ChainCursor,
+}
+
+// Or a refusal and the sectors asked for.
 pub(crate) enum Measured {
-    Sized(u64, u64),
+    Sized(Sizes),
     Refused(Refusal, u64),
+}
+
+fn stopped_at(size: u64, count: u64, visits: u64, behind: ChainCursor) -> Measured
+    ensures { λ r. ⌜ r ≡ Sized (record { size = size; count = count; visits = visits; behind = behind }) ⌝ }
+{
+    Measured::Sized(Sizes {
+        size,
+        count,
+        visits,
+        behind,
+    })
 }
 
 pub(crate) fn measure(
@@ -25,14 +45,16 @@ pub(crate) fn measure(
     first: ChainCursor,
     want: u64,
 ) -> Measured
-    ensures { λ r. ⌜ r ≡ sized 0 0 (restAt (now (image .entry)) mount kind first want) ⌝ }
+    requires { ⌜ first .left ≤ 2048 ⌝ }
+    ensures { λ r. ⌜ Measures (now (image .entry)) mount kind first want r ⌝ }
 {
     let mut c = first;
     let mut size: u64 = 0;
     let mut count: u64 = 0;
+    let mut visits: u64 = 0;
     loop {
         match next_piece(image, mount, kind, c, want - size) {
-            Turn::End => return Measured::Sized(size, count),
+            Turn::End => return stopped_at(size, count, visits, c),
             Turn::Refused(why, n) => return Measured::Refused(why, add_counts(count, n)),
             Turn::Hop(next) => c = next,
             Turn::Piece {
@@ -43,8 +65,9 @@ pub(crate) fn measure(
             } => {
                 count = add_counts(count, sectors);
                 size += bytes;
+                visits += 1;
                 if want <= size {
-                    return Measured::Sized(size, count);
+                    return stopped_at(size, count, visits, next);
                 }
                 c = next;
             }

@@ -4,3 +4,4 @@ pub mod icbs;
 pub mod pieces;
 pub mod reads;
 pub mod resolves;
+pub mod sizes;

@@ -53,12 +53,14 @@ fn read_whole(
     full: Refusal,
     n: u64,
 ) -> Reply
+    requires { ⌜ first .left ≤ 2048 ⌝ }
     ensures { λ r. ⌜ Replied full (after n (restAt (now (image .entry)) mount kind first want)) (now (out .entry)) (now (out .exit)) r ⌝ }
 {
     match measure(image, mount, kind, first, want) {
         Measured::Refused(why, m) => refusal(why.number(), add_counts(n, m)),
-        Measured::Sized(size, m) => {
-            let count = add_counts(n, m);
+        Measured::Sized(s) => {
+            let size = s.size;
+            let count = add_counts(n, s.count);
             if (out.len() as u64) < size {
                 return refusal(full.number(), count);
             }

@@ -23,7 +23,7 @@ pub enum Resolved {
 const EMBEDDED: u8 = 3;
 
 // No more continuations than these are followed.
-const MOST_CONTINUATIONS: u8 = 32;
+pub(crate) const MOST_CONTINUATIONS: u8 = 32;
 
 // The cursor at the front of a file's chain.
 pub fn front_of(p: Place) -> ChainCursor

@@ -31,8 +31,10 @@ use Rattle.areas.specs.declared.AllocExtent.{AllocExtent}
 use Rattle.chains.specs.declared.cursors.ChainCursor.{ChainCursor}
 use Rattle.chains.specs.declared.cursors.ChainStep.{ChainStep}
 use Rattle.chains.specs.declared.cursors.ChainStep.the-variants.{Takes, Hops, Ends}
-use Rattle.chains.specs.inner.Walks.{left, weight, stepOf}
-use Rattle.chains.proofs.WalkLaws.{Taken, Hopped, Stepped, steps}
+use Rattle.chains.specs.declared.counts.Counted.{Counted}
+use Rattle.chains.proofs.CountLaws.{counts-exact}
+use Rattle.chains.specs.inner.Walks.{left, stepOf, Counts}
+use Rattle.chains.proofs.WalkLaws.{ended, hopped, taken}
 use Rattle.files.specs.declared.icbs.Place.{Place}
 use Rattle.files.specs.Files.{entryMount, fileExtents}
 use Rattle.files.specs.declared.resolves.Resolved.{Resolved}
@@ -48,59 +50,6 @@ use Rattle.layouts.specs.inner.Lists.{storedOf, Front, Stands, Planned, 
 pub extent-is : (e : AllocExtent) {m : ℕ} → m ≡ referenceOf (e .«partition_ref»)
     → record { length = e .length; «extent_type» = e .«extent_type»; block = e .block .0; partition = m } ≡ extentOf e
 extent-is e f = rw f
-
--- ---- a step of the cursor
-
-module _ (image : List ℕ) (v : Mount) (kind : ℕ) (c : ChainCursor) {r : ChainStep} (p : r ≡ stepOf image v kind c) (b : Bytes image) where
-  stepped : {x : ChainStep} → r ≡ x → Stepped image v kind c x
-  stepped e = rw (sym p ∙ e) at (steps image v kind b c)
-
-  ended : r ≡ Ends → left image v kind c ≡ []
-  ended e = stepped e
-
-  module _ {c′ : ChainCursor} where
-    hopped : r ≡ Hops c′ → Hopped image v kind c c′
-    hopped e = stepped e
-
-    pub hop-less : r ≡ Hops c′ → weight c′ < weight c
-    hop-less e = hopped e .less
-
-    module _ {x : AllocExtent} where
-      taken : r ≡ Takes x c′ → Taken image v kind c x c′
-      taken e = stepped e
-
-      pub take-less : r ≡ Takes x c′ → weight c′ < weight c
-      take-less e = taken e .less
-
--- ---- the loop that counts
-
-module _ (image : List ℕ) (v : Mount) (kind : ℕ) (c₀ : ChainCursor) where
-  pub record Counting (c : ChainCursor) (n : ℕ) : Type 0 where
-    pub total : n + length (left image v kind c) ≡ length (left image v kind c₀)
-    pub room : n + weight c ≤ weight c₀
-    pub deep : weight c₀ < 2 ^ 63
-
-  pub count-starts : c₀ .left ≤ 2048 → c₀ .hops < 2 ^ 8 → Counting c₀ 0
-  count-starts h k = record { total = omega arith; room = omega arith; deep = omega arith }
-
-  module _ (c : ChainCursor) (n : ℕ) (i : Counting c n) {r : ChainStep} (p : r ≡ stepOf image v kind c) (b : Bytes image) where
-    pub count-ends : r ≡ Ends → n ≡ length (left image v kind c₀)
-    count-ends e = sym (add-zero n) ∙ (rw (ended image v kind c p b e) at (i .total))
-
-    pub count-hop : {c′ : ChainCursor} → r ≡ Hops c′ → Counting c′ n
-    count-hop {c′} e =
-        let q : Hopped image v kind c c′ = hopped image v kind c p b e in
-        record { total = (rw (q .list) at (i .total)); room = omega (arith, i .room, q .less); deep = i .deep }
-
-    module _ {x : AllocExtent} {c′ : ChainCursor} (e : r ≡ Takes x c′) where
-      pub count-adds : Fits w64 (n + 1)
-      count-adds = omega (arith, i .room, i .deep, take-less image v kind c p b e)
-
-      pub count-next : Counting c′ (n + 1)
-      count-next =
-          let q : Taken image v kind c x c′ = taken image v kind c p b e in
-          let t : n + length (x ∷ left image v kind c′) ≡ length (left image v kind c₀) = (rw (q .list) at (i .total)) in
-          record { total = omega (arith, t); room = omega (arith, i .room, q .less); deep = i .deep }
 
 -- ---- the loop that makes a listing
 
@@ -133,20 +82,21 @@ module _ (image : List ℕ) (v : Mount) (kind : ℕ) (c₀ : ChainCursor) where
 
 -- ---- the returns of `list_whole`
 
-module _ (image : List ℕ) (v : Mount) (kind : ℕ) (c : ChainCursor) (n : ℕ) (small : n < 2 ^ 64) {m : ℕ} (e : m ≡ length (left image v kind c)) (room : ℕ) where
-  pub list-full : room < m → {a : ℕ} → a ≡ number NoSlot → {x : Reply} → x ≡ record { answer = a; count = n; length = 0 } → {l : Listing} → l .reply ≡ x
+module _ (image : List ℕ) (v : Mount) (kind : ℕ) (c : ChainCursor) (n : ℕ) (small : n < 2 ^ 64) {k : Counted} (q : Counts image v kind c k) (room : ℕ) where
+  pub list-full : room < k .extents → {a : ℕ} → a ≡ number NoSlot → {x : Reply} → x ≡ record { answer = a; count = n; length = 0 } → {l : Listing} → l .reply ≡ x
       → Planned image (listedRun image v kind c n) room l
-  list-full h g k j =
-      let s : room < length (left image v kind c) = omega arith in
+  list-full h g f j =
+      let s : room < length (left image v kind c) = omega (arith, q .extents) in
       let z : min n 0xffff_ffff_ffff_ffff ≡ n = omega arith in
-      rw (lt-leb _ _ s, z) (stands-empty image refl (j ∙ k ∙ rw g))
+      rw (lt-leb _ _ s, z) (stands-empty image refl (j ∙ f ∙ rw g))
 
-  pub list-done : m ≤ room → {l : Listing} → Stands image (left image v kind c) (record { answer = 0; count = n; length = m }) l
+  pub list-done : c .left ≤ 2048 → c .hops < 2 ^ 8 → k .extents ≤ room → {l : Listing} → Stands image (left image v kind c) (record { answer = 0; count = n; length = k .extents }) l
       → Planned image (listedRun image v kind c n) room l
-  list-done h g =
-      let s : length (left image v kind c) ≤ room = omega arith in
+  list-done little hops h g =
+      let all : k .extents ≡ length (left image v kind c) = counts-exact q (omega arith) in
+      let s : length (left image v kind c) ≤ room = omega (arith, all) in
       let z : min n 0xffff_ffff_ffff_ffff ≡ n = omega arith in
-      rw (le-leb _ _ s, z, ← e) g
+      rw (le-leb _ _ s, z, ← all) g
 
 -- ---- the returns of `plan`: r is what `resolve` found
 

@@ -10,6 +10,7 @@ ghost use Rattle.files.specs.Files.{fileExtents};
 ghost use Rattle.layouts.specs.Calls.{referenceOf, extentOf, fieldsOf, wordsOf, Listed};
 ghost use Rattle.layouts.specs.inner.Lists.{Stands, Planned, listedRun};
 use areas::AllocExtent;
+use chains::counts::count_left;
 use chains::cursors::ChainCursor;
 use chains::cursors::ChainStep;
 use chains::cursors::advance;
@@ -132,25 +133,6 @@ fn further(image: &[u8], l: Listing) -> Listing
     listing_at(image, mount, l.kind, behind, reply)
 }
 
-// How many extents are left at a cursor.
-fn count_extents(image: &[u8], mount: Mount, kind: u8, first: ChainCursor) -> u64
-    requires { ⌜ first .left ≤ 2048 ⌝ }
-    ensures { λ r. ⌜ r ≡ length (left (now (image .entry)) mount kind first) ⌝ }
-{
-    let mut c = first;
-    let mut n: u64 = 0;
-    loop {
-        match advance(image, mount, kind, c) {
-            ChainStep::Ends => return n,
-            ChainStep::Hops(next) => c = next,
-            ChainStep::Takes(_, next) => {
-                n += 1;
-                c = next;
-            }
-        }
-    }
-}
-
 // The extents of a chain that is whole, after n sectors.
 fn list_whole(
     image: &[u8],
@@ -163,7 +145,7 @@ fn list_whole(
     requires { ⌜ first .left ≤ 2048 ⌝ }
     ensures { λ r. ⌜ Planned (now (image .entry)) (listedRun (now (image .entry)) mount kind first n) room r ⌝ }
 {
-    let m = count_extents(image, mount, kind, first);
+    let m = count_left(image, mount, kind, first).extents;
     if (room as u64) < m {
         return empty(mount, refusal(Refusal::NoSlot.number(), n));
     }

@@ -5,6 +5,7 @@ pub mod Orders
 pub mod Refusing
 pub mod Exactly
 pub mod Soundness
+pub mod Measuring
 pub mod Missing
 pub mod Overflowing
 pub mod Matching

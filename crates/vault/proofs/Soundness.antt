@@ -18,7 +18,7 @@ use Rattle.disc.specs.Images.{disc, bytesOf}
 use Rattle.disc.specs.Ran.{Ran, ran, eachIn}
 use Rattle.disc.specs.Replies.{replyBy, leftBy, answerOf}
 use Rattle.disc.specs.declared.refusals.Refusal.{Refusal}
-use Rattle.disc.specs.declared.refusals.Refusal.the-variants.{Io, Malformed, NotBluray, Unsupported, NoRoom, NoWork, NoSlot, Ambiguous, BadCrc, TooDeep, TooMany, BadName, BadFiles}
+use Rattle.disc.specs.declared.refusals.Refusal.the-variants.{Io, Malformed, NotBluray, Unsupported, NoRoom, NoWork, NoSlot, Ambiguous, BadCrc, TooDeep, TooMany, BadName, BadFiles, BadShelf}
 use Rattle.disc.specs.declared.replies.Reply.{Reply}
 use Rattle.disc.proofs.PartLaws.{PartAt}
 use Rattle.disc.proofs.OnlyLaws.{Within, refuses-within}
@@ -50,7 +50,7 @@ one p q = p ∙ sym q
 
 -- ---- the table
 
-pub in-table : (why : Refusal) → (number why ≤ 7) ⊎ (number why ≡ 9) ⊎ (number why ≡ 10) ⊎ (number why ≡ 11) ⊎ (number why ≡ 12) ⊎ (number why ≡ 13) ⊎ (number why ≡ 14)
+pub in-table : (why : Refusal) → (number why ≤ 7) ⊎ (number why ≡ 9) ⊎ (number why ≡ 10) ⊎ (number why ≡ 11) ⊎ (number why ≡ 12) ⊎ (number why ≡ 13) ⊎ (number why ≡ 14) ⊎ (number why ≡ 15)
 in-table Io = inl (omega arith)
 in-table Malformed = inl (omega arith)
 in-table NotBluray = inl (omega arith)
@@ -63,7 +63,8 @@ in-table BadCrc = inr (inr (inl refl))
 in-table TooDeep = inr (inr (inr (inl refl)))
 in-table TooMany = inr (inr (inr (inr (inl refl))))
 in-table BadName = inr (inr (inr (inr (inr (inl refl)))))
-in-table BadFiles = inr (inr (inr (inr (inr (inr refl)))))
+in-table BadFiles = inr (inr (inr (inr (inr (inr (inl refl))))))
+in-table BadShelf = inr (inr (inr (inr (inr (inr (inr refl))))))
 
 -- 0 to 7; where bodies are checked 10 too; and of a call that takes a path 9 too, under the third choice of matching alone
 abbrev pub Listed : Bool → ℕ → Type 0

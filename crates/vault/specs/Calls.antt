@@ -10,7 +10,7 @@ use Rattle.disc.specs.Ask.Outcome.{answered, refused}
 use Rattle.disc.specs.Images.{disc}
 use Rattle.disc.specs.Ran.{Ran, ran, told, eachIn, each}
 use Rattle.disc.specs.Places.{isChecked}
-use Rattle.disc.specs.Replies.{answerOf, replyOf, leftBy}
+use Rattle.disc.specs.Replies.{answerOf, measuredOf, replyOf, leftBy}
 use Rattle.disc.specs.declared.refusals.Refusal.the-variants.{NoRoom, NoSlot}
 use Rattle.disc.specs.declared.replies.Reply.{Reply}
 use Rattle.records.specs.declared.allocations.LongAd.{LongAd}
@@ -78,6 +78,10 @@ labels image how out = written out (ran (disc image) (labelling how))
 
 abbrev pub reads : List ℕ → VolumeRecord → LongAd → List ℕ → Written
 reads image v icb out = written out (ran (disc image) (reading v icb))
+
+-- what a read would answer, with room enough: nothing is lent and nothing written
+abbrev pub measures : List ℕ → VolumeRecord → LongAd → Reply
+measures image v icb = measuredOf (ran (disc image) (reading v icb))
 
 -- the same with a work space, which comes back all zero
 

@@ -2,12 +2,13 @@
 ghost use mathlib.Core.Path.{_≡_};
 ghost use Rattle.layouts.specs.Calls.{wordsOf, extentOf};
 ghost use Rattle.probes.specs.Probes.{probed};
-ghost use Rattle.vault.specs.Calls.{opens, labels, reads, lists, shows, readsPath, readsAll, finds, fails, failsAt, parts, partsAt, extents, listsBytes, findsIn};
+ghost use Rattle.vault.specs.Calls.{opens, labels, reads, measures, lists, shows, readsPath, readsAll, finds, fails, failsAt, parts, partsAt, extents, listsBytes, findsIn};
 use directories::listed::list_directory;
 use directories::lookups::Found;
 use disc::refusals::Refusal;
 use disc::replies::Reply;
 use files::reads::read_file;
+use files::sizes::measure_file;
 use layouts::lists::Extent;
 use layouts::lists::file_rows;
 use layouts::lists::file_words;
@@ -103,6 +104,14 @@ impl Volume {
     {
         let mount = self.0.mount;
         read_file(image, mount, icb, out, Refusal::NoRoom)
+    }
+
+    // How many bytes a read of the file at icb answers where there is room: its refusals and its count, and no output.
+    pub fn measure(self, image: &[u8], icb: LongAd) -> Reply
+        ensures { λ r. ⌜ r ≡ measures (now (image .entry)) (self .0) icb ⌝ }
+    {
+        let mount = self.0.mount;
+        measure_file(image, mount, icb)
     }
 
     // The bytes of an embedded file without a copy; an empty part for any other file, or where the call is refused.

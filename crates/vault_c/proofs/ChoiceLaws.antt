@@ -1,33 +1,24 @@
 -- The choices as one number: which case the code is in, and what every number comes to. Assumes nothing.
-use Prim.Native.Nat.{ℕ, _/_, _%_, _≤_}
+use Prim.Native.Nat.{ℕ, _/_, _≤_}
 use mathlib.Core.Path.{_≡_, refl, ap}
 use mathlib.Core.Bool.{Bool, true, false}
 use mathlib.Core.Option.{Option, none, some}
 use mathlib.Core.List.{List, []}
 use mathlib.Core.Logic.{inl}
 use native.Mathlib.Omega.{arith}
-use lib.Dec.{eqb}
 use borrow.Author.Tests.{ne-eqb}
 use Rattle.disc.specs.declared.replies.Reply.{Reply}
 use Rattle.records.specs.Allocations.{noLong}
 use Rattle.volumes.specs.Openings.{usual, noVolume}
+use Rattle.volumes.specs.Choices.{howOf, choiceOf}
+use Rattle.volumes.specs.declared.choices.Choice.{Choice}
+use Rattle.volumes.specs.declared.choices.Choice.the-variants.{Known, Unknown}
 use Rattle.volumes.specs.declared.openings.How.{How}
 use Rattle.volumes.specs.declared.openings.Opened.{Opened}
 use Rattle.vault.specs.Calls.{opens, Written, labels}
 use Rattle.listings.specs.declared.matchings.Matching.the-variants.{CaseIgnored}
 use Rattle.vault.proofs.Soundness.{Listed, Sound, label-sound, open-sound}
-use Rattle.vault_c.specs.Choosing.{howOf, opensBy, opensAs, labelsBy, labelsAs, choiceOf}
-use Rattle.vault_c.specs.declared.choices.Choice.{Choice}
-use Rattle.vault_c.specs.declared.choices.Choice.the-variants.{Known, Unknown}
-
--- ---- a number, bit by bit
-
-module _ (n : ℕ) {r : Choice} where
-  pub choice-high : (n / 8 ≡ 0 → ⊥) → r ≡ Unknown → r ≡ choiceOf (howOf n)
-  choice-high h e = rw (ne-eqb (n / 8) 0 h) e
-
-  pub choice-known : n / 8 ≡ 0 → r ≡ Known (record { highest = eqb (n / 4) 1; checked = eqb (n % 2) 1; maps = eqb (n / 2 % 2) 1 }) → r ≡ choiceOf (howOf n)
-  choice-known h e = rw h e
+use Rattle.vault_c.specs.Choosing.{opensBy, opensAs, labelsBy, labelsAs}
 
 -- ---- the calls
 

@@ -1,7 +1,8 @@
 // UDF discs (ECMA-167, OSTA UDF) read from memory, and vaults written to it, for C.
 //
-// Link target/staticlib/libvault_c.a, which `rt staticlib vault_c` makes from the proved sources. Each call has the contract of the call of
-// crate vault, or of crate writers, that it passes on.
+// Link target/staticlib/libvault_c.a, which `rt staticlib vault_c` makes from the proved sources; for what is read straight from a drive libdrives_c.a, and
+// for surveys libsurveys_c.a, made in the same way. Each call has the contract of the call that it passes on, of crate vault, writers, drives, figures or
+// surveys.
 //
 // Nothing here allocates, keeps or frees memory: the caller lends the image, the output and the work space for the length of the call, each as a
 // pointer and a length. Lent pieces must not overlap. A piece of length 0 needs a pointer that isn't null. If the image changes during a call,
@@ -18,9 +19,7 @@ ghost use Rattle.layouts.specs.Calls.{wordsOf};
 ghost use Rattle.listings.specs.Listings.{matchingOf};
 ghost use Rattle.probes.specs.Probes.{probed};
 ghost use Rattle.vault_c.specs.Choosing.{opensAs, labelsAs};
-ghost use Rattle.vault.specs.Calls.{reads, lists, shows, readsPath, readsAll, finds, failsAt, partsAt, extents};
-use crate::choices::Choice;
-use crate::choices::chosen;
+ghost use Rattle.vault.specs.Calls.{reads, measures, lists, shows, readsPath, readsAll, finds, failsAt, partsAt, extents};
 use directories::lookups::Found;
 use disc::answers::UNSUPPORTED;
 use disc::replies::Reply;
@@ -33,10 +32,14 @@ use records::allocations::LongAd;
 use vault::volume::Volume;
 use vault::volume::label;
 use vault::volume::probe;
+use volumes::choices::CHECKED;
+use volumes::choices::Choice;
+use volumes::choices::HIGHEST;
+use volumes::choices::MAPS;
+use volumes::choices::chosen;
 use volumes::openings::Opened;
 use volumes::openings::refused;
 
-mod choices;
 pub mod writing;
 
 // ASCII case is ignored, and the first entry that matches is taken.
@@ -48,13 +51,28 @@ pub const VAULT_AS_WRITTEN: u32 = AS_WRITTEN;
 // ASCII case is ignored, and a component that two or more entries match is refused by VAULT_AMBIGUOUS.
 pub const VAULT_UNAMBIGUOUS: u32 = UNAMBIGUOUS;
 
+// A choice for `how`: the body of each descriptor that is parsed, on opening and in every call on the volume, must have the CRC that its tag
+// says, or the call is refused by VAULT_BAD_CRC.
+pub const VAULT_CHECKED: u32 = CHECKED;
+
+// A choice for `how`: the partition references of descriptors and ICBs are indices into the logical volume's partition maps, of which there may be four,
+// all of type 1. Without it they are compared with the partition's number, and those of ICBs aren't looked at.
+pub const VAULT_MAPS: u32 = MAPS;
+
+// A choice for `how`: of several primary volume, partition or logical volume descriptors the one with the highest volume descriptor
+// sequence number counts, the later of equals. Without it the last one does.
+pub const VAULT_HIGHEST: u32 = HIGHEST;
+
+// The bytes of a sector, and of a block.
+pub const VAULT_SECTOR_SIZE: usize = 2048;
+
 // Goes up whenever a struct or a call changes.
-pub const VAULT_VERSION: u32 = 9;
+pub const VAULT_VERSION: u32 = 10;
 
 // The VAULT_VERSION of the archive, which is to be that of the header.
 #[no_mangle]
 pub extern "C" fn vault_version() -> u32
-    ensures { λ r. ⌜ r ≡ 9 ⌝ }
+    ensures { λ r. ⌜ r ≡ 10 ⌝ }
 {
     VAULT_VERSION
 }
@@ -169,6 +187,14 @@ pub extern "C" fn vault_read(volume: Volume, image: &[u8], icb: LongAd, out: &mu
     ensures { λ r. ⌜ record { reply = r; out = now (out .exit) } ≡ reads (now (image .entry)) (volume .0) icb (now (out .entry)) ⌝ }
 {
     volume.read(image, icb, out)
+}
+
+// How many bytes vault_read answers for that file where there is room: `length` has them, and number and count are those of the read. Nothing is written.
+#[no_mangle]
+pub extern "C" fn vault_measure(volume: Volume, image: &[u8], icb: LongAd) -> Reply
+    ensures { λ r. ⌜ r ≡ measures (now (image .entry)) (volume .0) icb ⌝ }
+{
+    volume.measure(image, icb)
 }
 
 // The bytes of an embedded file where they stand: `length` of them, from `*part_at` on in the image. For any other file that can be read the

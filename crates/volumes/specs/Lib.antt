@@ -1,5 +1,6 @@
 -- What the contracts cite, lowest first.
 pub mod Sequences
 pub mod Openings
+pub mod Choices
 pub mod Labels
 pub mod inner

@@ -1,4 +1,5 @@
 // The first calls on an image: opening a volume, and its label.
+pub mod choices;
 pub mod labels;
 mod mounts;
 pub mod openings;

@@ -1,10 +1,13 @@
 -- What a cursor stands for: the extents that are left of a chain, read off the image where its areas stand.
 -- That these are the extents of a chain that is whole is proved (proofs/FollowLaws.antt).
-use Prim.Native.Nat.{ℕ, zero, suc, _+_, _-_, _*_, _^_}
+use Prim.Native.Nat.{ℕ, zero, suc, _+_, _-_, _*_, _≤_, _^_}
+use mathlib.Core.Path.{_≡_}
 use mathlib.Core.List.{List, [], _++_}
 use mathlib.Core.Option.{Option, none, some}
+use lib.ListN.{length}
 use lib.Dec.{eqb}
 use Rattle.disc.specs.Choice.{pick}
+use Rattle.disc.specs.Counts.{reported}
 use Rattle.disc.specs.Places.{placed}
 use Rattle.disc.specs.declared.places.Mount.{Mount}
 use Rattle.records.specs.Bytes.{u32at}
@@ -18,6 +21,7 @@ use Rattle.areas.specs.Areas.{Area, ended, areaAt, nextOf}
 use Rattle.chains.specs.declared.cursors.ChainCursor.{ChainCursor}
 use Rattle.chains.specs.declared.cursors.ChainStep.{ChainStep}
 use Rattle.chains.specs.declared.cursors.ChainStep.the-variants.{Takes, Hops, Ends}
+use Rattle.chains.specs.declared.counts.Counted.{Counted}
 
 -- the area in the sectors from s on, as long as the header in front of it says
 abbrev pub areaPlace : ℕ → ℕ
@@ -47,6 +51,20 @@ through image m kind n x = x .extents ++ beyond image m kind n (x .ending)
 unfoldable pub left : List ℕ → Mount → ℕ → ChainCursor → List AllocExtent
 left image m kind c = through image m kind (c .hops) (areaAt kind image (c .at) (c .left))
 
+-- how many areas are gone to behind an area, through n at most
+abbrev pub oneMore : Option ℕ → ℕ → ℕ
+oneMore none n = 0
+oneMore (some s) n = suc n
+
+unfoldable pub passed : List ℕ → Mount → ℕ → ℕ → AdEnding → ℕ
+passed image m kind zero how = 0
+passed image m kind (suc n) End = 0
+passed image m kind (suc n) (Refused r) = 0
+passed image m kind (suc n) (Continuation a) = oneMore (placed m (a .«partition_ref») (a .block .0)) (passed image m kind n (nextThere image m kind a .ending))
+
+unfoldable pub hopsAt : List ℕ → Mount → ℕ → ChainCursor → ℕ
+hopsAt image m kind c = passed image m kind (c .hops) (areaAt kind image (c .at) (c .left) .ending)
+
 -- what a step of a walk makes smaller
 abbrev pub weight : ChainCursor → ℕ
 weight c = c .hops * 2 ^ 32 + c .left
@@ -68,3 +86,10 @@ stepped image m hops (Continues a) = hopping image m a hops
 
 unfoldable pub stepOf : List ℕ → Mount → ℕ → ChainCursor → ChainStep
 stepOf image m kind c = stepped image m (c .hops) (nextOf kind image (record { at = c .at; left = c .left }))
+
+-- ---- what is left, counted: the hops that could still follow and those that were made are all that were allowed
+
+pub record Counts (image : List ℕ) (m : Mount) (kind : ℕ) (c : ChainCursor) (r : Counted) : Type 0 where
+  pub extents : r .extents ≡ reported (length (left image m kind c))
+  pub hops : r .hops + hopsAt image m kind c ≡ c .hops
+  pub few : length (left image m kind c) ≤ weight c

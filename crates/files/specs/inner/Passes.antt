@@ -1,5 +1,5 @@
 -- What the passes over a file's extents say: for the contracts of private functions.
-use Prim.Native.Nat.{ℕ, _+_}
+use Prim.Native.Nat.{ℕ, _+_, _≤_}
 use mathlib.Core.Path.{_≡_}
 use mathlib.Core.Bool.{true}
 use mathlib.Core.List.{List, _++_}
@@ -9,16 +9,40 @@ use Rattle.disc.specs.Ask.{Outcome}
 use Rattle.disc.specs.Ask.Outcome.{answered, refused}
 use Rattle.disc.specs.Ran.{Ran}
 use Rattle.disc.specs.Images.{bytesOf, isAnswered}
+use Rattle.disc.specs.declared.places.Mount.{Mount}
+use Rattle.disc.specs.declared.refusals.Refusal.{Refusal}
+use Rattle.chains.specs.inner.Walks.{left, hopsAt, weight}
+use Rattle.chains.specs.declared.cursors.ChainCursor.{ChainCursor}
+use Rattle.files.specs.Reads.{visited}
+use Rattle.files.specs.inner.Pieces.{restAt}
+use Rattle.files.specs.declared.extents.Sizes.{Sizes}
 use Rattle.files.specs.declared.extents.Measured.{Measured}
 use Rattle.files.specs.declared.extents.Measured.the-variants.{Sized, Refused}
 
-abbrev pub sizedBy : ℕ → ℕ → Outcome (List ℕ) → Measured
-sizedBy size count (answered b) = Sized (size + length b) count
-sizedBy size count (refused r) = Refused r count
+-- what measuring comes to: bytes and sectors, or a refusal and sectors
+pub data Came : Type 0 where
+  comes : ℕ → ℕ → Came
+  stops : Refusal → ℕ → Came
+
+abbrev pub sizedBy : ℕ → ℕ → Outcome (List ℕ) → Came
+sizedBy size count (answered b) = comes (size + length b) count
+sizedBy size count (refused r) = stops r count
 
 -- what is measured, behind `size` bytes and `count` sectors
-unfoldable pub sized : ℕ → ℕ → Ran (List ℕ) → Measured
+unfoldable pub sized : ℕ → ℕ → Ran (List ℕ) → Came
 sized size count r = sizedBy size (reported (count + r .count)) (r .outcome)
+
+-- the extents that were begun and those behind them are all, and so are the areas that were gone to before and behind
+pub record SizedTo (image : List ℕ) (m : Mount) (kind : ℕ) (first : ChainCursor) (want : ℕ) (s : Sizes) : Type 0 where
+  pub came : comes (s .size) (s .count) ≡ sized 0 0 (restAt image m kind first want)
+  pub begun : s .visits ≡ visited (left image m kind first) want
+  pub all : s .visits + length (left image m kind (s .behind)) ≡ length (left image m kind first)
+  pub gone : s .behind .hops + hopsAt image m kind first ≡ first .hops + hopsAt image m kind (s .behind)
+  pub room : s .visits + weight (s .behind) ≤ weight first
+
+abbrev pub Measures : List ℕ → Mount → ℕ → ChainCursor → ℕ → Measured → Type 0
+Measures image m kind first want (Sized s) = SizedTo image m kind first want s
+Measures image m kind first want (Refused r n) = stops r n ≡ sized 0 0 (restAt image m kind first want)
 
 -- what a copy of at most `want` bytes leaves: the bytes of a read that is answered over the front, and after any read all that is behind `want` as it came
 pub record Copied (r : Ran (List ℕ)) (want : ℕ) (before after : List ℕ) : Type 0 where

@@ -12,9 +12,9 @@ use Rattle.disc.specs.Images.{disc, heldFrom, sectorsFor}
 use Rattle.disc.specs.declared.places.Mount.{Mount}
 use Rattle.disc.specs.declared.refusals.Refusal.the-variants.{Io}
 use Rattle.areas.specs.declared.AllocExtent.{AllocExtent}
-use Rattle.chains.specs.inner.Walks.{left, weight}
+use Rattle.chains.specs.inner.Walks.{left, hopsAt, weight}
 use Rattle.chains.specs.declared.cursors.ChainCursor.{ChainCursor}
-use Rattle.files.specs.Reads.{extentsBytes}
+use Rattle.files.specs.Reads.{extentsBytes, visited}
 use Rattle.files.specs.declared.pieces.Piece.{Piece}
 use Rattle.files.specs.declared.pieces.Piece.the-variants.{Held, Refused}
 use Rattle.files.specs.declared.pieces.Turn.{Turn}
@@ -58,23 +58,33 @@ weighedAt image s size want =
 pub record HeldPiece (image : List ℕ) (m : Mount) (e : AllocExtent) (want from n k : ℕ) : Type 0 where
   pub runs : (es : List AllocExtent) → restOf image m (e ∷ es) want ≡ joined (take k (drop from image)) n k want (restOf image m es (want - k))
   pub lies : Lies image from k want
+  pub cut : k ≡ min (e .length) want
 
 abbrev pub Weighed : List ℕ → Mount → AllocExtent → ℕ → Piece → Type 0
 Weighed image m e want (Held from n k) = HeldPiece image m e want from n k
 Weighed image m e want (Refused r n) = (es : List AllocExtent) → restOf image m (e ∷ es) want ≡ record { outcome = refused r; count = n }
 
--- a turn of a walk
+-- a turn of a walk: one extent is begun, and how many areas are gone to stays what it was
 pub record PieceTurn (image : List ℕ) (m : Mount) (kind : ℕ) (c : ChainCursor) (want from n k : ℕ) (c′ : ChainCursor) : Type 0 where
   pub runs : restAt image m kind c want ≡ joined (take k (drop from image)) n k want (restAt image m kind c′ (want - k))
   pub lies : Lies image from k want
+  pub begun : visited (left image m kind c) want ≡ 1 + pick (leb want k) 0 (visited (left image m kind c′) (want - k))
+  pub long : length (left image m kind c) ≡ 1 + length (left image m kind c′)
+  pub gone : c′ .hops + hopsAt image m kind c ≡ c .hops + hopsAt image m kind c′
   pub less : weight c′ < weight c
 
 pub record HopTurn (image : List ℕ) (m : Mount) (kind : ℕ) (c : ChainCursor) (want : ℕ) (c′ : ChainCursor) : Type 0 where
   pub runs : restAt image m kind c want ≡ restAt image m kind c′ want
+  pub list : left image m kind c ≡ left image m kind c′
+  pub gone : c′ .hops + hopsAt image m kind c ≡ c .hops + hopsAt image m kind c′
   pub less : weight c′ < weight c
+
+pub record EndTurn (image : List ℕ) (m : Mount) (kind : ℕ) (c : ChainCursor) (want : ℕ) : Type 0 where
+  pub runs : restAt image m kind c want ≡ record { outcome = answered []; count = 0 }
+  pub list : left image m kind c ≡ []
 
 abbrev pub Turned : List ℕ → Mount → ℕ → ChainCursor → ℕ → Turn → Type 0
 Turned image m kind c want (APiece from n k c′) = PieceTurn image m kind c want from n k c′
 Turned image m kind c want (Hop c′) = HopTurn image m kind c want c′
 Turned image m kind c want (Stopped r n) = restAt image m kind c want ≡ record { outcome = refused r; count = n }
-Turned image m kind c want End = restAt image m kind c want ≡ record { outcome = answered []; count = 0 }
+Turned image m kind c want End = EndTurn image m kind c want

@@ -16,9 +16,9 @@ use Rattle.entries.specs.FileEntries.{readEntry}
 use Rattle.entries.specs.declared.«file_entries».EntryRead.{EntryRead}
 use Rattle.entries.specs.declared.«file_entries».EntryRead.the-variants.{Read, Refused as NoEntry}
 use Rattle.chains.specs.Chains.{mostContinuations}
-use Rattle.chains.specs.inner.Walks.{left}
+use Rattle.chains.specs.inner.Walks.{left, hopsAt}
 use Rattle.chains.specs.declared.cursors.ChainCursor.{ChainCursor}
-use Rattle.files.specs.Files.{Located, entryAt, entryMount, embeddedBytes, fileAt}
+use Rattle.files.specs.Files.{Located, entryAt, entryMount, embeddedBytes, fileAt, fileHops}
 use Rattle.files.specs.Files.File.{embedded, chained}
 use Rattle.files.specs.inner.Places.{placeAt}
 use Rattle.files.specs.declared.icbs.Place.{Place}
@@ -70,6 +70,7 @@ pub record EmbeddedFile (image : List ℕ) (m : Mount) (icb : LongAd) (p : Place
   pub is : p ≡ placeAt (2048 * entry .at) (entry .entry)
   pub bytes : embeddedBytes entry ≡ embeddedIn image p
   pub inside : p .at + p .size ≤ length image
+  pub hops : ran (disc image) (fileHops m icb) .outcome ≡ answered 0
 
 pub record ChainedFile (image : List ℕ) (m : Mount) (icb : LongAd) (p : Place) (n : ℕ) : Type 0 where
   pub entry : Located
@@ -77,6 +78,7 @@ pub record ChainedFile (image : List ℕ) (m : Mount) (icb : LongAd) (p : Place)
   pub is : p ≡ placeAt (2048 * entry .at) (entry .entry)
   pub small : p .size ≤ 2048
   pub few : n ≤ 16385
+  pub hops : ran (disc image) (fileHops m icb) .outcome ≡ answered (hopsAt image (entryMount m icb) (p .kind) (frontOf p))
 
 pub record NoFile (image : List ℕ) (m : Mount) (icb : LongAd) (r : Refusal) (n : ℕ) : Type 0 where
   pub runs : ran (disc image) (fileAt m icb) ≡ record { outcome = refused r; count = n }

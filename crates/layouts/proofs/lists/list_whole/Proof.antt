@@ -15,4 +15,7 @@ list-whole-spec =
     (λ c κs. search lists)
     (λ c. search lists)
     (λ c κs. search lists)
-    (λ c. search lists))
+    (λ c.
+    let start = c .before .before .before .before in
+    let good = start .good .1 .1 in
+    list-done _ _ _ _ _ (search needs) (c .before .before .count-left .ensures) _ (start .pre) (search needs) (search needs) (c .listing-at .ensures)))

@@ -1,7 +1,8 @@
 -- `layouts::lists::listing_at` meets its contract: an area that is passed has no extent left. Assumes nothing.
 use borrow.Author.Needs.{needs}
 use Rattle.chains.specs.inner.Walks.{weight}
-use Rattle.layouts.proofs.ListLaws.{Walking, walk-starts, walk-hop, hop-less, walk-ends, walk-takes}
+use Rattle.chains.proofs.WalkLaws.{hop-less}
+use Rattle.layouts.proofs.ListLaws.{Walking, walk-starts, walk-hop, walk-ends, walk-takes}
 use Rattle.layouts.proofs.lists.listing_at.Statement.{statement}
 use Rattle.layouts.proofs.lists.listing_at.Tie as tie
 
