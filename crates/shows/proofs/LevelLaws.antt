@@ -24,6 +24,7 @@ use Rattle.disc.proofs.RanLaws.{ran-then, ran-ended, never}
 use Rattle.disc.proofs.RefusalLaws.{refusal-numbered}
 use Rattle.records.specs.declared.allocations.LongAd.{LongAd}
 use Rattle.identifiers.specs.Identifiers.{isDirectory, nextAt}
+use Rattle.figures.specs.Figures.{Adds}
 use Rattle.listings.specs.Entries.{Entry, entryOf, entryRead, isSkipped, inFront, entries}
 use Rattle.listings.specs.Listings.{shown}
 use Rattle.listings.specs.inner.Passes.{tail, sizeOfListing}
@@ -34,10 +35,12 @@ use Rattle.directories.specs.Directories.{directoryBytes}
 use Rattle.directories.specs.inner.Spaces.{replyTo, Reads}
 use Rattle.directories.proofs.SpaceLaws.{reads-count, reads-bytes}
 use Rattle.shows.specs.Shows.{Node, nodesAt, nodeRecord}
-use Rattle.shows.specs.inner.Turns.{ownRecord, SeenGood, Noted, stoppedAt, Held, Shown, opening, Opens, turnOf, Handles}
+use Rattle.shows.specs.inner.Turns.{ownRecord, SeenGood, Noted, stoppedAt, Held, Lent, lent, Shown, opening, Opens, turnOf, Handles}
+use Rattle.shows.specs.Tallies.{ofEntry, ofNode}
 use Rattle.shows.specs.declared.nodes.EntrySeen.{EntrySeen}
 use Rattle.shows.specs.declared.levels.ShowPlace.{ShowPlace}
 use Rattle.shows.proofs.NodeLaws.{record-long, own-none, own-record}
+use Rattle.shows.proofs.TallyLaws.{adds-same}
 use Rattle.shows.proofs.ShownLaws.{turn-skipped, turn-file, turn-directory, shown-none, shown-one, shown-held, joined-goes}
 
 -- ---- a directory read and parsed
@@ -160,7 +163,8 @@ module _ (d : Disc) (m : Mount) (left level : ℕ) (work : List ℕ) (n at : ℕ
   fits = omega (arith, raw-long)
 
   -- a bad entry, which no directory has that was parsed
-  pub handle-bad : (e .answer ≡ 0 → ⊥) → {a c : ℕ} {q : ShowPlace} → (a ≡ 0 → ⊥) → q ≡ stoppedAt a c → Handles d m left level raw (length work - n) at p out (record { place = q; next = n }) out₁
+  pub handle-bad : (e .answer ≡ 0 → ⊥) → {a c : ℕ} {q : ShowPlace} → (a ≡ 0 → ⊥) → q ≡ stoppedAt a c → {tally tally₁ : List ℕ}
+      → Handles d m left level raw (length work - n) at p (lent out tally) (record { place = q; next = n }) (lent out₁ tally₁)
   handle-bad z y g =
       let w = t .bad z in
       record {
@@ -190,8 +194,8 @@ module _ (d : Disc) (m : Mount) (left level : ℕ) (work : List ℕ) (n at : ℕ
     next-further = omega (arith, next-is, g .whole .head, g .whole .on)
 
     -- its own turn was shown, and the others stand behind it
-    handled : {q : ShowPlace} {out₂ : List ℕ} → (q .answer ≡ 0 → Held q) → Shown (ran d (turnOf (nodesAt m left (suc level) (length work - n)) level x)) p out q out₂
-        → Handles d m left level raw (length work - n) at p out (record { place = q; next = at + e .next }) out₂
+    handled : {q : ShowPlace} {tally : List ℕ} {l₂ : Lent} → (q .answer ≡ 0 → Held q) → Shown (ofNode d m) (ran d (turnOf (nodesAt m left (suc level) (length work - n)) level x)) p (lent out tally) q l₂
+        → Handles d m left level raw (length work - n) at p (lent out tally) (record { place = q; next = at + e .next }) l₂
     handled i s = record {
       further = next-further;
       near = omega (arith, next-near, raw-long);
@@ -209,13 +213,13 @@ module _ (d : Disc) (m : Mount) (left level : ℕ) (work : List ℕ) (n at : ℕ
     directory-is = sym (ap (λ (v : EntrySeen). v .directory) (g .is))
 
     module _ (i : Held p) where
-      pub handle-skipped : e .skipped ≡ true → Handles d m left level raw (length work - n) at p out (record { place = p; next = at + e .next }) out₁
-      handle-skipped s =
+      pub handle-skipped : e .skipped ≡ true → {tally : List ℕ} → Handles d m left level raw (length work - n) at p (lent out tally) (record { place = p; next = at + e .next }) (lent out₁ tally)
+      handle-skipped s {tally} =
           let o : ownRecord level x ≡ [] = own-none level x (skip-is ∙ s) in
-          handled (λ j. i) (shown-none i (turn-skipped d (nodesAt m left (suc level) (length work - n)) level x (skip-is ∙ s)) out
-          (λ room. t .puts x (g .reads) (omega (arith, ap length o)) ∙ ap (sets out (p .size)) o))
+          handled (λ j. i) (shown-none i (turn-skipped d (nodesAt m left (suc level) (length work - n)) level x (skip-is ∙ s)) (lent out tally)
+          (λ room. t .puts x (g .reads) (omega (arith, ap length o)) ∙ ap (sets out (p .size)) o) refl)
 
-      module _ (s : e .skipped ≡ false) {size : ℕ} (c : size ≡ reported (p .size + e .size)) where
+      module _ (s : e .skipped ≡ false) {size : ℕ} (c : size ≡ reported (p .size + e .size)) {tally tally₁ : List ℕ} (a : Adds (ofEntry d m (e .directory) (e .icb)) tally tally₁) where
         abbrev node : Node
         node = record { level = level; entry = x }
 
@@ -227,21 +231,25 @@ module _ (d : Disc) (m : Mount) (left level : ℕ) (work : List ℕ) (n at : ℕ
         own : ownRecord level x ≡ nodeRecord node
         own = own-record level x (skip-is ∙ s)
 
-        own-shown : {r : Ran (List Node)} → r ≡ told (answered (node ∷ [])) → Shown r p out (record { answer = 0; count = p .count; size = size }) out₁
+        icb-is : e .icb ≡ x .identifier .icb
+        icb-is = ap (λ (v : EntrySeen). v .icb) (g .is)
+
+        own-shown : {r : Ran (List Node)} → r ≡ told (answered (node ∷ [])) → Shown (ofNode d m) r p (lent out tally) (record { answer = 0; count = p .count; size = size }) (lent out₁ tally₁)
         own-shown y = shown-one i y (c ∙ ap (λ v. reported (p .size + v)) size-is) (λ room. t .puts x (g .reads) (omega (arith, ap length own)) ∙ ap (sets out (p .size)) own)
+            (adds-same (ap (λ b. ofEntry d m b (e .icb)) (sym directory-is) ∙ ap (ofEntry d m (isDirectory (x .identifier))) icb-is) a)
 
         own-held : Held (record { answer = 0; count = p .count; size = size })
         own-held = record { going = refl; counted = i .counted; sized = omega arith }
 
-        pub handle-file : e .directory ≡ false → Handles d m left level raw (length work - n) at p out (record { place = record { answer = 0; count = p .count; size = size }; next = at + e .next }) out₁
+        pub handle-file : e .directory ≡ false → Handles d m left level raw (length work - n) at p (lent out tally) (record { place = record { answer = 0; count = p .count; size = size }; next = at + e .next }) (lent out₁ tally₁)
         handle-file f = handled (λ j. own-held) (own-shown (turn-file d (nodesAt m left (suc level) (length work - n)) level x (skip-is ∙ s) (directory-is ∙ f)))
 
         -- what stands under it was shown from the work space behind n on
-        pub handle-directory : e .directory ≡ true → {q : ShowPlace} {out₂ : List ℕ}
-            → Shown (ran d (nodesAt m left (level + 1) (length (midOf n (length work - n) work)) (e .icb))) (record { answer = 0; count = p .count; size = size }) out₁ q out₂
-            → Handles d m left level raw (length work - n) at p out (record { place = q; next = at + e .next }) out₂
-        handle-directory f {q} {out₂} u =
+        pub handle-directory : e .directory ≡ true → {q : ShowPlace} {l₂ : Lent}
+            → Shown (ofNode d m) (ran d (nodesAt m left (level + 1) (length (midOf n (length work - n) work)) (e .icb))) (record { answer = 0; count = p .count; size = size }) (lent out₁ tally₁) q l₂
+            → Handles d m left level raw (length work - n) at p (lent out tally) (record { place = q; next = at + e .next }) l₂
+        handle-directory f {q} {l₂} u =
             let l : length (midOf n (length work - n) work) ≡ length work - n = simp (length-take, length-drop) (omega arith) in
-            let y : Shown (ran d (nodesAt m left (suc level) (length work - n) (x .identifier .icb))) (record { answer = 0; count = p .count; size = size }) out₁ q out₂ =
-            rw (l, add-one level, ap (λ (v : EntrySeen). v .icb) (g .is)) at u in
+            let y : Shown (ofNode d m) (ran d (nodesAt m left (suc level) (length work - n) (x .identifier .icb))) (record { answer = 0; count = p .count; size = size }) (lent out₁ tally₁) q l₂ =
+            rw (l, add-one level, icb-is) at u in
             handled (shown-held u) (rw (turn-directory d (nodesAt m left (suc level) (length work - n)) level x (skip-is ∙ s) (directory-is ∙ f)) (joined-goes (own-shown refl) y refl))

@@ -1,5 +1,6 @@
 -- Laws of a tree's nodes and of the recursion that shows them.
 pub mod NodeLaws
+pub mod TallyLaws
 pub mod ShownLaws
 pub mod LevelLaws
 pub mod LoopLaws
@@ -7,3 +8,4 @@ pub mod ShowLaws
 pub mod GuardLaws
 pub mod MoreLaws
 pub mod Promises
+pub mod Tallying

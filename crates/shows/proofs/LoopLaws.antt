@@ -18,11 +18,13 @@ use Rattle.disc.specs.declared.places.Mount.{Mount}
 use Rattle.disc.specs.declared.refusals.Refusal.the-variants.{TooDeep}
 use Rattle.disc.proofs.RanLaws.{ran-done, ran-refuse}
 use Rattle.records.specs.declared.allocations.LongAd.{LongAd}
+use Rattle.figures.specs.Figures.{Figures}
 use Rattle.listings.specs.Entries.{Entry, entries}
 use Rattle.listings.proofs.GuardLaws.{entries-unchecked}
 use Rattle.listings.proofs.WalkLaws.{at-end}
 use Rattle.shows.specs.Shows.{Node, nodesOf, nodesAt}
-use Rattle.shows.specs.inner.Turns.{stoppedAt, Held, Shown, opening, Opens, Handles}
+use Rattle.shows.specs.inner.Turns.{stoppedAt, Held, Lent, Shown, opening, Opens, Handles}
+use Rattle.shows.specs.Tallies.{ofNode}
 use Rattle.shows.specs.declared.levels.ShowPlace.{ShowPlace}
 use Rattle.shows.specs.declared.levels.OpenedLevel.{OpenedLevel}
 use Rattle.shows.specs.declared.levels.EntryTurn.{EntryTurn}
@@ -31,38 +33,38 @@ use Rattle.shows.proofs.ShownLaws.{turn-joined, shown-none, shown-refus
 -- ---- the loop has come to `at`
 
 -- the entries that are left of those that were parsed
-pub record Going (d : Disc) (inside : LongAd → Ask (List Node)) (level : ℕ) (raw : List ℕ) (p₀ : ShowPlace) (out₀ : List ℕ) (es : List Entry) (p : ShowPlace) (out : List ℕ) (at : ℕ) : Type 0 where
+pub record Going (d : Disc) (of : Node → Figures) (inside : LongAd → Ask (List Node)) (level : ℕ) (raw : List ℕ) (p₀ : ShowPlace) (l₀ : Lent) (es : List Entry) (p : ShowPlace) (l : Lent) (at : ℕ) : Type 0 where
   pub left : List Entry
   pub are : entries false (drop at raw) ≡ answered left
-  pub leads : (q : ShowPlace) (out′ : List ℕ) → Shown (ran d (nodesOf inside level left)) p out q out′ → Shown (ran d (nodesOf inside level es)) p₀ out₀ q out′
+  pub leads : (q : ShowPlace) (l′ : Lent) → Shown of (ran d (nodesOf inside level left)) p l q l′ → Shown of (ran d (nodesOf inside level es)) p₀ l₀ q l′
 
-pub record Listing (d : Disc) (inside : LongAd → Ask (List Node)) (level : ℕ) (raw : List ℕ) (p₀ : ShowPlace) (out₀ : List ℕ) (p : ShowPlace) (out : List ℕ) (at : ℕ) : Type 0 where
+pub record Listing (d : Disc) (of : Node → Figures) (inside : LongAd → Ask (List Node)) (level : ℕ) (raw : List ℕ) (p₀ : ShowPlace) (l₀ : Lent) (p : ShowPlace) (l : Lent) (at : ℕ) : Type 0 where
   pub held : Held p
   pub within : at ≤ length raw + 3
-  pub goes : (es : List Entry) → entries false raw ≡ answered es → Going d inside level raw p₀ out₀ es p out at
+  pub goes : (es : List Entry) → entries false raw ≡ answered es → Going d of inside level raw p₀ l₀ es p l at
 
 -- all entries were shown: what the loop's returns say
-abbrev pub AllShown : Disc → (LongAd → Ask (List Node)) → ℕ → List ℕ → ShowPlace → List ℕ → ShowPlace → List ℕ → Type 0
-AllShown d inside level raw p₀ out₀ q out′ = (es : List Entry) → entries false raw ≡ answered es → Shown (ran d (nodesOf inside level es)) p₀ out₀ q out′
+abbrev pub AllShown : Disc → (Node → Figures) → (LongAd → Ask (List Node)) → ℕ → List ℕ → ShowPlace → Lent → ShowPlace → Lent → Type 0
+AllShown d of inside level raw p₀ l₀ q l′ = (es : List Entry) → entries false raw ≡ answered es → Shown of (ran d (nodesOf inside level es)) p₀ l₀ q l′
 
-pub list-starts : (d : Disc) (inside : LongAd → Ask (List Node)) (level : ℕ) (raw : List ℕ) (p : ShowPlace) (out : List ℕ) → Held p → Listing d inside level raw p out p out 0
-list-starts d inside level raw p out h = record { held = h; within = omega arith; goes = λ es are. record { left = es; are = are; leads = λ q out′ s. s } }
+pub list-starts : (d : Disc) (of : Node → Figures) (inside : LongAd → Ask (List Node)) (level : ℕ) (raw : List ℕ) (p : ShowPlace) (l : Lent) → Held p → Listing d of inside level raw p l p l 0
+list-starts d of inside level raw p l h = record { held = h; within = omega arith; goes = λ es are. record { left = es; are = are; leads = λ q l′ s. s } }
 
-module _ (d : Disc) (m : Mount) (below level : ℕ) (raw : List ℕ) (w : ℕ) (p₀ : ShowPlace) (out₀ : List ℕ) {p : ShowPlace} {out : List ℕ} {at : ℕ}
-    (i : Listing d (nodesAt m below (suc level) w) level raw p₀ out₀ p out at) where
+module _ (d : Disc) (m : Mount) (below level : ℕ) (raw : List ℕ) (w : ℕ) (p₀ : ShowPlace) (l₀ : Lent) {p : ShowPlace} {l : Lent} {at : ℕ}
+    (i : Listing d (ofNode d m) (nodesAt m below (suc level) w) level raw p₀ l₀ p l at) where
   abbrev inside : LongAd → Ask (List Node)
   inside = nodesAt m below (suc level) w
 
-  pub list-ends : length raw < at + 38 → AllShown d inside level raw p₀ out₀ p out
+  pub list-ends : length raw < at + 38 → AllShown d (ofNode d m) inside level raw p₀ l₀ p l
   unfolding nodesOf
   list-ends h es s =
       let g = i .goes es s in
       let e : answered [] ≡ answered (g .left) = sym (at-end false raw at h) ∙ g .are in
       let z : g .left ≡ [] = cc in
-      g .leads p out (rw z (shown-none (i .held) (ran-done d []) out (λ room. refl)))
+      g .leads p l (rw z (shown-none (i .held) (ran-done d []) l (λ room. refl) refl))
 
-  module _ {t : EntryTurn} {out′ : List ℕ} (h : Handles d m below level raw w at p out t out′) where
-    pub list-next : t .place .answer ≡ 0 → Listing d inside level raw p₀ out₀ (t .place) out′ (t .next)
+  module _ {t : EntryTurn} {l′ : Lent} (h : Handles d m below level raw w at p l t l′) where
+    pub list-next : t .place .answer ≡ 0 → Listing d (ofNode d m) inside level raw p₀ l₀ (t .place) l′ (t .next)
     list-next z = record {
       held = h .held z;
       within = h .near;
@@ -76,31 +78,31 @@ module _ (d : Disc) (m : Mount) (below level : ℕ) (raw : List ℕ) (w : ℕ) (
           };
     }
 
-    pub list-stops : (t .place .answer ≡ 0 → ⊥) → AllShown d inside level raw p₀ out₀ (t .place) out′
+    pub list-stops : (t .place .answer ≡ 0 → ⊥) → AllShown d (ofNode d m) inside level raw p₀ l₀ (t .place) l′
     list-stops z es s =
         let g = i .goes es s in
         let k = h .good (g .left) (g .are) in
-        g .leads (t .place) out′ (rw (k .all, turn-joined d inside level (k .first) (k .others)) (joined-stops (k .shows) (ran d (nodesOf inside level (k .others))) z))
+        g .leads (t .place) l′ (rw (k .all, turn-joined d inside level (k .first) (k .others)) (joined-stops (k .shows) (ran d (nodesOf inside level (k .others))) z))
 
 -- ---- the returns of `list_level`
 
 -- no level left
-pub level-none : (d : Disc) (m : Mount) (level : ℕ) (w : ℕ) (icb : LongAd) {left : ℕ} {p : ShowPlace} → Held p → left ≡ 0 → {a : ℕ} → a ≡ number TooDeep → {q : ShowPlace} → q ≡ stoppedAt a (p .count)
-    → {out : List ℕ} → Shown (ran d (nodesAt m left level w icb)) p out q out
+pub level-none : {of : Node → Figures} (d : Disc) (m : Mount) (level : ℕ) (w : ℕ) (icb : LongAd) {left : ℕ} {p : ShowPlace} → Held p → left ≡ 0 → {a : ℕ} → a ≡ number TooDeep → {q : ShowPlace} → q ≡ stoppedAt a (p .count)
+    → {l : Lent} → Shown of (ran d (nodesAt m left level w icb)) p l q l
 unfolding nodesAt
 level-none d m level w icb {p = p} h z k e =
     let c : p .count ≡ reported (p .count + 0) = omega (arith, h .counted) in
     rw z (shown-refused TooDeep 0 (ran-refuse d TooDeep) (e ∙ rw k (ap (stoppedAt (number TooDeep)) c)))
 
-module _ (d : Disc) (m : Mount) (icb : LongAd) {left : ℕ} (level : ℕ) (l : left ≡ 0 → ⊥) {p : ShowPlace} {work work₁ : List ℕ} {o : OpenedLevel} (a : Opens d m icb p work work₁ o) where
+module _ (d : Disc) (m : Mount) (icb : LongAd) {left : ℕ} (level : ℕ) (some : left ≡ 0 → ⊥) {p : ShowPlace} {work work₁ : List ℕ} {o : OpenedLevel} (a : Opens d m icb p work work₁ o) where
   level-is : nodesAt m left level (length work) icb ≡ opening m (length work) icb (λ b es. nodesOf (nodesAt m (left - 1) (suc level) (length work - length b)) level es)
   unfolding nodesAt
   level-is =
-      let e : left ≡ suc (left - 1) = omega (arith, l) in
+      let e : left ≡ suc (left - 1) = omega (arith, some) in
       ap (λ n. nodesAt m n level (length work) icb) e
 
   -- the directory is refused
-  pub level-refused : (o .place .answer ≡ 0 → ⊥) → {out : List ℕ} → Shown (ran d (nodesAt m left level (length work) icb)) p out (o .place) out
+  pub level-refused : (o .place .answer ≡ 0 → ⊥) → {of : Node → Figures} {l : Lent} → Shown of (ran d (nodesAt m left level (length work) icb)) p l (o .place) l
   level-refused n = let x = a .bad n in rw level-is (shown-refused (x .why) (x .n) (x .goes (λ b es. nodesOf (nodesAt m (left - 1) (suc level) (length work - length b)) level es)) (x .place))
 
   module _ (z : o .place .answer ≡ 0) where
@@ -111,10 +113,10 @@ module _ (d : Disc) (m : Mount) (icb : LongAd) {left : ℕ} (level : ℕ) (l : l
     level-held h = rw (a .good z .place) (record { going = refl; counted = omega arith; sized = h })
 
     -- all its entries were shown
-    pub level-shown : length work₁ ≡ length work → {out : List ℕ} {q : ShowPlace} {out′ : List ℕ}
-        → AllShown d (nodesAt m (left - 1) (suc level) (length work₁ - o .length)) level (take (o .length) work₁) (o .place) out q out′
-        → Shown (ran d (nodesAt m left level (length work) icb)) p out q out′
-    level-shown k {out} {q} {out′} s =
+    pub level-shown : length work₁ ≡ length work → {of : Node → Figures} {l : Lent} {q : ShowPlace} {l′ : Lent}
+        → AllShown d of (nodesAt m (left - 1) (suc level) (length work₁ - o .length)) level (take (o .length) work₁) (o .place) l q l′
+        → Shown of (ran d (nodesAt m left level (length work) icb)) p l q l′
+    level-shown k s =
         let x = a .good z in
         let n : length (take (o .length) work₁) ≡ o .length = length-take-le (o .length) work₁ (x .fits) in
         let e : length work₁ - o .length ≡ length work - length (take (o .length) work₁) = rw (k, n) in
@@ -124,14 +126,14 @@ module _ (d : Disc) (m : Mount) (icb : LongAd) {left : ℕ} (level : ℕ) (l : l
 -- ---- the loop's work space
 
 -- a turn leaves the directory's bytes as they were, so each turn is over the same
-pub handles-same : {d : Disc} {m : Mount} {below level : ℕ} {raw raw₀ : List ℕ} {w w₀ at : ℕ} {p : ShowPlace} {out : List ℕ} {t : EntryTurn} {out′ : List ℕ} → raw ≡ raw₀ → w ≡ w₀
-    → Handles d m below level raw w at p out t out′ → Handles d m below level raw₀ w₀ at p out t out′
-handles-same e l h = rw (e, l) at h
+pub handles-same : {d : Disc} {m : Mount} {below level : ℕ} {raw raw₀ : List ℕ} {w w₀ at : ℕ} {p : ShowPlace} {l : Lent} {t : EntryTurn} {l′ : Lent} → raw ≡ raw₀ → w ≡ w₀
+    → Handles d m below level raw w at p l t l′ → Handles d m below level raw₀ w₀ at p l t l′
+handles-same e f h = rw (e, f) at h
 
 -- no entry starts more than three bytes behind the directory's end
-pub list-fits : {d : Disc} {inside : LongAd → Ask (List Node)} {level : ℕ} (n : ℕ) (work : List ℕ) {p₀ : ShowPlace} {out₀ : List ℕ} {p : ShowPlace} {out : List ℕ} {at : ℕ}
-    → Listing d inside level (take n work) p₀ out₀ p out at → n ≤ length work → (l : ℕ) → length work ≡ l → l * 1 < 2 ^ 63 → Fits w64 (at + 38)
-list-fits n work i h l e k = omega (arith, i .within, length-take n work)
+pub list-fits : {d : Disc} {of : Node → Figures} {inside : LongAd → Ask (List Node)} {level : ℕ} (n : ℕ) (work : List ℕ) {p₀ : ShowPlace} {l₀ : Lent} {p : ShowPlace} {l : Lent} {at : ℕ}
+    → Listing d of inside level (take n work) p₀ l₀ p l at → n ≤ length work → (most : ℕ) → length work ≡ most → most * 1 < 2 ^ 63 → Fits w64 (at + 38)
+list-fits n work i h most e k = omega (arith, i .within, length-take n work)
 
 pub list-over : (n at : ℕ) (work : List ℕ) → n < at + 38 → length (take n work) < at + 38
 list-over n at work h = omega (arith, length-take n work)

@@ -16,7 +16,7 @@ use Rattle.disc.specs.Ask.{Disc, Outcome, outcome, andThen}
 use Rattle.disc.specs.Ask.Ask.{refuse}
 use Rattle.disc.specs.Ask.Outcome.{answered, refused}
 use Rattle.disc.specs.Ran.{Ran, ran}
-use Rattle.disc.specs.Replies.{Replied}
+use Rattle.disc.specs.Replies.{Replied, answerOf}
 use Rattle.disc.specs.declared.places.Mount.{Mount}
 use Rattle.disc.specs.declared.refusals.Refusal.the-variants.{NoRoom, TooDeep}
 use Rattle.disc.specs.declared.replies.Reply.{Reply}
@@ -25,9 +25,11 @@ use Rattle.disc.proofs.RanLaws.{ran-refuse}
 use Rattle.disc.proofs.RefusalLaws.{refusal-numbered}
 use Rattle.disc.proofs.ReplyLaws.{reply-refused, reply-full, reply-done}
 use Rattle.records.specs.declared.allocations.LongAd.{LongAd}
+use Rattle.figures.specs.Figures.{Figures}
 use Rattle.directories.proofs.SpaceLaws.{ran-known}
 use Rattle.shows.specs.Shows.{Node, nodesAt, mostLevels, tree, nodeRecords, showing}
-use Rattle.shows.specs.inner.Turns.{behindBy, Shown}
+use Rattle.shows.specs.inner.Turns.{behindBy, lent, Shown}
+use Rattle.shows.specs.Tallies.{ofNode, Tallied}
 use Rattle.shows.specs.declared.levels.ShowPlace.{ShowPlace}
 
 -- before the first entry
@@ -89,7 +91,7 @@ module _ (d : Disc) (m : Mount) (w : ℕ) (root : LongAd) (levels : ℕ) where
 
     -- ---- measured, lent no output
 
-    module _ (out ys : List ℕ) {q : ShowPlace} (s : Shown R start (midOf 0 (0 - 0) out) q ys) (z : length (putMid 0 (0 - 0) out ys) ≡ length out) where
+    module _ {of : Node → Figures} (out ys : List ℕ) {q : ShowPlace} {tally tally₁ : List ℕ} (s : Shown of R start (lent (midOf 0 (0 - 0) out) tally) q (lent ys tally₁)) (z : length (putMid 0 (0 - 0) out ys) ≡ length out) where
       -- nothing was written
       as-came : putMid 0 (0 - 0) out ys ≡ out
       as-came = by ys z
@@ -133,16 +135,28 @@ module _ (d : Disc) (m : Mount) (w : ℕ) (root : LongAd) (levels : ℕ) where
 
         -- ---- written, lent what was measured
 
-        pub show-done : q .size ≤ length (putMid 0 (0 - 0) out ys) → length out * 1 < 2 ^ 63 → {w₁ : ℕ} → w₁ ≡ w → {q₂ : ShowPlace} {ys₂ : List ℕ}
-            → Shown (ran d (nodesAt m levels 1 w₁ root)) start (midOf 0 (q .size - 0) (putMid 0 (0 - 0) out ys)) q₂ ys₂
+        pub show-done : q .size ≤ length (putMid 0 (0 - 0) out ys) → length out * 1 < 2 ^ 63 → {w₁ : ℕ} → w₁ ≡ w → {q₂ : ShowPlace} {ys₂ tally₂ tally₃ : List ℕ}
+            → Shown of (ran d (nodesAt m levels 1 w₁ root)) start (lent (midOf 0 (q .size - 0) (putMid 0 (0 - 0) out ys)) tally₂) q₂ (lent ys₂ tally₃)
             → Replied NoRoom (ran d (showing m levels w root)) out (putMid 0 (q .size - 0) (putMid 0 (0 - 0) out ys) ys₂) (record { answer = 0; count = q .count; length = q .size })
-        show-done h b e {q₂} {ys₂} v =
+        show-done h b e {q₂} {ys₂} {tally₂} {tally₃} v =
             let x = measured in
             let text : List ℕ = nodeRecords (x .ns) in
-            let t : Shown R start (midOf 0 (q .size - 0) out) q₂ ys₂ = rw (e, as-came) at v in
+            let t : Shown of R start (lent (midOf 0 (q .size - 0) out) tally₂) q₂ (lent ys₂ tally₃) = rw (e, as-came) at v in
             let i : q .size ≡ length text = omega (arith, x .size, z) in
             let j : length text ≤ length out = omega (arith, z) in
             let n : length (midOf 0 (q .size - 0) out) ≡ length text = simp (length-take, length-drop) (omega arith) in
             let y : ys₂ ≡ text = t .puts (x .ns) (x .are) (omega (arith, n)) (omega (arith, n)) ∙ sets-whole text (midOf 0 (q .size - 0) out) (sym n) in
             let r : ran d (showing m levels w root) ≡ record { outcome = answered text; count = R .count } = shown-is ∙ rw (x .are) in
             rw as-came (written text out r i j (x .count) y)
+
+-- ---- the figures of a whole tree
+
+pub tree-tallied : (d : Disc) (m : Mount) (w : ℕ) (root : LongAd) {out out′ tally tally′ : List ℕ} {q : ShowPlace}
+    → Shown (ofNode d m) (ran d (nodesAt m mostLevels 1 w root)) start (lent out tally) q (lent out′ tally′) → Tallied d m (ran d (tree m mostLevels w root) .outcome) tally tally′ (q .answer)
+tree-tallied d m w root {q = q} s =
+    let R = ran d (nodesAt m mostLevels 1 w root) in
+    rw (tree-within m w root mostLevels (omega arith) (omega arith)) (record { says = by (R .outcome) (R .count) (s .says); adds = s .adds })
+  where
+    by : (o : Outcome (List Node)) (n : ℕ) → q ≡ behindBy start o n → q .answer ≡ answerOf o
+    by (answered ns) n e = ap (λ (x : ShowPlace). x .answer) e
+    by (refused why) n e = ap (λ (x : ShowPlace). x .answer) e

@@ -1,7 +1,7 @@
--- Parts of the tree shown one behind another: places and records. Assumes nothing.
+-- Parts of the tree shown one behind another: places, records and figures. Assumes nothing.
 use mathlib.Core.Path.{_≡_, refl, sym, ap, _∙_, fun-ext}
 use mathlib.Core.Bool.{Bool, true, false}
-use mathlib.Core.List.{List, [], _∷_, _++_, append-nil, append-assoc}
+use mathlib.Core.List.{List, [], _∷_, _++_, map, append-nil, append-assoc, map-append}
 use Prim.Native.Nat.{ℕ, _+_, _≤_}
 use native.Mathlib.Nat.{zero-add}
 use native.Mathlib.Omega.{arith}
@@ -21,9 +21,11 @@ use Rattle.disc.proofs.RanLaws.{ran-done, ran-then, never}
 use Rattle.disc.proofs.RefusalLaws.{refusal-numbered}
 use Rattle.records.specs.declared.allocations.LongAd.{LongAd}
 use Rattle.identifiers.specs.Identifiers.{isDirectory}
+use Rattle.figures.specs.Figures.{Figures, Adds, addedTo}
+use Rattle.figures.proofs.FigureLaws.{addedTo-append}
 use Rattle.listings.specs.Entries.{Entry, isSkipped}
 use Rattle.shows.specs.Shows.{Node, under, nodesOf, nodeRecord, nodeRecords}
-use Rattle.shows.specs.inner.Turns.{stoppedAt, Held, behindBy, Shown, turnOf}
+use Rattle.shows.specs.inner.Turns.{stoppedAt, Held, behindBy, Lent, Shown, turnOf}
 use Rattle.shows.specs.declared.levels.ShowPlace.{ShowPlace}
 
 -- ---- trees behind each other
@@ -105,6 +107,11 @@ pub records-one : (n : Node) → nodeRecords (n ∷ []) ≡ nodeRecord n
 unfolding nodeRecords
 records-one n = append-nil (nodeRecord n)
 
+-- ---- figures behind each other
+
+figures-joined : (of : Node → Figures) (a b : List Node) (f : Figures) → addedTo f (map of (a ++ b)) ≡ addedTo (addedTo f (map of a)) (map of b)
+figures-joined of a b f = ap (addedTo f) (map-append of a b) ∙ addedTo-append f (map of a) (map of b)
+
 -- ---- places
 
 -- equal by their parts
@@ -112,43 +119,48 @@ same-place : {a a′ c c′ s s′ : ℕ} → a ≡ a′ → c ≡ c′ → s �
 same-place e f g = rw (e, f, g)
 
 -- nothing shown
-pub shown-none : {p : ShowPlace} → Held p → {r : Ran (List Node)} → r ≡ told (answered []) → (out : List ℕ) {out′ : List ℕ} → (p .size ≤ length out → out′ ≡ out) → Shown r p out p out′
-unfolding nodeRecords
-shown-none {p} h e out f = rw e (record {
+pub shown-none : {of : Node → Figures} {p : ShowPlace} → Held p → {r : Ran (List Node)} → r ≡ told (answered []) → (l : Lent) {l′ : Lent} → (p .size ≤ length (l .out) → l′ .out ≡ l .out) → l′ .tally ≡ l .tally
+    → Shown of r p l p l′
+unfolding nodeRecords addedTo
+shown-none {p = p} h e l f g = rw e (record {
   says = same-place (h .going) (omega (arith, h .counted)) (omega (arith, h .sized));
-  puts = λ ns k room l. let z : ns ≡ [] = cc in rw z (f (omega arith));
+  puts = λ ns k room b. let z : ns ≡ [] = cc in rw z (f (omega arith));
+  adds = λ ns k x y. let z : ns ≡ [] = cc in rw (z, g) y;
 })
 
 -- one node shown
-pub shown-one : {p : ShowPlace} → Held p → {n : Node} {r : Ran (List Node)} → r ≡ told (answered (n ∷ [])) → {z : ℕ} → z ≡ reported (p .size + length (nodeRecord n)) → {out out′ : List ℕ}
-    → (p .size + length (nodeRecord n) ≤ length out → out′ ≡ sets out (p .size) (nodeRecord n)) → Shown r p out (record { answer = 0; count = p .count; size = z }) out′
-shown-one {p} h {n} e q f = rw e (record {
+pub shown-one : {of : Node → Figures} {p : ShowPlace} → Held p → {n : Node} {r : Ran (List Node)} → r ≡ told (answered (n ∷ [])) → {z : ℕ} → z ≡ reported (p .size + length (nodeRecord n)) → {l l′ : Lent}
+    → (p .size + length (nodeRecord n) ≤ length (l .out) → l′ .out ≡ sets (l .out) (p .size) (nodeRecord n)) → Adds (of n) (l .tally) (l′ .tally)
+    → Shown of r p l (record { answer = 0; count = p .count; size = z }) l′
+unfolding addedTo
+shown-one {of} {p} h {n} e q f g = rw e (record {
   says = same-place refl (omega (arith, h .counted)) (q ∙ rw (records-one n));
-  puts = λ ns k room l.
+  puts = λ ns k room b.
       let z : ns ≡ n ∷ [] = cc in
       let w : nodeRecords ns ≡ nodeRecord n = ap nodeRecords z ∙ records-one n in
       rw w (f (rw w at room));
+  adds = λ ns k x y. let z : ns ≡ n ∷ [] = cc in rw z (g x y);
 })
 
 -- refused
-pub shown-refused : {p : ShowPlace} (why : Refusal) (n : ℕ) {r : Ran (List Node)} → r ≡ record { outcome = refused why; count = n } → {q : ShowPlace} → q ≡ stoppedAt (number why) (reported (p .count + n)) → {out out′ : List ℕ}
-    → Shown r p out q out′
-shown-refused why n e f = rw e (record { says = f; puts = λ ns k. never k })
+pub shown-refused : {of : Node → Figures} {p : ShowPlace} (why : Refusal) (n : ℕ) {r : Ran (List Node)} → r ≡ record { outcome = refused why; count = n } → {q : ShowPlace} → q ≡ stoppedAt (number why) (reported (p .count + n)) → {l l′ : Lent}
+    → Shown of r p l q l′
+shown-refused why n e f = rw e (record { says = f; puts = λ ns k. never k; adds = λ ns k. never k })
 
 -- a place that isn't refused is held
-pub shown-held : {r : Ran (List Node)} {p : ShowPlace} {out : List ℕ} {q : ShowPlace} {out′ : List ℕ} → Shown r p out q out′ → q .answer ≡ 0 → Held q
-shown-held {r} {p} {q = q} s z = by (r .outcome) (s .says)
+pub shown-held : {of : Node → Figures} {r : Ran (List Node)} {p : ShowPlace} {l : Lent} {q : ShowPlace} {l′ : Lent} → Shown of r p l q l′ → q .answer ≡ 0 → Held q
+shown-held {r = r} {p} {q = q} s z = by (r .outcome) (s .says)
   where
     by : (o : Outcome (List Node)) → q ≡ behindBy p o (r .count) → Held q
     by (answered ns) e = rw e (record { going = refl; counted = omega arith; sized = omega arith })
     by (refused why) e = absurd (refusal-numbered why (sym (ap (λ (x : ShowPlace). x .answer) e) ∙ z))
 
 -- a part shown behind n sectors that were read for it
-pub shown-after : {r : Ran (List Node)} {p p₁ : ShowPlace} (n : ℕ) → p₁ ≡ record { answer = 0; count = reported (p .count + n); size = p .size } → {out : List ℕ} {q : ShowPlace} {out′ : List ℕ}
-    → Shown r p₁ out q out′ → Shown (record { outcome = r .outcome; count = n + r .count }) p out q out′
-shown-after {r} {p} n e {out} {q} {out′} s =
-    let t : Shown r (record { answer = 0; count = reported (p .count + n); size = p .size }) out q out′ = rw e at s in
-    record { says = t .says ∙ by (r .outcome); puts = t .puts }
+pub shown-after : {of : Node → Figures} {r : Ran (List Node)} {p p₁ : ShowPlace} (n : ℕ) → p₁ ≡ record { answer = 0; count = reported (p .count + n); size = p .size } → {l : Lent} {q : ShowPlace} {l′ : Lent}
+    → Shown of r p₁ l q l′ → Shown of (record { outcome = r .outcome; count = n + r .count }) p l q l′
+shown-after {of} {r} {p} n e {l} {q} {l′} s =
+    let t : Shown of r (record { answer = 0; count = reported (p .count + n); size = p .size }) l q l′ = rw e at s in
+    record { says = t .says ∙ by (r .outcome); puts = t .puts; adds = t .adds }
   where
     by : (o : Outcome (List Node)) → behindBy (record { answer = 0; count = reported (p .count + n); size = p .size }) o (r .count) ≡ behindBy p o (n + r .count)
     by (answered ns) = same-place refl (omega arith) refl
@@ -156,18 +168,18 @@ shown-after {r} {p} n e {out} {q} {out′} s =
 
 -- ---- one part behind another
 
-module _ {r : Ran (List Node)} {p : ShowPlace} {out : List ℕ} {q : ShowPlace} {out₁ : List ℕ} (s : Shown r p out q out₁) where
+module _ {of : Node → Figures} {r : Ran (List Node)} {p : ShowPlace} {l : Lent} {q : ShowPlace} {l₁ : Lent} (s : Shown of r p l q l₁) where
   -- the first is refused
-  pub joined-stops : (k : Ran (List Node)) → (q .answer ≡ 0 → ⊥) → Shown (joined r k) p out q out₁
+  pub joined-stops : (k : Ran (List Node)) → (q .answer ≡ 0 → ⊥) → Shown of (joined r k) p l q l₁
   joined-stops k n = by (r .outcome) (s .says)
     where
-      by : (o : Outcome (List Node)) → q ≡ behindBy p o (r .count) → Shown (onward o (r .count) (λ a. followed k (λ b. told (answered (a ++ b))))) p out q out₁
+      by : (o : Outcome (List Node)) → q ≡ behindBy p o (r .count) → Shown of (onward o (r .count) (λ a. followed k (λ b. told (answered (a ++ b))))) p l q l₁
       by (answered a) e = absurd (n (ap (λ (x : ShowPlace). x .answer) e))
-      by (refused why) e = record { says = e; puts = λ ns h. never h }
+      by (refused why) e = record { says = e; puts = λ ns h. never h; adds = λ ns h. never h }
 
-  module _ {k : Ran (List Node)} {q′ : ShowPlace} {out₂ : List ℕ} (t : Shown k q out₁ q′ out₂) where
+  module _ {k : Ran (List Node)} {q′ : ShowPlace} {l₂ : Lent} (t : Shown of k q l₁ q′ l₂) where
     -- both answered
-    both : {a b : List Node} → r .outcome ≡ answered a → k .outcome ≡ answered b → {n : ℕ} → n ≡ r .count + (k .count + 0) → Shown (record { outcome = answered (a ++ b); count = n }) p out q′ out₂
+    both : {a b : List Node} → r .outcome ≡ answered a → k .outcome ≡ answered b → {n : ℕ} → n ≡ r .count + (k .count + 0) → Shown of (record { outcome = answered (a ++ b); count = n }) p l q′ l₂
     both {a} {b} f g c =
         let u : q ≡ record { answer = 0; count = reported (p .count + r .count); size = reported (p .size + length (nodeRecords a)) } = s .says ∙ rw f in
         let v : q′ ≡ record { answer = 0; count = reported (q .count + k .count); size = reported (q .size + length (nodeRecords b)) } = t .says ∙ rw g in
@@ -176,22 +188,25 @@ module _ {r : Ran (List Node)} {p : ShowPlace} {out : List ℕ} {q : ShowPlace} 
         let us : q .size ≡ reported (p .size + length (nodeRecords a)) = ap (λ (x : ShowPlace). x .size) u in
         record {
           says = v ∙ same-place refl (omega arith) (omega arith);
-          puts = λ ns h room l.
+          puts = λ ns h room m.
               let z : ns ≡ a ++ b = cc in
               let zl : length (nodeRecords ns) ≡ length (nodeRecords (a ++ b)) = rw z in
-              let x : out₁ ≡ sets out (p .size) (nodeRecords a) = s .puts a f (omega arith) l in
-              let xl : length out₁ ≡ length out = rw x (length-sets out (p .size) (nodeRecords a)) in
-              let y : out₂ ≡ sets out₁ (q .size) (nodeRecords b) = t .puts b g (omega arith) (omega arith) in
+              let x : l₁ .out ≡ sets (l .out) (p .size) (nodeRecords a) = s .puts a f (omega arith) m in
+              let xl : length (l₁ .out) ≡ length (l .out) = rw x (length-sets (l .out) (p .size) (nodeRecords a)) in
+              let y : l₂ .out ≡ sets (l₁ .out) (q .size) (nodeRecords b) = t .puts b g (omega arith) (omega arith) in
               let i : q .size ≡ p .size + length (nodeRecords a) = omega arith in
-              let j : sets out₁ (q .size) (nodeRecords b) ≡ sets out (p .size) (nodeRecords (a ++ b)) = rw (i, x, records-joined a b) (sym (sets-append (nodeRecords a) (nodeRecords b) out (p .size))) in
-              y ∙ j ∙ ap (λ m. sets out (p .size) (nodeRecords m)) (sym z);
+              let j : sets (l₁ .out) (q .size) (nodeRecords b) ≡ sets (l .out) (p .size) (nodeRecords (a ++ b)) = rw (i, x, records-joined a b) (sym (sets-append (nodeRecords a) (nodeRecords b) (l .out) (p .size))) in
+              y ∙ j ∙ ap (λ m. sets (l .out) (p .size) (nodeRecords m)) (sym z);
+          adds = λ ns h x y.
+              let z : ns ≡ a ++ b = cc in
+              rw (z, figures-joined of a b x) (t .adds b g (addedTo x (map of a)) (s .adds a f x y));
         }
 
-    pub joined-goes : q .answer ≡ 0 → Shown (joined r k) p out q′ out₂
+    pub joined-goes : q .answer ≡ 0 → Shown of (joined r k) p l q′ l₂
     joined-goes g = by (r .outcome) refl (k .outcome) refl
       where
         by : (o : Outcome (List Node)) → r .outcome ≡ o → (o′ : Outcome (List Node)) → k .outcome ≡ o′
-            → Shown (onward o (r .count) (λ a. onward o′ (k .count) (λ b. told (answered (a ++ b))))) p out q′ out₂
+            → Shown of (onward o (r .count) (λ a. onward o′ (k .count) (λ b. told (answered (a ++ b))))) p l q′ l₂
         by (refused why) f o′ h =
             let v : q ≡ stoppedAt (number why) (reported (p .count + r .count)) = s .says ∙ rw f in
             absurd (refusal-numbered why (sym (ap (λ (x : ShowPlace). x .answer) v) ∙ g))

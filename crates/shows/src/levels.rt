@@ -5,8 +5,10 @@ ghost use lib.ListN.{length, take};
 ghost use Rattle.disc.specs.Ran.{ran};
 ghost use Rattle.disc.specs.Images.{disc};
 ghost use Rattle.shows.specs.Shows.{nodesAt};
-ghost use Rattle.shows.specs.inner.Turns.{stoppedAt, Held, Shown, Opens, Handles};
+ghost use Rattle.shows.specs.inner.Turns.{stoppedAt, Held, lent, Shown, Opens, Handles};
+ghost use Rattle.shows.specs.Tallies.{ofNode};
 use crate::nodes::put_node;
+use crate::tallies::tally_entry;
 use directories::spaces::read_directory;
 use disc::answers::DONE;
 use disc::counts::add_counts;
@@ -74,7 +76,7 @@ fn open_level(image: &[u8], mount: Mount, icb: LongAd, p: ShowPlace, work: &mut 
 }
 
 // Lists the directory at icb, whose entries have this level, and what stands under it. The bytes of the directories above it stand before
-// what is lent of the work space. What is left there is of no use to the caller.
+// what is lent of the work space. What is left there is of no use to the caller. Where a place is lent the entries are tallied in it.
 pub(crate) fn list_level(
     image: &[u8],
     mount: Mount,
@@ -84,9 +86,10 @@ pub(crate) fn list_level(
     p: ShowPlace,
     work: &mut [u8],
     out: &mut [u8],
+    tally: &mut [u64],
 ) -> ShowPlace
     requires { ⌜ (level + left ≤ 17) × Held p ⌝ }
-    ensures { λ q. ⌜ Shown (ran (disc (now (image .entry))) (nodesAt mount left level (length (now (work .entry))) icb)) p (now (out .entry)) q (now (out .exit)) ⌝ }
+    ensures { λ q. ⌜ Shown (ofNode (disc (now (image .entry))) mount) (ran (disc (now (image .entry))) (nodesAt mount left level (length (now (work .entry))) icb)) p (lent (now (out .entry)) (now (tally .entry))) q (lent (now (out .exit)) (now (tally .exit))) ⌝ }
 {
     if left == 0 {
         return stopped(Refusal::TooDeep.number(), p.count);
@@ -100,7 +103,7 @@ pub(crate) fn list_level(
     }
     let mut at: usize = 0;
     while at + LEAST_SIZE <= n {
-        let t = handle_entry(image, mount, n, at, level, below, q, work, out);
+        let t = handle_entry(image, mount, n, at, level, below, q, work, out, tally);
         q = t.place;
         if q.answer != DONE {
             return q;
@@ -128,9 +131,10 @@ fn handle_entry(
     p: ShowPlace,
     work: &mut [u8],
     out: &mut [u8],
+    tally: &mut [u64],
 ) -> EntryTurn
     requires { ⌜ (at + 38 ≤ n) × (n ≤ length (now work)) × (level + left ≤ 16) × Held p ⌝ }
-    ensures { λ t. ⌜ Handles (disc (now (image .entry))) mount left level (take n (now (work .entry))) (length (now (work .entry)) - n) at p (now (out .entry)) t (now (out .exit)) ⌝ }
+    ensures { λ t. ⌜ Handles (disc (now (image .entry))) mount left level (take n (now (work .entry))) (length (now (work .entry)) - n) at p (lent (now (out .entry)) (now (tally .entry))) t (lent (now (out .exit)) (now (tally .exit))) ⌝ }
     ensures { λ _. ⌜ take n (now (work .exit)) ≡ take n (now (work .entry)) ⌝ }
 {
     let e = put_node(level, p.size, &work[at..n], out);
@@ -149,6 +153,7 @@ fn handle_entry(
         count: p.count,
         size: add_counts(p.size, e.size),
     };
+    tally_entry(image, mount, e.directory, e.icb, tally);
     if !e.directory {
         return EntryTurn {
             place: behind,
@@ -157,6 +162,16 @@ fn handle_entry(
     }
     let icb = e.icb;
     let deeper = level + 1;
-    let place = list_level(image, mount, icb, deeper, left, behind, &mut work[n..], out);
+    let place = list_level(
+        image,
+        mount,
+        icb,
+        deeper,
+        left,
+        behind,
+        &mut work[n..],
+        out,
+        tally,
+    );
     EntryTurn { place, next }
 }

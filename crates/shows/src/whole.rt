@@ -6,7 +6,8 @@ ghost use Rattle.disc.specs.Ran.{ran};
 ghost use Rattle.disc.specs.Images.{disc};
 ghost use Rattle.disc.specs.Replies.{Replied};
 ghost use Rattle.disc.specs.declared.refusals.Refusal.the-variants.{NoRoom};
-ghost use Rattle.shows.specs.Shows.{showing};
+ghost use Rattle.shows.specs.Shows.{tree, mostLevels, showing};
+ghost use Rattle.shows.specs.Tallies.{Tallied};
 use crate::levels::ShowPlace;
 use crate::levels::list_level;
 use disc::answers::DONE;
@@ -38,7 +39,18 @@ fn show_within(
         count: 0,
         size: 0,
     };
-    let measured = list_level(image, mount, root, 1, levels, start, work, &mut out[0..0]);
+    let mut none = [0u64; 1];
+    let measured = list_level(
+        image,
+        mount,
+        root,
+        1,
+        levels,
+        start,
+        work,
+        &mut out[0..0],
+        &mut none[0..0],
+    );
     if measured.answer != DONE {
         return refusal(measured.answer, measured.count);
     }
@@ -55,6 +67,7 @@ fn show_within(
         start,
         work,
         &mut out[0..size],
+        &mut none[0..0],
     );
     Reply {
         answer: DONE,
@@ -99,4 +112,35 @@ pub fn show(
     let reply = show_tree(image, mount, root, levels, out, work);
     clear(work);
     reply
+}
+
+// The figures of the whole tree from the directory at root, at 16 levels, added to those of a place; the answer is that of the tree, and where it is refused
+// nothing is said of the place. What was read last is left in the work space.
+pub fn tally_tree(
+    image: &[u8],
+    mount: Mount,
+    root: LongAd,
+    tally: &mut [u64],
+    work: &mut [u8],
+) -> u64
+    ensures { λ r. ⌜ Tallied (disc (now (image .entry))) mount (ran (disc (now (image .entry))) (tree mount mostLevels (length (now (work .entry))) root) .outcome) (now (tally .entry)) (now (tally .exit)) r ⌝ }
+{
+    let start = ShowPlace {
+        answer: DONE,
+        count: 0,
+        size: 0,
+    };
+    let mut none = [0u8; 1];
+    let tallied = list_level(
+        image,
+        mount,
+        root,
+        1,
+        MOST_LEVELS as u8,
+        start,
+        work,
+        &mut none[0..0],
+        tally,
+    );
+    tallied.answer
 }

@@ -2,7 +2,7 @@
 use Prim.Native.Nat.{ℕ, suc, _+_, _≤_, _<_}
 use mathlib.Core.Path.{_≡_}
 use mathlib.Core.Bool.{false}
-use mathlib.Core.List.{List, [], _∷_}
+use mathlib.Core.List.{List, [], _∷_, map}
 use lib.ListN.{length, take, drop}
 use lib.Seq.{sets}
 use Rattle.disc.specs.Choice.{pick}
@@ -21,9 +21,11 @@ use Rattle.identifiers.specs.Identifiers.{readIdentifier, identifierRead, isDir
 use Rattle.identifiers.specs.inner.Wholes.{Whole}
 use Rattle.identifiers.specs.declared.FileIdentifierDescriptor.{FileIdentifierDescriptor}
 use Rattle.identifiers.specs.declared.IdentifierRead.{IdentifierRead}
+use Rattle.figures.specs.Figures.{Figures, Holds, addedTo}
 use Rattle.listings.specs.Entries.{Entry, entryOf, entryRead, isSkipped, entries}
 use Rattle.directories.specs.Directories.{directoryBytes}
 use Rattle.shows.specs.Shows.{Node, under, nodesAt, nodeRecord, nodeRecords}
+use Rattle.shows.specs.Tallies.{ofNode}
 use Rattle.shows.specs.declared.nodes.EntrySeen.{EntrySeen}
 use Rattle.shows.specs.declared.levels.ShowPlace.{ShowPlace}
 use Rattle.shows.specs.declared.levels.OpenedLevel.{OpenedLevel}
@@ -86,11 +88,20 @@ abbrev pub behindBy : ShowPlace → Outcome (List Node) → ℕ → ShowPlace
 behindBy p (answered ns) n = record { answer = 0; count = reported (p .count + n); size = reported (p .size + length (nodeRecords ns)) }
 behindBy p (refused why) n = stoppedAt (number why) (reported (p .count + n))
 
--- a part of the tree was shown: the place behind it, and its records where they have room
-pub record Shown (r : Ran (List Node)) (p : ShowPlace) (before : List ℕ) (q : ShowPlace) (after : List ℕ) : Type 0 where
+-- what is lent for the records, and for the figures
+pub record Lent : Type 0 where
+  pub out : List ℕ
+  pub tally : List ℕ
+
+abbrev pub lent : List ℕ → List ℕ → Lent
+lent out tally = record { out = out; tally = tally }
+
+-- a part of the tree was shown: the place behind it, its records where they have room, and what its nodes add to the figures that were tallied
+pub record Shown (of : Node → Figures) (r : Ran (List Node)) (p : ShowPlace) (before : Lent) (q : ShowPlace) (after : Lent) : Type 0 where
   pub says : q ≡ behindBy p (r .outcome) (r .count)
-  pub puts : (ns : List Node) → r .outcome ≡ answered ns → p .size + length (nodeRecords ns) ≤ length before → length before ≤ 0xffff_ffff_ffff_ffff
-      → after ≡ sets before (p .size) (nodeRecords ns)
+  pub puts : (ns : List Node) → r .outcome ≡ answered ns → p .size + length (nodeRecords ns) ≤ length (before .out) → length (before .out) ≤ 0xffff_ffff_ffff_ffff
+      → after .out ≡ sets (before .out) (p .size) (nodeRecords ns)
+  pub adds : (ns : List Node) → r .outcome ≡ answered ns → (f : Figures) → Holds f (before .tally) → Holds (addedTo f (map of ns)) (after .tally)
 
 -- ---- a directory read and parsed
 
@@ -127,15 +138,15 @@ turnOf inside level e =
     (then (under inside e) (λ below. done (record { level = level; entry = e } ∷ below)))
 
 -- the first of the entries that stand at a place had its turn, and the others stand behind it
-pub record Handled (d : Disc) (m : Mount) (left level : ℕ) (raw : List ℕ) (work : ℕ) (p : ShowPlace) (before : List ℕ) (t : EntryTurn) (after : List ℕ) (es : List Entry) : Type 0 where
+pub record Handled (d : Disc) (m : Mount) (left level : ℕ) (raw : List ℕ) (work : ℕ) (p : ShowPlace) (before : Lent) (t : EntryTurn) (after : Lent) (es : List Entry) : Type 0 where
   pub first : Entry
   pub others : List Entry
   pub all : es ≡ first ∷ others
   pub are : entries false (drop (t .next) raw) ≡ answered others
-  pub shows : Shown (ran d (turnOf (nodesAt m left (suc level) work) level first)) p before (t .place) after
+  pub shows : Shown (ofNode d m) (ran d (turnOf (nodesAt m left (suc level) work) level first)) p before (t .place) after
 
 -- so it is where the bytes are as they were parsed; whatever they are, the next entry starts further on
-pub record Handles (d : Disc) (m : Mount) (left level : ℕ) (raw : List ℕ) (work at : ℕ) (p : ShowPlace) (before : List ℕ) (t : EntryTurn) (after : List ℕ) : Type 0 where
+pub record Handles (d : Disc) (m : Mount) (left level : ℕ) (raw : List ℕ) (work at : ℕ) (p : ShowPlace) (before : Lent) (t : EntryTurn) (after : Lent) : Type 0 where
   pub further : at < t .next
   pub near : t .next ≤ length raw + 3
   pub held : t .place .answer ≡ 0 → Held (t .place)

@@ -11,6 +11,8 @@ use borrow.Rule.Slice.PartMut.{take-put}
 use lib.ListN.{length, take}
 use Rattle.disc.specs.Images.{disc}
 use Rattle.shows.specs.Shows.{nodesAt}
+use Rattle.shows.specs.Tallies.{ofNode}
+use Rattle.shows.specs.inner.Turns.{lent}
 use Rattle.shows.proofs.LevelLaws.{handle-bad, next-fits, handle-skipped, handle-file, handle-directory}
 use Rattle.shows.proofs.LoopLaws.{Listing, list-starts, list-ends, list-next, list-stops, level-none, level-refused, level-fits, level-held, level-shown, handles-same, list-fits, list-over}
 use Rattle.shows.proofs.levels.handle_entry.Reads as handle-entry
@@ -24,44 +26,45 @@ use Rattle.disc.proofs.refusals.Refusal.number.Reads as number-reads
 use Rattle.shows.proofs.levels.open_level.Reads as open-level-reads
 use Rattle.shows.proofs.levels.stopped.Reads as stopped-reads
 use Rattle.shows.proofs.nodes.put_node.Reads as put-node-reads
+use Rattle.shows.proofs.tallies.tally_entry.Reads as tally-entry-reads
 use Rattle.shows.proofs.levels.+handle_entry+list_level.{statement}
 use Rattle.shows.proofs.levels.+handle_entry+list_level.Tie.{close}
 
 -- the levels left, which the handler takes as one less
-abbrev μ-handle-entry : Measures 3 handle-entry-kinds.ps ℕ
+abbrev μ-handle-entry : Measures 4 handle-entry-kinds.ps ℕ
 μ-handle-entry κs a = 2 * a .1 .1 .1 .1 .1 .0 + 1
 
-abbrev μ-list-level : Measures 3 list-level-kinds.ps ℕ
+abbrev μ-list-level : Measures 4 list-level-kinds.ps ℕ
 μ-list-level κs a = 2 * a .1 .1 .1 .1 .0
 
-abbrev handle-entry-at : ℕ → In 3 handle-entry-kinds.ps
+abbrev handle-entry-at : ℕ → In 4 handle-entry-kinds.ps
 handle-entry-at t =
-    and 3 handle-entry-kinds.ps (is 3 handle-entry-kinds.ps μ-handle-entry t) handle-entry.Pre
+    and 4 handle-entry-kinds.ps (is 4 handle-entry-kinds.ps μ-handle-entry t) handle-entry.Pre
 
-abbrev handle-entry-below : ℕ → In 3 handle-entry-kinds.ps
+abbrev handle-entry-below : ℕ → In 4 handle-entry-kinds.ps
 handle-entry-below t =
     and
-    3
+    4
     handle-entry-kinds.ps
-    (falls 3 handle-entry-kinds.ps _<_ μ-handle-entry t)
+    (falls 4 handle-entry-kinds.ps _<_ μ-handle-entry t)
     handle-entry.Pre
 
-abbrev list-level-at : ℕ → In 3 list-level-kinds.ps
+abbrev list-level-at : ℕ → In 4 list-level-kinds.ps
 list-level-at t =
-    and 3 list-level-kinds.ps (is 3 list-level-kinds.ps μ-list-level t) list-level.Pre
+    and 4 list-level-kinds.ps (is 4 list-level-kinds.ps μ-list-level t) list-level.Pre
 
-abbrev list-level-below : ℕ → In 3 list-level-kinds.ps
+abbrev list-level-below : ℕ → In 4 list-level-kinds.ps
 list-level-below t =
-    and 3 list-level-kinds.ps (falls 3 list-level-kinds.ps _<_ μ-list-level t) list-level.Pre
+    and 4 list-level-kinds.ps (falls 4 list-level-kinds.ps _<_ μ-list-level t) list-level.Pre
 
 -- whatever shows the rest of the entries from here shows the whole directory
 abbrev list-level-Inv-loop : list-level-lts.InvT-loop
-list-level-Inv-loop image mount level left work₀ out₀ below n q₀ at₀ work out q at =
-    Listing (disc image) (nodesAt mount below (suc level) (length work₀ - n)) level (take n work₀) q₀ out₀ q out at
-    × (take n work ≡ take n work₀) × (length work ≡ length work₀) × (length out ≡ length out₀) × (n ≤ length work₀)
+list-level-Inv-loop image mount level left work₀ out₀ tally₀ below n q₀ at₀ work out tally q at =
+    Listing (disc image) (ofNode (disc image) mount) (nodesAt mount below (suc level) (length work₀ - n)) level (take n work₀) q₀ (lent out₀ tally₀) q (lent out tally) at
+    × (take n work ≡ take n work₀) × (length work ≡ length work₀) × (length out ≡ length out₀) × (length tally ≡ length tally₀) × (n ≤ length work₀)
 
 abbrev list-level-μ-loop : list-level-lts.MeasureT-loop
-list-level-μ-loop image mount level left work₀ out₀ below n q₀ at₀ work out q at = n + 3 - at
+list-level-μ-loop image mount level left work₀ out₀ tally₀ below n q₀ at₀ work out tally q at = n + 3 - at
 
 pub +handle-entry+list-level-spec : {M : Type 1} → statement M
 +handle-entry+list-level-spec = close μ-handle-entry μ-list-level (λ t. handle-entry-lts.spec (
@@ -71,6 +74,8 @@ pub +handle-entry+list-level-spec : {M : Type 1} → statement M
   stopped-reads.Learnt,
   add-counts-reads.Asked,
   add-counts-reads.Learnt,
+  tally-entry-reads.Asked,
+  tally-entry-reads.Learnt,
   list-level-below t,
   list-level.Post,
 )
@@ -93,12 +98,12 @@ pub +handle-entry+list-level-spec : {M : Type 1} → statement M
     -- returns
     (λ c.
     let seen = c .before .before .before .before .before in
-    let s = seen .before .before .before .before .before .before .before in
+    let s = seen .before .before .before .before .before .before .before .before in
     (handle-bad _ _ _ _ _ _ _ (s .pre .1 .0) (s .pre .1 .1) _ (seen .put-node .ensures) (c .before .if1 .taken) (c .before .if1 .taken) (c .stopped .ensures), refl))
     -- add-next
     (λ c.
     let seen = c .before .before .before .before .before in
-    let s = seen .before .before .before .before .before .before .before in
+    let s = seen .before .before .before .before .before .before .before .before in
     next-fits (s .args .level) (s .args .p .size) (now (s .args .work)) (s .args .n) (s .args .at) (s .pre .1 .0) (s .pre .1 .1) (s .good .1 .1 .1 .1 .1 .1 .1 .0 .1) (seen .put-node .ensures) (c .before .if1 .left))
     -- same-length-3
     (λ c. search needs)
@@ -107,58 +112,69 @@ pub +handle-entry+list-level-spec : {M : Type 1} → statement M
     -- returns-2
     (λ c.
     let seen = c .before .before .before .before .before .before in
-    let s = seen .before .before .before .before .before .before .before in
+    let s = seen .before .before .before .before .before .before .before .before in
     (handle-skipped _ _ _ _ _ _ _ (s .pre .1 .0) (s .pre .1 .1) _ (seen .put-node .ensures) (c .before .before .if1 .left) (s .pre .1 .3) (c .if2 .taken), refl))
     -- add-counts-requires
+    (λ c κs. search needs)
+    -- tally-entry-requires
     (λ c κs. search needs)
     -- same-length-5
     (λ c. search needs)
     -- same-length-6
     (λ c. search needs)
+    -- same-length-7
+    (λ c. search needs)
     -- returns-3
     (λ c.
-    let sized = c .before .before in
+    let told = c .before .before .before .before in
+    let sized = told .before .before in
     let good = sized .before .before .before in
     let seen = good .before .before .before .before in
-    let s = seen .before .before .before .before .before .before .before in
-    (handle-file _ _ _ _ _ _ _ (s .pre .1 .0) (s .pre .1 .1) _ (seen .put-node .ensures) (good .if1 .left) (s .pre .1 .3) (sized .before .if2 .left) (sized .add-counts .ensures) (not-true _ (c .if3 .taken)), refl))
+    let s = seen .before .before .before .before .before .before .before .before in (
+      handle-file _ _ _ _ _ _ _ (s .pre .1 .0) (s .pre .1 .1) _ (seen .put-node .ensures) (good .if1 .left) (s .pre .1 .3) (sized .before .if2 .left) (sized .add-counts .ensures)
+          (told .tally-entry .ensures) (not-true _ (c .if3 .taken)),
+      refl,
+    ))
     -- add-deeper
     (λ c.
-    let seen = c .before .before .before .before .before .before .before .before .before .before in
-    let s = seen .before .before .before .before .before .before .before in
+    let s = c .before .before .before .before .before .before .before .before .before .before .before .before .before .before .before .before .before .before .before .before .before .before in
     omega (arith, s .pre .1 .2))
     -- sub-list-level
     (λ c.
-    let seen = c .before .before .before .before .before .before .before .before .before .before in
-    let s = seen .before .before .before .before .before .before .before in
+    let s = c .before .before .before .before .before .before .before .before .before .before .before .before .before .before .before .before .before .before .before .before .before .before in
     omega (arith, s .pre .1 .1))
     -- part-list-level-start
     (λ c.
-    let seen = c .before .before .before .before .before .before .before .before .before .before in
-    let s = seen .before .before .before .before .before .before .before in
+    let s = c .before .before .before .before .before .before .before .before .before .before .before .before .before .before .before .before .before .before .before .before .before .before in
     omega (arith, s .pre .1 .1))
     -- part-list-level-end
     (λ c. search needs)
     -- list-level-requires
     (λ c κs.
-    let sized = c .before .before .before .before .before in
-    let seen = sized .before .before .before .before .before .before .before in
-    let s = seen .before .before .before .before .before .before .before in
+    let sized = c .before .before .before .before .before .before .before .before .before .before in
+    let s = sized .before .before .before .before .before .before .before .before .before .before .before .before .before .before .before in
     (omega (arith, s .pre .0), (omega (arith, s .pre .1 .2), record { going = refl; counted = s .pre .1 .3 .counted; sized = omega (arith, sized .add-counts .ensures) })))
-    -- same-length-7
-    (λ c. c .before .before .before .work2 .given .1)
     -- same-length-8
-    (λ c. c .before .out2 .given ∙ c .before .before .before .before .before .before .before .before .before .before .before .before .before .before .before .before .out .given)
+    (λ c. c .before .before .before .before .before .work2 .given .1)
+    -- same-length-9
+    (λ c.
+    let made = c .before .before .before in
+    made .out2 .given ∙ made .before .before .before .before .before .before .before .before .before .before .before .before .before .before .before .before .before .before .before .before .out .given)
+    -- same-length-10
+    (λ c.
+    let told = c .before in
+    told .tally2 .given ∙ told .before .before .before .before .before .before .before .before .before .before .before .before .before .tally .given)
     -- returns-4
     (λ c.
-    let called = c .before .before .before .before in
-    let live = called .before .before .before .before in
-    let sized = live .before .before in
+    let called = c .before .before .before .before .before .before in
+    let live = called .before .before .before .before .before in
+    let told = live .before .before .before .before in
+    let sized = told .before .before in
     let good = sized .before .before .before in
     let seen = good .before .before .before .before in
-    let s = seen .before .before .before .before .before .before .before in (
-      handle-directory _ _ _ _ _ _ _ (s .pre .1 .0) (s .pre .1 .1) _ (seen .put-node .ensures) (good .if1 .left) (s .pre .1 .3) (sized .before .if2 .left) (sized .add-counts .ensures) (not-false _ (live .if3 .left))
-          (called .list-level .ensures),
+    let s = seen .before .before .before .before .before .before .before .before in (
+      handle-directory _ _ _ _ _ _ _ (s .pre .1 .0) (s .pre .1 .1) _ (seen .put-node .ensures) (good .if1 .left) (s .pre .1 .3) (sized .before .if2 .left) (sized .add-counts .ensures)
+          (told .tally-entry .ensures) (not-false _ (live .if3 .left)) (called .list-level .ensures),
       take-put (s .args .n) (length (now (s .args .work)) - s .args .n) (now (s .args .work)) (called .list-level .last .1 .1 .1 .1 .1 .1 .0) (s .pre .1 .1),
     )))
     λ t. list-level-lts.spec (
@@ -182,7 +198,7 @@ pub +handle-entry+list-level-spec : {M : Type 1} → statement M
     -- returns
     (λ c.
     let none = c .before .before in
-    level-none _ _ _ _ _ (none .before .before .before .before .pre .1 .1) (none .if1 .taken) (c .before .number .ensures) (c .stopped .ensures))
+    level-none _ _ _ _ _ (none .before .before .before .before .before .pre .1 .1) (none .if1 .taken) (c .before .number .ensures) (c .stopped .ensures))
     -- sub-below
     (λ c. search needs)
     -- open-level-requires
@@ -197,8 +213,9 @@ pub +handle-entry+list-level-spec : {M : Type 1} → statement M
     (λ c.
     let opened = c .before .before .before .before .before in
     let some = opened .before .before in
-    let s = some .before .before .before .before in (
-      list-starts _ _ _ _ _ _ (level-held _ _ _ (s .args .level) (some .if1 .left) (opened .open-level .ensures) (c .if2 .left) (s .pre .1 .1 .sized)),
+    let s = some .before .before .before .before .before in (
+      list-starts _ _ _ _ _ _ _ (level-held _ _ _ (s .args .level) (some .if1 .left) (opened .open-level .ensures) (c .if2 .left) (s .pre .1 .1 .sized)),
+      refl,
       refl,
       refl,
       refl,
@@ -207,27 +224,31 @@ pub +handle-entry+list-level-spec : {M : Type 1} → statement M
     -- add-loop
     (λ c.
     let worked = c .before .before .before .before .before in
-    let s = worked .before .before .before .before .before .before .before in
-    list-fits _ _ (c .loop .inv .0) (c .loop .inv .4) _ (worked .work .given) (s .good .1 .1 .1 .1 .1 .1 .0 .1))
+    let s = worked .before .before .before .before .before .before .before .before in
+    list-fits _ _ (c .loop .inv .0) (c .loop .inv .5) _ (worked .work .given) (s .good .1 .1 .1 .1 .1 .1 .0 .1))
     -- handle-entry-requires
     (λ c κs.
-    let turn = c .before .before in
+    let turn = c .before .before .before in
     let i = turn .before .loop .inv in
     let some = turn .before .before .before .before .before .before .before .before .before in
-    let s = some .before .before .before .before in
-    (omega (arith, s .pre .0, some .if1 .left), (turn .loop-test .taken, omega (arith, i .4, i .2), omega (arith, s .pre .1 .0, some .if1 .left), i .0 .held)))
+    let s = some .before .before .before .before .before in
+    (omega (arith, s .pre .0, some .if1 .left), (turn .loop-test .taken, omega (arith, i .5, i .2), omega (arith, s .pre .1 .0, some .if1 .left), i .0 .held)))
     -- same-length-2
     (λ c.
-    let loop = c .before .before .before .before .before .before .before .before .before .before .before in
-    c .before .before .before .before .before .before .work2 .given ∙ loop .loop .inv .2 ∙ loop .before .before .before .before .before .work .given)
+    let loop = c .before .before .before .before .before .before .before .before .before .before .before .before .before .before in
+    c .before .before .before .before .before .before .before .before .work2 .given ∙ loop .loop .inv .2 ∙ loop .before .before .before .before .before .work .given)
     -- same-length-3
     (λ c.
-    let loop = c .before .before .before .before .before .before .before .before .before .before .before in
-    c .before .before .before .before .out .given ∙ loop .loop .inv .3)
+    let loop = c .before .before .before .before .before .before .before .before .before .before .before .before .before .before in
+    c .before .before .before .before .before .before .out .given ∙ loop .loop .inv .3)
+    -- same-length-4
+    (λ c.
+    let loop = c .before .before .before .before .before .before .before .before .before .before .before .before .before .before in
+    c .before .before .before .before .tally .given ∙ loop .loop .inv .4)
     -- returns-3
     (λ c.
-    let handled = c .before .before .before .before .before .before .before in
-    let loop = handled .before .before .before .before in
+    let handled = c .before .before .before .before .before .before .before .before .before in
+    let loop = handled .before .before .before .before .before in
     let i = loop .loop .inv in
     let good = loop .before in
     let worked = good .before .before .before .before in
@@ -237,24 +258,27 @@ pub +handle-entry+list-level-spec : {M : Type 1} → statement M
     (list-stops _ _ _ _ _ _ _ _ (i .0) (handles-same (i .1) (ap (λ l. l - n) (i .2)) (handled .handle-entry .ensures .0)) (c .if3 .taken)))
     -- loop-less
     (λ c.
-    let handled = c .before .before .before .before .before .before .before in
-    omega (arith, handled .handle-entry .ensures .0 .further, handled .before .before .before .loop-test .taken))
+    let handled = c .before .before .before .before .before .before .before .before .before in
+    omega (arith, handled .handle-entry .ensures .0 .further, handled .before .before .before .before .loop-test .taken))
     -- loop-again
     (λ c.
-    let handled = c .before .before .before .before .before .before .before in
-    let loop = handled .before .before .before .before in
+    let handled = c .before .before .before .before .before .before .before .before .before in
+    let loop = handled .before .before .before .before .before in
     let i = loop .loop .inv in
     let n = loop .before .before .before .before .before .before .open-level .result .length in (
       list-next _ _ _ _ _ _ _ _ (i .0) (handles-same (i .1) (ap (λ l. l - n) (i .2)) (handled .handle-entry .ensures .0)) (c .if3 .left),
       handled .handle-entry .ensures .1 ∙ i .1,
-      c .before .before .before .before .before .before .work2 .given ∙ i .2,
-      c .before .before .before .before .out .given ∙ i .3,
-      i .4,
+      c .before .before .before .before .before .before .before .before .work2 .given ∙ i .2,
+      c .before .before .before .before .before .before .out .given ∙ i .3,
+      c .before .before .before .before .tally .given ∙ i .4,
+      i .5,
     ))
-    -- same-length-4
-    (λ c. c .before .loop .inv .2 ∙ c .before .before .before .before .before .before .work .given)
     -- same-length-5
+    (λ c. c .before .loop .inv .2 ∙ c .before .before .before .before .before .before .work .given)
+    -- same-length-6
     (λ c. c .before .loop .inv .3)
+    -- same-length-7
+    (λ c. c .before .loop .inv .4)
     -- returns-4
     (λ c.
     let i = c .before .loop .inv in

@@ -1,0 +1,39 @@
+// What an entry of the tree adds to the figures of its image.
+ghost use Rattle.disc.specs.Images.{disc};
+ghost use Rattle.figures.specs.Figures.{Adds};
+ghost use Rattle.shows.specs.Tallies.{ofFile, ofEntry};
+use disc::places::Mount;
+use figures::PLACE;
+use figures::add_directory;
+use figures::add_file;
+use files::sizes::size_file;
+use records::allocations::LongAd;
+
+// The file at icb, which is found, and what reading it comes to.
+fn tally_file(image: &[u8], mount: Mount, icb: LongAd, tally: &mut [u64])
+    ensures { λ _. ⌜ Adds (ofFile (disc (now (image .entry))) mount icb) (now (tally .entry)) (now (tally .exit)) ⌝ }
+{
+    let s = size_file(image, mount, icb);
+    let r = s.reply;
+    add_file(tally, r.answer, r.length, s.extents, r.count, s.hops);
+}
+
+// An entry: a directory, or the file at its ICB. Lent no place, nothing is tallied.
+pub(crate) fn tally_entry(
+    image: &[u8],
+    mount: Mount,
+    directory: bool,
+    icb: LongAd,
+    tally: &mut [u64],
+)
+    ensures { λ _. ⌜ Adds (ofEntry (disc (now (image .entry))) mount directory icb) (now (tally .entry)) (now (tally .exit)) ⌝ }
+{
+    if tally.len() != PLACE {
+        return;
+    }
+    if directory {
+        add_directory(tally);
+        return;
+    }
+    tally_file(image, mount, icb, tally);
+}
