@@ -17,7 +17,7 @@ use std::process::Command;
 use std::{env, fs};
 
 /// The crates whose archives are compared with the original.
-const CRATES: [&str; 3] = ["vault_c", "drives_c", "records_c"];
+const CRATES: [&str; 4] = ["vault_c", "drives_c", "surveys_c", "records_c"];
 
 /// How the original's parser of a tag goes on behind its name, which parsers of other records have too.
 macro_rules! tag_parser {

@@ -1,6 +1,6 @@
 //! Finds the archives of the proved crates and links them.
 //!
-//! They are libvault_c.a, libdrives_c.a and librecords_c.a in the folder `VAULT_ARCHIVE`, by default target/staticlib of the repository. The last is linked
+//! They are libvault_c.a, libdrives_c.a, libsurveys_c.a and librecords_c.a in the folder `VAULT_ARCHIVE`, by default target/staticlib of the repository. The last is linked
 //! where it is there: who calls nothing of include/records.h needs none. They are x86-64 code for Linux, and on another target nothing is
 //! linked: there the declarations are of use to nobody, and the rest of the crate is. A dependent's build script is told the folder
 //! (`DEP_STRANDLODGE_FOLDER`).
@@ -17,7 +17,7 @@ fn main() {
         return;
     }
     println!("cargo::rustc-link-search=native={}", folder.display());
-    for (name, needed) in [("vault_c", true), ("drives_c", true), ("records_c", false)] {
+    for (name, needed) in [("vault_c", true), ("drives_c", true), ("surveys_c", true), ("records_c", false)] {
         let archive = folder.join(format!("lib{name}.a"));
         println!("cargo::rerun-if-changed={}", archive.display());
         if archive.exists() {

@@ -1,7 +1,8 @@
 /* vault.h: UDF discs (ECMA-167, OSTA UDF) read from memory, and vaults written to it, for C.
  *
- * Link target/staticlib/libvault_c.a, which `rt staticlib vault_c` makes from the proved sources. Each call has the
- * contract of the call of crate vault, or of crate writers, that it passes on.
+ * Link target/staticlib/libvault_c.a, which `rt staticlib vault_c` makes from the proved sources; for what is read
+ * straight from a drive libdrives_c.a, and for surveys libsurveys_c.a, made in the same way. Each call has the
+ * contract of the call that it passes on, of crate vault, writers, drives, figures or surveys.
  *
  * Nothing here allocates, keeps or frees memory: the caller lends the image, the output and the work space for the
  * length of the call, each as a pointer and a length. Lent pieces must not overlap. A piece of length 0 needs a
@@ -52,6 +53,9 @@ enum {
     /* The files of a vault that is to be written: too many, names and lengths unlike in number, one too long, or
      * lengths that pass the staging area. */
     VAULT_BAD_FILES = 14,
+    /* The lengths of a shelf's images pass the bytes lent, or there are too few places for the figures of each and
+     * of the shelf. */
+    VAULT_BAD_SHELF = 15,
 };
 
 enum {
@@ -59,10 +63,6 @@ enum {
     VAULT_AS_WRITTEN = 1, /* A name matches byte for byte, and the first entry that matches is taken. */
     /* ASCII case is ignored, and a component that two or more entries match is refused by VAULT_AMBIGUOUS. */
     VAULT_UNAMBIGUOUS = 2,
-    VAULT_VERSION = 9, /* Goes up whenever a struct or a call changes. */
-};
-
-enum {
     /* A choice for `how`: the body of each descriptor that is parsed, on opening and in every call on the volume,
      * must have the CRC that its tag says, or the call is refused by VAULT_BAD_CRC. */
     VAULT_CHECKED = 1,
@@ -73,6 +73,12 @@ enum {
     /* A choice for `how`: of several primary volume, partition or logical volume descriptors the one with the
      * highest volume descriptor sequence number counts, the later of equals. Without it the last one does. */
     VAULT_HIGHEST = 4,
+    VAULT_SECTOR_SIZE = 2048, /* The bytes of a sector, and of a block. */
+    VAULT_VERSION = 10, /* Goes up whenever a struct or a call changes. */
+};
+
+enum {
+    VAULT_FIGURES = 76, /* How many numbers a place of a row of figures has. */
 };
 
 /* How a volume is read: where its partition starts, the partition's number, whether the bodies of its descriptors
@@ -199,6 +205,10 @@ vault_reply vault_show(vault_volume volume, const uint8_t *image, size_t image_l
 /* Reads a file, or a directory's own bytes, to `out`. */
 vault_reply vault_read(vault_volume volume, const uint8_t *image, size_t image_length, vault_long_ad icb, uint8_t *out,
                        size_t out_length);
+
+/* How many bytes vault_read answers for that file where there is room: `length` has them, and number and count are
+ * those of the read. Nothing is written. */
+vault_reply vault_measure(vault_volume volume, const uint8_t *image, size_t image_length, vault_long_ad icb);
 
 /* The bytes of an embedded file where they stand: `length` of them, from `*part_at` on in the image. For any other
  * file that can be read the answer is VAULT_DONE, and both are 0, as they are where the call is refused. An embedded
@@ -408,6 +418,123 @@ vault_named vault_match(vault_volume volume, const uint8_t *bytes, size_t bytes_
 /* Where the first component of a path from `at` on stands; its length is 0 where there is none. From 0 on, and then
  * each time from the end of the one before, the components come in the order in which vault_lookup takes them. */
 vault_component vault_next_component(const uint8_t *path, size_t path_length, size_t at);
+
+/* ---- Figures over a shelf of images, one behind another.
+ *
+ * The figures of an image, and of the shelf, are a place of a row of 64-bit numbers, VAULT_FIGURES to a place, which
+ * is a struct vault_figures: hand in the row's address and its length in numbers. They are as true numbers what is
+ * said of them; one that passes 2^64 - 1 is 2^64 - 1 and marked as over. */
+
+/* A figure. */
+typedef struct {
+    uint64_t number; /* Held at 2^64 - 1. */
+    uint64_t over; /* 1 where the figure passes 2^64 - 1, else 0. */
+} vault_figure;
+
+/* The figures of an image or of a shelf. Files and directories are those that vault_show at 16 levels lists, each
+ * once for each path; the root isn't counted. */
+typedef struct {
+    vault_figure files; /* Files found, those that can't be read among them. */
+    vault_figure directories;
+    vault_figure bytes; /* What vault_measure answers for each file, added up. */
+    vault_figure extents; /* What vault_extents lists of the files that can be read. */
+    /* The counts of reading each file, also of those that are refused; not the sectors of opening, of the tree and
+     * of the extent lists. */
+    vault_figure sectors;
+    vault_figure files_by_answer[16]; /* How many files have each answer number. */
+    /* How many images have each answer number, of their opening or of their tree; one that has another than 0 has no
+     * other figure. */
+    vault_figure images_by_answer[16];
+    /* The most continuations of allocation descriptors that were followed for a file that can be read. */
+    vault_figure chain;
+} vault_figures;
+
+/* The figures of images that stand one behind another in `shelf`, from its front, each as long as `lengths` says: a
+ * place for each in turn, and behind them one for all. `how` is as for vault_open, and `work` as for vault_show. The
+ * answer is VAULT_DONE also where every image is refused; or VAULT_BAD_SHELF where the lengths pass `shelf` or there
+ * are fewer places than images and one, and then nothing is written but the zeros of `work`. Places behind stay as
+ * they came. */
+uint64_t vault_survey(const uint8_t *shelf, size_t shelf_length, const uint64_t *lengths, size_t lengths_places,
+                      uint32_t how, uint64_t *figures, size_t figures_places, uint8_t *work, size_t work_length);
+
+/* Writes the total of the first `images` places of a row to the one behind them: for images that don't stand in one
+ * slice, of which each was surveyed by itself. The answer is VAULT_DONE; or VAULT_BAD_SHELF where there are too few
+ * places, and then nothing is written. */
+uint64_t vault_survey_total(uint64_t *figures, size_t figures_places, size_t images);
+
+/* What an answer number says, in a sentence without its full stop. */
+static inline const char *vault_answer_text(uint64_t answer) {
+    switch (answer) {
+    case VAULT_DONE:
+        return "Done";
+    case VAULT_IO:
+        return "A sector asked for isn't wholly inside the image";
+    case VAULT_MALFORMED:
+        return "Too few bytes, or a descriptor, a tag, a name or a length that is not what it must be";
+    case VAULT_NOT_BLURAY:
+        return "No volume, or no such path";
+    case VAULT_UNSUPPORTED:
+        return "A form that isn't read: another block size or partition, a compressed or unrecorded extent";
+    case VAULT_NO_ROOM:
+        return "The answer has more bytes than out holds";
+    case VAULT_NO_WORK:
+        return "A directory has more bytes than work holds";
+    case VAULT_NO_SLOT:
+        return "There are more extents than slots";
+    case VAULT_AMBIGUOUS:
+        return "A component of the path matches two or more entries of its directory, and the choice of matching wants the only one";
+    case VAULT_BAD_CRC:
+        return "A descriptor that is checked has a wrong CRC, or a CRC length that passes the bytes at hand";
+    case VAULT_TOO_DEEP:
+        return "A directory stands below the last level that was asked for, or that number is 0 or over 16";
+    case VAULT_TOO_MANY:
+        return "There are more paths than places for their lengths, or than places for their answers";
+    case VAULT_BAD_NAME:
+        return "A name of a vault that is to be written isn't one, or two are equal with ASCII case ignored";
+    case VAULT_BAD_FILES:
+        return "The files of a vault that is to be written: too many, names and lengths unlike in number, one too long, or lengths that pass the staging area";
+    case VAULT_BAD_SHELF:
+        return "The lengths of a shelf's images pass the bytes lent, or there are too few places for the figures of each and of the shelf";
+    default:
+        return "A number that isn't known";
+    }
+}
+
+/* An entry of a listing. Its name stands in the listing itself, and has no zero behind it. */
+typedef struct {
+    const uint8_t *name; /* UTF-8. */
+    size_t name_length;
+    vault_long_ad icb; /* What it stands for. */
+    uint8_t level; /* Of a show, how many names its path has; 0 of a listing. */
+    bool directory;
+} vault_entry;
+
+/* Takes the record at `*at` off a listing (`levels` false: vault_list, vault_list_bytes) or a show (true: vault_show)
+ * of `length` bytes, and moves `*at` behind it; begin with 0. False where none stands there whole, and then `*at` and
+ * `*entry` are as they came. It stays within the `length` bytes, whatever they are.
+ *
+ * A walk that lists what a record names goes round for ever on a directory that holds itself, or one above it: bound its
+ * depth, or remember the blocks of the directories that it has listed. vault_show bounds it at 16. */
+static inline bool vault_next_record(const uint8_t *listing, size_t length, bool levels, size_t *at,
+                                     vault_entry *entry) {
+    size_t head = levels ? 22 : 21; /* The mark, the level, the kind, the ICB and the name's length. */
+    if (*at > length || length - *at < head) return false;
+    const uint8_t *r = listing + *at, *icb = r + head - 18;
+    size_t name = (size_t)(r[head - 2] | r[head - 1] << 8);
+    if (r[0] != 0x44 || r[1] != 0x45 || length - *at - head < name) return false;
+    uint32_t raw = icb[0] | (uint32_t)icb[1] << 8 | (uint32_t)icb[2] << 16 | (uint32_t)icb[3] << 24;
+    entry->name = r + head;
+    entry->name_length = name;
+    entry->icb.length = raw & 0x3fffffff;
+    entry->icb.extent_type = (uint8_t)(raw >> 30);
+    entry->icb.location.block = icb[4] | (uint32_t)icb[5] << 8 | (uint32_t)icb[6] << 16 | (uint32_t)icb[7] << 24;
+    entry->icb.location.partition_ref = (uint16_t)(icb[8] | icb[9] << 8);
+    for (int i = 0; i < 6; i++) entry->icb.implementation_use[i] = icb[10 + i];
+    entry->level = levels ? r[2] : 0;
+    entry->directory = r[head - 19] == 1;
+    *at += head + name;
+    return true;
+}
 
 #ifdef __cplusplus
 }

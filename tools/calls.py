@@ -1,7 +1,7 @@
 #!/usr/bin/env python3
 """Holds the headers to C, and the archive to include/vault.h.
 
-    tools/calls.py              needs target/staticlib/libvault_c.a (`rt staticlib vault_c`)
+    tools/calls.py              needs the archives of vault_c, drives_c and surveys_c (`rt staticlib NAME`)
     tools/calls.py --self-test  plants faults in copies of the sources of the archive, each of which must be seen
 
 Compiles face/c/layouts.c, which asserts every size, offset, type and number of the two headers, as C11 and as C++17; then builds face/c/calls.c,
@@ -16,8 +16,9 @@ import tempfile
 sys.dont_write_bytecode = True
 from kit import ROOT, STRICT, Failed, did, linked, ran, unproved
 
-FACE, STEPS, WRITING, SHOW = "vault_c/src/lib.rt", "drives_c/src/lib.rt", "vault_c/src/writing.rt", ROOT / "crates/first_cue/stdin"
-ARCHIVES = ("vault_c", "drives_c")
+FACE, STEPS, WRITING, SURVEYS = "vault_c/src/lib.rt", "drives_c/src/lib.rt", "vault_c/src/writing.rt", "surveys_c/src/lib.rt"
+SHOW = ROOT / "crates/first_cue/stdin"
+ARCHIVES = ("vault_c", "drives_c", "surveys_c")
 OUT, WORK, IMAGE, PATH, MATCHING = r"out: &mut \[u8\]", r"work: &mut \[u8\]", r"image: &\[u8\]", r"path: &\[u8\]", "matching: u32"
 SECTOR, ROW, BYTES, COMPONENT = r"sector: &\[u8\]", r"row: &mut \[\[u32; 4\]\]", r"bytes: &\[u8\]", r"component: &\[u8\]"
 
@@ -65,12 +66,19 @@ FAULTS = (
     ("a number that is another", "disc/src/answers.rt", r"NO_ROOM: u64 = 5", "NO_ROOM: u64 = 15"),
     ("a level more than the most", "shows/src/whole.rt", r"if MOST_LEVELS < levels", "if MOST_LEVELS + 1 < levels"),
     ("a refusal by another number", "disc/src/answers.rt", r"BAD_CRC: u64 = 10", "BAD_CRC: u64 = 2"),
-    ("the bits of two choices the other way round", "vault_c/src/choices.rt", r"CHECKED: u32 = 1(.*)HIGHEST: u32 = 4", r"CHECKED: u32 = 4\1HIGHEST: u32 = 1"),
-    ("a bit of no choice that is taken", "vault_c/src/choices.rt", r"if how / 8 != 0", "if how / 16 != 0"),
+    ("the bits of two choices the other way round", "volumes/src/choices.rt", r"CHECKED: u32 = 1(.*)HIGHEST: u32 = 4", r"CHECKED: u32 = 4\1HIGHEST: u32 = 1"),
+    ("a bit of no choice that is taken", "volumes/src/choices.rt", r"if how / 8 != 0", "if how / 16 != 0"),
     ("vault_write: names and staging", WRITING, r"(fn vault_write\(\s+)names(: &\[u8\],\s+lengths: &\[u64\],\s+)staging", r"\1staging\2names"),
     ("a total that is no multiple of 32", "writers/src/lib.rt", r"\(384 \+ blocks_of\(lengths\)\) / 32 \* 32", "353 + blocks_of(lengths)"),
     ("a sector of room too few", "writers/src/lib.rt", r"image\.len\(\) / 2048\) as u64\) < reply", "image.len() / 2048 + 1) as u64) < reply"),
     ("two refusals the other way round", "writers/src/lib.rt", r"Refusal::BadName(.*)Refusal::BadFiles\);\n    }\n    WriteReply", r"Refusal::BadFiles\1Refusal::BadName);\n    }\n    WriteReply"),
+    turned("vault_survey", r"shelf: &\[u8\]", WORK, SURVEYS),
+    turned("vault_survey", r"lengths: &\[u64\]", r"figures: &mut \[u64\]", SURVEYS),
+    turned("vault_survey", "how: u32", r"figures: &mut \[u64\]", SURVEYS),
+    turned("vault_survey_total", r"figures: &mut \[u64\]", "images: usize", SURVEYS),
+    ("bytes in the place of extents", "figures/src/lib.rt", r"BYTES: usize = 4(.*)EXTENTS: usize = 6", r"BYTES: usize = 6\1EXTENTS: usize = 4"),
+    ("a figure that wraps", "figures/src/lib.rt", r"if MOST - number < more", "if MOST < more"),
+    ("a bound that wraps", "surveys/src/lib.rt", r"if left < n", "if left > n"),
     ("checked by the lowest bit alone", "disc/src/places.rt", r"self\.checked != 0", "self.checked == 1"),
 )
 

@@ -6,7 +6,8 @@
     tools/faces.py --self-test  plants faults in copies of sources and files, each of which --check must see
 
 The sources are the functions for C of crates/vault_c and crates/records_c, the structs that they name wherever these are declared, the answer
-numbers of crates/disc, and the comments above all of these. Needs nothing but Python.
+numbers of crates/disc, and the comments above all of these; in vault.h also face/c/entries.h, which takes a listing's records apart. Needs nothing but
+Python.
 """
 import pathlib
 import sys
@@ -18,6 +19,8 @@ from interface.source import Unread
 
 ROOT = pathlib.Path(__file__).resolve().parents[1]
 CRATES = ("vault_c", "records_c")
+# C that stands in a crate's header behind its calls.
+BEHIND = {"vault_c": "face/c/entries.h"}
 
 
 def made(root):
@@ -25,7 +28,7 @@ def made(root):
     interfaces = {crate: interface_of(root, crate) for crate in CRATES}
     files = {}
     for crate, interface in interfaces.items():
-        files[f"include/{interface.prefix}.h"] = c.header(interface, crate)
+        files[f"include/{interface.prefix}.h"] = c.header(interface, crate, (root / BEHIND[crate]).read_text(encoding="utf-8") if crate in BEHIND else "")
         files[f"face/src/{interface.prefix}.rs"] = rust.module(interface, crate)
     files["face/c/layouts.c"] = c.layouts(interfaces.values())
     return files

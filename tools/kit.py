@@ -68,7 +68,7 @@ def below(crate):
 def unproved(crate, source, crates, archive):
     """An archive of a crate's source that isn't proved, over the crates in a folder: what `rt staticlib` makes of one that is. The program of the
     kit that does it is the one that `rt try` runs."""
-    over = dict.fromkeys(below("vault_c") + below("drives_c"))
+    over = dict.fromkeys(below("vault_c") + below("drives_c") + below("surveys_c"))
     libraries = [f"std={kit()}/libs/std/src/lib.rt", *(f"{name}={crates}/{name}/src/lib.rt" for name in over)]
     words = [word for library in libraries for word in ("--lib", library)]
     did(own() / "bin/rattle-cases", "--toolchain", own() / "toolchain", "--staticlib", archive, source, "--crate-name", crate, *words)

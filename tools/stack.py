@@ -1,9 +1,9 @@
 #!/usr/bin/env python3
 """How many bytes of stack each call of include/vault.h takes.
 
-    tools/stack.py [archive]    by default target/staticlib/libvault_c.a (`rt staticlib vault_c`)
+    tools/stack.py [archive..]  by default those of vault_c, drives_c and surveys_c in target/staticlib (`rt staticlib NAME`)
 
-Builds face/c/stack.c over the archive, runs it on the show of crates/first_cue, and prints a line for each call. docs/COMPARING.md has the figures.
+Builds face/c/stack.c over the archives, runs it on the show of crates/first_cue, and prints a line for each call. docs/COMPARING.md has the figures.
 """
 import re
 import sys
@@ -16,7 +16,7 @@ if __name__ == "__main__":
     declared = set(re.findall(r"^\w+ (vault_\w+)\(", (ROOT / "include/vault.h").read_text(), re.M))
     if missing := declared - set(re.findall(r"ROW\((vault_\w+)\)", (ROOT / "face/c/stack.c").read_text())):
         sys.exit(f"face/c/stack.c doesn't call {', '.join(sorted(missing))}")
-    archives = sys.argv[1:] or [ROOT / f"target/staticlib/lib{crate}.a" for crate in ("vault_c", "drives_c")]
+    archives = sys.argv[1:] or [ROOT / f"target/staticlib/lib{crate}.a" for crate in ("vault_c", "drives_c", "surveys_c")]
     with tempfile.TemporaryDirectory() as folder:
         linked(ROOT / "face/c/stack.c", archives, f"{folder}/stack")
         print(ran(f"{folder}/stack", (ROOT / "crates/first_cue/stdin").read_bytes()).decode(), end="")

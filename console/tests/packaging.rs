@@ -42,6 +42,7 @@ fn everything_is_installed_and_taken_away() {
         "include/records.h",
         "lib/libvault_c.a",
         "lib/libdrives_c.a",
+        "lib/libsurveys_c.a",
         "lib/librecords_c.a",
         "lib/pkgconfig/strandlodge.pc",
     ];
@@ -158,6 +159,7 @@ fn built() -> Folder {
     for name in [
         "target/staticlib/libvault_c.a",
         "target/staticlib/libdrives_c.a",
+        "target/staticlib/libsurveys_c.a",
         "target/staticlib/librecords_c.a",
         "console/target/release/vault",
     ] {

@@ -1,5 +1,5 @@
 /* calls.c: every call of vault.h, on the small show of show.h, with and without the bodies of its descriptors checked; opening through maps; the same
- * opening and reads a sector at a time, with a sector denied at each place; and a vault that is written, and read back.
+ * opening and reads a sector at a time, with a sector denied at each place; a vault that is written, and read back; and surveys.
  *
  * What is expected is read off the show's layout. No two pieces of memory that a call is lent have the same length, so that an argument in
  * another's place is seen. Ends with 0, or says what isn't so. */
@@ -122,6 +122,25 @@ static void failed(vault_volume v) {
     EXPECT(is_reply(vault_failed(v, image, IMAGE, path, 13, VAULT_UNAMBIGUOUS, work, WORK, &at), VAULT_AMBIGUOUS, 2, 0) && at == 0);
 }
 
+/* The records of a listing or a show that stands in `out`, taken off one by one: the entries of the list above. Cut anywhere, no more of them are there
+ * than stand there whole. */
+static void records(size_t length, bool levels, const char *const *names, size_t n) {
+    vault_entry e;
+    size_t at = 0;
+    for (size_t i = 0; i < n; i++) {
+        size_t from = at;
+        EXPECT(vault_next_record(out, length, levels, &at, &e));
+        bool top = levels && i == 0;
+        EXPECT(e.directory == top && e.level == (levels ? (top ? 1 : 2) : 0) && e.name_length == strlen(names[i]) && !memcmp(e.name, names[i], e.name_length));
+        EXPECT(is_icb(e.icb, top ? 4 : (uint32_t)(levels ? 3 + 2 * i : 5 + 2 * i)) && e.name + e.name_length == out + at);
+        for (size_t cut = from; cut < at; cut++) {
+            size_t stays = from;
+            EXPECT(!vault_next_record(out, cut, levels, &stays, &e) && stays == from);
+        }
+    }
+    EXPECT(at == length && !vault_next_record(out, length, levels, &at, &e) && at == length);
+}
+
 /* A record of each cue: 44 45 0, the ICB, the name's length, the name. */
 static void list(vault_volume v, vault_long_ad directory) {
     static const char *const names[] = {"9", "10.1A", "10.1a", "11"};
@@ -136,6 +155,7 @@ static void list(vault_volume v, vault_long_ad directory) {
         at += 21 + n;
     }
     EXPECT(is_reply(r, VAULT_DONE, 1, at) && is_all(out + at, OUT - at, FREE) && is_all(work, WORK, 0));
+    records(at, false, names, 4);
 }
 
 /* The same below a record of the directory itself, with the level of each behind its mark. A directory at the last level refuses it. */
@@ -152,6 +172,7 @@ static void show(vault_volume v) {
         at += 22 + n;
     }
     EXPECT(is_reply(r, VAULT_DONE, 2, at) && is_all(out + at, OUT - at, FREE) && is_all(work, WORK, 0));
+    records(at, true, names, 5);
     lend();
     EXPECT(is_reply(vault_show(v, image, IMAGE, 1, out, OUT, work, WORK), VAULT_TOO_DEEP, 1, 0) && holds("", 0) && is_all(work, WORK, 0));
     lend();
@@ -164,6 +185,8 @@ static void read_cue(vault_volume v, vault_long_ad icb) {
     const uint8_t *path = (const uint8_t *)"/SHOW/10.1a";
     lend();
     EXPECT(is_reply(vault_read(v, image, IMAGE, icb, out, OUT), VAULT_DONE, 2, n) && holds(cue, n));
+    EXPECT(is_reply(vault_measure(v, image, IMAGE, icb), VAULT_DONE, 2, n));
+    EXPECT(is_reply(vault_measure(v, image, (START + 8) * SECTOR, icb), VAULT_IO, 2, 0));
     lend();
     EXPECT(is_reply(vault_read_path(v, image, IMAGE, path, 11, VAULT_CASE_IGNORED, out, OUT, work, WORK), VAULT_DONE, 4, n));
     EXPECT(holds(cue, n) && is_all(work, WORK, 0));
@@ -441,6 +464,68 @@ static void written(void) {
     }
 }
 
+/* A shelf of the whole show and of nothing behind it: one place for each, and one for both. */
+static union {
+    uint64_t numbers[4 * VAULT_FIGURES];
+    vault_figures of[4];
+} figures;
+
+static uint64_t survey(const uint64_t *lengths, size_t images, uint32_t how, size_t places) {
+    memset(&figures, FREE, sizeof figures);
+    memset(work, FREE, WORK);
+    uint64_t answer = vault_survey(image, IMAGE, lengths, images, how, figures.numbers, places, work, WORK);
+    EXPECT(is_all(work, WORK, 0));
+    return answer;
+}
+
+static bool is_figure(vault_figure f, uint64_t number) { return f.number == number && !f.over; }
+
+static void is_show(const vault_figures *f, uint64_t bytes) {
+    EXPECT(is_figure(f->files, 4) && is_figure(f->directories, 1) && is_figure(f->bytes, bytes));
+    EXPECT(is_figure(f->extents, 4) && is_figure(f->sectors, 8) && is_figure(f->chain, 0));
+    EXPECT(is_figure(f->files_by_answer[VAULT_DONE], 4) && is_all(f->files_by_answer + 1, 15 * sizeof(vault_figure), 0));
+    EXPECT(is_figure(f->images_by_answer[VAULT_DONE], 1));
+}
+
+static void surveyed(vault_volume v) {
+    static const uint64_t both[2] = {IMAGE, 0}, more[2] = {IMAGE, 1}, wrapped[2] = {IMAGE, UINT64_MAX - IMAGE + 2};
+    uint64_t bytes = 0;
+    for (uint32_t block = 5; block < 12; block += 2) {
+        vault_long_ad icb = v.root;
+        icb.location.block = block;
+        bytes += vault_measure(v, image, IMAGE, icb).length;
+    }
+    EXPECT(survey(both, 2, 0, 4 * VAULT_FIGURES - 1) == VAULT_DONE);
+    is_show(figures.of, bytes);
+    EXPECT(is_all(figures.of[0].images_by_answer + 1, 15 * sizeof(vault_figure), 0));
+    EXPECT(is_figure(figures.of[1].images_by_answer[VAULT_IO], 1) && is_all(figures.of + 1, offsetof(vault_figures, images_by_answer), 0));
+    is_show(figures.of + 2, bytes);
+    EXPECT(is_figure(figures.of[2].images_by_answer[VAULT_IO], 1) && is_all(figures.of + 3, sizeof *figures.of, FREE));
+    EXPECT(survey(both, 2, 8, sizeof figures / 8) == VAULT_DONE && is_figure(figures.of[2].images_by_answer[VAULT_UNSUPPORTED], 2));
+    EXPECT(survey(both, 0, 0, VAULT_FIGURES) == VAULT_DONE && is_all(figures.of, sizeof *figures.of, 0));
+    EXPECT(survey(both, 2, 0, 3 * VAULT_FIGURES - 1) == VAULT_BAD_SHELF && is_all(&figures, sizeof figures, FREE));
+    EXPECT(survey(more, 2, 0, 3 * VAULT_FIGURES) == VAULT_BAD_SHELF && is_all(&figures, sizeof figures, FREE));
+    EXPECT(survey(wrapped, 2, 0, 3 * VAULT_FIGURES) == VAULT_BAD_SHELF && is_all(&figures, sizeof figures, FREE));
+}
+
+/* Totals of places by hand: 2^64 - 1 isn't over, 2^64 is; of two chains the longer counts. */
+static void totaled(void) {
+    memset(&figures, 0, sizeof figures);
+    memset(figures.of + 2, FREE, 2 * sizeof *figures.of);
+    figures.of[0].bytes.number = UINT64_MAX - 1;
+    figures.of[1].bytes.number = 1;
+    figures.of[0].sectors.number = UINT64_MAX;
+    figures.of[1].sectors.number = 1;
+    figures.of[1].files.over = 1;
+    figures.of[0].chain.number = 7;
+    figures.of[1].chain.number = 5;
+    EXPECT(vault_survey_total(figures.numbers, 3 * VAULT_FIGURES - 1, 2) == VAULT_BAD_SHELF && is_all(figures.of + 2, sizeof *figures.of, FREE));
+    EXPECT(vault_survey_total(figures.numbers, 3 * VAULT_FIGURES, 2) == VAULT_DONE && is_all(figures.of + 3, sizeof *figures.of, FREE));
+    EXPECT(is_figure(figures.of[2].bytes, UINT64_MAX) && is_figure(figures.of[2].chain, 7) && is_figure(figures.of[2].extents, 0));
+    EXPECT(figures.of[2].sectors.number == UINT64_MAX && figures.of[2].sectors.over == 1);
+    EXPECT(figures.of[2].files.number == UINT64_MAX && figures.of[2].files.over == 1);
+}
+
 int main(void) {
     unpack();
     EXPECT(vault_version() == VAULT_VERSION);
@@ -453,6 +538,8 @@ int main(void) {
     components();
     vault_volume v = opened(0), checked = opened(VAULT_CHECKED);
     opened(VAULT_HIGHEST);
+    surveyed(v);
+    totaled();
     asked(v);
     asked(checked);
     asked(opened(VAULT_CHECKED + VAULT_HIGHEST));

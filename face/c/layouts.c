@@ -32,13 +32,16 @@ HOLDS(VAULT_TOO_DEEP == 11);
 HOLDS(VAULT_TOO_MANY == 12);
 HOLDS(VAULT_BAD_NAME == 13);
 HOLDS(VAULT_BAD_FILES == 14);
+HOLDS(VAULT_BAD_SHELF == 15);
 HOLDS(VAULT_CASE_IGNORED == 0);
 HOLDS(VAULT_AS_WRITTEN == 1);
 HOLDS(VAULT_UNAMBIGUOUS == 2);
-HOLDS(VAULT_VERSION == 9);
 HOLDS(VAULT_CHECKED == 1);
 HOLDS(VAULT_MAPS == 2);
 HOLDS(VAULT_HIGHEST == 4);
+HOLDS(VAULT_SECTOR_SIZE == 2048);
+HOLDS(VAULT_VERSION == 10);
+HOLDS(VAULT_FIGURES == 76);
 
 HOLDS(sizeof(vault_mount) == 48 && ALIGN(vault_mount) == 4);
 FIELD(vault_mount, start, 0, 4, uint32_t *);
@@ -155,6 +158,20 @@ FIELD(vault_named, directory, 36, 1, bool *);
 HOLDS(sizeof(vault_component) == 16 && ALIGN(vault_component) == 8);
 FIELD(vault_component, at, 0, 8, size_t *);
 FIELD(vault_component, length, 8, 8, size_t *);
+
+HOLDS(sizeof(vault_figure) == 16 && ALIGN(vault_figure) == 8);
+FIELD(vault_figure, number, 0, 8, uint64_t *);
+FIELD(vault_figure, over, 8, 8, uint64_t *);
+
+HOLDS(sizeof(vault_figures) == 608 && ALIGN(vault_figures) == 8);
+FIELD(vault_figures, files, 0, 16, vault_figure *);
+FIELD(vault_figures, directories, 16, 16, vault_figure *);
+FIELD(vault_figures, bytes, 32, 16, vault_figure *);
+FIELD(vault_figures, extents, 48, 16, vault_figure *);
+FIELD(vault_figures, sectors, 64, 16, vault_figure *);
+FIELD(vault_figures, files_by_answer, 80, 256, vault_figure (*)[16]);
+FIELD(vault_figures, images_by_answer, 336, 256, vault_figure (*)[16]);
+FIELD(vault_figures, chain, 592, 16, vault_figure *);
 
 HOLDS(RECORDS_DONE == 0);
 HOLDS(RECORDS_MALFORMED == 2);

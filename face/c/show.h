@@ -11,6 +11,7 @@ extern void *memset(void *to, int byte, size_t n);
 extern void *memcpy(void *to, const void *from, size_t n);
 extern int memcmp(const void *one, const void *other, size_t n);
 extern size_t strlen(const char *text);
+extern char *strstr(const char *in, const char *text);
 extern _Noreturn void exit(int status);
 
 enum { SECTOR = 2048, START = 288, PARTITION = 5, IMAGE = (START + 16) * SECTOR, ENTRY = 176 };

@@ -20,6 +20,10 @@ static uint32_t how, matching, answers[1];
 static uint64_t lengths[1];
 static const uint64_t sizes[1] = {OUT};
 static uint8_t vault[384 * SECTOR];
+static uint64_t figures[2 * VAULT_FIGURES];
+static vault_opening opening;
+static vault_reading reading;
+static const uint8_t *sector;
 
 /* What is called. A reply in memory is asked for by a first argument that is also the result. */
 static void (*volatile callee)(void);
@@ -48,12 +52,44 @@ CALL(vault_read_all, volume, DISC, PATH, matching, out, room, lengths, 1, answer
 CALL(vault_write_total, (const uint8_t *)"10.1A", 6, sizes, 1)
 CALL(vault_write, (const uint8_t *)"10.1A", 6, sizes, 1, out, OUT, vault, length < IMAGE ? SECTOR : sizeof vault)
 
+/* The steps, from states that have come further from query to query. */
+CALL(vault_opening_start, )
+CALL(vault_opening_is_wanting, opening)
+CALL(vault_opening_wants, opening)
+CALL(vault_opening_step, opening, sector, SECTOR)
+CALL(vault_reading_start, volume, icb, row, SLOTS)
+CALL(vault_reading_is_wanting, reading)
+CALL(vault_reading_wants, reading)
+CALL(vault_reading_step, reading, sector, SECTOR, row, SLOTS, out, room)
+/* SHOW's bytes, which stand in its entry. */
+#define AT_HAND image + (START + 4) * SECTOR + ENTRY, number(image + (START + 4) * SECTOR + ENTRY - 4)
+CALL(vault_list_bytes, volume, AT_HAND, out, room)
+CALL(vault_match, volume, AT_HAND, PATH, matching)
+CALL(vault_next_component, PATH, 0)
+CALL(vault_measure, volume, DISC, icb)
+CALL(vault_survey, image, IMAGE, &(uint64_t){length}, 1, how, figures, 2 * VAULT_FIGURES, work, WORK)
+CALL(vault_survey_total, figures, 2 * VAULT_FIGURES, 1)
+
 static const struct {
     const char *name;
     void (*call)(void), (*made)(void);
 } calls[] = {ROW(vault_version), ROW(vault_probe), ROW(vault_open), ROW(vault_label), ROW(vault_lookup),   ROW(vault_failed),
              ROW(vault_list),    ROW(vault_show),  ROW(vault_read), ROW(vault_part),  ROW(vault_extents), ROW(vault_read_path),
-             ROW(vault_read_all), ROW(vault_write_total), ROW(vault_write)};
+             ROW(vault_read_all), ROW(vault_write_total), ROW(vault_write), ROW(vault_opening_start), ROW(vault_opening_is_wanting),
+             ROW(vault_opening_wants), ROW(vault_opening_step), ROW(vault_reading_start), ROW(vault_reading_is_wanting), ROW(vault_reading_wants),
+             ROW(vault_reading_step), ROW(vault_list_bytes), ROW(vault_match), ROW(vault_next_component), ROW(vault_measure), ROW(vault_survey),
+             ROW(vault_survey_total)};
+
+/* Brings both states n steps on, and points at the sector that the one wants which the call is made with. */
+static void advance(size_t n, bool opens) {
+    opening = vault_opening_start();
+    for (size_t i = 0; i < n && vault_opening_is_wanting(opening); i++)
+        opening = vault_opening_step(opening, image + vault_opening_wants(opening) * SECTOR, SECTOR);
+    reading = vault_reading_start(volume, icb, row, SLOTS);
+    for (size_t i = 0; i < n && vault_reading_is_wanting(reading); i++)
+        reading = vault_reading_step(reading, image + vault_reading_wants(reading) * SECTOR, SECTOR, row, SLOTS, out, room);
+    sector = image + (opens ? vault_opening_wants(opening) : vault_reading_wants(reading)) * SECTOR;
+}
 
 /* Makes a call on the painted stack. */
 static void make(void (*call)(void), void (*made)(void)) {
@@ -88,6 +124,7 @@ static size_t most(size_t n) {
         length = i / 24 % 2 ? IMAGE : START * SECTOR;
         room = i / 48 % 2 ? OUT : 0;
         matching = (uint32_t)(i / 96);
+        advance(i % 7, strstr(calls[n].name, "opening") != NULL);
         size_t now = taken(n);
         if (now > top) top = now;
     }

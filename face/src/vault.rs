@@ -1,7 +1,8 @@
 //! include/vault.h: UDF discs (ECMA-167, OSTA UDF) read from memory, and vaults written to it, for C.
 //!
-//! Link target/staticlib/libvault_c.a, which `rt staticlib vault_c` makes from the proved sources. Each call has the
-//! contract of the call of crate vault, or of crate writers, that it passes on.
+//! Link target/staticlib/libvault_c.a, which `rt staticlib vault_c` makes from the proved sources; for what is read
+//! straight from a drive libdrives_c.a, and for surveys libsurveys_c.a, made in the same way. Each call has the
+//! contract of the call that it passes on, of crate vault, writers, drives, figures or surveys.
 //!
 //! Nothing here allocates, keeps or frees memory: the caller lends the image, the output and the work space for the
 //! length of the call, each as a pointer and a length. Lent pieces must not overlap. A piece of length 0 needs a
@@ -49,6 +50,9 @@ pub const BAD_NAME: u64 = 13;
 /// The files of a vault that is to be written: too many, names and lengths unlike in number, one too long, or lengths
 /// that pass the staging area.
 pub const BAD_FILES: u64 = 14;
+/// The lengths of a shelf's images pass the bytes lent, or there are too few places for the figures of each and of the
+/// shelf.
+pub const BAD_SHELF: u64 = 15;
 
 /// ASCII case is ignored, and the first entry that matches is taken.
 pub const CASE_IGNORED: u32 = 0;
@@ -56,9 +60,6 @@ pub const CASE_IGNORED: u32 = 0;
 pub const AS_WRITTEN: u32 = 1;
 /// ASCII case is ignored, and a component that two or more entries match is refused by VAULT_AMBIGUOUS.
 pub const UNAMBIGUOUS: u32 = 2;
-/// Goes up whenever a struct or a call changes.
-pub const VERSION: u32 = 9;
-
 /// A choice for `how`: the body of each descriptor that is parsed, on opening and in every call on the volume, must
 /// have the CRC that its tag says, or the call is refused by VAULT_BAD_CRC.
 pub const CHECKED: u32 = 1;
@@ -69,6 +70,13 @@ pub const MAPS: u32 = 2;
 /// A choice for `how`: of several primary volume, partition or logical volume descriptors the one with the highest
 /// volume descriptor sequence number counts, the later of equals. Without it the last one does.
 pub const HIGHEST: u32 = 4;
+/// The bytes of a sector, and of a block.
+pub const SECTOR_SIZE: usize = 2048;
+/// Goes up whenever a struct or a call changes.
+pub const VERSION: u32 = 10;
+
+/// How many numbers a place of a row of figures has.
+pub const FIGURES: usize = 76;
 
 structs! {
     /// How a volume is read: where its partition starts, the partition's number, whether the bodies of its descriptors
@@ -279,6 +287,36 @@ structs! {
         /// Its bytes: 0 where there is none.
         8 length: usize,
     }
+
+    /// A figure.
+    vault_figure as Figure, 16 aligned to 8 {
+        /// Held at 2^64 - 1.
+        0 number: u64,
+        /// 1 where the figure passes 2^64 - 1, else 0.
+        8 over: u64,
+    }
+
+    /// The figures of an image or of a shelf. Files and directories are those that vault_show at 16 levels lists, each
+    /// once for each path; the root isn't counted.
+    vault_figures as Figures, 608 aligned to 8 {
+        /// Files found, those that can't be read among them.
+        0 files: Figure,
+        16 directories: Figure,
+        /// What vault_measure answers for each file, added up.
+        32 bytes: Figure,
+        /// What vault_extents lists of the files that can be read.
+        48 extents: Figure,
+        /// The counts of reading each file, also of those that are refused; not the sectors of opening, of the tree and
+        /// of the extent lists.
+        64 sectors: Figure,
+        /// How many files have each answer number.
+        80 files_by_answer: [Figure; 16],
+        /// How many images have each answer number, of their opening or of their tree; one that has another than 0 has
+        /// no other figure.
+        336 images_by_answer: [Figure; 16],
+        /// The most continuations of allocation descriptors that were followed for a file that can be read.
+        592 chain: Figure,
+    }
 }
 
 unsafe extern "C" {
@@ -369,6 +407,10 @@ unsafe extern "C" {
 
     /// Reads a file, or a directory's own bytes, to `out`.
     pub fn vault_read(volume: Volume, image: *const u8, image_length: usize, icb: LongAd, out: *mut u8, out_length: usize) -> Reply;
+
+    /// How many bytes vault_read answers for that file where there is room: `length` has them, and number and count are
+    /// those of the read. Nothing is written.
+    pub fn vault_measure(volume: Volume, image: *const u8, image_length: usize, icb: LongAd) -> Reply;
 
     /// The bytes of an embedded file where they stand: `length` of them, from `*part_at` on in the image. For any other
     /// file that can be read the answer is VAULT_DONE, and both are 0, as they are where the call is refused. An
@@ -501,4 +543,26 @@ unsafe extern "C" {
     /// then each time from the end of the one before, the components come in the order in which vault_lookup takes
     /// them.
     pub fn vault_next_component(path: *const u8, path_length: usize, at: usize) -> Component;
+
+    /// The figures of images that stand one behind another in `shelf`, from its front, each as long as `lengths` says:
+    /// a place for each in turn, and behind them one for all. `how` is as for vault_open, and `work` as for vault_show.
+    /// The answer is VAULT_DONE also where every image is refused; or VAULT_BAD_SHELF where the lengths pass `shelf` or
+    /// there are fewer places than images and one, and then nothing is written but the zeros of `work`. Places behind
+    /// stay as they came.
+    pub fn vault_survey(
+        shelf: *const u8,
+        shelf_length: usize,
+        lengths: *const u64,
+        lengths_places: usize,
+        how: u32,
+        figures: *mut u64,
+        figures_places: usize,
+        work: *mut u8,
+        work_length: usize,
+    ) -> u64;
+
+    /// Writes the total of the first `images` places of a row to the one behind them: for images that don't stand in
+    /// one slice, of which each was surveyed by itself. The answer is VAULT_DONE; or VAULT_BAD_SHELF where there are
+    /// too few places, and then nothing is written.
+    pub fn vault_survey_total(figures: *mut u64, figures_places: usize, images: usize) -> u64;
 }

@@ -68,7 +68,19 @@ def section(held):
     return [*lines, ""]
 
 
-def header(interface, crate):
+def texts(interface):
+    """What each answer number says, as the comment in the sources has it."""
+    front = interface.prefix.upper() + "_"
+    lines = [*commented(["What an answer number says, in a sentence without its full stop."])]
+    lines += [f"static inline const char *{interface.prefix}_answer_text(uint64_t answer) {{", "    switch (answer) {"]
+    for held in interface.constants[0]:
+        said = " ".join(held.about).split(". ")[0].rstrip(".").replace("`", "")
+        lines += [f"    case {front}{held.name}:", f'        return "{said}";']
+    return [*lines, "    default:", '        return "A number that isn\'t known";', "    }", "}", ""]
+
+
+def header(interface, crate, behind=""):
+    """`behind` is C that stands behind the calls."""
     guard = f"{interface.prefix.upper()}_H"
     head = [f"{interface.prefix}.h: {interface.about[0]}", *interface.about[1:], "", MADE.format(crate=crate)]
     lines = [*commented(head), f"#ifndef {guard}", f"#define {guard}", ""]
@@ -77,6 +89,8 @@ def header(interface, crate):
     lines += constants(interface, interface.constants)
     for held in interface.sections:
         lines += section(held)
+    if behind:
+        lines += [*texts(interface), behind]
     lines += ["#ifdef __cplusplus", "}", "#endif", "", "#endif"]
     return "\n".join(lines) + "\n"
 

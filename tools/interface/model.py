@@ -30,7 +30,7 @@ SLOTS = {"[u32; 4]": "layouts::lists::Extent"}
 
 # Crates whose functions for C stand in the header of another, with an archive of their own: what they call is then called once in each archive, and
 # the compiler puts it into its callers.
-BESIDE = {"vault_c": ["drives_c"]}
+BESIDE = {"vault_c": ["drives_c", "surveys_c"]}
 
 # The module that has the answer numbers.
 ANSWERS = ("disc", "answers")
@@ -328,6 +328,10 @@ class Maker:
         for call in calls:
             for type in [call.gives, *(type for _, type in call.takes)]:
                 gather(type, records)
+        # A struct of the source itself that no call names: what stands in a row of numbers.
+        for name, struct in source.structs.items():
+            if struct.laid_out:
+                gather(self.type(source, name), records)
         owners = {id(self.made[key]): owner for key, owner in self.owners.items() if key in self.made}
         before = [part for record in records for part in self.section(owners.get(id(record), source), seen)]
         have = [record for part in before for record in part.records]

@@ -10,7 +10,7 @@ from .source import Unread
 
 VAULT, CHOICES, ANSWERS, OPENINGS, PLACES = (
     "crates/vault_c/src/lib.rt",
-    "crates/vault_c/src/choices.rt",
+    "crates/volumes/src/choices.rt",
     "crates/disc/src/answers.rt",
     "crates/volumes/src/openings.rt",
     "crates/disc/src/places.rt",

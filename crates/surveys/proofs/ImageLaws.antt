@@ -1,0 +1,131 @@
+-- What holds of the figures of an image: what the functions cite that open it and fill its place. Assumes nothing.
+use mathlib.Core.Path.{_≡_, refl, ap, sym, _∙_}
+use mathlib.Core.List.{List, [], _∷_, map}
+use Prim.Native.Nat.{ℕ, zero, suc, _-_, _≤_}
+use native.Mathlib.Nat.{zero-add}
+use native.Mathlib.Omega.{arith}
+use lib.ListN.{length, replicate, length-append, length-replicate}
+use Rattle.disc.specs.Images.{disc}
+use Rattle.disc.specs.Ask.{Disc, Outcome}
+use Rattle.disc.specs.Ask.Outcome.{answered, refused}
+use Rattle.disc.specs.Ran.{ran}
+use Rattle.disc.specs.Refusals.{number}
+use Rattle.disc.specs.Counts.{reported}
+use Rattle.disc.specs.Replies.{answerOf}
+use Rattle.disc.specs.declared.places.Mount.{Mount}
+use Rattle.disc.specs.declared.refusals.Refusal.the-variants.{Unsupported}
+use Rattle.disc.proofs.RanLaws.{ran-refuse}
+use Rattle.disc.proofs.RefusalLaws.{refusal-listed, refusal-numbered}
+use Rattle.volumes.specs.Choices.{openingBy}
+use Rattle.volumes.specs.Openings.{opening, openedBy, openedOf, noVolume}
+use Rattle.volumes.specs.declared.choices.Choice.{Choice}
+use Rattle.volumes.specs.declared.choices.Choice.the-variants.{Known, Unknown}
+use Rattle.volumes.specs.declared.openings.How.{How}
+use Rattle.volumes.specs.declared.openings.Opened.{Opened}
+use Rattle.volumes.specs.declared.openings.VolumeRecord.{VolumeRecord}
+use Rattle.figures.specs.Figures.{Wide, Holds, Adds, nothing, oneAt, oneImage, added, eachAdded}
+use Rattle.figures.proofs.FigureLaws.{zero-holds, added-wide, addedTo-wide}
+use Rattle.shows.specs.Shows.{Node, tree, mostLevels}
+use Rattle.shows.specs.Tallies.{ofNode, ofNodes, Tallied}
+use Rattle.surveys.specs.Surveys.{treeBy, volumeBy, ofImage}
+
+-- ---- the opening
+
+module _ (image : List ℕ) {how : Choice} where
+  pub open-unknown : how ≡ Unknown → {r : Opened} → r ≡ record { answer = 4; count = 0; volume = noVolume } → r ≡ openedOf (ran (disc image) (openingBy how))
+  open-unknown u e = e ∙ rw (u, ran-refuse (disc image) Unsupported)
+
+  pub open-known : {choices : How} → how ≡ Known choices → {r : Opened} → r ≡ openedOf (ran (disc image) (opening choices)) → r ≡ openedOf (ran (disc image) (openingBy how))
+  open-known k e = rw k e
+
+-- ---- one image, under its number
+
+each-zeros : (l : List ℕ) (k : ℕ) → length l ≡ k → eachAdded (replicate k 0) l ≡ l
+unfolding eachAdded
+each-zeros [] zero e = refl
+each-zeros [] (suc k) e = absurd (omega arith)
+each-zeros (a ∷ l) zero e = absurd (omega arith)
+each-zeros (a ∷ l) (suc k) e = rw (zero-add, each-zeros l k (omega arith))
+
+module _ (n : ℕ) (h : n ≤ 15) where
+  one-long : length (oneAt n) ≡ 16
+  one-long = length-append (replicate n 0) (1 ∷ replicate (15 - n) 0) ∙ omega (arith, length-replicate {A = ℕ} n 0, length-replicate {A = ℕ} (15 - n) 0)
+
+  pub one-wide : Wide (oneImage n)
+  one-wide = record { files-wide = refl; images-wide = one-long }
+
+  none-added : added nothing (oneImage n) ≡ oneImage n
+  unfolding eachAdded
+  none-added = rw (each-zeros (oneAt n) 16 one-long)
+
+  pub one-counted : (s : List ℕ) {t u : List ℕ} → length s ≡ 76 → t ≡ replicate (length s) 0 → (n ≤ 15 → Adds (oneImage n) t u) → Holds (oneImage n) u
+  one-counted s {t} e f adds =
+      let z : Holds nothing t = rw (f, e) zero-holds in
+      rw none-added at (adds h nothing z)
+
+-- ---- an image has a count for each answer number
+
+tree-wide : (d : Disc) (m : Mount) (o : Outcome (List Node)) → Wide (treeBy d m o)
+tree-wide d m (answered ns) = added-wide (oneImage 0) (addedTo-wide (map (ofNode d m) ns) (zero-holds .wide))
+tree-wide d m (refused why) = one-wide (number why) (refusal-listed why)
+
+volume-wide : (d : Disc) (work : ℕ) (o : Outcome VolumeRecord) → Wide (volumeBy d work o)
+volume-wide d work (answered v) = tree-wide d (v .mount) (ran d (tree (v .mount) mostLevels work (v .root)) .outcome)
+volume-wide d work (refused why) = one-wide (number why) (refusal-listed why)
+
+pub image-wide : (how : Choice) (work : ℕ) (image : List ℕ) → Wide (ofImage how work image)
+unfolding ofImage
+image-wide how work image = volume-wide (disc image) work (ran (disc image) (openingBy how) .outcome)
+
+-- ---- the place of an image
+
+answer-small : {A : Type 0} (o : Outcome A) → answerOf o ≤ 15
+answer-small (answered a) = omega arith
+answer-small (refused why) = refusal-listed why
+
+pub tree-small : {d : Disc} {m : Mount} {o : Outcome (List Node)} {s t : List ℕ} {a : ℕ} → Tallied d m o s t a → a ≤ 15
+tree-small {o = o} p = rw (p .says) (answer-small o)
+
+module _ (image : List ℕ) (how : Choice) {r : Opened} (q : r ≡ openedOf (ran (disc image) (openingBy how))) where
+  pub opening-small : r .answer ≤ 15
+  opening-small = rw q (by (reported (ran (disc image) (openingBy how) .count)) (ran (disc image) (openingBy how) .outcome))
+    where
+      by : (n : ℕ) (o : Outcome VolumeRecord) → openedBy n o .answer ≤ 15
+      by n (answered v) = omega arith
+      by n (refused why) = refusal-listed why
+
+  pub opening-refused : (work : ℕ) → (r .answer ≡ 0 → ⊥) → {s : List ℕ} → Holds (oneImage (r .answer)) s → Holds (ofImage how work image) s
+  unfolding ofImage
+  opening-refused work h {s} p = by (reported (ran (disc image) (openingBy how) .count)) (ran (disc image) (openingBy how) .outcome) q
+    where
+      by : (n : ℕ) (o : Outcome VolumeRecord) → r ≡ openedBy n o → Holds (volumeBy (disc image) work o) s
+      by n (answered v) e = absurd (h (rw e))
+      by n (refused why) e = rw (ap (λ x. x .answer) e) at p
+
+  opened-is : r .answer ≡ 0 → ran (disc image) (openingBy how) .outcome ≡ answered (r .volume)
+  opened-is h = by (reported (ran (disc image) (openingBy how) .count)) (ran (disc image) (openingBy how) .outcome) q
+    where
+      by : (n : ℕ) (o : Outcome VolumeRecord) → r ≡ openedBy n o → o ≡ answered (r .volume)
+      by n (answered v) e = rw e
+      by n (refused why) e = absurd (refusal-numbered why (sym (ap (λ x. x .answer) e) ∙ h))
+
+  module _ (work : ℕ) (h : r .answer ≡ 0) {s t : List ℕ} {a : ℕ}
+      (p : Tallied (disc image) (r .volume .mount) (ran (disc image) (tree (r .volume .mount) mostLevels work (r .volume .root)) .outcome) s t a) where
+    pub tree-refused : (a ≡ 0 → ⊥) → {u : List ℕ} → Holds (oneImage a) u → Holds (ofImage how work image) u
+    unfolding ofImage
+    tree-refused k {u} w = rw (opened-is h) (by (ran (disc image) (tree (r .volume .mount) mostLevels work (r .volume .root)) .outcome) (p .says))
+      where
+        by : (o : Outcome (List Node)) → a ≡ answerOf o → Holds (treeBy (disc image) (r .volume .mount) o) u
+        by (answered ns) e = absurd (k e)
+        by (refused why) e = rw e at w
+
+    pub tree-counted : (b : List ℕ) → a ≡ 0 → length b ≡ 76 → s ≡ replicate (length b) 0 → {u : List ℕ} → (0 ≤ 15 → Adds (oneImage 0) t u) → Holds (ofImage how work image) u
+    unfolding ofImage
+    tree-counted b k l z {u} adds =
+        let y : Holds nothing s = rw (z, l) zero-holds in
+        rw (opened-is h) (by (ran (disc image) (tree (r .volume .mount) mostLevels work (r .volume .root)) .outcome) (p .says)
+        (λ ns e. adds (omega arith) (ofNodes (disc image) (r .volume .mount) ns) (p .adds ns e nothing y)))
+      where
+        by : (o : Outcome (List Node)) → a ≡ answerOf o → ((ns : List Node) → o ≡ answered ns → Holds (added (ofNodes (disc image) (r .volume .mount) ns) (oneImage 0)) u) → Holds (treeBy (disc image) (r .volume .mount) o) u
+        by (answered ns) e f = f ns refl
+        by (refused why) e f = absurd (refusal-numbered why (sym e ∙ k))

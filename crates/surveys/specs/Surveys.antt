@@ -1,0 +1,70 @@
+-- Figures over a shelf of images, one behind another: RULES 16.6 to 16.10.
+use Prim.Native.Nat.{ℕ, _+_, _*_}
+use mathlib.Core.Bool.{Bool, _&&_}
+use mathlib.Core.List.{List, [], _∷_, _++_, map}
+use lib.ListN.{length, take, drop, replicate}
+use lib.Dec.{leb}
+use Rattle.disc.specs.Choice.{pick}
+use Rattle.disc.specs.Refusals.{number}
+use Rattle.disc.specs.Ask.{Disc, Outcome}
+use Rattle.disc.specs.Ask.Outcome.{answered, refused}
+use Rattle.disc.specs.Ran.{ran}
+use Rattle.disc.specs.Images.{disc}
+use Rattle.disc.specs.declared.places.Mount.{Mount}
+use Rattle.disc.specs.declared.refusals.Refusal.the-variants.{BadShelf}
+use Rattle.volumes.specs.Choices.{openingBy}
+use Rattle.volumes.specs.declared.choices.Choice.{Choice}
+use Rattle.volumes.specs.declared.openings.VolumeRecord.{VolumeRecord}
+use Rattle.figures.specs.Figures.{Figures, oneImage, added, allAdded, rows, place, sum}
+use Rattle.shows.specs.Shows.{Node, tree, mostLevels}
+use Rattle.shows.specs.Tallies.{ofNodes}
+
+-- ---- of an image: one whose opening or tree is refused counts under its number, and its other figures are 0
+
+abbrev pub treeBy : Disc → Mount → Outcome (List Node) → Figures
+treeBy d m (answered ns) = added (ofNodes d m ns) (oneImage 0)
+treeBy d m (refused why) = oneImage (number why)
+
+abbrev pub volumeBy : Disc → ℕ → Outcome VolumeRecord → Figures
+volumeBy d work (answered v) = treeBy d (v .mount) (ran d (tree (v .mount) mostLevels work (v .root)) .outcome)
+volumeBy d work (refused why) = oneImage (number why)
+
+-- `work` is how many bytes of work space there are
+unfoldable pub ofImage : Choice → ℕ → List ℕ → Figures
+ofImage how work image = volumeBy (disc image) work (ran (disc image) (openingBy how) .outcome)
+
+-- ---- of a shelf
+
+-- the images, by their lengths
+unfoldable pub images : List ℕ → List ℕ → List (List ℕ)
+images [] shelf = []
+images (n ∷ ns) shelf = take n shelf ∷ images ns (drop n shelf)
+
+-- images in the order given, and the shelf last
+abbrev pub withTotal : List Figures → List Figures
+withTotal each = each ++ allAdded each ∷ []
+
+unfoldable pub surveyed : Choice → ℕ → List ℕ → List ℕ → List Figures
+surveyed how work lengths shelf = withTotal (map (ofImage how work) (images lengths shelf))
+
+-- ---- the call
+
+-- the lengths don't pass the bytes lent, and there is a place for each image and for the shelf
+abbrev pub fits : List ℕ → List ℕ → List ℕ → Bool
+fits shelf lengths figures = leb (sum lengths) (length shelf) && leb (place * (length lengths + 1)) (length figures)
+
+pub record Surveyed : Type 0 where
+  pub answer : ℕ
+  pub figures : List ℕ
+  pub work : List ℕ
+
+-- 15 comes first, and then nothing is written but the zeros of the work space
+abbrev pub surveys : Choice → List ℕ → List ℕ → List ℕ → List ℕ → Surveyed
+surveys how shelf lengths figures work =
+    pick (fits shelf lengths figures)
+    (record {
+      answer = 0;
+      figures = rows (surveyed how (length work) lengths shelf) ++ drop (place * (length lengths + 1)) figures;
+      work = replicate (length work) 0;
+    })
+    (record { answer = number BadShelf; figures = figures; work = replicate (length work) 0 })

@@ -1,0 +1,2 @@
+-- What contracts below the face alone cite.
+pub mod Parts
