@@ -165,7 +165,8 @@ def sectors(disc, at, size):
 
 
 def resolved(disc, volume, icb):
-    """The kind, the information length, the area and where it stands, the extents of the chain, and where the entry's partition starts."""
+    """The kind, the information length, the area and where it stands, the extents of the chain, where the entry's partition starts, and how many
+    continuations were followed."""
     if number(icb, 0, 4) % 2**30 == 0:
         raise Refused(BAD)
     own = of_icb(volume, icb)
@@ -178,7 +179,7 @@ def resolved(disc, volume, icb):
     where = head + attributes
     information, area = number(data, 56, 8), data[where : where + size]
     if kind == 3:
-        return kind, information, area, at * SIZE + where, [], own
+        return kind, information, area, at * SIZE + where, [], own, 0
     extents, chained = list(descriptors(area, kind)), 0
     while extents and extents[-1][1] == 3:
         length, _, block, reference = extents.pop()
@@ -196,11 +197,11 @@ def resolved(disc, volume, icb):
         if 24 + size > length:
             raise Refused(BAD)
         extents += descriptors(data[24 : 24 + size], kind)
-    return kind, information, area, 0, extents, own
+    return kind, information, area, 0, extents, own, chained
 
 
 def content(disc, volume, icb):
-    kind, information, area, _, extents, own = resolved(disc, volume, icb)
+    kind, information, area, _, extents, own, _ = resolved(disc, volume, icb)
     if kind == 3:
         return area[:information]
     found = b""
