@@ -1,7 +1,7 @@
 # Completion of vault for bash.
 _vault() {
     local word=${COMP_WORDS[COMP_CWORD]} before=${COMP_WORDS[COMP_CWORD-1]} command= image= i
-    local commands="label info ls tree cat get stat probe check make sample"
+    local commands="label info ls tree cat get stat probe check survey make sample"
     for ((i = 1; i < COMP_CWORD; i++)); do
         case ${COMP_WORDS[i]} in
             -o | --icb | --levels | --limit | --wait) ((i++)) ;;
@@ -21,13 +21,13 @@ _vault() {
             cat) options+=" --wait --as-written --unambiguous --raw --icb" ;;
             get) options+=" -o -r --limit --wait --as-written --unambiguous --raw --icb" ;;
             stat) options+=" --json --as-written --unambiguous --raw --icb" ;;
-            info | check) options+=" --json" ;;
+            info | check | survey) options+=" --json" ;;
             "") options+=" --version" ;;
         esac
         COMPREPLY=($(compgen -W "$options" -- "$word"))
     elif [ -z "$command" ]; then
         COMPREPLY=($(compgen -W "$commands" -- "$word"))
-    elif [ -z "$image" ] || [ "$command" = make ]; then
+    elif [ -z "$image" ] || [ "$command" = make ] || [ "$command" = survey ]; then
         compopt -o filenames 2>/dev/null
         COMPREPLY=($(compgen -f -- "$word"))
     else

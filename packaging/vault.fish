@@ -1,5 +1,5 @@
 # Completion of vault for fish.
-set -l commands label info ls tree cat get stat probe check make sample
+set -l commands label info ls tree cat get stat probe check survey make sample
 complete -c vault -n "not __fish_seen_subcommand_from $commands" -f -a "$commands"
 complete -c vault -s h -l help -d "What there is"
 complete -c vault -s V -l version -d "Which it is"
@@ -13,7 +13,7 @@ complete -c vault -l highest -d "The highest of several descriptors counts"
 complete -c vault -l maps -d "Partitions through the maps"
 complete -c vault -l copy -d "Read the image into memory first"
 complete -c vault -l drive -d "Read it sector by sector"
-complete -c vault -n "__fish_seen_subcommand_from ls tree stat info check" -l json -d "As one document"
+complete -c vault -n "__fish_seen_subcommand_from ls tree stat info check survey" -l json -d "As one document"
 complete -c vault -n "__fish_seen_subcommand_from ls" -s R -d "All below it too"
 complete -c vault -n "__fish_seen_subcommand_from ls" -s i -d "With the ICB of each"
 complete -c vault -n "__fish_seen_subcommand_from ls" -s 0 -d "As recorded, a zero byte behind each"

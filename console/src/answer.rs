@@ -109,12 +109,15 @@ pub enum Refusal {
     /// 14: the files of a vault that is to be written are over 64, one has more than 1,073,739,776 bytes, there are other numbers of names and of lengths,
     /// or the lengths pass the staging area.
     BadFiles,
+    /// 15: the lengths of a shelf's images pass its bytes, or there is no memory for the figures of each. Given by [`survey`](crate::survey()) and its like
+    /// alone, for the shelf; no image of it is counted under it.
+    BadShelf,
     /// A number that this crate's table doesn't have.
     Unknown(u64),
 }
 
 /// The refusals and their numbers.
-const TABLE: [(Refusal, u64); 13] = [
+const TABLE: [(Refusal, u64); 14] = [
     (Refusal::Io, vault::IO),
     (Refusal::Malformed, vault::MALFORMED),
     (Refusal::NotBluray, vault::NOT_BLURAY),
@@ -128,10 +131,11 @@ const TABLE: [(Refusal, u64); 13] = [
     (Refusal::TooMany, vault::TOO_MANY),
     (Refusal::BadName, vault::BAD_NAME),
     (Refusal::BadFiles, vault::BAD_FILES),
+    (Refusal::BadShelf, vault::BAD_SHELF),
 ];
 
 impl Refusal {
-    /// The number that the call answered with: 1 to 7 or 9 to 14, in the answer table.
+    /// The number that the call answered with: 1 to 7 or 9 to 15, in the answer table.
     pub fn number(self) -> u64 {
         match self {
             Refusal::Unknown(number) => number,
@@ -181,6 +185,7 @@ impl fmt::Display for Refusal {
                 "a name of a vault is 1 to 127 bytes from 21 to 7E without the slash, and no two are equal with ASCII case ignored"
             }
             Refusal::BadFiles => "a vault has up to 64 files of up to 1,073,739,776 bytes each, and as many bytes are staged as they have",
+            Refusal::BadShelf => "the lengths of the images pass the bytes of the shelf, or there is no memory for their figures",
             Refusal::Unknown(number) => return write!(f, "the archive answered with {number}, a number that isn't known here"),
         })
     }
@@ -198,7 +203,7 @@ pub struct Refused {
 }
 
 impl Refused {
-    /// The number that the call answered with: 1 to 7 or 9 to 14, in the answer table.
+    /// The number that the call answered with: 1 to 7 or 9 to 15, in the answer table.
     pub fn number(&self) -> u64 {
         self.why.number()
     }
@@ -238,7 +243,7 @@ mod tests {
         for (why, number) in TABLE {
             assert_eq!((Refusal::of(number), why.number()), (Some(why), number));
         }
-        assert_eq!(TABLE.map(|(_, number)| number), [1, 2, 3, 4, 5, 6, 7, 9, 10, 11, 12, 13, 14]);
+        assert_eq!(TABLE.map(|(_, number)| number), [1, 2, 3, 4, 5, 6, 7, 9, 10, 11, 12, 13, 14, 15]);
     }
 
     #[test]
@@ -250,7 +255,7 @@ mod tests {
 
     #[test]
     fn a_number_that_the_table_lacks_shows_itself() {
-        for number in [8, 15, 16, 255, 256 + 7, u64::MAX] {
+        for number in [8, 16, 255, 256 + 7, u64::MAX] {
             let why = Refusal::of(number).unwrap();
             assert_eq!((why, why.number()), (Refusal::Unknown(number), number));
             assert!(why.to_string().contains(&number.to_string()), "{why}");

@@ -300,3 +300,28 @@ fn write_to(names: &[u8], lengths: &[u64], staging: &[u8], image: Lent, room: us
     let reply = unsafe { vault_write(names.as_ptr(), n, lengths.as_ptr(), l, staging.as_ptr(), s, image, room) };
     Refusal::of(reply.answer).map_or(Ok(reply.sectors), Err)
 }
+
+/// The figures of a shelf over the front of `row`, a place for each length and one for all; the answer number. The work space is the room of `work`.
+pub fn survey(shelf: &[u8], lengths: &[u64], how: u32, row: &mut [u64], work: &mut Vec<u8>) -> u64 {
+    let (work, w) = space(work);
+    survey_with(shelf, lengths, how, row, work, w)
+}
+
+/// The same with work space that is lent.
+pub fn survey_in(shelf: &[u8], lengths: &[u64], how: u32, row: &mut [u64], work: &mut [u8]) -> u64 {
+    survey_with(shelf, lengths, how, row, work.as_mut_ptr(), work.len())
+}
+
+fn survey_with(shelf: &[u8], lengths: &[u64], how: u32, row: &mut [u64], work: Lent, w: usize) -> u64 {
+    see_version();
+    let (l, r) = (lengths.len(), row.len());
+    // SAFETY: the head of this module; the row is a mutable borrow, and both callers have `w` bytes from `work` on in another.
+    unsafe { vault_survey(shelf.as_ptr(), shelf.len(), lengths.as_ptr(), l, how, row.as_mut_ptr(), r, work, w) }
+}
+
+/// The total of the first `images` places of a row, in the one behind them; the answer number.
+pub fn survey_total(row: &mut [u64], images: usize) -> u64 {
+    see_version();
+    // SAFETY: the head of this module; the row is a mutable borrow.
+    unsafe { vault_survey_total(row.as_mut_ptr(), row.len(), images) }
+}

@@ -177,7 +177,7 @@ impl fmt::Display for Diagnosis {
 
 /// Whether a refusal is for what the disc holds, and not for the memory that was lent.
 pub(crate) fn is_of_the_disc(why: Refusal) -> bool {
-    !matches!(why, Refusal::NoRoom | Refusal::NoWork | Refusal::NoSlot | Refusal::TooMany | Refusal::Unknown(_))
+    !matches!(why, Refusal::NoRoom | Refusal::NoWork | Refusal::NoSlot | Refusal::TooMany | Refusal::BadShelf | Refusal::Unknown(_))
 }
 
 /// Where an opening was refused, and why: of [`Vault::open_as`](crate::Vault::open_as) and [`read_volume_label_as`](crate::read_volume_label_as) with

@@ -51,6 +51,12 @@
 //! there are paths, and of a disc that was made to do harm these may be more than can be counted: who doesn't trust a disc walks it with
 //! [`Vault::read_directory`], and stops where it is too much, as the command `vault tree` does.
 //!
+//! # A shelf of images
+//!
+//! [`survey()`] counts what stands on each of many images and on all of them: files, directories, bytes, extents, the sectors that reading them takes, the
+//! longest chain, and what is refused, by its number. [`survey_image`] and [`survey_total`] are for images one at a time, and [`survey_shelf`] for those that
+//! stand in one slice.
+//!
 //! # Straight from a drive
 //!
 //! A disc doesn't always fit in memory. [`Drive`] takes a reader, as the original does, and asks it for one sector after another: for the sectors of the
@@ -113,6 +119,7 @@ mod room;
 mod sequence;
 mod source;
 mod stack;
+mod survey;
 mod table;
 mod tree;
 pub mod udf;
@@ -139,6 +146,7 @@ pub use records::{AllocExtent, DirEntry, LbAddr, LongAd, ShowEntry};
 pub use sequence::{Kind, VolumeDescriptor, volume_descriptors};
 pub use source::Missed;
 pub use stack::Item;
+pub use survey::{Figure, Figures, Survey, survey, survey_image, survey_shelf, survey_total};
 pub use table::{MapForm, MapTable, map_table};
 pub use tree::Show;
 pub use vault::{Vault, probe_vrs, read_volume_label, read_volume_label_as};

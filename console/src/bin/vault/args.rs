@@ -22,6 +22,9 @@ pub enum Command {
         image: OsString,
         files: Vec<OsString>,
     },
+    Survey {
+        images: Vec<OsString>,
+    },
     Ask {
         image: OsString,
         question: Question,
@@ -112,12 +115,16 @@ const OPTIONS: [(&str, &[&str], &str); 15] = [
     ("-R", &["ls"], "-R is for ls"),
     ("-i", &["ls"], "-i is for ls"),
     ("-0", &["ls"], "-0 is for ls"),
-    ("--json", &["ls", "tree", "stat", "info", "check"], "--json is for ls, tree, stat, info and check"),
+    ("--json", &["ls", "tree", "stat", "info", "check", "survey"], "--json is for ls, tree, stat, info, check and survey"),
     ("--levels", &["tree", "ls"], "--levels is for tree and ls -R"),
     ("--limit", &["tree", "ls", "get"], "--limit is for tree, ls -R and get -r"),
     ("--wait", &["cat", "get"], FOR_ONE_FILE),
     ("--drive", &["label", "ls", "tree", "cat", "get", "stat"], FOR_DRIVES),
-    ("--copy", &["label", "info", "ls", "tree", "cat", "get", "stat", "probe", "check"], "--copy is for a command that reads an IMAGE"),
+    (
+        "--copy",
+        &["label", "info", "ls", "tree", "cat", "get", "stat", "probe", "check", "survey"],
+        "--copy is for a command that reads an IMAGE",
+    ),
 ];
 const FOR_ONE_FILE: &str = "--wait is for one file: that of cat or get, without -o";
 const FOR_DRIVES: &str = "--drive is for label, ls, tree, cat, stat, and get, with -o only where there is -r";
@@ -293,6 +300,7 @@ fn command(words: Vec<OsString>, options: &Options) -> Result<Command, Failure> 
     let command = match name.as_bytes() {
         b"sample" => Command::Sample { file: take(&mut words, &name, "FILE")? },
         b"make" => Command::Make { image: take(&mut words, &name, "IMAGE")?, files: words.by_ref().collect() },
+        b"survey" => Command::Survey { images: [take(&mut words, &name, "IMAGE")?].into_iter().chain(words.by_ref()).collect() },
         b"label" | b"info" | b"ls" | b"tree" | b"cat" | b"get" | b"stat" | b"probe" | b"check" => {
             let image = take(&mut words, &name, "IMAGE")?;
             Command::Ask { image, question: question(&name, &mut words, options)? }
@@ -396,6 +404,16 @@ mod tests {
         for (line, files) in [("make a", &[][..]), ("make a b", &["b"]), ("make a b c -- --copy", &["b", "c", "--copy"])] {
             let files = files.iter().map(OsString::from).collect();
             assert_eq!(parsed(line).unwrap().command, Command::Make { image: "a".into(), files }, "{line}");
+        }
+    }
+
+    #[test]
+    fn a_survey_is_of_any_number_of_images() {
+        for (line, images) in
+            [("survey a", &["a"][..]), ("survey a b --json", &["a", "b"]), ("--maps survey a -- --copy", &["a", "--copy"])]
+        {
+            let images = images.iter().map(OsString::from).collect();
+            assert_eq!(parsed(line).unwrap().command, Command::Survey { images }, "{line}");
         }
     }
 
@@ -557,6 +575,12 @@ mod tests {
             "probe",
             "check",
             "check a b",
+            "survey",
+            "survey --json",
+            "survey a --drive",
+            "survey a --as-written",
+            "survey a --wait 5",
+            "survey a -R",
             "sample",
             "make",
             "make a b --as-written",

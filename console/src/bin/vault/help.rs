@@ -13,11 +13,11 @@ vault: look into a UDF disc. An image is a file or a drive, and is only read.
   vault tree IMAGE [PATH]      the same as ls -R, drawn as a tree
   vault cat IMAGE PATH         a file's bytes; PATH is names between slashes
   vault get IMAGE PATH FILE    a file's bytes, to FILE, which is replaced
-  vault get IMAGE -o TO PATH.. many files, each to its own name in folder TO
-  vault get -r IMAGE -o TO     all of the disc, or with PATH.. all below these
+  vault get IMAGE -o TO PATH.. many files to folder TO; get -r: all of a disc
   vault stat IMAGE [PATH]      ICB, kind, extents; or volume descriptors, maps
   vault probe IMAGE            whether it has a recognition sequence: yes or no
   vault check IMAGE            descriptors out of place, or with a ruined body
+  vault survey IMAGE..         files, bytes, extents and refusals, in figures
   vault make IMAGE FILE..      writes a vault of up to 64 files, by their names
   vault sample FILE            writes a sample show; vault alone gives a tour
   --as-written    take a name on PATH byte for byte; else ASCII case is ignored
@@ -27,7 +27,7 @@ vault: look into a UDF disc. An image is a file or a drive, and is only read.
   --copy, --drive   read to memory first, or a sector at a time; else mapped
   --json, --sectors      for other programs; the sectors that each call wanted
 vault COMMAND --help has the rest of a command, and vault --version what it is.
-Status: 0 done, 1 to 14 refused by that number, 64 wrong usage, 65 wrong, or a
+Status: 0 done, 1 to 15 refused by that number, 64 wrong usage, 65 wrong, or a
 no, 66 no image, 67 not all read, 68 limit, 70 unknown, 74 no output.
 ";
 
@@ -55,7 +55,7 @@ const IMAGES: &str = "
 const DRIVES: &str = "  --drive    read it sector by sector, as they are wanted, without a map\n";
 
 /// A command, what it says of itself, and whether it has paths, reads an image, and can be asked of a drive.
-const COMMANDS: [(&str, &str, [bool; 3]); 12] = [
+const COMMANDS: [(&str, &str, [bool; 3]); 13] = [
     ("label", "vault label IMAGE\nPrints the volume's name.\n", [false, true, true]),
     (
         "info",
@@ -100,6 +100,13 @@ const COMMANDS: [(&str, &str, [bool; 3]); 12] = [
         "check",
         "vault check IMAGE\nPrints each descriptor that isn't where its tag says, or whose body isn't the\n\
          one that its tag has the CRC of, and what can't be read: status 65, 67.\n  --json     as one document\n",
+        [false, true, false],
+    ),
+    (
+        "survey",
+        "vault survey IMAGE..\nPrints a line of figures for each image, and one for all: files, directories,\n\
+         bytes, extents, sectors that reading each file takes, the longest chain, and\n\
+         files that can't be read, as NUMBER:FILES; of an image that can't, why.\n  --json     as one document\n",
         [false, true, false],
     ),
     (

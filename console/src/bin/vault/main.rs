@@ -24,6 +24,7 @@ mod report;
 mod signals;
 mod steps;
 mod style;
+mod survey;
 mod tour;
 mod tree;
 mod wait;
@@ -37,6 +38,7 @@ use image::Image;
 use log::{Log, say};
 use std::io::{self, BufWriter, Write};
 use std::process::ExitCode;
+use survey::Taken;
 
 fn main() -> ExitCode {
     match run() {
@@ -66,6 +68,7 @@ fn answer(args: &Args, out: &mut impl Write, log: &mut Log) -> Result<(), Failur
         Command::Tour => tour::give(out),
         Command::Sample { file } => file::Target::at(file)?.write(&tour::sample()?),
         Command::Make { image, files } => make::make(image, files, out),
+        Command::Survey { images } => survey::survey(images, Taken { how: args.how, copied: args.copy }, args.style.is_json, out, log),
         Command::Ask { image, question } => {
             if let Question::Get { file, .. } = question {
                 file::apart(image, file)?;

@@ -1,0 +1,274 @@
+//! Figures over a shelf of images.
+
+use crate::answer::Refusal;
+use crate::calls;
+use crate::how::How;
+use crate::room::{FIRST, MOST_DIRECTORY, Room};
+use std::fmt;
+use strandlodge_sys::vault::{BAD_SHELF, DONE, FIGURES};
+
+/// How many answer numbers there are: 0, and the refusals'.
+const ANSWERS: usize = BAD_SHELF as usize + 1;
+
+/// How many figures stand in front of those by answer number; the chain stands behind.
+const FRONT: usize = 5;
+
+type Row = [u64; FIGURES];
+
+/// A figure: a number of any size, as far as 64 bits hold it.
+#[derive(Debug, Clone, Copy, PartialEq, Eq, Hash, Default)]
+pub struct Figure {
+    /// Held at 2^64 - 1.
+    pub number: u64,
+    /// It passes 2^64 - 1.
+    pub over: bool,
+}
+
+impl Figure {
+    /// There is none of what it counts.
+    pub fn is_zero(self) -> bool {
+        self == Figure::default()
+    }
+}
+
+impl From<u64> for Figure {
+    fn from(number: u64) -> Figure {
+        Figure { number, over: false }
+    }
+}
+
+/// The number; or `over`.
+impl fmt::Display for Figure {
+    fn fmt(&self, f: &mut fmt::Formatter<'_>) -> fmt::Result {
+        if self.over { f.pad("over") } else { self.number.fmt(f) }
+    }
+}
+
+/// The figures of an image or of a shelf. Files and directories are those that [`Vault::show`](crate::Vault::show) at 16 levels lists, each once for each
+/// path; the root isn't counted.
+#[derive(Debug, Clone, Copy, PartialEq, Eq, Hash, Default)]
+pub struct Figures {
+    /// Files found, those that can't be read among them.
+    pub files: Figure,
+    /// Directories.
+    pub directories: Figure,
+    /// What the files that can be read have, added up.
+    pub bytes: Figure,
+    /// Their extents, as [`Vault::extents`](crate::Vault::extents) lists them.
+    pub extents: Figure,
+    /// The sectors that reading each file asks for, also those that are refused; not those of opening, of the tree and of the extent lists.
+    pub sectors: Figure,
+    /// How many files have each answer number: 0 are those that can be read.
+    pub files_by_answer: [Figure; ANSWERS],
+    /// How many images have each, of their opening or of their tree. One that has another than 0 has no other figure.
+    pub images_by_answer: [Figure; ANSWERS],
+    /// The most continuations of allocation descriptors that were followed for a file that can be read.
+    pub chain: Figure,
+}
+
+impl Figures {
+    /// Why an image wasn't surveyed; of a shelf, the first of these by its number. None where each was.
+    pub fn refusal(&self) -> Option<Refusal> {
+        refused(&self.images_by_answer).next().map(|(why, _)| why)
+    }
+
+    /// How many files are refused so.
+    pub fn files_refused(&self, why: Refusal) -> Figure {
+        by(&self.files_by_answer, why)
+    }
+
+    /// How many images are refused so.
+    pub fn images_refused(&self, why: Refusal) -> Figure {
+        by(&self.images_by_answer, why)
+    }
+
+    /// Each refusal that a file has, by its number, and how many have it.
+    pub fn refused_files(&self) -> impl Iterator<Item = (Refusal, Figure)> + '_ {
+        refused(&self.files_by_answer)
+    }
+
+    /// Each refusal that an image has, by its number, and how many have it.
+    pub fn refused_images(&self) -> impl Iterator<Item = (Refusal, Figure)> + '_ {
+        refused(&self.images_by_answer)
+    }
+
+    /// From a place of a row (docs/RULES.md, 16.3).
+    fn of(place: &Row) -> Figures {
+        let figure = |n: usize| Figure { number: place[2 * n], over: place[2 * n + 1] != 0 };
+        Figures {
+            files: figure(0),
+            directories: figure(1),
+            bytes: figure(2),
+            extents: figure(3),
+            sectors: figure(4),
+            files_by_answer: std::array::from_fn(|n| figure(FRONT + n)),
+            images_by_answer: std::array::from_fn(|n| figure(FRONT + ANSWERS + n)),
+            chain: figure(FRONT + 2 * ANSWERS),
+        }
+    }
+
+    fn place(&self) -> impl Iterator<Item = u64> + '_ {
+        let front = [self.files, self.directories, self.bytes, self.extents, self.sectors];
+        let all = front.into_iter().chain(self.files_by_answer).chain(self.images_by_answer).chain([self.chain]);
+        all.flat_map(|figure| [figure.number, u64::from(figure.over)])
+    }
+}
+
+/// Of a refusal that isn't in the table there are none.
+fn by(figures: &[Figure; ANSWERS], why: Refusal) -> Figure {
+    usize::try_from(why.number()).ok().and_then(|number| figures.get(number)).copied().unwrap_or_default()
+}
+
+fn refused(figures: &[Figure; ANSWERS]) -> impl Iterator<Item = (Refusal, Figure)> + '_ {
+    let numbered = figures.iter().enumerate().filter(|(_, figure)| !figure.is_zero());
+    numbered.filter_map(|(number, figure)| Some((Refusal::of(number as u64)?, *figure)))
+}
+
+/// The figures of a shelf: of each image, in the order given, and of all.
+#[derive(Debug, Clone, PartialEq, Eq, Hash)]
+pub struct Survey {
+    /// Of each image.
+    pub images: Vec<Figures>,
+    /// Of the shelf: theirs added up, and the longest of the chains.
+    pub total: Figures,
+}
+
+/// Surveys images: the figures of each, and of all. An image that can't be opened, or whose tree is refused, keeps none of the others back, and is counted
+/// under its answer number; so is a file that can't be read.
+///
+/// Each is surveyed as by [`survey_image`]. The call is refused, by 15, only where there is no memory for the figures.
+///
+/// ```
+/// # fn main() -> Result<(), Box<dyn std::error::Error>> {
+/// use strandlodge::{How, Refusal};
+/// let image = strandlodge::write(&[("9", &b"cue 9"[..]), ("10.1A", b"cue 10.1A")])?;
+/// let survey = strandlodge::survey(&[&image[..], b"no disc"], How::default())?;
+/// assert_eq!((survey.images[0].files.number, survey.total.bytes.number), (2, 14));
+/// assert_eq!(survey.images[1].refusal(), Some(Refusal::Io));
+/// # Ok(())
+/// # }
+/// ```
+pub fn survey(images: &[impl AsRef<[u8]>], how: How) -> Result<Survey, Refusal> {
+    let mut figures = Vec::new();
+    figures.try_reserve_exact(images.len()).map_err(|_| Refusal::BadShelf)?;
+    figures.extend(images.iter().map(|image| survey_image(image.as_ref(), how)));
+    let total = survey_total(&figures)?;
+    Ok(Survey { images: figures, total })
+}
+
+/// The figures of one image: for who has one at a time, and adds them up by [`survey_total`].
+///
+/// The directories on the way down a tree stand in a work space together, and a tree that doesn't fit is refused by 6. Here that begins with 64 KiB and is
+/// doubled, to 256 MiB at most; [`survey_shelf`] takes one of any length. A directory is gone through once for each path to it, as by
+/// [`Vault::show`](crate::Vault::show): of a disc that was made to do harm these may be more than can be counted.
+///
+/// ```
+/// # fn main() -> Result<(), Box<dyn std::error::Error>> {
+/// # let image = strandlodge::write(&[("9", b"cue 9")])?;
+/// let figures = strandlodge::survey_image(&image, strandlodge::How::default());
+/// println!("{} files, {} bytes", figures.files, figures.bytes);
+/// # Ok(())
+/// # }
+/// ```
+pub fn survey_image(image: &[u8], how: How) -> Figures {
+    let (mut work, lengths) = (Room::new(FIRST, MOST_DIRECTORY), [image.len() as u64]);
+    loop {
+        let mut row = [0; 2 * FIGURES];
+        let answer = calls::survey(image, &lengths, how.number(), &mut row, &mut work.lent);
+        // It is always done: the length is the slice's, and there are two places.
+        let figures = row.first_chunk().filter(|_| answer == DONE).map_or_else(Figures::default, Figures::of);
+        if figures.refusal() != Some(Refusal::NoWork) || !work.double() {
+            return figures;
+        }
+    }
+}
+
+/// Surveys images that stand one behind another in one slice, from its front, each as long as `lengths` says, by one call of the archive. The figures are
+/// defined by the work space's length: an image whose tree doesn't fit is refused by 6. It is all zero on return.
+///
+/// Refused by 15 where the lengths pass the slice, or where there is no memory for the figures.
+///
+/// ```
+/// # fn main() -> Result<(), Box<dyn std::error::Error>> {
+/// use strandlodge::{How, survey_shelf};
+/// let [one, two] = [strandlodge::write(&[("9", b"cue 9")])?, strandlodge::write(&[("10", b"cue 10")])?];
+/// let shelf = survey_shelf(&[&one[..], &two].concat(), &[one.len() as u64, two.len() as u64], How::default(), &mut [0; 4096])?;
+/// assert_eq!((shelf.images.len(), shelf.total.files.number), (2, 2));
+/// # Ok(())
+/// # }
+/// ```
+pub fn survey_shelf(shelf: &[u8], lengths: &[u64], how: How, work: &mut [u8]) -> Result<Survey, Refusal> {
+    let mut row = zeros(lengths.len())?;
+    done(calls::survey_in(shelf, lengths, how.number(), &mut row, work))?;
+    let mut images = places(&row)?;
+    let total = images.pop().unwrap_or_default();
+    Ok(Survey { images, total })
+}
+
+/// The total of figures, as [`survey`] gives it: each added up, and the longest of the chains. One that is over makes that of the total so. Refused, by 15,
+/// only where there is no memory for it.
+///
+/// ```
+/// # fn main() -> Result<(), Box<dyn std::error::Error>> {
+/// use strandlodge::{Figures, survey_total};
+/// let most = Figures { bytes: u64::MAX.into(), ..Figures::default() };
+/// let one = Figures { bytes: 1.into(), ..Figures::default() };
+/// assert!(survey_total(&[most, one])?.bytes.over && !survey_total(&[most])?.bytes.over);
+/// # Ok(())
+/// # }
+/// ```
+pub fn survey_total(images: &[Figures]) -> Result<Figures, Refusal> {
+    let mut row = zeros(images.len())?;
+    row.iter_mut().zip(images.iter().flat_map(Figures::place)).for_each(|(to, number)| *to = number);
+    done(calls::survey_total(&mut row, images.len()))?;
+    Ok(row.last_chunk().map_or_else(Figures::default, Figures::of))
+}
+
+/// A row for so many images, and for the shelf.
+fn zeros(images: usize) -> Result<Vec<u64>, Refusal> {
+    let (numbers, mut row) = (images.saturating_add(1).saturating_mul(FIGURES), Vec::new());
+    row.try_reserve_exact(numbers).map_err(|_| Refusal::BadShelf)?;
+    row.resize(numbers, 0);
+    Ok(row)
+}
+
+fn places(row: &[u64]) -> Result<Vec<Figures>, Refusal> {
+    let (places, _) = row.as_chunks::<FIGURES>();
+    let mut figures = Vec::new();
+    figures.try_reserve_exact(places.len()).map_err(|_| Refusal::BadShelf)?;
+    figures.extend(places.iter().map(Figures::of));
+    Ok(figures)
+}
+
+fn done(answer: u64) -> Result<(), Refusal> {
+    Refusal::of(answer).map_or(Ok(()), Err)
+}
+
+#[cfg(test)]
+mod tests {
+    use super::*;
+
+    /// Each number of a place stands where it is to, and comes back.
+    #[test]
+    fn a_place_is_read_as_it_is_written() {
+        let place: Row = std::array::from_fn(|n| if n % 2 == 0 { 100 + n as u64 } else { (n as u64 / 2) % 2 });
+        let figures = Figures::of(&place);
+        assert_eq!(figures.place().collect::<Vec<_>>(), place);
+        assert_eq!((figures.files.number, figures.directories.number, figures.sectors.number, figures.chain.number), (100, 102, 108, 174));
+        assert_eq!((figures.files_by_answer[0].number, figures.images_by_answer[0].number), (110, 142));
+        assert_eq!((figures.files_refused(Refusal::Io).number, figures.images_refused(Refusal::BadShelf).number), (112, 172));
+        assert!(figures.files_refused(Refusal::Unknown(16)).is_zero() && figures.files_refused(Refusal::Unknown(u64::MAX)).is_zero());
+    }
+
+    #[test]
+    fn what_is_over_says_so() {
+        assert_eq!(
+            (Figure::from(7).to_string(), Figure { number: u64::MAX, over: true }.to_string()),
+            ("7".to_string(), "over".to_string())
+        );
+        assert_eq!(
+            (format!("{:5}", Figure::from(7)), format!("{:>5}", Figure { number: 0, over: true })),
+            ("    7".into(), " over".into())
+        );
+    }
+}

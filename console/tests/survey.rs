@@ -1,0 +1,336 @@
+//! Surveys, held to a walk over each stored image by the other calls, to the stored answers of the program `survey_cases`, and to one another; and the
+//! command `vault survey`.
+
+mod common;
+
+use common::command::{Folder, Said, left_out, tool};
+use common::input::Input;
+use common::{Disc, SECTOR, named, show};
+use std::process::Command;
+use strandlodge::udf::{AllocationExtentDescriptor, FileEntry};
+use strandlodge::{Counted, Figure, Figures, How, LbAddr, LongAd, Refusal, Survey};
+use strandlodge::{survey, survey_image, survey_shelf, survey_total};
+use strandlodge_sys::sparse::expand;
+
+fn how(number: usize) -> How {
+    How { checked: number & 1 != 0, maps: number & 2 != 0, highest: number & 4 != 0 }
+}
+
+/// The images of the stored lists, each once.
+fn stored() -> Vec<Vec<u8>> {
+    let lists: [(&[u8], bool); 6] = [
+        (include_bytes!("../../crates/volume_cases/data/images"), false),
+        (include_bytes!("../../crates/vault_cases/data/images"), true),
+        (include_bytes!("../../crates/tree_cases/data/images"), true),
+        (include_bytes!("../../crates/stack_cases/data/images"), true),
+        (include_bytes!("../../crates/matching_cases/data/images"), true),
+        (include_bytes!("../../crates/growing_cases/data/images"), true),
+    ];
+    let mut images = vec![show(), Vec::new()];
+    for (list, has_queries) in lists {
+        let mut all = Input(list);
+        while !all.0.is_empty() {
+            all.sized(2);
+            images.push(expand(all.sized(4)).unwrap());
+            if has_queries {
+                all.sized(4);
+            }
+        }
+    }
+    images
+}
+
+/// A shelf of `survey_cases`, and its surveys: how the images are opened, the work space, and their lengths.
+struct Shelf {
+    bytes: Vec<u8>,
+    queries: Vec<(How, usize, Vec<u64>)>,
+}
+
+/// The stored shelves. Queries that a slice can't have, with choices that aren't there, are left out, as are totals.
+fn shelves() -> Vec<Shelf> {
+    let (mut all, mut shelves) = (Input(include_bytes!("../../crates/survey_cases/data/shelves")), Vec::new());
+    while !all.0.is_empty() {
+        all.sized(2);
+        let (bytes, mut asked, mut queries) = (expand(all.sized(4)).unwrap(), Input(all.sized(4)), Vec::new());
+        while !asked.0.is_empty() {
+            let [what, chosen, _places, work, numbers] = [(); 5].map(|()| asked.number(4));
+            let lengths: Vec<u64> = (0..numbers).map(|_| asked.number(8) as u64).collect();
+            if what == 0 && chosen < 8 {
+                queries.push((how(chosen), work, lengths));
+            }
+        }
+        shelves.push(Shelf { bytes, queries });
+    }
+    shelves
+}
+
+/// The images of a shelf; none where they pass it.
+fn cut(shelf: &[u8], lengths: &[u64]) -> Option<Vec<Vec<u8>>> {
+    let mut rest = shelf;
+    let one = |length: &u64| {
+        let (image, behind) = rest.split_at_checked(usize::try_from(*length).ok()?)?;
+        rest = behind;
+        Some(image.to_vec())
+    };
+    lengths.iter().map(one).collect()
+}
+
+/// How many continuations the descriptors of a file that can be read go on in: its entry's area, and then each that it leads to.
+fn chain(vault: &Counted, icb: LongAd) -> u64 {
+    let at = |sector: u64| &vault.image()[sector as usize * SECTOR..];
+    let entry = FileEntry::parse(at(vault.icb_sector(icb).unwrap())).unwrap();
+    let size = [8, 16, 20].get(usize::from(entry.icb_tag.flags & 7)).copied().unwrap_or(usize::MAX);
+    let place = |block, partition_ref: Option<u16>| match partition_ref {
+        Some(partition_ref) => vault.sector_of(LbAddr { block, partition_ref }),
+        None => Some(vault.icb_sector(icb).unwrap() - u64::from(icb.location.block) + u64::from(block)),
+    };
+    let (mut next, mut links) = (entry.continuation.map(|next| (next.block, next.partition_ref)), 0);
+    while let Some((block, partition_ref)) = next {
+        links += 1;
+        let bytes = at(place(block, partition_ref).unwrap());
+        let length = AllocationExtentDescriptor::parse(bytes).unwrap().length_of_allocation_descriptors as usize;
+        let area = &bytes[AllocationExtentDescriptor::HEADER_SIZE..][..length];
+        let last = area.chunks_exact(size).map(|ad| (Input(ad).number(4), ad)).find(|(raw, _)| raw & 0x3fff_ffff == 0 || raw >> 30 == 3);
+        next = last.filter(|(raw, _)| raw & 0x3fff_ffff != 0).map(|(_, ad)| {
+            // Behind the recorded and the information length where it is an ext_ad.
+            let mut place = Input(&ad[if size == 20 { 12 } else { 4 }..]);
+            (place.number(4) as u32, (size > 8).then(|| place.number(2) as u16))
+        });
+    }
+    links
+}
+
+/// The figures of an image by its opening, its show, and for each file its read and its extents.
+fn walked(image: &[u8], how: How) -> Figures {
+    let mut figures = Figures::default();
+    let add = |figure: &mut Figure, n: u64| figure.number += n;
+    let show = Counted::open_as(image, how).and_then(|vault| Ok((vault.value, vault.show(16)?.value)));
+    let (vault, show) = match show {
+        Ok(opened) => opened,
+        Err(refused) => {
+            add(&mut figures.images_by_answer[refused.number() as usize], 1);
+            return figures;
+        }
+    };
+    add(&mut figures.images_by_answer[0], 1);
+    for entry in show.map(|one| one.entry) {
+        if entry.is_directory {
+            add(&mut figures.directories, 1);
+            continue;
+        }
+        add(&mut figures.files, 1);
+        match vault.read_file(entry.icb) {
+            Ok(read) => {
+                add(&mut figures.files_by_answer[0], 1);
+                add(&mut figures.bytes, read.len() as u64);
+                add(&mut figures.sectors, read.sectors);
+                add(&mut figures.extents, vault.extents(entry.icb).unwrap().len() as u64);
+                figures.chain.number = figures.chain.number.max(chain(&vault, entry.icb));
+            }
+            Err(refused) => {
+                add(&mut figures.files_by_answer[refused.number() as usize], 1);
+                add(&mut figures.sectors, refused.sectors);
+            }
+        }
+    }
+    figures
+}
+
+#[test]
+fn every_stored_image_is_surveyed_as_it_is_walked() {
+    let (mut files, mut images) = (0, 0);
+    for image in stored() {
+        for how in (0..8).map(how) {
+            let figures = survey_image(&image, how);
+            assert_eq!(figures, walked(&image, how));
+            files += figures.files.number;
+            images += figures.images_by_answer[0].number;
+        }
+    }
+    assert!(files > 4_000 && images > 450, "{files} {images}");
+}
+
+/// The images of a shelf are surveyed together as they are one by one, and as they are walked; and a file of each refusal is counted.
+#[test]
+fn a_shelf_is_its_images() {
+    let (mut refused, mut chain, mut asked) = (Vec::new(), 0, 0);
+    for Shelf { bytes, queries } in shelves() {
+        for (how, work, lengths) in queries {
+            let given = survey_shelf(&bytes, &lengths, how, &mut vec![0xa5; work]);
+            let Some(images) = cut(&bytes, &lengths) else {
+                assert_eq!(given, Err(Refusal::BadShelf));
+                continue;
+            };
+            let (given, alone) = (given.unwrap(), survey(&images, how).unwrap());
+            assert_eq!(survey_total(&given.images).unwrap(), given.total);
+            assert_eq!(alone.images, images.iter().map(|image| walked(image, how)).collect::<Vec<_>>());
+            // With less work space than is lent here an image may be refused by 6.
+            if given.total.images_refused(Refusal::NoWork).is_zero() {
+                assert_eq!(given, alone);
+            }
+            refused.extend(given.total.refused_files().map(|(why, _)| why.number()));
+            chain = chain.max(given.total.chain.number);
+            asked += 1;
+        }
+    }
+    refused.sort();
+    refused.dedup();
+    assert_eq!((refused, chain), (vec![1, 2, 4, 10], 32));
+    assert!(asked > 100, "{asked}");
+}
+
+/// The figures of a place that aren't 0, as `survey_cases` prints them.
+fn place(line: &str) -> Vec<(usize, u64)> {
+    line.split(' ').skip(1).map(|word| word.split_once(':').unwrap()).map(|(at, n)| (at.parse().unwrap(), n.parse().unwrap())).collect()
+}
+
+fn placed(figures: &Figures) -> Vec<(usize, u64)> {
+    let front = [figures.files, figures.directories, figures.bytes, figures.extents, figures.sectors];
+    let all = front.into_iter().chain(figures.files_by_answer).chain(figures.images_by_answer).chain([figures.chain]);
+    all.enumerate().filter(|(_, figure)| !figure.is_zero()).map(|(at, figure)| (at, figure.number)).collect()
+}
+
+/// Each stored survey that is done is so here, place by place.
+#[test]
+fn surveys_are_those_that_are_stored() {
+    let mut lines = include_str!("../../crates/survey_cases/stdout").lines().peekable();
+    let (mut shelves, mut shelf, mut checked) = (shelves().into_iter(), None, 0);
+    while let Some(line) = lines.next() {
+        if line.starts_with("shelf ") {
+            shelf = shelves.next();
+        }
+        let Some(asked) = line.strip_prefix("survey how ") else { continue };
+        let mut numbers = asked.split(' ').filter_map(|word| word.parse::<u64>().ok());
+        let [chosen, _, work] = [(); 3].map(|()| numbers.next().unwrap() as usize);
+        let lengths: Vec<u64> = numbers.collect();
+        let is_done = lines.next().unwrap().starts_with("answer 0 ");
+        let mut places = Vec::new();
+        while let Some(line) = lines.next_if(|line| line.starts_with("place")) {
+            places.push(place(line));
+        }
+        if chosen < 8 && is_done {
+            let Survey { images, total } =
+                survey_shelf(&shelf.as_ref().unwrap().bytes, &lengths, how(chosen), &mut vec![0xa5; work]).unwrap();
+            assert_eq!(images.iter().chain([&total]).map(placed).collect::<Vec<_>>(), places, "{line}");
+            checked += 1;
+        }
+    }
+    assert!(checked > 100, "{checked}");
+}
+
+#[test]
+fn what_is_over_is_so_in_the_total() {
+    let of = |number, over| Figures { bytes: Figure { number, over }, ..Figures::default() };
+    let total = |all: &[Figures]| survey_total(all).unwrap().bytes;
+    let over = Figure { number: u64::MAX, over: true };
+    assert_eq!(total(&[]), Figure::default());
+    assert_eq!(total(&[of(u64::MAX, false)]), u64::MAX.into());
+    assert_eq!(total(&[of(u64::MAX - 1, false), of(1, false)]), u64::MAX.into());
+    assert_eq!(total(&[of(u64::MAX, false), of(1, false)]), over);
+    assert_eq!(total(&[of(u64::MAX, true), of(0, false), of(3, false)]), over);
+    let chain = |number: u64| Figures { chain: number.into(), files: number.into(), ..Figures::default() };
+    let both = survey_total(&[chain(3), chain(32), chain(5)]).unwrap();
+    assert_eq!((both.chain, both.files), (32.into(), 40.into()));
+    let by = |n: usize| Figures { files_by_answer: std::array::from_fn(|at| u64::from(at == n).into()), ..Figures::default() };
+    let all: Vec<Figures> = (0..16).map(by).collect();
+    assert!(survey_total(&all).unwrap().files_by_answer.iter().all(|figure| *figure == 1.into()));
+}
+
+#[test]
+fn no_images_have_no_figures() {
+    let none = Survey { images: Vec::new(), total: Figures::default() };
+    assert_eq!(survey(&[] as &[&[u8]], How::default()).unwrap(), none);
+    assert_eq!(survey_shelf(&[7; 100], &[], How::default(), &mut []).unwrap(), none);
+    assert_eq!(survey_shelf(&[7; 100], &[101], How::default(), &mut []), Err(Refusal::BadShelf));
+    assert_eq!(survey_shelf(&[7; 100], &[u64::MAX, 2], How::default(), &mut []), Err(Refusal::BadShelf));
+}
+
+/// The show with folder SHOW large, so that its work space has to grow, and below it a folder as large.
+#[test]
+fn the_work_space_grows() {
+    let mut disc = Disc::new();
+    let file = disc.file(b"cue");
+    let names = |front: &str| (0..5000).map(|n| named(&format!("{front}{n:05}"), file, false)).collect::<Vec<_>>();
+    let below = disc.directory(&names("b"));
+    let root = disc.directory(&[vec![named("BELOW", below, true)], names("a")].concat());
+    disc.root(root);
+    let figures = survey_image(&disc.0, How::default());
+    assert_eq!((figures.files, figures.directories, figures.bytes), (10_000.into(), 1.into(), 30_000.into()));
+    let within = |work: usize| survey_shelf(&disc.0, &[disc.0.len() as u64], How::default(), &mut vec![7; work]).unwrap().total;
+    assert_eq!((within(64 << 10).refusal(), within(1 << 20)), (Some(Refusal::NoWork), figures));
+}
+
+/// Two images of which one is refused, one that isn't there, and a file that can't be read.
+fn shelf() -> Folder {
+    let folder = Folder::new();
+    folder.write("show.img", &show());
+    folder.write("cut.img", &show()[..300_000]);
+    let mut ruined = show();
+    ruined[293 * SECTOR] ^= 1;
+    folder.write("ruined.img", &ruined);
+    folder
+}
+
+#[test]
+fn the_command_surveys_a_shelf() {
+    let folder = shelf();
+    let said = folder.vault(&["survey", "show.img"]);
+    let line = "       4           1              154        4          8     0       - show.img\n";
+    assert_eq!((said.status, said.out.as_str(), said.error.as_str()), (0, line, ""), "{said:?}");
+    let said = folder.vault(&["survey", "show.img", "cut.img"]);
+    let lines: Vec<&str> = said.out.lines().collect();
+    assert_eq!((said.status, lines.len(), lines[0]), (67, 3, line.trim_end()), "{said:?}");
+    assert!(
+        lines[1].starts_with("cut.img: a sector that was asked for isn't") && lines[1].contains("(refusal 1); the last sector"),
+        "{said:?}"
+    );
+    assert_eq!(lines[2], line.trim_end().replace("show.img", "total"));
+    assert_eq!(said.error, "vault: survey: images: 2, not surveyed: 1; files: 4, of which can be read: 4\n");
+    let said = folder.vault(&["survey", "ruined.img", "none.img", "show.img", "--copy"]);
+    let lines: Vec<&str> = said.out.lines().collect();
+    assert_eq!((said.status, lines.len(), lines[1]), (67, 4, "none.img: there is no such file"), "{said:?}");
+    let total = "       8           2              281        7         15     0     2:1 total";
+    assert!(lines[0].ends_with("     0     2:1 ruined.img") && lines[3] == total, "{said:?}");
+    assert_eq!(said.error, "vault: survey: images: 3, not surveyed: 1; files: 8, of which can be read: 7\n");
+    assert_eq!(folder.vault(&["survey", "ruined.img"]).status, 67);
+}
+
+/// How the images are opened is as it is chosen, and the sectors are those of the reads.
+#[test]
+fn the_command_surveys_as_it_is_chosen() {
+    let folder = shelf();
+    let mut scratched = show();
+    scratched[293 * SECTOR + 40] ^= 1;
+    folder.write("scratched.img", &scratched);
+    assert_eq!(folder.vault(&["survey", "scratched.img"]).status, 0);
+    let said = folder.vault(&["survey", "--checked", "scratched.img", "--sectors"]);
+    assert!(said.status == 67 && said.out.contains(" 10:1 scratched.img"), "{said:?}");
+    assert!(said.error.contains("sectors asked for: reads 7\n"), "{said:?}");
+    folder.write("reclosed.img", &common::reclosed());
+    let [last, highest] = [&["survey", "reclosed.img"][..], &["survey", "reclosed.img", "--highest"]].map(|words| folder.vault(words));
+    assert_eq!((last.status, highest.status), (67, 0), "{last:?} {highest:?}");
+    let said = folder.vault(&["survey", "show.img", "--maps"]);
+    assert!(said.status == 67 && said.out.contains("(refusal 4)"), "{said:?}");
+}
+
+/// One document, which another program reads, also where the name of an image is hard to write.
+#[test]
+fn the_survey_is_a_document() {
+    let folder = shelf();
+    folder.write("q\"uo\\te\u{1b}.img", &show());
+    let words = ["survey", "--json", "ruined.img", "cut.img", "none.img", "q\"uo\\te\u{1b}.img"];
+    let said = folder.vault(&words);
+    assert_eq!((said.status, said.out.lines().count()), (67, 1), "{said:?}");
+    let total = "\"total\": {\"files\": 8, \"directories\": 2, \"bytes\": 281, \"extents\": 7, \"sectors\": 15, \"chain\": 0, \
+                 \"files_by_answer\": [{\"answer\": 0, \"files\": 7}, {\"answer\": 2, \"files\": 1}], \"over\": [], \
+                 \"images_by_answer\": [{\"answer\": 0, \"images\": 2}, {\"answer\": 1, \"images\": 1}]}}\n";
+    assert!(said.out.ends_with(total), "{said:?}");
+    let Some(python) = tool("python3") else {
+        return left_out("the document of a survey, read by another program", "python3");
+    };
+    folder.write("document", &said.bytes);
+    let read = "import json; d = json.load(open('document', encoding='utf-8')); \
+                print([(i['answer'], i.get('files'), i['says'] is None) for i in d['images']], d['images'][3]['image'])";
+    let read = Said::of(Command::new(&python).args(["-c", read]).current_dir(&folder.0).output().unwrap());
+    assert_eq!(read.out, "[(0, 4, True), (1, 0, False), (None, None, False), (0, 4, True)] q\"uo\\\\te\\u{1b}.img\n", "{read:?}");
+}
