@@ -8,10 +8,11 @@
  *   'Q' call (1), in noise (1), salt (1),                                       a query; with `in noise`, on an image that holds
  *       volume (95), ICB (17), room (4), work (4), how (4), matching (4),       the kept sectors alone, and noise in all others
  *       places of the lengths (4) and of the answers (4), levels (4),
- *       path length (4), path, kept sectors (4), each sector's number (4)
+ *       path length (4), path, numbers of the shelf (4), each (8), images (8),
+ *       kept sectors (4), each sector's number (4)
  *   'T' times (4), and a query as behind 'Q'                                    the query so many times over: the answer is the
- *                                                                               nanoseconds (8); call 12 copies `room` bytes,
- *                                                                               and 13 reads each path of a list by itself, or
+ *                                                                               nanoseconds (8); call 15 copies `room` bytes,
+ *                                                                               and 16 reads each path of a list by itself, or
  *                                                                               lists each directory of a show by itself
  *   'S' a query as behind 'Q', slots (4), steps at most (4),                    an opening or a read of the image, a sector at a
  *       whether a sector is denied (1), which (8), length of a slice (4)        time; the slice says that a sector can't be had
@@ -25,8 +26,9 @@
  *   an answer to 'R': state (1), length (4), bytes
  *
  * An ICB is length (4), type (1), block (4), partition (2), implementation use (6); a volume is start (4), partition (2), checked (4), maps (4),
- * volumes, numbers (four of 2 each), starts (four of 4), root (17), label (32). Room counts bytes, and slots for the extent list. Answers are
- * held back until 'F', so neither side waits for the other while both write.
+ * volumes, numbers (four of 2 each), starts (four of 4), root (17), label (32). Room counts bytes, slots for the extent list, and numbers for figures.
+ * The numbers of the shelf are the lengths of a survey's images, which are lent in the row of lengths, or the row of a total, which is the output.
+ * Answers are held back until 'F', so neither side waits for the other while both write.
  *
  * A lent buffer comes full of a pattern that tells where each byte stands, with GUARD bytes of it in front and behind. The state has a
  * bit for each thing that held: 1 the guards of the output, 2 its bytes behind the answer (all of them, if refused), 4 the guards of the
@@ -56,7 +58,7 @@ struct timespec {
 extern int clock_gettime(int clock, struct timespec *now);
 
 enum { GUARD = 64, SECTOR = 2048 };
-enum { PROBE, OPEN, LABEL, LOOKUP, FAILED, LIST, READ, PART, EXTENTS, READ_PATH, READ_ALL, SHOW, COPY, EACH };
+enum { PROBE, OPEN, LABEL, LOOKUP, FAILED, LIST, READ, PART, EXTENTS, READ_PATH, READ_ALL, SHOW, MEASURE, SURVEY, TOTAL, COPY, EACH };
 
 typedef struct {
     uint8_t *at;
@@ -75,9 +77,10 @@ typedef struct {
     vault_volume volume;
     vault_long_ad icb;
     uint32_t room, work, how, matching, lengths, answers, levels, path_length, kept;
+    uint64_t images;
 } query;
 
-static buffer image, noise, replies, lent_out, lent_work, lent_lengths, lent_answers, path, kept;
+static buffer image, noise, replies, lent_out, lent_work, lent_lengths, lent_answers, path, shelf, kept;
 static uint8_t noise_kind;
 static uint32_t noise_seed;
 
@@ -373,6 +376,14 @@ static outcome call(const query *q, const uint8_t *disc, size_t n, uint8_t *out,
         break;
     }
     case SHOW: from_reply(&o, vault_show(q->volume, disc, n, q->levels, out, q->room, work, q->work)); break;
+    case MEASURE: from_reply(&o, vault_measure(q->volume, disc, n, q->icb)); break;
+    case SURVEY: {
+        const uint64_t *lengths = (const uint64_t *)(const void *)(lent_lengths.at + GUARD);
+        o.answer = vault_survey(disc, n, lengths, q->lengths, q->how, (uint64_t *)(void *)out, q->room, work, q->work);
+        o.length = o.answer ? 0 : VAULT_FIGURES * ((uint64_t)q->lengths + 1);
+        break;
+    }
+    case TOTAL: o.answer = vault_survey_total((uint64_t *)(void *)out, q->room, q->images); break;
     case EACH:
         if (q->levels) list_each(q, disc, n, q->volume.root, q->levels, out, q->room, work);
         else each(q, disc, n, out, work);
@@ -383,10 +394,16 @@ static outcome call(const query *q, const uint8_t *disc, size_t n, uint8_t *out,
     return o;
 }
 
-/* How many bytes of the lent output a reply says were written. */
+/* The bytes of what room counts. */
+static size_t unit(const query *q) {
+    return q->call == EXTENTS ? sizeof(vault_extent) : q->call == SURVEY || q->call == TOTAL ? sizeof(uint64_t) : 1;
+}
+
+/* How many bytes of the lent output a reply says were written. The row of a total came with figures, and is looked at whole. */
 static size_t written(const query *q, const outcome *o) {
-    if (q->call == FAILED || q->call == PART || o->answer) return 0;
-    size_t n = q->call == EXTENTS ? o->length * sizeof(vault_extent) : o->length;
+    if (q->call == TOTAL) return lent_out.length;
+    if (q->call == FAILED || q->call == PART || q->call == MEASURE || o->answer) return 0;
+    size_t n = o->length * unit(q);
     return n < lent_out.length ? n : lent_out.length;
 }
 
@@ -407,6 +424,8 @@ static query take_query(void) {
     q.path_length = (uint32_t)take_number(4);
     grow(&path, q.path_length + 1);
     take_all(&path, q.path_length);
+    take_all(&shelf, take_number(4) * sizeof(uint64_t));
+    q.images = take_number(8);
     q.kept = (uint32_t)take_number(4);
     take_all(&kept, (size_t)q.kept * 4);
     return q;
@@ -415,17 +434,33 @@ static query take_query(void) {
 static void lend_rows(const query *q) {
     lend(&lent_lengths, (size_t)q->lengths * 8, q->salt);
     lend(&lent_answers, (size_t)q->answers * 4, q->salt);
+    buffer *with = q->call == SURVEY ? &lent_lengths : q->call == TOTAL ? &lent_out : 0;
+    if (with && shelf.length > with->length) exit(6);
+    if (with && shelf.length) memcpy(with->at + GUARD, shelf.at, shelf.length);
+}
+
+/* Whether a survey left the lengths of its images as they came. */
+static bool has_lengths(void) {
+    for (size_t i = 0; i < shelf.length; i++)
+        if (lent_lengths.at[GUARD + i] != shelf.at[i]) return false;
+    return true;
+}
+
+/* How many places of the rows aren't as they came: those of a list that is answered, and the lengths that a survey finds there. */
+static size_t row_places(const query *q, const outcome *o) {
+    if (q->call == READ_ALL && !o->answer) return items(q);
+    return q->call == SURVEY && has_lengths() ? q->lengths : 0;
 }
 
 static void answer(void) {
     query q = take_query();
-    uint8_t *out = lend(&lent_out, q.call == EXTENTS ? q.room * sizeof(vault_extent) : q.room, q.salt);
+    uint8_t *out = lend(&lent_out, q.room * unit(&q), q.salt);
     uint8_t *work = lend(&lent_work, q.work, q.salt);
     lend_rows(&q);
     if (q.in_noise) keep(true);
     outcome o = call(&q, q.in_noise ? noise.at : image.at, image.length, out, work);
     if (q.in_noise) keep(false);
-    size_t n = written(&q, &o), rows = q.call == READ_ALL && !o.answer ? items(&q) : 0;
+    size_t n = written(&q, &o), rows = row_places(&q, &o);
 
     give_number(o.answer, 8);
     give_number(o.count, 8);
@@ -724,7 +759,7 @@ static uint64_t now(void) {
 static void time_query(void) {
     uint32_t times = (uint32_t)take_number(4);
     query q = take_query();
-    uint8_t *out = lend(&lent_out, q.call == EXTENTS ? q.room * sizeof(vault_extent) : q.room, q.salt);
+    uint8_t *out = lend(&lent_out, q.room * unit(&q), q.salt);
     uint8_t *work = lend(&lent_work, q.work, q.salt);
     lend_rows(&q);
     call(&q, image.at, image.length, out, work);

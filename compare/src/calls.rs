@@ -1,6 +1,6 @@
 //! The calls of include/vault.h: what is asked, and what was answered.
 
-use strandlodge_sys::vault::{AS_WRITTEN, CASE_IGNORED, CHECKED, MAPS};
+use strandlodge_sys::vault::{AS_WRITTEN, CASE_IGNORED, CHECKED, FIGURES, MAPS};
 
 #[derive(Clone, Copy, PartialEq, Eq, Debug, PartialOrd, Ord)]
 #[repr(u8)]
@@ -17,10 +17,13 @@ pub enum Call {
     ReadPath,
     ReadAll,
     Show,
+    Measure,
+    Survey,
+    Total,
 }
 
 impl Call {
-    pub const ALL: [Call; 12] = [
+    pub const ALL: [Call; 15] = [
         Call::Probe,
         Call::Open,
         Call::Label,
@@ -33,23 +36,53 @@ impl Call {
         Call::ReadPath,
         Call::ReadAll,
         Call::Show,
+        Call::Measure,
+        Call::Survey,
+        Call::Total,
     ];
 
     pub fn name(self) -> &'static str {
-        ["probe", "open", "label", "lookup", "failed", "list", "read", "part", "extents", "read_path", "read_all", "show"][self as usize]
+        [
+            "probe",
+            "open",
+            "label",
+            "lookup",
+            "failed",
+            "list",
+            "read",
+            "part",
+            "extents",
+            "read_path",
+            "read_all",
+            "show",
+            "measure",
+            "survey",
+            "survey_total",
+        ][self as usize]
     }
 
     pub fn has_work(self) -> bool {
-        matches!(self, Call::Lookup | Call::Failed | Call::List | Call::ReadPath | Call::ReadAll | Call::Show)
+        matches!(self, Call::Lookup | Call::Failed | Call::List | Call::ReadPath | Call::ReadAll | Call::Show | Call::Survey)
     }
 
     pub fn has_room(self) -> bool {
-        matches!(self, Call::Label | Call::List | Call::Read | Call::Extents | Call::ReadPath | Call::ReadAll | Call::Show)
+        use Call::*;
+        matches!(self, Label | List | Read | Extents | ReadPath | ReadAll | Show | Survey | Total)
     }
 
     /// It says where in the image, or in the path, its answer stands.
     pub fn has_place(self) -> bool {
         matches!(self, Call::Failed | Call::Part)
+    }
+
+    /// It opens what it is asked about, as it is told.
+    pub fn opens(self) -> bool {
+        matches!(self, Call::Open | Call::Label | Call::Survey)
+    }
+
+    /// It is about a volume or an image, and not about numbers alone, and may be told to check or to go through maps.
+    pub fn has_choices(self) -> bool {
+        !matches!(self, Call::Probe | Call::Total)
     }
 
     /// It goes along a path, or a list of them.
@@ -135,7 +168,7 @@ impl Choice {
     }
 }
 
-/// What is asked of an image. Room counts bytes, and slots for the extent list.
+/// What is asked of an image. Room counts bytes, slots for the extent list, and numbers for figures.
 #[derive(Clone, Debug)]
 pub struct Query {
     pub call: Call,
@@ -147,21 +180,28 @@ pub struct Query {
     pub matching: u32,
     pub room: usize,
     pub work: usize,
-    /// The places of the rows of a list of paths: of the lengths, and of the answers.
+    /// The places of the rows of a list of paths: of the lengths, and of the answers. A survey has the first.
     pub places: [usize; 2],
     /// The choices, for the calls that open.
     pub how: u32,
     /// The levels of a show.
     pub levels: u32,
+    /// Of a survey the lengths of the images, which stand one behind another; of a total the row of figures as it comes.
+    pub shelf: Vec<u64>,
+    /// How many places a total is of.
+    pub images: u64,
 }
+
+/// The numbers of a place of figures.
+pub const PLACE: usize = FIGURES;
 
 /// Memory to spare: more than any answer has.
 pub const PLENTY: usize = usize::MAX;
 
 impl Query {
     pub fn of(call: Call, volume: Volume) -> Query {
-        let (icb, path, matching) = (Icb::default(), Vec::new(), CASE_IGNORED);
-        Query { call, volume, icb, path, how: 0, matching, room: PLENTY, work: PLENTY, places: [0; 2], levels: 0 }
+        let (icb, path, matching, shelf) = (Icb::default(), Vec::new(), CASE_IGNORED, Vec::new());
+        Query { call, volume, icb, path, how: 0, matching, room: PLENTY, work: PLENTY, places: [0; 2], levels: 0, shelf, images: 0 }
     }
 
     pub fn on(call: Call, volume: Volume, icb: Icb) -> Query {
@@ -175,6 +215,16 @@ impl Query {
     /// A whole show.
     pub fn showing(volume: Volume, levels: u32) -> Query {
         Query { levels, ..Query::of(Call::Show, volume) }
+    }
+
+    /// A survey of images of these lengths.
+    pub fn survey(how: u32, lengths: &[u64]) -> Query {
+        Query { how, shelf: lengths.to_vec(), places: [lengths.len(), 0], ..Query::of(Call::Survey, Volume::default()) }
+    }
+
+    /// The total of the first places of a row of figures, which is lent as it is.
+    pub fn total(row: Vec<u64>, images: u64) -> Query {
+        Query { images, room: row.len(), work: 0, shelf: row, ..Query::of(Call::Total, Volume::default()) }
     }
 
     /// A list of paths, with a place in each row for every one.
@@ -214,8 +264,8 @@ impl Query {
     /// Whether bodies are checked: a call that opens is told so, and the volume tells any other.
     pub fn is_checked(&self) -> bool {
         match self.call {
-            Call::Probe => false,
-            Call::Open | Call::Label => self.how & CHECKED != 0,
+            call if !call.has_choices() => false,
+            call if call.opens() => self.how & CHECKED != 0,
             _ => self.volume.checked != 0,
         }
     }
@@ -223,8 +273,8 @@ impl Query {
     /// Whether references are resolved through maps: in the same way.
     pub fn is_mapped(&self) -> bool {
         match self.call {
-            Call::Probe => false,
-            Call::Open | Call::Label => self.how & MAPS != 0,
+            call if !call.has_choices() => false,
+            call if call.opens() => self.how & MAPS != 0,
             _ => self.volume.maps != 0,
         }
     }
@@ -233,10 +283,11 @@ impl Query {
         Query { room, work, ..self.clone() }
     }
 
-    /// The bytes that are lent for its answer: a slot has 16.
+    /// The bytes that are lent for its answer: a slot has 16, and a number 8.
     pub fn room_bytes(&self) -> usize {
         match self.call {
             Call::Extents => self.room * 16,
+            Call::Survey | Call::Total => self.room * 8,
             call if call.has_room() => self.room,
             _ => 0,
         }

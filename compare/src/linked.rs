@@ -1,6 +1,6 @@
 //! The archive linked in: the calls of include/vault.h.
 
-use crate::calls::{Call, Icb, Query, Values, Volume};
+use crate::calls::{Call, Icb, PLACE, Query, Values, Volume};
 use strandlodge_sys::vault as face;
 use strandlodge_sys::vault::*;
 
@@ -36,7 +36,7 @@ pub fn opened(v: face::Volume) -> Volume {
 }
 
 /// What is lent for a call; the query says how long the path, the output, the rows and the work space are. The row of an extent list is the
-/// output, aligned to four bytes.
+/// output, aligned to four bytes, and that of figures, aligned to eight. A survey finds the lengths of its images in the row of lengths.
 #[derive(Clone, Copy)]
 pub struct Lends {
     pub image: *const u8,
@@ -83,6 +83,13 @@ pub unsafe fn make(q: &Query, lends: Lends) -> Values {
             Call::ReadPath => vault_read_path(v, d, n, p, m, matching, out, q.room, work, q.work),
             Call::ReadAll => vault_read_all(v, d, n, p, m, matching, out, q.room, lengths, l, answers, a, work, q.work),
             Call::Show => vault_show(v, d, n, q.levels, out, q.room, work, q.work),
+            Call::Measure => vault_measure(v, d, n, icb),
+            // A survey says no length: it has a place for each image and one for the shelf.
+            Call::Survey => {
+                let answer = vault_survey(d, n, lengths, l, q.how, out.cast(), q.room, work, q.work);
+                Reply { answer, count: 0, length: if answer == 0 { (PLACE * (l + 1)) as u64 } else { 0 } }
+            }
+            Call::Total => Reply { answer: vault_survey_total(out.cast(), q.room, q.images as usize), count: 0, length: 0 },
         }
     };
     if q.call.has_place() {

@@ -9,7 +9,7 @@ use super::ours::{Ask, Noise, Ours, Timed};
 use super::records::*;
 #[cfg(udfread)]
 use super::udfread;
-use crate::udf::{LongAd, UdfDisc, within};
+use crate::udf::{DirEntry, LongAd, UdfDisc, within};
 use std::hint::black_box;
 use std::io::Cursor;
 use std::time::Instant;
@@ -199,6 +199,25 @@ fn show(each: bool) -> Row {
     Row { name: format!("{name}, 5,000 cues in 40 folders, three deep"), disc: d, query, directories, copy: None, each }
 }
 
+/// The same, surveyed: the original lists each directory and reads each cue.
+fn survey() -> Row {
+    let r = show(false);
+    let query = Query::survey(0, &[r.disc.image.len() as u64]).with(PLENTY, r.query.work);
+    Row { name: "survey, 5,000 cues in 40 folders, three deep".to_string(), query, ..r }
+}
+
+/// A file measured; the original has no call for it but its read.
+fn measured(r: Row) -> Row {
+    Row { name: r.name.replace("read", "measure"), query: Query { call: Call::Measure, ..r.query }, copy: None, ..r }
+}
+
+/// The original's listing of each directory of a show, and its read of each file.
+fn survey_each(disc: &mut UdfDisc<Cursor<&[u8]>>, icb: LongAd) -> usize {
+    let Ok(entries) = disc.read_directory(icb) else { return 0 };
+    let one = |e: &DirEntry| if e.is_directory { survey_each(disc, e.icb) } else { disc.read_file(e.icb).map_or(0, |bytes| bytes.len()) };
+    entries.iter().map(one).sum()
+}
+
 /// The original's listing of each directory of a show.
 fn list_each(disc: &mut UdfDisc<Cursor<&[u8]>>, icb: LongAd) -> usize {
     let Ok(entries) = disc.read_directory(icb) else { return 0 };
@@ -261,6 +280,9 @@ fn rows() -> Vec<Box<dyn FnOnce() -> Row>> {
         Box::new(|| mapped(extents("read, 100,000 bytes in 1000 extents", 100_000, 1000))),
         Box::new(|| extents("read, 256 MiB in one extent", 256 * MIB, 1)),
         Box::new(|| extents("read, 256 MiB in 4,096 extents", 256 * MIB, 4096)),
+        Box::new(|| measured(extents("read, 4 KiB", 4096, 1))),
+        Box::new(|| measured(extents("read, 256 MiB in one extent", 256 * MIB, 1))),
+        Box::new(|| measured(extents("read, 256 MiB in 4,096 extents", 256 * MIB, 4096))),
         Box::new(|| among(false)),
         Box::new(|| among(true)),
         Box::new(|| deep(false)),
@@ -269,6 +291,7 @@ fn rows() -> Vec<Box<dyn FnOnce() -> Row>> {
         Box::new(|| deep_in_a_mebibyte(true)),
         Box::new(|| show(false)),
         Box::new(|| show(true)),
+        Box::new(survey),
     ];
     for n in [10, 100, 1000, 10_000, 100_000] {
         all.push(Box::new(move || entries(&format!("list, {n} entries"), n, Call::List, n * 64)));
@@ -299,6 +322,14 @@ pub fn original(image: &[u8], q: &Query, times: u32) -> u64 {
             Call::Lookup => drop(black_box(disc.lookup(path))),
             Call::List => drop(black_box(disc.read_directory(long(q.icb)))),
             Call::Show => drop(black_box(list_each(&mut disc, long(q.volume.root)))),
+            // Opened as a survey opens it.
+            Call::Survey => {
+                let opened = UdfDisc::open(Cursor::new(image));
+                drop(black_box(opened.map(|mut disc| {
+                    let root = disc.root_directory_icb;
+                    survey_each(&mut disc, root)
+                })));
+            }
             Call::ReadAll => path.split('\0').for_each(|path| drop(black_box(disc.read_path(path)))),
             _ => drop(black_box(disc.read_file(long(q.icb)))),
         }
@@ -323,7 +354,7 @@ impl std::fmt::Display for Spread {
 /// libudfread's time, where it is installed.
 #[cfg(udfread)]
 fn other(r: &Row, bytes: &[u8], times: u32) -> Option<u64> {
-    if matches!(r.query.call, Call::ReadAll | Call::Show) {
+    if matches!(r.query.call, Call::ReadAll | Call::Show | Call::Measure | Call::Survey) {
         return None;
     }
     udfread::time(&r.disc.image, &r.query, bytes, times)

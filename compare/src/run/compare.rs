@@ -6,21 +6,23 @@ use super::damage::damage;
 use super::disc::Disc;
 use super::expect::Expected;
 use super::ours::{Ask, Noise, Ours};
-use super::queries::{Case, Depth, cases, checked, chosen, mapped, matched, shown as shows, stacked, stepped};
+use super::queries::{
+    Case, Depth, cases, checked, chosen, mapped, matched, measured, shelved, shown as shows, stacked, stepped, surveyed, totals,
+};
 use super::random::Random;
 use super::raw::{RAW_HELD, RawAsk, RawCall, RawGiven, shown};
 use super::raw_cases::{RawCase, batch};
 use super::steps::{self, StepAsk, StepCase};
-use super::tally::{PARSED, Row, Tally};
+use super::tally::{Counted, PARSED, Row, Tally};
 use super::volumes::Sort;
 use super::{
     shapes_bodies, shapes_deleted, shapes_directories, shapes_files, shapes_mapped, shapes_matching, shapes_opening, shapes_prevailing,
-    shapes_steps,
+    shapes_steps, shapes_trees,
 };
 use super::{sparse, volumes, volumes_mapped};
 use std::panic::{AssertUnwindSafe, catch_unwind};
 use std::path::{Path, PathBuf};
-use strandlodge_sys::vault::{AMBIGUOUS, BAD_CRC, TOO_DEEP, TOO_MANY};
+use strandlodge_sys::vault::{AMBIGUOUS, BAD_CRC, BAD_SHELF, TOO_DEEP, TOO_MANY};
 
 /// So many absurd information lengths are tried on the original: a process each.
 const CHILDREN: u64 = 60;
@@ -64,6 +66,10 @@ pub struct Comparison {
     shows: Random,
     /// And for what is read a sector at a time.
     drives: Random,
+    /// And for surveys.
+    surveys: Random,
+    /// Images that weren't on a shelf yet: trees, and those at random.
+    shelf: Vec<Disc>,
 }
 
 impl Comparison {
@@ -75,7 +81,9 @@ impl Comparison {
         let stacks = Random::new(seed ^ 0x7374_6163);
         let whole = Random::new(seed ^ 0x7368_6f77);
         let drives = Random::new(seed ^ 0x6472_6976);
-        Comparison { ours, seed, enough, tally: Tally::new(), random, matchings, bodies, maps, stacks, shows: whole, drives }
+        let surveys = Random::new(seed ^ 0x7375_7276);
+        let (tally, shelf) = (Tally::new(), Vec::new());
+        Comparison { ours, seed, enough, tally, random, matchings, bodies, maps, stacks, shows: whole, drives, surveys, shelf }
     }
 
     /// Every shape first, and then volumes at random, whole and damaged, until the time is over.
@@ -102,6 +110,7 @@ impl Comparison {
                 return;
             }
         }
+        self.trees();
         self.sealed_shapes(seconds);
         self.mapped_shapes(seconds);
         let mut number = 0u64;
@@ -124,6 +133,46 @@ impl Comparison {
             self.meeting(number);
             self.sealed(number);
             self.mapped(number);
+            self.shelves(&format!("random {number}"));
+        }
+    }
+
+    /// The shapes of trees, in each of the ways, and on shelves.
+    fn trees(&mut self) {
+        for (name, disc) in shapes_trees::shapes() {
+            for asked in [Asked::Unchecked, Asked::Checked, Asked::Mapped] {
+                if self.is_over() {
+                    return;
+                }
+                let random = Random::new(self.surveys.next());
+                self.image(&name, &disc, asked, Depth::All, random);
+            }
+            self.shelf.push(disc);
+        }
+        self.shelves("trees");
+    }
+
+    /// The images since the last time, on shelves of two or three; and totals of rows by hand.
+    fn shelves(&mut self, name: &str) {
+        let mut images = std::mem::take(&mut self.shelf);
+        let random = &mut self.surveys;
+        (1..images.len()).rev().for_each(|i| images.swap(i, random.below(i + 1)));
+        let n = random.between(2, 3);
+        for (i, few) in images.chunks(n).enumerate().filter(|(_, few)| few.len() == n) {
+            if self.is_over() {
+                return;
+            }
+            let lengths: Vec<u64> = few.iter().map(|disc| disc.image.len() as u64).collect();
+            let mut shelf = few[0].clone();
+            few[1..].iter().for_each(|disc| shelf.image.extend(&disc.image));
+            let random = &mut self.surveys;
+            let made = catch_unwind(AssertUnwindSafe(|| {
+                let mut all = shelved(random, &shelf.image, &lengths);
+                all.extend(totals(random));
+                all
+            }));
+            let random = Random::new(self.surveys.next());
+            self.cases(&format!("{name}, shelf {i}"), &shelf, made.ok(), random);
         }
     }
 
@@ -239,7 +288,7 @@ impl Comparison {
 
     fn image(&mut self, name: &str, disc: &Disc, asked: Asked, depth: Depth, mut random: Random) {
         // A panic here is the original's, or a walk that isn't the original's own: either is worth a look.
-        let (matchings, stacks, whole) = (&mut self.matchings, &mut self.stacks, &mut self.shows);
+        let (matchings, stacks, whole, surveys) = (&mut self.matchings, &mut self.stacks, &mut self.shows, &mut self.surveys);
         let made = catch_unwind(AssertUnwindSafe(|| {
             let mut all = match asked {
                 Asked::Unchecked => cases(&mut random, disc, depth),
@@ -253,9 +302,25 @@ impl Comparison {
             all.extend(chosen(&mut random, disc));
             all.extend(stacked(stacks, disc, asked, depth));
             all.extend(shows(whole, disc, asked, depth));
+            all.extend(measured(disc, &all));
+            all.extend(surveyed(surveys, disc, asked, depth));
             all
         }));
-        let Ok(cases) = made else {
+        self.cases(name, disc, made.ok(), random);
+        if self.is_over() {
+            return;
+        }
+        self.steps(name, disc, asked, depth);
+        self.tally.images += 1;
+        self.tally.progress();
+        if name.starts_with("random") {
+            self.shelf.push(disc.clone());
+        }
+    }
+
+    /// The cases of an image, asked of our side; none, where the original stopped while they were made.
+    fn cases(&mut self, name: &str, disc: &Disc, made: Option<Vec<Case>>, mut random: Random) {
+        let Some(cases) = made else {
             self.keep(name, Some(disc), "the original stopped by a panic");
             return;
         };
@@ -284,9 +349,6 @@ impl Comparison {
                 return;
             }
         }
-        self.steps(name, disc, asked, depth);
-        self.tally.images += 1;
-        self.tally.progress();
     }
 
     /// The opening and the reads of the image that is loaded, a sector at a time.
@@ -341,13 +403,14 @@ impl Comparison {
         self.tally.by_the_rule[0] += u64::from(e.by_the_rule);
         e.ruined.iter().for_each(|ruined| *self.tally.ruined.entry(*ruined).or_insert(0) += 1);
         self.tally.chosen(&disc.image, case);
+        self.tally.surveyed(row, case);
         if let Some(what) = difference(e, given) {
             let text = told(&case.query, case.in_noise, e, given);
             self.keep(name, Some(disc), &format!("{what}\n{text}"));
         }
         // The process of its own has the original as it is.
-        if e.absurd && !e.by_the_rule && row == Row::Matched(Choice::CaseIgnored) && !matches!(case.query.call, Call::ReadAll | Call::Show)
-        {
+        let is_own = !matches!(case.query.call, Call::ReadAll | Call::Show | Call::Measure | Call::Survey);
+        if e.absurd && !e.by_the_rule && row == Row::Matched(Choice::CaseIgnored) && is_own {
             self.absurd(name, disc, case);
         }
     }
@@ -496,11 +559,22 @@ fn numbers(row: Row, call: Call) -> Vec<u64> {
         Call::ReadPath => vec![0, 1, 2, 3, 4, 5, 6],
         Call::ReadAll => return vec![0, TOO_MANY],
         Call::Show => vec![0, 1, 2, 4, 5, 6, TOO_DEEP],
+        Call::Measure => vec![0, 1, 2, 4],
+        Call::Survey | Call::Total => return vec![0, BAD_SHELF],
     };
     let is_ambiguous = call.has_path() && matches!(row, Row::Matched(Choice::Unambiguous) | Row::Checked | Row::Mapped);
     all.extend(is_ambiguous.then_some(AMBIGUOUS));
     all.extend(matches!(row, Row::Checked | Row::Mapped).then_some(BAD_CRC));
     all
+}
+
+/// The answer numbers that no image or file of a survey had.
+fn uncounted(tally: &Tally, row: Row) -> Vec<String> {
+    let all = [(Counted::Images, &[0, 1, 2, 3, 4, 6, TOO_DEEP, BAD_CRC][..]), (Counted::Files, &[0, 1, 2, 4, BAD_CRC])];
+    let can_be = |n: u64| n != BAD_CRC || matches!(row, Row::Checked | Row::Mapped);
+    let numbers = all.into_iter().flat_map(|(what, numbers)| numbers.iter().map(move |n| (what, *n)));
+    let never = numbers.filter(|(what, n)| can_be(*n) && !tally.counted.contains_key(&(row, *what, *n)));
+    never.map(|(what, n)| format!("{} {n}", row.counted(what))).collect()
 }
 
 /// Whether every call was answered with everything that it can be answered with.
@@ -512,6 +586,9 @@ pub fn unreached(tally: &Tally) -> Vec<String> {
         if call == Call::ReadAll {
             let never = numbers(row, Call::ReadPath).into_iter().filter(|n| !tally.items.contains_key(&(row, *n)));
             all.extend(never.map(|n| format!("{} {n}", row.items())));
+        }
+        if call == Call::Survey {
+            all.extend(uncounted(tally, row));
         }
     }
     for (id, past) in PARSED.into_iter().flat_map(|id| [(id, false), (id, true)]) {

@@ -91,7 +91,7 @@ impl Ours for Direct {
         let (mut out, mut work, mut rows) = (Lending::new(room, 0), Lending::new(work, 0), Rows::new([0; 2], 0));
         let mut each = Vec::new();
         match timed {
-            Timed::Query(q) => rows = Rows::new(q.places, 0),
+            Timed::Query(q) => rows = Rows::of(q, 0),
             Timed::Each(q) if q.call == Call::Show => {}
             Timed::Each(q) => each.extend(q.items().map(|path| q.item(path, q.room))),
             Timed::Copy(_) => {}
@@ -136,11 +136,23 @@ fn list_each(q: &Query, image: &[u8], icb: Icb, levels: u32, (out, from): (&mut 
 fn call(q: &Query, disc: &[u8], salt: u8) -> Given {
     let mut out = Lending::new(q.room_bytes(), salt);
     let mut work = Lending::new(if q.call.has_work() { q.work } else { 0 }, salt);
-    let mut rows = Rows::new(q.places, salt);
+    let mut rows = Rows::of(q, salt);
+    if q.call == Call::Total {
+        out.put(&q.shelf);
+    }
     let mut values = make(q, disc, out.lent(), work.lent(), &mut rows);
     let gives = q.call.has_room() && values.answer == 0;
-    let said = if q.call == Call::Extents { values.length.saturating_mul(16) } else { values.length };
-    let n = if gives { (said as usize).min(out.length) } else { 0 };
+    let said = match q.call {
+        Call::Extents => values.length.saturating_mul(16),
+        Call::Survey => values.length.saturating_mul(8),
+        _ => values.length,
+    };
+    let n = match q.call {
+        // The row came with figures, and is looked at whole.
+        Call::Total => out.length,
+        _ if gives => (said as usize).min(out.length),
+        _ => 0,
+    };
     values.written = out.bytes()[GUARD..GUARD + n].to_vec();
     let mut held = 0;
     held |= out.guarded() as u8;
@@ -148,13 +160,17 @@ fn call(q: &Query, disc: &[u8], salt: u8) -> Given {
     held |= (work.guarded() as u8) << 2;
     let end = GUARD + work.length;
     held |= (work.bytes()[GUARD..end].iter().all(|b| *b == 0) as u8) << 3;
-    let items = if q.call == Call::ReadAll && values.answer == 0 { q.items().count() } else { 0 };
+    let items = match q.call {
+        Call::ReadAll if values.answer == 0 => q.items().count(),
+        Call::Survey if rows.has(&q.shelf) => q.shelf.len(),
+        _ => 0,
+    };
     values.rows = rows.front(items);
     held |= (rows.guarded() as u8) << 4 | (rows.as_they_came(items) as u8) << 5;
     Given { values, held }
 }
 
-/// The rows that are lent for a list of paths.
+/// The rows that are lent for a list of paths, or for a survey.
 struct Rows {
     lengths: Lending,
     answers: Lending,
@@ -163,6 +179,20 @@ struct Rows {
 impl Rows {
     fn new([lengths, answers]: [usize; 2], salt: u8) -> Rows {
         Rows { lengths: Lending::new(lengths * 8, salt), answers: Lending::new(answers * 4, salt) }
+    }
+
+    /// Those of a query; a survey's has the lengths of the images.
+    fn of(q: &Query, salt: u8) -> Rows {
+        let mut rows = Rows::new(q.places, salt);
+        if q.call == Call::Survey {
+            rows.lengths.put(&q.shelf);
+        }
+        rows
+    }
+
+    /// Whether the row of lengths has these.
+    fn has(&mut self, lengths: &[u64]) -> bool {
+        self.lengths.bytes()[GUARD..].chunks_exact(8).zip(lengths).all(|(bytes, n)| bytes == n.to_le_bytes())
     }
 
     /// The lengths and the answers of so many paths, as far as there are places.

@@ -1,8 +1,9 @@
 //! What a query must be answered with: the original's answer, with the refusals that lent memory adds.
 
-use super::calls::{Call, Choice, Icb, Query, Values, Volume, slot};
+use super::calls::{Call, Choice, Icb, PLENTY, Query, Values, Volume, slot};
 use super::original::{self, Came, Original, icb};
 use super::prevailing;
+use super::surveys;
 use crate::udf::{DirEntry, within};
 use strandlodge_sys::vault::{AMBIGUOUS, BAD_CRC, CHECKED, HIGHEST, MAPS, TOO_DEEP, TOO_MANY};
 
@@ -21,7 +22,7 @@ pub struct Expected {
     pub by_the_rule: bool,
     /// The body for which it is refused.
     pub ruined: Option<within::Ruined>,
-    /// A show with more paths than are walked here: nothing is expected.
+    /// A show or a survey with more paths than are walked here: nothing is expected.
     pub beyond: bool,
 }
 
@@ -29,13 +30,13 @@ pub struct Expected {
 const MOST_PATHS: usize = 200_000;
 
 impl Expected {
-    fn new(answer: u64, sectors: Vec<u64>) -> Expected {
+    pub fn new(answer: u64, sectors: Vec<u64>) -> Expected {
         let values = Values { answer, count: sectors.len() as u64, ..Values::default() };
         Expected { values, sectors, directories: Vec::new(), full: 0, absurd: false, by_the_rule: false, ruined: None, beyond: false }
     }
 
     /// An answer of bytes, which are refused where they don't fit.
-    fn bytes(mut self, bytes: Vec<u8>, slots: usize, room: usize, refusal: u64) -> Expected {
+    pub fn bytes(mut self, bytes: Vec<u8>, slots: usize, room: usize, refusal: u64) -> Expected {
         self.full = slots;
         if slots > room {
             self.values.answer = refusal;
@@ -61,6 +62,9 @@ fn answered(image: &[u8], q: &Query) -> Expected {
         Call::ReadPath => reading_path(image, q),
         Call::ReadAll => reading_all(image, q),
         Call::Show => showing(image, q),
+        Call::Measure => measuring(image, q),
+        Call::Survey => surveys::surveying(image, q),
+        Call::Total => surveys::totalling(q),
         Call::List => listing(image, q),
         Call::Read => reading(image, q),
         Call::Part => parting(image, q),
@@ -70,7 +74,7 @@ fn answered(image: &[u8], q: &Query) -> Expected {
 
 /// Opened as the query chooses: by the original, or by a model of the highest numbers, or of the maps; with bodies checked the volume says so.
 /// Other choices there are none of.
-fn opened(image: &[u8], q: &Query) -> Came<(Volume, String)> {
+pub fn opened(image: &[u8], q: &Query) -> Came<(Volume, String)> {
     let came = match q.how & !CHECKED {
         0 => original::open(image),
         HIGHEST => prevailing::open(image),
@@ -109,6 +113,13 @@ fn reading(image: &[u8], q: &Query) -> Expected {
         Ok(b) => Expected::new(0, came.asked).bytes(b.clone(), b.len(), q.room, 5),
     };
     e.absurd = o.absurd;
+    e
+}
+
+/// The read with room to spare, of which nothing is written.
+fn measuring(image: &[u8], q: &Query) -> Expected {
+    let mut e = reading(image, &q.with(PLENTY, 0));
+    (e.values.written, e.full) = (Vec::new(), 0);
     e
 }
 
@@ -343,18 +354,19 @@ fn reading_all(image: &[u8], q: &Query) -> Expected {
     Expected { sectors: asked, ..all }
 }
 
-/// A whole tree so far: the sectors, the records, the work space that each directory takes with those above it, and the paths.
+/// A whole tree so far: the sectors, the records, the work space that each directory takes with those above it, the paths, and the files by theirs.
 #[derive(Default)]
-struct Tree {
-    asked: Vec<u64>,
+pub struct Tree {
+    pub asked: Vec<u64>,
     records: Vec<u8>,
-    works: Vec<usize>,
-    paths: usize,
+    pub works: Vec<usize>,
+    pub paths: usize,
+    pub files: Vec<Icb>,
 }
 
 /// What is under a directory, whose entries have this level: by the original's reading and listing of it, once for each path. `above` is what the
 /// directories above it take of the work space. An answer number, or 0 where there are too many paths.
-fn below(o: &mut Original, q: &Query, at: Icb, level: u32, above: usize, tree: &mut Tree) -> std::result::Result<(), u64> {
+pub fn below(o: &mut Original, q: &Query, at: Icb, level: u32, above: usize, tree: &mut Tree) -> std::result::Result<(), u64> {
     if level > q.levels {
         return Err(TOO_DEEP);
     }
@@ -374,6 +386,8 @@ fn below(o: &mut Original, q: &Query, at: Icb, level: u32, above: usize, tree: &
         put_entry(&mut tree.records, &entry);
         if entry.is_directory {
             below(o, q, icb(entry.icb), level + 1, work, tree)?;
+        } else {
+            tree.files.push(icb(entry.icb));
         }
     }
     Ok(())

@@ -43,10 +43,11 @@ pub fn held(ours: &mut dyn Ours, image: &[u8]) -> Result<std::result::Result<(us
     ours.load(image, Noise::Shifted(1));
     let volume = original::open(image).value.map_or(Volume::default(), |(volume, _)| volume);
     let mut queries = [Call::Probe, Call::Open, Call::Label].map(|call| Query::of(call, volume)).to_vec();
+    queries.push(Query::survey(0, &[image.len() as u64]));
     let all = walked(image, volume);
     for (path, at) in &all {
         let along = [Call::Lookup, Call::Failed, Call::ReadPath].map(|call| Query::along(call, volume, path.as_bytes()));
-        let on = [Call::List, Call::Read, Call::Part, Call::Extents].map(|call| Query::on(call, volume, *at));
+        let on = [Call::List, Call::Read, Call::Measure, Call::Part, Call::Extents].map(|call| Query::on(call, volume, *at));
         queries.extend(along.into_iter().chain(on));
     }
     for q in &queries {

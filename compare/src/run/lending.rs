@@ -27,6 +27,11 @@ impl Lending {
         unsafe { std::slice::from_raw_parts_mut(self.store.as_mut_ptr().cast(), n) }
     }
 
+    /// Numbers that the buffer comes with.
+    pub fn put(&mut self, numbers: &[u64]) {
+        self.bytes()[GUARD..].chunks_exact_mut(8).zip(numbers).for_each(|(bytes, n)| bytes.copy_from_slice(&n.to_le_bytes()));
+    }
+
     pub fn lent(&mut self) -> *mut u8 {
         self.bytes()[GUARD..].as_mut_ptr()
     }

@@ -60,7 +60,8 @@ fn line(image: &[u8], case: &Case) -> String {
             let words = lent(case, 16);
             (v.length, sum(words.chunks(4).map(|w| u32::from_le_bytes(w.try_into().unwrap()))), 0)
         }
-        Call::Label | Call::List | Call::Read | Call::ReadPath | Call::ReadAll | Call::Show => (v.length, sum_bytes(&lent(case, 1)), 0),
+        Call::Label | Call::List | Call::Read | Call::ReadPath => (v.length, sum_bytes(&lent(case, 1)), 0),
+        Call::ReadAll | Call::Show | Call::Measure | Call::Survey | Call::Total => unreachable!("what came later isn't in the list"),
     };
     format!("{} {} {} {length} {sum} {last}\n", case.query.call.name(), v.answer, v.count)
 }
@@ -156,8 +157,8 @@ pub fn write(folder: &Path) -> std::io::Result<()> {
     fs::write(folder.join("stdout"), &list.lines)?;
     let queries: usize = list.numbers.values().sum();
     println!("{images} images, {} bytes; {queries} queries, {} bytes of answers", list.images.len(), list.lines.len());
-    // Lists of paths aren't in it, so that it stays as it is.
-    for call in Call::ALL.into_iter().filter(|call| *call != Call::ReadAll) {
+    // Lists of paths, and what came behind them, aren't in it, so that it stays as it is.
+    for call in Call::ALL.into_iter().filter(|call| *call < Call::ReadAll) {
         let row: String = (0..8).map(|n| format!("{:>7}", list.numbers.get(&(call, n)).unwrap_or(&0))).collect();
         println!("{:10}{row}", call.name());
     }

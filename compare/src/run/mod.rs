@@ -34,10 +34,12 @@ mod shapes_matching;
 mod shapes_opening;
 mod shapes_prevailing;
 mod shapes_steps;
+mod shapes_trees;
 #[cfg(linked)]
 mod stepping;
 mod steps;
 mod stored;
+mod surveys;
 mod tally;
 #[cfg(udfread)]
 mod udfread;

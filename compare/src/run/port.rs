@@ -10,8 +10,8 @@ use std::path::Path;
 use std::process::{Child, ChildStdin, ChildStdout, Command, Stdio};
 
 /// The calls of port.c that are none of the reader's: a copy, and the paths of a list, or the directories of a show, each by itself.
-const COPY: u8 = 12;
-const EACH: u8 = 13;
+const COPY: u8 = 15;
+const EACH: u8 = 16;
 
 pub struct Port {
     child: Child,

@@ -1,12 +1,13 @@
 //! What is asked of an image: every call, on many paths and ICBs, with memory enough, exactly enough and too little.
 
-use super::calls::{Call, Icb, PLENTY, Query, Volume};
+use super::calls::{Call, Icb, PLACE, PLENTY, Query, Volume};
 use super::compare::Asked;
 use super::disc::Disc;
 use super::expect::{Expected, expected};
 use super::original;
 use super::prevailing;
 use super::random::Random;
+use super::surveys;
 use crate::udf::within;
 use strandlodge_sys::vault::{AS_WRITTEN, CASE_IGNORED, CHECKED, HIGHEST, MAPS, UNAMBIGUOUS};
 
@@ -415,6 +416,145 @@ pub fn shown(random: &mut Random, disc: &Disc, asked: Asked, depth: Depth) -> Ve
                 all.push(Case { expected: expected(&disc.image, &query), query, in_noise: true });
             }
         }
+    }
+    all
+}
+
+/// Every read by ICB among the cases, measured: on the image, and in noise.
+pub fn measured(disc: &Disc, cases: &[Case]) -> Vec<Case> {
+    let mut reads: Vec<&Query> = cases.iter().map(|case| &case.query).filter(|q| q.call == Call::Read).collect();
+    // Those of one file follow each other, with one room after another.
+    reads.dedup_by(|a, b| (a.volume, a.icb) == (b.volume, b.icb));
+    let measured = reads.into_iter().map(|q| Query { call: Call::Measure, ..q.with(0, 0) });
+    measured.flat_map(|q| [false, true].map(|in_noise| Case { expected: expected(&disc.image, &q), query: q.clone(), in_noise })).collect()
+}
+
+/// How the images of a survey are opened: by the choices that the image is asked with, and once in a while by another, or by a number of none.
+fn survey_choice(random: &mut Random, asked: Asked) -> u32 {
+    let how = match asked {
+        Asked::Unchecked => 0,
+        Asked::Checked => CHECKED,
+        Asked::Mapped if random.once_in(2) => MAPS | CHECKED,
+        Asked::Mapped => MAPS,
+    };
+    match random.below(12) {
+        0 | 1 => how | HIGHEST,
+        2 if random.once_in(3) => how | *random.pick(&[8, 16, 1 << 31]),
+        _ => how,
+    }
+}
+
+/// Whether an image has too many paths to be surveyed: where a directory holds itself, or has many names.
+fn is_much(image: &[u8], how: u32) -> bool {
+    let opened = expected(image, &Query { how, ..Query::of(Call::Open, Volume::default()) }).values;
+    let walked = |levels| expected(image, &Query::showing(opened.volume, levels)).directories.len();
+    opened.answer == 0 && [3, 6, 10].into_iter().any(|levels| walked(levels) > 60)
+}
+
+/// A survey with these memories: the first is asked in noise too where that can be told, and so are others once in a while.
+fn surveys_of(random: &mut Random, shelf: &[u8], queries: Vec<Query>, has_noise: bool) -> Vec<Case> {
+    let mut all = Vec::new();
+    for (i, query) in queries.into_iter().enumerate() {
+        let in_noise = has_noise && (i == 0 || random.once_in(4));
+        for in_noise in [false, true].into_iter().take(1 + usize::from(in_noise)) {
+            all.push(Case { expected: expected(shelf, &query), query: query.clone(), in_noise });
+        }
+    }
+    all.retain(|case| !case.expected.beyond);
+    all
+}
+
+/// The surveys of an image by itself: with memory to spare, exactly enough and short, cut, and beside images without a byte.
+pub fn surveyed(random: &mut Random, disc: &Disc, asked: Asked, depth: Depth) -> Vec<Case> {
+    let (how, length) = (survey_choice(random, asked), disc.image.len() as u64);
+    if is_much(&disc.image, how) {
+        return Vec::new();
+    }
+    let q = Query::survey(how, &[length]);
+    let e = expected(&disc.image, &q);
+    let most = e.directories.iter().copied().max().unwrap_or(0);
+    let some = if e.directories.is_empty() { 0 } else { *random.pick(&e.directories) };
+    let of = |lengths: &[u64], spare: usize| Query::survey(how, lengths).with(PLACE * (lengths.len() + 1) + spare, most);
+    let any = 1 + random.below(disc.image.len() + 1) as u64;
+    let cut = length.saturating_sub(*random.pick(&[1, 2047, 2048, 2049, any]));
+    let passes = *random.pick(&[[1, length], [length, u64::MAX], [1 << 63, 1 << 63], [u64::MAX, 1]]);
+    let mut all = vec![
+        of(&[length], 0),
+        q.with(2 * PLACE - 1, most),
+        q.with(random.below(2 * PLACE), most),
+        q.with(2 * PLACE, most.saturating_sub(1)),
+        q.with(2 * PLACE, some),
+        q.with(2 * PLACE, some.saturating_sub(1)),
+        q.with(2 * PLACE, 0),
+        of(&[cut], 3),
+        of(&[], 1),
+        of(&[0, length], 0),
+        of(&[length, 0], 80),
+        of(&[length + 1], 0),
+        of(&passes, 0),
+    ];
+    if depth == Depth::Some {
+        all.retain(|_| random.once_in(4));
+    }
+    all.insert(0, q.with(2 * PLACE + random.below(5), most + random.below(80)));
+    surveys_of(random, &disc.image, all, true)
+}
+
+/// The surveys of images one behind another, of these lengths in all: as long as they are, with lengths that are wrong, and with rows that are
+/// too short.
+pub fn shelved(random: &mut Random, shelf: &[u8], lengths: &[u64]) -> Vec<Case> {
+    let asked = *random.pick(&[Asked::Unchecked, Asked::Unchecked, Asked::Checked, Asked::Mapped]);
+    let how = survey_choice(random, asked);
+    let mut images = lengths.iter().scan(0, |end, n| {
+        *end += *n as usize;
+        Some(&shelf[*end - *n as usize..*end])
+    });
+    if images.any(|image| is_much(image, how)) {
+        return Vec::new();
+    }
+    let (q, numbers) = (Query::survey(how, lengths), PLACE * (lengths.len() + 1));
+    let e = expected(shelf, &q);
+    let most = e.directories.iter().copied().max().unwrap_or(0);
+    let some = if e.directories.is_empty() { 0 } else { random.pick(&e.directories).saturating_sub(1) };
+    let other = |random: &mut Random, change: fn(u64, u64) -> u64, by: u64| {
+        let (mut other, at) = (lengths.to_vec(), random.below(lengths.len()));
+        other[at] = change(other[at], by);
+        Query::survey(how, &other).with(numbers, most)
+    };
+    let (by, huge) = (*random.pick(&[1, 2047, 2048, 4096]), u64::MAX - random.below(4) as u64);
+    let all = vec![
+        q.with(numbers + random.below(90), most + random.below(80)),
+        q.with(numbers, some),
+        q.with(numbers - 1, most),
+        q.with(random.below(numbers), most),
+        other(random, u64::saturating_sub, by),
+        other(random, u64::wrapping_add, 1),
+        other(random, u64::wrapping_add, by),
+        other(random, |_, huge| huge, huge),
+    ];
+    let is_whole = lengths.iter().rev().skip(1).all(|n| n % 2048 == 0);
+    let mut cases = surveys_of(random, shelf, all[..1].to_vec(), is_whole);
+    cases.extend(surveys_of(random, shelf, all[1..].to_vec(), false));
+    cases
+}
+
+/// Totals of rows of any figures, with any marks, of enough places, exactly enough, and too few.
+pub fn totals(random: &mut Random) -> Vec<Case> {
+    let mut all = Vec::new();
+    for _ in 0..4 {
+        let images = random.below(5);
+        let seldom = *random.pick(&[2, 6, 40]);
+        let size = (PLACE * (images + 1) + random.below(3) * random.below(90)).saturating_sub(*random.pick(&[0, 0, 0, 1, 76]));
+        let figure = |i: usize, random: &mut Random| match i % 2 {
+            0 if random.once_in(3) => random.odd(),
+            0 => *random.pick(&[0, 1, u64::MAX / 2, u64::MAX / 2 + 1, u64::MAX]),
+            _ if random.once_in(seldom) => *random.pick(&[1, 2, 1 << 32, u64::MAX]),
+            _ => 0,
+        };
+        let row: Vec<u64> = (0..size).map(|i| figure(i, random)).collect();
+        let images = if random.once_in(8) { random.odd() } else { images as u64 };
+        let query = Query::total(row, images);
+        all.push(Case { expected: surveys::totalling(&query), query, in_noise: false });
     }
     all
 }

@@ -1,8 +1,8 @@
-//! The stored outputs of the programs `matching_cases`, `checked_cases` and `tree_cases`, which models in another language compute, held to the walk
-//! over the original's listings, and to the original with the body check behind its parser of tags. The source of each program says what stands in
-//! its files.
+//! The stored outputs of the programs `matching_cases`, `checked_cases`, `tree_cases` and `survey_cases`, which models in another language compute, held
+//! to the walk over the original's listings and reads, and to the original with the body check behind its parser of tags. The source of each
+//! program says what stands in its files.
 
-use super::calls::{Call, Icb, Query, Values, Volume};
+use super::calls::{Call, Icb, PLACE, Query, Values, Volume};
 use super::expect::expected;
 use super::original;
 use super::{sparse, wire};
@@ -168,10 +168,64 @@ fn of_checked(mut from: &[u8]) -> Result<(Vec<String>, usize)> {
     Ok((wanted, asked))
 }
 
+/// The places of a row of figures, each with its figures that aren't 0, and their marks.
+fn places(row: &[u8]) -> Vec<String> {
+    let numbers: Vec<u64> = row.chunks_exact(8).map(|b| u64::from_le_bytes(b.try_into().unwrap())).collect();
+    let figure = |(i, pair): (usize, &[u64])| match *pair {
+        [0, 0] => String::new(),
+        [n, 0] => format!(" {i}:{n}"),
+        [n, mark] => format!(" {i}:{n}!{mark}"),
+        _ => unreachable!("a place has pairs"),
+    };
+    numbers.chunks_exact(PLACE).map(|place| format!("place{}", place.chunks(2).enumerate().map(figure).collect::<String>())).collect()
+}
+
+/// What `survey_cases` prints of a query: a survey of the shelf, or a total.
+fn survey(shelf: &[u8], from: &mut &[u8]) -> Result<Vec<String>> {
+    let [is_total, how, numbers, work, n] = [0; 5].map(|_| wire::number(from, 4));
+    let (is_total, how, numbers, work) = (is_total? == 1, how? as u32, numbers? as usize, work? as usize);
+    let given = (0..n?).map(|_| wire::number(from, 8)).collect::<Result<Vec<u64>>>()?;
+    if is_total {
+        let mut row = vec![u64::from_le_bytes([0xa5; 8]); numbers];
+        row.iter_mut().zip(&given[1..]).for_each(|(to, n)| *to = *n);
+        let v = expected(shelf, &Query::total(row, given[0])).values;
+        let kept = v.written[numbers / PLACE * PLACE * 8..].chunks(8).filter(|b| **b == [0xa5; 8]).count();
+        let mut lines = vec![format!("total {} numbers {numbers}", given[0]), format!("answer {} kept {kept}", v.answer)];
+        lines.extend(places(&v.written));
+        return Ok(lines);
+    }
+    let v = expected(shelf, &Query::survey(how, &given).with(numbers, work)).values;
+    let lengths: String = given.iter().map(|n| format!(" {n}")).collect();
+    let kept = numbers - v.written.len() / 8;
+    let mut lines =
+        vec![format!("survey how {how} numbers {numbers} work {work} lengths{lengths}"), format!("answer {} kept {kept} zero", v.answer)];
+    lines.extend(places(&v.written));
+    Ok(lines)
+}
+
+/// The lines of `survey_cases`, and how many queries they are of.
+fn of_shelves(mut from: &[u8]) -> Result<(Vec<String>, usize)> {
+    let (mut wanted, mut queries) = (Vec::new(), 0);
+    while !from.is_empty() {
+        wanted.push(format!("shelf {}", String::from_utf8_lossy(&sized(&mut from, 2)?)));
+        let shelf = sparse::expand(&sized(&mut from, 4)?).expect("a packed shelf");
+        let all = sized(&mut from, 4)?;
+        let mut all = &all[..];
+        while !all.is_empty() {
+            wanted.extend(survey(&shelf, &mut all)?);
+            queries += 1;
+        }
+    }
+    Ok((wanted, queries))
+}
+
 /// Holds the output stored in a program's folder. Says how many queries it has, or what its first wrong line is.
 pub fn held(folder: &Path) -> Result<std::result::Result<usize, String>> {
-    let (images, stored) = (fs::read(folder.join("data/images"))?, fs::read_to_string(folder.join("stdout"))?);
-    let (wanted, queries) = match folder.file_name().and_then(|name| name.to_str()) {
+    let stored = fs::read_to_string(folder.join("stdout"))?;
+    let program = folder.file_name().and_then(|name| name.to_str());
+    let images = fs::read(folder.join(if program == Some("survey_cases") { "data/shelves" } else { "data/images" }))?;
+    let (wanted, queries) = match program {
+        Some("survey_cases") => of_shelves(&images)?,
         Some("checked_cases") => of_checked(&images)?,
         Some("tree_cases") => of_volumes(&images, tree)?,
         _ => of_volumes(&images, matching)?,

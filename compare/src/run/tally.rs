@@ -5,6 +5,7 @@ use super::expect::expected;
 use super::mapped::{ACROSS, HELD};
 use super::queries::Case;
 use super::raw::RawCall;
+use super::surveys;
 use crate::udf::within::{RIGHT, Ruined};
 use std::collections::BTreeMap;
 use std::fmt;
@@ -12,7 +13,7 @@ use std::time::Instant;
 use strandlodge_sys::vault::{CHECKED, HIGHEST, MAPS};
 
 /// The answer numbers of the calls on an image.
-const NUMBERS: [u64; 12] = [0, 1, 2, 3, 4, 5, 6, 7, 9, 10, 11, 12];
+const NUMBERS: [u64; 13] = [0, 1, 2, 3, 4, 5, 6, 7, 9, 10, 11, 12, 15];
 
 /// A row of a table: a name, and how many of each number.
 fn row(f: &mut fmt::Formatter, name: &str, of: impl Fn(u64) -> u64) -> fmt::Result {
@@ -45,6 +46,11 @@ impl Row {
         self.named("its items")
     }
 
+    /// The rows of what a survey counts by its answer.
+    pub fn counted(self, what: Counted) -> String {
+        self.named(["its images", "their files"][what as usize])
+    }
+
     fn named(self, what: &str) -> String {
         match self {
             Row::Matched(Choice::CaseIgnored) => what.to_string(),
@@ -59,9 +65,16 @@ impl Row {
         use Choice::{AsWritten, CaseIgnored, Unambiguous};
         let along = |choice| Call::ALL.into_iter().filter(|call| call.has_path()).map(move |call| (Row::Matched(choice), call));
         let first = Call::ALL.into_iter().map(|call| (Row::Matched(CaseIgnored), call));
-        let all_of = |row| Call::ALL.into_iter().filter(|call| *call != Call::Probe).map(move |call| (row, call));
+        let all_of = |row| Call::ALL.into_iter().filter(|call| call.has_choices()).map(move |call| (row, call));
         first.chain(along(AsWritten)).chain(along(Unambiguous)).chain(all_of(Row::Checked)).chain(all_of(Row::Mapped)).collect()
     }
+}
+
+/// What a survey counts by its answer.
+#[derive(Clone, Copy, PartialEq, Eq, PartialOrd, Ord)]
+pub enum Counted {
+    Images,
+    Files,
 }
 
 /// The ids of the descriptors that are parsed.
@@ -74,6 +87,8 @@ pub struct Tally {
     pub asked: BTreeMap<(Row, Call, u64), u64>,
     /// The paths of lists, by their answers.
     pub items: BTreeMap<(Row, u64), u64>,
+    /// The images of surveys, and the files on them, by their answers.
+    pub counted: BTreeMap<(Row, Counted, u64), u64>,
     pub raw: BTreeMap<(RawCall, u64), u64>,
     /// Openings and reads a sector at a time, by their answers; and of these, how many with a sector that couldn't be had.
     pub stepped: BTreeMap<(Call, u64), u64>,
@@ -103,6 +118,7 @@ impl Tally {
             images: 0,
             asked: BTreeMap::new(),
             items: BTreeMap::new(),
+            counted: BTreeMap::new(),
             raw: BTreeMap::new(),
             stepped: BTreeMap::new(),
             denied: 0,
@@ -130,14 +146,27 @@ impl Tally {
         self.raw.values().sum()
     }
 
+    /// Counts the images and the files of a survey, which the figures of its shelf have.
+    pub fn surveyed(&mut self, row: Row, case: &Case) {
+        if (case.query.call, case.expected.values.answer) != (Call::Survey, 0) {
+            return;
+        }
+        for (what, answer, n) in surveys::counts(&case.expected.values.written) {
+            *self.counted.entry((row, what, answer)).or_insert(0) += n;
+        }
+    }
+
     /// Counts a query by a choice.
     pub fn chosen(&mut self, image: &[u8], case: &Case) {
+        if !matches!(case.query.call, Call::Open | Call::Label) {
+            return;
+        }
         if case.query.how & !CHECKED == HIGHEST {
             let plain = expected(image, &Query { how: case.query.how & CHECKED, ..case.query.clone() });
             self.chosen[0] += 1;
             self.chosen[1] += u64::from(plain.values != case.expected.values);
         }
-        if matches!(case.query.call, Call::Open | Call::Label) && case.query.is_mapped() {
+        if case.query.is_mapped() {
             let plain = expected(image, &Query { how: case.query.how & !MAPS, ..case.query.clone() });
             self.mapped[0] += 1;
             self.mapped[1] += u64::from(plain.values.answer != case.expected.values.answer);
@@ -168,6 +197,9 @@ impl fmt::Display for Tally {
             row(f, &kind.name(call), |n| self.asked.get(&(kind, call, n)).copied().unwrap_or(0))?;
             if call == Call::ReadAll {
                 row(f, &kind.items(), |n| self.items.get(&(kind, n)).copied().unwrap_or(0))?;
+            }
+            for what in [Counted::Images, Counted::Files].into_iter().filter(|_| call == Call::Survey) {
+                row(f, &kind.counted(what), |n| self.counted.get(&(kind, what, n)).copied().unwrap_or(0))?;
             }
         }
         for call in [Call::Open, Call::Read] {

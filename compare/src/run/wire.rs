@@ -26,7 +26,7 @@ pub fn put_volume(to: &mut Vec<u8>, v: &Volume) {
     to.extend(v.label);
 }
 
-/// Volume, ICB, room, work, the choices, the places of the rows, levels and path.
+/// Volume, ICB, room, work, the choices, the places of the rows, levels, path, shelf and images.
 pub fn put_query(to: &mut Vec<u8>, q: &Query) {
     put_volume(to, &q.volume);
     put_icb(to, &q.icb);
@@ -38,6 +38,9 @@ pub fn put_query(to: &mut Vec<u8>, q: &Query) {
     put(to, q.levels as u64, 4);
     put(to, q.path.len() as u64, 4);
     to.extend(&q.path);
+    put(to, q.shelf.len() as u64, 4);
+    q.shelf.iter().for_each(|n| put(to, *n, 8));
+    put(to, q.images, 8);
 }
 
 pub fn bytes(from: &mut impl Read, n: usize) -> Result<Vec<u8>> {

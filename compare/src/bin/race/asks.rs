@@ -3,9 +3,9 @@
 use crate::faults;
 use crate::memory::{Piece, Side, Store};
 use crate::stage::Raced;
-use common::calls::{Call, Choice, Query, Values};
+use common::calls::{Call, Choice, PLACE, Query, Values};
 use common::linked::{self, Lends};
-use strandlodge_sys::vault::{AMBIGUOUS, AS_WRITTEN, BAD_CRC, CASE_IGNORED, NO_SLOT, TOO_DEEP, TOO_MANY, UNAMBIGUOUS};
+use strandlodge_sys::vault::{AMBIGUOUS, AS_WRITTEN, BAD_CRC, BAD_SHELF, CASE_IGNORED, NO_SLOT, TOO_DEEP, TOO_MANY, UNAMBIGUOUS};
 
 /// The table's numbers: up to this one, two more, each by a choice, one of a show, and one of a list of paths.
 const LAST_ANSWER: u64 = NO_SLOT;
@@ -68,6 +68,7 @@ impl Lender {
         let mut lengths = self.lengths.piece(q.places[0] * size_of::<u64>(), side(4));
         let mut answers = self.answers.piece(q.places[1] * size_of::<u32>(), side(5));
         path.bytes().copy_from_slice(&q.path);
+        lengths.bytes().chunks_exact_mut(8).zip(&q.shelf).for_each(|(to, n)| to.copy_from_slice(&n.to_le_bytes()));
         let (image_at, image_length) = image;
         let lends = Lends {
             image: image_at,
@@ -132,10 +133,11 @@ fn in_rows(q: &Query, v: &Values) -> Result<(), String> {
     Ok(())
 }
 
-/// The numbers of an answer. A list of paths is refused exactly where a row is too short.
+/// The numbers of an answer. A list of paths and a survey are refused exactly where a row is too short.
 fn in_range(q: &Query, v: &Values, image_length: usize) -> Result<(), String> {
     let is_right = match q.call {
         Call::ReadAll => v.answer == if q.items().count() > q.places[0].min(q.places[1]) { TOO_MANY } else { 0 },
+        Call::Survey => v.answer == if q.room < PLACE * (q.shelf.len() + 1) { BAD_SHELF } else { 0 },
         _ => is_listed(q, v.answer),
     };
     if !is_right {
@@ -157,10 +159,16 @@ fn in_range(q: &Query, v: &Values, image_length: usize) -> Result<(), String> {
 /// The lent memory. All of it is left as it came, full of the pattern.
 fn held(q: &Query, v: &Values, lent: Lent) -> Result<(), String> {
     let Lent { mut path, mut out, mut work, mut lengths, mut answers, mut place } = lent;
-    let slot = if q.call == Call::Extents { 16 } else { 1 };
+    let slot = match q.call {
+        Call::Extents => 16,
+        Call::Survey => 8,
+        _ => 1,
+    };
     let front = if v.answer == 0 && q.call.has_room() { v.length as usize * slot } else { 0 };
     let (path_length, work_length, place_length) = (path.length, work.length, place.length);
-    let (lengths_front, answers_front) = (v.rows.len() * size_of::<u64>(), v.rows.len() * size_of::<u32>());
+    // A survey finds lengths in their row, and a list of paths puts them there.
+    let places = if q.call == Call::Survey { q.shelf.len() } else { v.rows.len() };
+    let (lengths_front, answers_front) = (places * size_of::<u64>(), v.rows.len() * size_of::<u32>());
     for (name, piece, front) in [
         ("path", &path, path_length),
         ("output", &out, front),
@@ -175,6 +183,9 @@ fn held(q: &Query, v: &Values, lent: Lent) -> Result<(), String> {
     }
     if path.bytes() != q.path {
         return Err("the path was written to".to_string());
+    }
+    if lengths.bytes().chunks_exact(8).zip(&q.shelf).any(|(bytes, n)| bytes != n.to_le_bytes()) {
+        return Err("the lengths of the images were written to".to_string());
     }
     if let Some(at) = work.bytes().iter().position(|b| *b != 0) {
         return Err(format!("answer {}: byte {at} of the work space is not zero", v.answer));
@@ -217,9 +228,13 @@ fn queries(raced: &Raced, still: &mut impl FnMut(&Query) -> Result<[Values; 2], 
     let mut queries = Vec::new();
     for q in Call::ALL.iter().flat_map(|call| asked(raced, *call)) {
         let plenty = q.with(if q.call == Call::Extents { MANY_SLOTS } else { PLENTY }, PLENTY);
-        let rooms = if q.call.has_room() { rooms(still(&plenty)?.map(|values| values.length as usize)) } else { vec![0] };
+        let rooms = match q.call {
+            Call::Survey => vec![2 * PLACE - 1, 2 * PLACE, 2 * PLACE + 1],
+            call if call.has_room() => rooms(still(&plenty)?.map(|values| values.length as usize)),
+            _ => vec![0],
+        };
         let works = match q.call {
-            Call::Show => &shows[..],
+            Call::Show | Call::Survey => &shows[..],
             call if call.has_work() => &works[..],
             _ => &[0],
         };
@@ -249,6 +264,9 @@ fn asked(raced: &Raced, call: Call) -> Vec<Query> {
         }
         // The root has files and the subject, whose entries are files in either state.
         Call::Show => [1, 2, 3, 17].map(|levels| Query::showing(v, levels)).to_vec(),
+        Call::Survey => vec![Query::survey(0, &[raced.image.len() as u64])],
+        // It has no image, and its row is the caller's to keep still.
+        Call::Total => Vec::new(),
         _ if call.has_path() => raced.paths.iter().map(|path| Query::along(call, v, path)).collect(),
         _ => raced.icbs.iter().map(|icb| Query::on(call, v, *icb)).collect(),
     }
@@ -269,7 +287,7 @@ fn distinct(mut numbers: Vec<usize>) -> Vec<usize> {
 fn words(raced: &Raced, q: &Query) -> String {
     let what = match q.call {
         call if call.has_path() => format!(" along \"{}\", {}", q.path.escape_ascii(), Choice::of(q.matching).name()),
-        Call::Probe | Call::Open | Call::Label => String::new(),
+        Call::Probe | Call::Open | Call::Label | Call::Survey | Call::Total => String::new(),
         Call::Show => format!(" of {} levels", q.levels),
         _ => format!(" of block {}", q.icb.block),
     };
