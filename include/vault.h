@@ -148,6 +148,12 @@ typedef struct {
     uint32_t partition; /* 65,536 where the descriptor names none. */
 } vault_extent;
 
+/* What a slot says of a run: so many bytes of the image from a place on. */
+typedef struct {
+    uint64_t at; /* The place of its first byte in the image. */
+    uint64_t length; /* How many bytes it has, at least 1. */
+} vault_run;
+
 /* The VAULT_VERSION of the archive, which is to be that of the header. */
 uint32_t vault_version(void);
 
@@ -222,6 +228,14 @@ vault_reply vault_part(vault_volume volume, const uint8_t *image, size_t image_l
  * in `starts`, and for 65,536, none, that of the ICB's reference. */
 vault_reply vault_extents(vault_volume volume, const uint8_t *image, size_t image_length, vault_long_ad icb,
                           vault_extent *row, size_t row_slots);
+
+/* The runs of a file: place and length of each run of the image that vault_read takes the file's bytes from, in
+ * reading order, one to a slot of `row`; `length` is how many. They are cut as the read is cut, each has a byte at
+ * least and stands in the image, and their bytes, joined, are what vault_read answers; an empty file has none. Two
+ * runs may follow each other in the image, overlap or be the same. Number and count are those of the read, with
+ * VAULT_NO_SLOT, which comes last, for more runs than slots in the place of VAULT_NO_ROOM. */
+vault_reply vault_runs(vault_volume volume, const uint8_t *image, size_t image_length, vault_long_ad icb,
+                       vault_run *row, size_t row_slots);
 
 /* Looks a path up and reads what it names to `out`; the count is that of both. */
 vault_reply vault_read_path(vault_volume volume, const uint8_t *image, size_t image_length, const uint8_t *path,

@@ -40,6 +40,8 @@ FAULTS = (
     turned("vault_read_path", IMAGE, PATH),
     turned("vault_read_all", r"paths: &\[u8\]", OUT),
     turned("vault_read_all", r"lengths: &mut \[u64\]", r"answers: &mut \[u32\]"),
+    turned("vault_runs", IMAGE, r"row: &mut \[\[u64; 2\]\]"),
+    ("length before place of a run", "layouts/src/runs.rt", r"\[l\.at, l\.length\]", "[l.length, l.at]"),
     turned("vault_lookup", PATH, WORK),
     turned("vault_failed", WORK, "component_at: &mut usize"),
     turned("vault_label", IMAGE, OUT),

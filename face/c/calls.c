@@ -12,6 +12,7 @@ static void lend(void) {
     memset(out, FREE, OUT);
     memset(work, FREE, WORK);
     memset(row, FREE, sizeof row);
+    memset(run, FREE, sizeof run);
 }
 
 static bool is_all(const void *from, size_t n, uint8_t byte) {
@@ -233,6 +234,20 @@ static void extents(vault_volume v, vault_long_ad icb) {
     EXPECT(is_reply(vault_extents(v, image, IMAGE, icb, row, 0), VAULT_NO_SLOT, 1, 0) && is_all(row, sizeof row, FREE));
 }
 
+/* A cue is one run, at its sector; a directory one inside its entry. 7 comes after what a read is refused by. */
+static void runs(vault_volume v, vault_long_ad directory, vault_long_ad icb) {
+    size_t n = number(image + (START + 4) * SECTOR + ENTRY - 4);
+    lend();
+    EXPECT(is_reply(vault_runs(v, image, IMAGE, icb, run, RUNS), VAULT_DONE, 2, 1));
+    EXPECT(run[0].at == (START + 8) * SECTOR && run[0].length == sizeof cue - 1 && is_all(run + 1, (RUNS - 1) * sizeof *run, FREE));
+    EXPECT(!memcmp(image + run[0].at, cue, run[0].length));
+    EXPECT(is_reply(vault_runs(v, image, IMAGE, directory, run, 1), VAULT_DONE, 1, 1) && run[0].at == (START + 4) * SECTOR + ENTRY && run[0].length == n);
+    lend();
+    EXPECT(is_reply(vault_runs(v, image, IMAGE, icb, run, 0), VAULT_NO_SLOT, 2, 0) && is_all(run, sizeof run, FREE));
+    EXPECT(is_reply(vault_runs(v, image, IMAGE, directory, run, 0), VAULT_NO_SLOT, 1, 0) && is_all(run, sizeof run, FREE));
+    EXPECT(is_reply(vault_runs(v, image, (START + 8) * SECTOR, icb, run, 0), VAULT_IO, 2, 0) && is_all(run, sizeof run, FREE));
+}
+
 /* The bytes of a sector that is wanted, or none of them. */
 static size_t lent(bool denied) { return denied ? 0 : SECTOR; }
 
@@ -344,6 +359,7 @@ static void asked(vault_volume v) {
     read_all(v);
     part(v, directory, icb);
     extents(v, icb);
+    runs(v, directory, icb);
     stepped_read(v, directory, icb);
     at_hand(v, directory);
 }
@@ -418,6 +434,7 @@ static void ruined_files(vault_volume checked, vault_long_ad directory, vault_lo
     at = 99;
     EXPECT(is_reply(vault_part(checked, image, IMAGE, icb, &at), VAULT_BAD_CRC, 1, 0) && at == 0);
     EXPECT(is_reply(vault_extents(checked, image, IMAGE, icb, row, SLOTS), VAULT_BAD_CRC, 1, 0) && is_all(row, sizeof row, FREE));
+    EXPECT(is_reply(vault_runs(checked, image, IMAGE, icb, run, RUNS), VAULT_BAD_CRC, 1, 0) && is_all(run, sizeof run, FREE));
     EXPECT(has_read(stepped(checked, icb, (const uint32_t[]){START + 7}, 1, false, SLOTS, OUT), VAULT_BAD_CRC, 0));
     flip(START + 7, 40);
 }

@@ -88,6 +88,10 @@ FIELD(vault_extent, extent_type, 4, 4, uint32_t *);
 FIELD(vault_extent, block, 8, 4, uint32_t *);
 FIELD(vault_extent, partition, 12, 4, uint32_t *);
 
+HOLDS(sizeof(vault_run) == 16 && ALIGN(vault_run) == 8);
+FIELD(vault_run, at, 0, 8, uint64_t *);
+FIELD(vault_run, length, 8, 8, uint64_t *);
+
 HOLDS(sizeof(vault_write_reply) == 16 && ALIGN(vault_write_reply) == 8);
 FIELD(vault_write_reply, answer, 0, 8, uint64_t *);
 FIELD(vault_write_reply, sectors, 8, 8, uint64_t *);

@@ -15,10 +15,11 @@ extern char *strstr(const char *in, const char *text);
 extern _Noreturn void exit(int status);
 
 enum { SECTOR = 2048, START = 288, PARTITION = 5, IMAGE = (START + 16) * SECTOR, ENTRY = 176 };
-enum { OUT = 1500, WORK = 2100, SLOTS = 3, FREE = 0xa5 };
+enum { OUT = 1500, WORK = 2100, SLOTS = 3, RUNS = 5, FREE = 0xa5 };
 
 static uint8_t image[IMAGE], out[OUT], work[WORK];
 static vault_extent row[SLOTS];
+static vault_run run[RUNS];
 
 static void say(int fd, const char *text) {
     if (write(fd, text, strlen(text)) < 0) exit(2);

@@ -46,6 +46,7 @@ CALL(vault_show, volume, DISC, matching ? 16 : 1, out, room, work, WORK)
 CALL(vault_read, volume, DISC, icb, out, room)
 CALL(vault_part, volume, DISC, icb, &at)
 CALL(vault_extents, volume, DISC, icb, row, SLOTS)
+CALL(vault_runs, volume, DISC, icb, run, RUNS)
 CALL(vault_read_path, volume, DISC, PATH, matching, out, room, work, WORK)
 CALL(vault_read_all, volume, DISC, PATH, matching, out, room, lengths, 1, answers, 1, work, WORK)
 /* A vault of one file, of as many bytes as there is room for; and without a whole sector for it. */
@@ -74,8 +75,8 @@ static const struct {
     const char *name;
     void (*call)(void), (*made)(void);
 } calls[] = {ROW(vault_version), ROW(vault_probe), ROW(vault_open), ROW(vault_label), ROW(vault_lookup),   ROW(vault_failed),
-             ROW(vault_list),    ROW(vault_show),  ROW(vault_read), ROW(vault_part),  ROW(vault_extents), ROW(vault_read_path),
-             ROW(vault_read_all), ROW(vault_write_total), ROW(vault_write), ROW(vault_opening_start), ROW(vault_opening_is_wanting),
+             ROW(vault_list),    ROW(vault_show),  ROW(vault_read), ROW(vault_part),  ROW(vault_extents), ROW(vault_runs),
+             ROW(vault_read_path), ROW(vault_read_all), ROW(vault_write_total), ROW(vault_write), ROW(vault_opening_start), ROW(vault_opening_is_wanting),
              ROW(vault_opening_wants), ROW(vault_opening_step), ROW(vault_reading_start), ROW(vault_reading_is_wanting), ROW(vault_reading_wants),
              ROW(vault_reading_step), ROW(vault_list_bytes), ROW(vault_match), ROW(vault_next_component), ROW(vault_measure), ROW(vault_survey),
              ROW(vault_survey_total)};

@@ -169,6 +169,14 @@ structs! {
         12 partition: u32,
     }
 
+    /// What a slot says of a run: so many bytes of the image from a place on.
+    vault_run as Run, 16 aligned to 8 {
+        /// The place of its first byte in the image.
+        0 at: u64,
+        /// How many bytes it has, at least 1.
+        8 length: u64,
+    }
+
     /// The answer number, and how many sectors the image has: 0 where the call was refused.
     vault_write_reply as WriteReply, 16 aligned to 8 {
         0 answer: u64,
@@ -422,6 +430,13 @@ unsafe extern "C" {
     /// and the partition's start, added: where the mount has no maps that is `start`; where it has, it is the
     /// reference's in `starts`, and for 65,536, none, that of the ICB's reference.
     pub fn vault_extents(volume: Volume, image: *const u8, image_length: usize, icb: LongAd, row: *mut Extent, row_slots: usize) -> Reply;
+
+    /// The runs of a file: place and length of each run of the image that vault_read takes the file's bytes from, in
+    /// reading order, one to a slot of `row`; `length` is how many. They are cut as the read is cut, each has a byte at
+    /// least and stands in the image, and their bytes, joined, are what vault_read answers; an empty file has none. Two
+    /// runs may follow each other in the image, overlap or be the same. Number and count are those of the read, with
+    /// VAULT_NO_SLOT, which comes last, for more runs than slots in the place of VAULT_NO_ROOM.
+    pub fn vault_runs(volume: Volume, image: *const u8, image_length: usize, icb: LongAd, row: *mut Run, row_slots: usize) -> Reply;
 
     /// Looks a path up and reads what it names to `out`; the count is that of both.
     pub fn vault_read_path(

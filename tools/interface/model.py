@@ -26,7 +26,7 @@ NUMBERS = {
 }
 
 # An item of a lent row that C has as a struct, since no proof covers a lent row of structs: the struct has as many fields of that type.
-SLOTS = {"[u32; 4]": "layouts::lists::Extent"}
+SLOTS = {"[u32; 4]": "layouts::lists::Extent", "[u64; 2]": "layouts::runs::Run"}
 
 # Crates whose functions for C stand in the header of another, with an archive of their own: what they call is then called once in each archive, and
 # the compiler puts it into its callers.

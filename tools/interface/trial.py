@@ -58,7 +58,7 @@ pub const FAR: u64 = APART << 40;
 #[no_mangle]
 pub extern "C" fn vault_ask_many<'a>(
     volume: Volume, paths: &'a [u8], matching: u32, wide: u64, narrow: u16, lengths: &mut [u64], answers: &mut [u32], at: &mut u32, only: &[u16],
-    pairs: &mut [[u64; 2]],
+    triples: &mut [[u64; 3]],
 )
     ensures { λ _. ⌜ wide ≡ wide ⌝ }
 {
@@ -76,7 +76,7 @@ EXPECTED = (
     "#define VAULT_FAR UINT64_C(2199023255552)",
     "void vault_ask_many(vault_volume volume, const uint8_t *paths, size_t paths_length, uint32_t matching, uint64_t wide, uint16_t narrow, "
     "uint64_t *lengths, size_t lengths_places, uint32_t *answers, size_t answers_places, uint32_t *at, const uint16_t *only, size_t only_places, "
-    "uint64_t (*pairs)[2], size_t pairs_places);",
+    "uint64_t (*triples)[3], size_t triples_places);",
     "uint32_t checked; uint16_t kinds[4]; /* The areas. */ uint32_t sizes[4];",
 )
 

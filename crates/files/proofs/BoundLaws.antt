@@ -23,7 +23,7 @@ use Rattle.disc.proofs.RanLaws.{ran-done, never}
 use Rattle.disc.proofs.ImageLaws.{split}
 use Rattle.areas.specs.declared.AllocExtent.{AllocExtent}
 use Rattle.files.specs.Reads.{extentsBytes, visited, extentsHold}
-use Rattle.files.specs.inner.Pieces.{sectorsRead, beforeOutcome, inFront, restOf, HeldPiece}
+use Rattle.files.specs.inner.Pieces.{sectorsRead, beforeOutcome, inFront, restOf, There, HeldPiece}
 use Rattle.files.proofs.PieceLaws.{part-long, weigh-type, weigh-nowhere, weigh-missing, weigh-held}
 
 -- ---- an extent is refused, or held
@@ -34,27 +34,20 @@ module _ (image : List ℕ) (m : Mount) (e : AllocExtent) (want : ℕ) where
     n : ℕ
     runs : (es : List AllocExtent) → restOf image m (e ∷ es) want ≡ record { outcome = refused why; count = n }
 
-  -- it is recorded, stands on this volume, and the sectors that are read are there
-  record There : Type 0 where
-    at : ℕ
-    recorded : e .«extent_type» ≡ 0
-    stands : placed m (e .«partition_ref») (e .block .0) ≡ some at
-    held : sectorsRead (e .length) want ≤ heldFrom image at
-
   abbrev On : ℕ → Type 0
   On at = HeldPiece image m e want (2048 * at) (sectorsRead (e .length) want) (min (e .length) want)
 
-  on : (y : There) → On (y .at)
+  on : (y : There image m e want) → On (y .at)
   on y = weigh-held image m e want (y .recorded) (y .stands) (y .held)
 
-  weighs : There ⊎ Off
+  weighs : There image m e want ⊎ Off
   weighs = typed (eqb (e .«extent_type») 0) refl
     where
-      typed : (t : Bool) → eqb (e .«extent_type») 0 ≡ t → There ⊎ Off
+      typed : (t : Bool) → eqb (e .«extent_type») 0 ≡ t → There image m e want ⊎ Off
       typed false p = inr (record { why = Unsupported; n = 0; runs = weigh-type image m e want (eqb-false _ _ p) })
       typed true p = stands (placed m (e .«partition_ref») (e .block .0)) refl
         where
-          stands : (o : Option ℕ) → placed m (e .«partition_ref») (e .block .0) ≡ o → There ⊎ Off
+          stands : (o : Option ℕ) → placed m (e .«partition_ref») (e .block .0) ≡ o → There image m e want ⊎ Off
           stands none g = inr (record { why = Unsupported; n = 0; runs = weigh-nowhere image m e want (eqb-true _ _ p) g })
           stands (some at) g = ⊎-elim
               (λ (h : sectorsRead (e .length) want ≤ heldFrom image at). inl (record { at = at; recorded = eqb-true _ _ p; stands = g; held = h }))

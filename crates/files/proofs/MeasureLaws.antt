@@ -1,6 +1,6 @@
 -- The pass that measures, one turn at a time. Assumes nothing.
 use mathlib.Core.Path.{_≡_, refl, ap, _∙_}
-use mathlib.Core.List.{List}
+use mathlib.Core.List.{List, _∷_}
 use Prim.Native.Nat.{ℕ, _+_, _-_, _≤_, _<_, _^_}
 use native.Mathlib.Nat.{add-zero}
 use native.Mathlib.Omega.{arith}
@@ -136,7 +136,7 @@ module _ (image : List ℕ) (m : Mount) (kind want : ℕ) (c₀ : ChainCursor) w
       measure-less = turn .less
 
       all-begun : visits + 1 + length (extents c′) ≡ length (extents c₀)
-      all-begun = omega (arith, i .begun .all, turn .long)
+      all-begun = let t : visits + length (turn .extent ∷ extents c′) ≡ length (extents c₀) = (rw (turn .list) at (i .begun .all)) in omega (arith, t)
 
       still-gone : c′ .hops + hopsAt image m kind c₀ ≡ c₀ .hops + hopsAt image m kind c′
       still-gone = omega (arith, i .begun .gone, turn .gone)

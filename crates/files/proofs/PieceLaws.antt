@@ -83,6 +83,9 @@ module _ (image : List ℕ) (m : Mount) (e : AllocExtent) (want : ℕ) where
             runs = λ es. extent-first es ∙ rw (le-leb (sectorsRead (e .length) want) (heldFrom image s) k) (joined-runs (disc image) _ (min (e .length) want) (part-long image (2048 * s) (min (e .length) want) want y) (sectorsRead (e .length) want) want (y .small) (extentsBytes m es));
             lies = y;
             cut = refl;
+            there = record { at = s; recorded = h; stands = p; held = k };
+            place = refl;
+            sectors = refl;
           }
 
       pub weigh-there : {w : Piece} → w ≡ weighedAt image s (e .length) want → Weighed image m e want w
@@ -133,7 +136,9 @@ module _ (image : List ℕ) (m : Mount) (kind : ℕ) (c : ChainCursor) (want : �
           runs = rw (q .list) (u .runs _);
           lies = u .lies;
           begun = rw (q .list) (begins x (left image m kind c′) want k (u .cut));
-          long = rw (q .list) (omega arith);
+          extent = x;
+          list = q .list;
+          piece = u;
           gone = take-level image m kind c p e .even;
           less = q .less;
         }

@@ -21,7 +21,7 @@ pub(crate) enum Piece {
 }
 
 // What a turn of a walk gives.
-pub(crate) enum Turn {
+pub enum Turn {
     Piece {
         from: u64,
         sectors: u64,
@@ -77,7 +77,7 @@ fn weigh(image: &[u8], mount: Mount, e: AllocExtent, want: u64) -> Piece
 }
 
 // The next turn of a walk from c on, where `want` bytes are still wanted.
-pub(crate) fn next_piece(image: &[u8], mount: Mount, kind: u8, c: ChainCursor, want: u64) -> Turn
+pub fn next_piece(image: &[u8], mount: Mount, kind: u8, c: ChainCursor, want: u64) -> Turn
     ensures { λ r. ⌜ Turned (now (image .entry)) mount kind c want r ⌝ }
 {
     match advance(image, mount, kind, c) {

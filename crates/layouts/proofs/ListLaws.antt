@@ -134,39 +134,39 @@ module _ (image : List ℕ) (v : Mount) (icb : LongAd) (r : Resolved) (y : Resol
 
 -- ---- the loop that stores: what is stored and what is left to store are all there is
 
--- the extent at i
-record At (es : List AllocExtent) (i : ℕ) : Type 0 where
-  e : AllocExtent
-  is : drop i es ≡ e ∷ drop (suc i) es
+-- what stands at i
+pub record At {E : Type 0} (es : List E) (i : ℕ) : Type 0 where
+  pub e : E
+  pub is : drop i es ≡ e ∷ drop (suc i) es
 
-at : (es : List AllocExtent) (i : ℕ) → i < length es → At es i
+pub at : {E : Type 0} (es : List E) (i : ℕ) → i < length es → At es i
 at [] i h = absurd (omega arith)
 at (x ∷ es) zero h = record { e = x; is = refl }
 at (x ∷ es) (suc i) h = let k = at es i (omega arith) in record { e = k .e; is = k .is }
 
 -- what is stored fits the row, is counted by the reply, and stands over the row's front
-record Fit {A : Type 0} (f : AllocExtent → A) (row : List A) (stored : List AllocExtent) (left : List A) (reply : Reply) : Type 0 where
-  fits : length stored ≤ length row
-  counts : reply .length ≡ length stored
-  leaves : left ≡ map f stored ++ drop (length stored) row
+pub record Fit {E A : Type 0} (f : E → A) (row : List A) (stored : List E) (left : List A) (reply : Reply) : Type 0 where
+  pub fits : length stored ≤ length row
+  pub counts : reply .length ≡ length stored
+  pub leaves : left ≡ map f stored ++ drop (length stored) row
 
-fit-by : {A : Type 0} (f : AllocExtent → A) (row : List A) (n : ℕ) (es : List AllocExtent) (b : Bool) → (b ≡ true → length es ≤ length row)
+fit-by : {E A : Type 0} (f : E → A) (row : List A) (n : ℕ) (es : List E) (b : Bool) → (b ≡ true → length es ≤ length row)
     → Fit f row (pick b es []) (pick b (map f es ++ drop (length es) row) row)
     (pick b (record { answer = 0; count = n; length = length es }) (record { answer = number NoSlot; count = n; length = 0 }))
 fit-by f row n es true h = record { fits = h refl; counts = refl; leaves = refl }
 fit-by f row n es false h = record { fits = omega arith; counts = refl; leaves = refl }
 
-fit : {A : Type 0} (f : AllocExtent → A) (row : List A) (n : ℕ) (o : Outcome (List AllocExtent)) → Fit f row (storedOf (length row) o) (leftBy row (eachIn f o)) (replyBy NoSlot (length row) n o)
+pub fit : {E A : Type 0} (f : E → A) (row : List A) (n : ℕ) (o : Outcome (List E)) → Fit f row (storedOf (length row) o) (leftBy row (eachIn f o)) (replyBy NoSlot (length row) n o)
 fit f row n (refused r) = record { fits = omega arith; counts = refl; leaves = refl }
 fit f row n (answered es) = rw length-map (fit-by f row n es (leb (length es) (length row)) (leb-true (length es) (length row)))
 
 -- the reply counts slots, whatever they hold
-reply-each : {A : Type 0} (f : AllocExtent → A) (room n : ℕ) (o : Outcome (List AllocExtent)) → replyBy NoSlot room n (eachIn f o) ≡ replyBy NoSlot room n o
+pub reply-each : {E A : Type 0} (f : E → A) (room n : ℕ) (o : Outcome (List E)) → replyBy NoSlot room n (eachIn f o) ≡ replyBy NoSlot room n o
 reply-each f room n (refused r) = refl
 reply-each f room n (answered es) = rw length-map
 
--- the extents of a run that a row has slots for
-abbrev stored : {A : Type 0} → Ran (List AllocExtent) → List A → List AllocExtent
+-- the extents, or what else a run lists, that a row has slots for
+abbrev pub stored : {E A : Type 0} → Ran (List E) → List A → List E
 stored r row = storedOf (length row) (r .outcome)
 
 -- f is what a slot holds of an extent, by its record

@@ -1,3 +1,4 @@
 -- What the contracts cite, lowest first.
 pub mod Calls
+pub mod Runs
 pub mod inner

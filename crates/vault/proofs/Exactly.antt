@@ -166,11 +166,11 @@ list-6 image v icb out work =
 
 -- ---- 7 exactly when there are more extents than slots
 
-abbrev pub overslotted : ℕ → Outcome (List AllocExtent) → Bool
+abbrev pub overslotted : {E : Type 0} → ℕ → Outcome (List E) → Bool
 overslotted slots (answered es) = not (leb (length es) slots)
 overslotted slots (refused why) = false
 
-seven : (check : Bool) (slots : ℕ) (o : Outcome (List AllocExtent)) → Within (Original check) o → eqb (slotted slots o) 7 ≡ overslotted slots o
+pub seven : {E : Type 0} (check : Bool) (slots : ℕ) (o : Outcome (List E)) → Within (Original check) o → eqb (slotted slots o) 7 ≡ overslotted slots o
 unfolding Within
 seven check slots (refused why) p = ne-eqb (number why) 7 (λ e. of-memory (number why) p (omega arith, omega arith))
 seven check slots (answered es) p = by (leb (length es) slots)

@@ -6,6 +6,7 @@ pub mod Refusing
 pub mod Exactly
 pub mod Soundness
 pub mod Measuring
+pub mod Running
 pub mod Missing
 pub mod Overflowing
 pub mod Matching

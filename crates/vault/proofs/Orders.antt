@@ -28,7 +28,7 @@ use Rattle.listings.specs.Listings.{records, listing as listingOf}
 use Rattle.directories.specs.Directories.{within, directoryBytes, listingAt}
 use Rattle.directories.specs.Lookups.{readPathOf}
 use Rattle.directories.proofs.SpaceLaws.{ran-known}
-use Rattle.vault.specs.Calls.{reading, extentListing, listing, showing, finding, pathReading, labels, reads, lists, shows, readsPath, extents}
+use Rattle.vault.specs.Calls.{reading, extentListing, listing, showing, finding, pathReading, labels, reads, lists, shows, readsPath, rowed, extents}
 use Rattle.listings.specs.declared.matchings.Matching.{Matching}
 use Rattle.volumes.specs.declared.openings.How.{How}
 use Rattle.volumes.specs.declared.openings.VolumeRecord.{VolumeRecord}
@@ -59,23 +59,26 @@ show-order image v levels out work = room-last (length out) _ (ran (disc image) 
 
 -- ---- 7 comes after every other refusal
 
--- the answer number of extents, where there are so many slots
-abbrev pub slotted : ℕ → Outcome (List AllocExtent) → ℕ
+-- the answer number of extents or runs, where there are so many slots
+abbrev pub slotted : {E : Type 0} → ℕ → Outcome (List E) → ℕ
 slotted slots (refused why) = number why
 slotted slots (answered es) = pick (leb (length es) slots) 0 7
 
-pub extents-order : {A : Type 0} (f : AllocExtent → A) (image : List ℕ) (v : VolumeRecord) (icb : LongAd) (row : List A)
-    → extents f image v icb row .reply .answer ≡ slotted (length row) (ran (disc image) (extentListing v icb) .outcome)
-extents-order f image v icb row = by (ran (disc image) (extentListing v icb) .outcome) (reported (ran (disc image) (extentListing v icb) .count))
+pub row-order : {E A : Type 0} (f : E → A) (row : List A) (r : Ran (List E)) → rowed f row r .reply .answer ≡ slotted (length row) (r .outcome)
+row-order {E} f row r = by (r .outcome) (reported (r .count))
   where
-    fits : (es : List AllocExtent) (n : ℕ) (t : Bool)
+    fits : (es : List E) (n : ℕ) (t : Bool)
         → pick {A = Reply} t (record { answer = 0; count = n; length = length es }) (record { answer = number NoSlot; count = n; length = 0 }) .answer ≡ pick t 0 7
     fits es n true = refl
     fits es n false = refl
 
-    by : (o : Outcome (List AllocExtent)) (n : ℕ) → replyBy NoSlot (length row) n (eachIn f o) .answer ≡ slotted (length row) o
+    by : (o : Outcome (List E)) (n : ℕ) → replyBy NoSlot (length row) n (eachIn f o) .answer ≡ slotted (length row) o
     by (refused why) n = refl
     by (answered es) n = rw length-map (fits es n (leb (length es) (length row)))
+
+pub extents-order : {A : Type 0} (f : AllocExtent → A) (image : List ℕ) (v : VolumeRecord) (icb : LongAd) (row : List A)
+    → extents f image v icb row .reply .answer ≡ slotted (length row) (ran (disc image) (extentListing v icb) .outcome)
+extents-order f image v icb row = row-order f row (ran (disc image) (extentListing v icb))
 
 -- ---- a listing: the refusals of reading the directory, 6, a bad entry, and then 5
 

@@ -2,7 +2,7 @@
 ghost use mathlib.Core.Path.{_≡_};
 ghost use Rattle.layouts.specs.Calls.{wordsOf, extentOf};
 ghost use Rattle.probes.specs.Probes.{probed};
-ghost use Rattle.vault.specs.Calls.{opens, labels, reads, measures, lists, shows, readsPath, readsAll, finds, fails, failsAt, parts, partsAt, extents, listsBytes, findsIn};
+ghost use Rattle.vault.specs.Calls.{opens, labels, reads, measures, lists, shows, readsPath, readsAll, finds, fails, failsAt, parts, partsAt, extents, runs, listsBytes, findsIn};
 use directories::listed::list_directory;
 use directories::lookups::Found;
 use disc::refusals::Refusal;
@@ -13,6 +13,7 @@ use layouts::lists::Extent;
 use layouts::lists::file_rows;
 use layouts::lists::file_words;
 use layouts::parts::file_part;
+use layouts::runs::file_runs;
 use listings::finds::Named;
 use listings::finds::find;
 use listings::matchings::Matching;
@@ -149,6 +150,15 @@ impl Volume {
         ensures { λ r. ⌜ record { reply = r; row = now (row .exit) } ≡ extents extentOf (now (image .entry)) (self .0) icb (now (row .entry)) ⌝ }
     {
         file_rows(image, self.0.mount, icb, row)
+    }
+
+    // Place and length of each run of the image that a read of the file at icb takes its bytes from, in reading order, a pair to a slot; cut as the read
+    // is cut, so that their bytes joined are what it answers. An empty file has none.
+    pub fn runs(self, image: &[u8], icb: LongAd, row: &mut [[u64; 2]]) -> Reply
+        ensures { λ r. ⌜ record { reply = r; row = now (row .exit) } ≡ runs (now (image .entry)) (self .0) icb (now (row .entry)) ⌝ }
+    {
+        let mount = self.0.mount;
+        file_runs(image, mount, icb, row)
     }
 
     // The bytes of the file that a path names: a lookup, then a read, counts added.

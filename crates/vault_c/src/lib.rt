@@ -19,7 +19,7 @@ ghost use Rattle.layouts.specs.Calls.{wordsOf};
 ghost use Rattle.listings.specs.Listings.{matchingOf};
 ghost use Rattle.probes.specs.Probes.{probed};
 ghost use Rattle.vault_c.specs.Choosing.{opensAs, labelsAs};
-ghost use Rattle.vault.specs.Calls.{reads, measures, lists, shows, readsPath, readsAll, finds, failsAt, partsAt, extents};
+ghost use Rattle.vault.specs.Calls.{reads, measures, lists, shows, readsPath, readsAll, finds, failsAt, partsAt, extents, runs};
 use directories::lookups::Found;
 use disc::answers::UNSUPPORTED;
 use disc::replies::Reply;
@@ -224,6 +224,22 @@ pub extern "C" fn vault_extents(
     ensures { λ r. ⌜ record { reply = r; row = now (row .exit) } ≡ extents wordsOf (now (image .entry)) (volume .0) icb (now (row .entry)) ⌝ }
 {
     volume.extent_words(image, icb, row)
+}
+
+// The runs of a file: place and length of each run of the image that vault_read takes the file's bytes from, in reading order, one to a slot of `row`;
+// `length` is how many. They are cut as the read is cut, each has a byte at least and stands in the image, and their bytes, joined, are what vault_read
+// answers; an empty file has none. Two runs may follow each other in the image, overlap or be the same. Number and count are those of the read, with
+// VAULT_NO_SLOT, which comes last, for more runs than slots in the place of VAULT_NO_ROOM.
+#[no_mangle]
+pub extern "C" fn vault_runs(
+    volume: Volume,
+    image: &[u8],
+    icb: LongAd,
+    row: &mut [[u64; 2]],
+) -> Reply
+    ensures { λ r. ⌜ record { reply = r; row = now (row .exit) } ≡ runs (now (image .entry)) (volume .0) icb (now (row .entry)) ⌝ }
+{
+    volume.runs(image, icb, row)
 }
 
 // Looks a path up and reads what it names to `out`; the count is that of both.

@@ -24,12 +24,12 @@ pub data Came : Type 0 where
   comes : ℕ → ℕ → Came
   stops : Refusal → ℕ → Came
 
-abbrev pub sizedBy : ℕ → ℕ → Outcome (List ℕ) → Came
+abbrev pub sizedBy : {A : Type 0} → ℕ → ℕ → Outcome (List A) → Came
 sizedBy size count (answered b) = comes (size + length b) count
 sizedBy size count (refused r) = stops r count
 
--- what is measured, behind `size` bytes and `count` sectors
-unfoldable pub sized : ℕ → ℕ → Ran (List ℕ) → Came
+-- what is measured, behind `size` bytes, or what else is listed, and `count` sectors
+unfoldable pub sized : {A : Type 0} → ℕ → ℕ → Ran (List A) → Came
 sized size count r = sizedBy size (reported (count + r .count)) (r .outcome)
 
 -- the extents that were begun and those behind them are all, and so are the areas that were gone to before and behind

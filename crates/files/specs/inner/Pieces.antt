@@ -2,6 +2,7 @@
 use Prim.Native.Nat.{ℕ, _+_, _-_, _*_, _≤_, _<_, min, max}
 use mathlib.Core.Path.{_≡_}
 use mathlib.Core.List.{List, [], _∷_, _++_}
+use mathlib.Core.Option.{some}
 use lib.ListN.{length, take, drop}
 use lib.Dec.{leb}
 use Rattle.disc.specs.Choice.{pick}
@@ -9,6 +10,7 @@ use Rattle.disc.specs.Ask.{Outcome}
 use Rattle.disc.specs.Ask.Outcome.{answered, refused}
 use Rattle.disc.specs.Ran.{Ran, ran}
 use Rattle.disc.specs.Images.{disc, heldFrom, sectorsFor}
+use Rattle.disc.specs.Places.{placed}
 use Rattle.disc.specs.declared.places.Mount.{Mount}
 use Rattle.disc.specs.declared.refusals.Refusal.the-variants.{Io}
 use Rattle.areas.specs.declared.AllocExtent.{AllocExtent}
@@ -55,10 +57,20 @@ weighedAt image s size want =
     (Held (2048 * s) (sectorsRead size want) (min size want))
     (Refused Io (heldFrom image s + 1))
 
+-- an extent that is recorded and stands on this volume, and the sectors that are read of it are there
+pub record There (image : List ℕ) (m : Mount) (e : AllocExtent) (want : ℕ) : Type 0 where
+  pub at : ℕ
+  pub recorded : e .«extent_type» ≡ 0
+  pub stands : placed m (e .«partition_ref») (e .block .0) ≡ some at
+  pub held : sectorsRead (e .length) want ≤ heldFrom image at
+
 pub record HeldPiece (image : List ℕ) (m : Mount) (e : AllocExtent) (want from n k : ℕ) : Type 0 where
   pub runs : (es : List AllocExtent) → restOf image m (e ∷ es) want ≡ joined (take k (drop from image)) n k want (restOf image m es (want - k))
   pub lies : Lies image from k want
   pub cut : k ≡ min (e .length) want
+  pub there : There image m e want
+  pub place : from ≡ 2048 * there .at
+  pub sectors : n ≡ sectorsRead (e .length) want
 
 abbrev pub Weighed : List ℕ → Mount → AllocExtent → ℕ → Piece → Type 0
 Weighed image m e want (Held from n k) = HeldPiece image m e want from n k
@@ -69,7 +81,9 @@ pub record PieceTurn (image : List ℕ) (m : Mount) (kind : ℕ) (c : ChainCurso
   pub runs : restAt image m kind c want ≡ joined (take k (drop from image)) n k want (restAt image m kind c′ (want - k))
   pub lies : Lies image from k want
   pub begun : visited (left image m kind c) want ≡ 1 + pick (leb want k) 0 (visited (left image m kind c′) (want - k))
-  pub long : length (left image m kind c) ≡ 1 + length (left image m kind c′)
+  pub extent : AllocExtent
+  pub list : left image m kind c ≡ extent ∷ left image m kind c′
+  pub piece : HeldPiece image m extent want from n k
   pub gone : c′ .hops + hopsAt image m kind c ≡ c .hops + hopsAt image m kind c′
   pub less : weight c′ < weight c
 

@@ -18,8 +18,8 @@ use Rattle.chains.specs.declared.cursors.ChainCursor.{ChainCursor}
 use Rattle.layouts.specs.Calls.{extentOf}
 use Rattle.layouts.specs.declared.lists.Listing.{Listing}
 
--- the extents that are stored: none where the call is refused
-abbrev pub storedOf : ℕ → Outcome (List AllocExtent) → List AllocExtent
+-- the extents, or what else is listed, that are stored: none where the call is refused
+abbrev pub storedOf : {E : Type 0} → ℕ → Outcome (List E) → List E
 storedOf room (refused r) = []
 storedOf room (answered es) = pick (leb (length es) room) es []
 
