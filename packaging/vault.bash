@@ -16,7 +16,7 @@ _vault() {
     if [[ $word == -* ]]; then
         local options="--help --sectors --checked --highest --maps --copy --drive"
         case $command in
-            ls) options+=" -R -i -0 --json --levels --limit --as-written --unambiguous --raw --icb" ;;
+            ls) options+=" -R -i -l -0 --json --levels --limit --as-written --unambiguous --raw --icb" ;;
             tree) options+=" --json --levels --limit --as-written --unambiguous --raw --icb" ;;
             cat) options+=" --wait --as-written --unambiguous --raw --icb" ;;
             get) options+=" -o -r --limit --wait --as-written --unambiguous --raw --icb" ;;

@@ -137,6 +137,13 @@ pub fn read(volume: Volume, image: &[u8], icb: LongAd, out: &mut Vec<u8>) -> Ans
     filled(out, |to, room| unsafe { vault_read(volume, image.as_ptr(), image.len(), icb.to_c(), to, room) })
 }
 
+/// How many bytes a read gives.
+pub fn measure(volume: Volume, image: &[u8], icb: LongAd) -> Answered<u64> {
+    // SAFETY: the head of this module; nothing is lent for writing.
+    let reply = unsafe { vault_measure(volume, image.as_ptr(), image.len(), icb.to_c()) };
+    answered(reply.answer, reply.count, reply.length)
+}
+
 pub fn part(volume: Volume, image: &[u8], icb: LongAd) -> Answered<&[u8]> {
     let mut at = 0;
     // SAFETY: the head of this module; `at` is a number of this function's.
@@ -149,6 +156,7 @@ pub fn extents(volume: Volume, image: &[u8], icb: LongAd, row: &mut Vec<Extent>)
     filled(row, |to, slots| unsafe { vault_extents(volume, image.as_ptr(), image.len(), icb.to_c(), to, slots) })
 }
 
+#[cfg(test)]
 pub fn read_path(volume: Volume, image: &[u8], path: &[u8], matching: Matching, out: &mut Vec<u8>, work: &mut Vec<u8>) -> Answered<()> {
     let ((work, w), m) = (space(work), matching.number());
     // SAFETY: the head of this module; `room` bytes from `to` on are `out`'s own, and `w` from `work` on are the other vector's.

@@ -8,7 +8,7 @@ use crate::how::How;
 use crate::maps::{PartitionMap, maps, place_of, started};
 use crate::matching::Matching;
 use crate::records::{AllocExtent, DirEntry, LbAddr, LongAd, entries, text};
-use crate::room::{AT_ONCE, FIRST, MOST_DIRECTORY, MOST_SHOW, Room, most_file, retry};
+use crate::room::{AT_ONCE, FIRST, MOST_DIRECTORY, MOST_SHOW, Room, exactly, most_file, most_listed, retry};
 use crate::source::{Copied, Source};
 use crate::stack::{Item, List, Stack, copied, too_many};
 use crate::tree::Show;
@@ -227,10 +227,14 @@ impl<'a> Counted<'a> {
     /// The entries of a directory in the disc's order, without those that are deleted and the parent.
     pub fn read_directory(&self, icb: impl Into<LongAd>) -> Answered<Vec<DirEntry>> {
         let icb = icb.into();
-        // A name of 8 bits a letter may have twice as many bytes as recorded, so a listing is at most twice as long as its directory.
-        let mut out = Room::new(FIRST, 2 * MOST_DIRECTORY);
-        let answer = retry(&mut out, &mut work_space(), |out, work| calls::list(self.volume, self.image, icb, out, work))?;
-        kept(answer, Refusal::NoRoom, |()| entries(&out.lent))
+        let bytes = self.measure(icb)?;
+        let full = |why| Refused { why, sectors: bytes.sectors };
+        let mut work = exactly(bytes.value, MOST_DIRECTORY).ok_or(full(Refusal::NoWork))?;
+        let most = most_listed(work.capacity());
+        let mut out = exactly(most as u64, most).ok_or(full(Refusal::NoRoom))?;
+        let answer = calls::list(self.volume, self.image, icb, &mut out, &mut work)?;
+        drop(work);
+        kept(answer, Refusal::NoRoom, |()| entries(&out))
     }
 
     /// All that stands on the volume, down to so many levels, 1 to 16: an entry for each path, each before what stands under it, and those of a
@@ -259,7 +263,15 @@ impl<'a> Counted<'a> {
     /// A file's bytes, or a directory's own.
     pub fn read_file(&self, icb: impl Into<LongAd>) -> Answered<Vec<u8>> {
         let icb = icb.into();
-        self.fitted(|| self.held(icb), |out| calls::read(self.volume, self.image, icb, out))
+        let bytes = self.measure(icb)?;
+        let full = Refused { why: Refusal::NoRoom, sectors: bytes.sectors };
+        let mut out = exactly(bytes.value, most_file(self.image)).ok_or(full)?;
+        Ok(calls::read(self.volume, self.image, icb, &mut out)?.map(|()| out))
+    }
+
+    /// How many bytes [`Counted::read_file`] gives, with its refusals and its count, but for 5: that one is for want of memory.
+    pub fn measure(&self, icb: impl Into<LongAd>) -> Answered<u64> {
+        calls::measure(self.volume, self.image, icb.into())
     }
 
     /// Looks a path up and reads what it names; the count is that of both.
@@ -269,12 +281,12 @@ impl<'a> Counted<'a> {
 
     /// The same, with components matched as is said.
     pub fn read_path_as(&self, path: impl AsRef<[u8]>, matching: Matching) -> Answered<Vec<u8>> {
-        let path = path.as_ref();
-        let held = || self.lookup_as(path, matching).map_or(0, |icb| self.held(icb.value));
-        self.fitted(held, |out| {
-            let call = |_: &mut Vec<u8>, work: &mut Vec<u8>| calls::read_path(self.volume, self.image, path, matching, out, work);
-            retry(&mut Room::none(), &mut work_space(), call)
-        })
+        let found = self.lookup_as(path, matching)?;
+        let both = |sectors: u64| found.sectors.saturating_add(sectors);
+        match self.read_file(found.value) {
+            Ok(Answer { value, sectors }) => Ok(Answer { value, sectors: both(sectors) }),
+            Err(Refused { why, sectors }) => Err(Refused { why, sectors: both(sectors) }),
+        }
     }
 
     /// Reads what each of many paths names: for each, in their order, its bytes or why there are none, as [`Counted::read_path`] gives them. One that
@@ -332,24 +344,6 @@ impl<'a> Counted<'a> {
             Ok(answer) => (Ok(answer.value), answer.sectors),
             Err(refused) => (Err(refused.why), refused.sectors),
         }
-    }
-
-    /// A read, and again with room for all that the file's extents hold where there was too little: that is exact, and doubling isn't.
-    fn fitted(&self, held: impl FnOnce() -> usize, mut read: impl FnMut(&mut Vec<u8>) -> Answered<()>) -> Answered<Vec<u8>> {
-        let mut out = Room::new(FIRST, most_file(self.image));
-        let mut answer = read(&mut out.lent);
-        if matches!(answer, Err(Refused { why: Refusal::NoRoom, .. })) && out.reach(held()) {
-            answer = read(&mut out.lent);
-        }
-        let answer = answer?;
-        out.lent.shrink_to_fit();
-        Ok(answer.map(|()| out.lent))
-    }
-
-    /// The bytes in all of a file's extents: a read gives no more.
-    fn held(&self, icb: LongAd) -> usize {
-        let lengths = self.extents(icb).map_or(0, |list| list.iter().map(|extent| u64::from(extent.length)).sum());
-        usize::try_from(lengths).unwrap_or(usize::MAX)
     }
 
     /// Where a file stands on the disc, its whole chain followed; an embedded file has no extents.

@@ -92,8 +92,8 @@
 //! # Memory
 //!
 //! The proved calls allocate nothing: they write to memory that is lent to them and refuse by 5, 6 or 7 where it is too little. This crate
-//! lends a little, and more when that was the only trouble, so that a caller sees these numbers only where the memory can't be had, or
-//! where an answer is longer than any sound disc can give: a file of more bytes than its image (and more than 256 MiB), a directory of more
+//! measures a file or a directory and lends what that takes, or lends a little, and more when that was the only trouble, so that a caller sees these
+//! numbers only where the memory can't be had, or where an answer is longer than any sound disc can give: a file of more bytes than its image (and more than 256 MiB), a directory of more
 //! than 256 MiB, in a show together with those above it, and a show of more than 256 MiB of records. Such a disc is refused, and nothing is
 //! allocated by what it says of itself.
 

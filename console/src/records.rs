@@ -95,18 +95,30 @@ pub struct ShowEntry {
     pub entry: DirEntry,
 }
 
-/// The bytes of a record's mark.
+/// The bytes of a record's mark, and of all in front of its name.
 const MARK: usize = 2;
+const HEAD: usize = MARK + 1 + 16 + 2;
 
 /// The entries of a listing, whose records include/vault.h says (`vault_list`); none if there isn't memory for them.
 pub(crate) fn entries(listing: &[u8]) -> Option<Vec<DirEntry>> {
     let (mut entries, mut rest) = (Vec::new(), listing);
+    entries.try_reserve_exact(count(listing)).ok()?;
     while let Some((record, behind)) = record(rest) {
-        entries.try_reserve(1).ok()?;
         entries.push(record?);
         rest = behind;
     }
     Some(entries)
+}
+
+/// How many records a listing has.
+fn count(listing: &[u8]) -> usize {
+    std::iter::successors(Some(listing), |rest| behind(rest)).count() - 1
+}
+
+/// What stands behind the first record; none where there is none.
+fn behind(listing: &[u8]) -> Option<&[u8]> {
+    let (head, rest) = listing.split_first_chunk::<HEAD>()?;
+    rest.get(u16::from_le_bytes([head[HEAD - 2], head[HEAD - 1]]).into()..)
 }
 
 /// The record at the front, none in it if there isn't memory for its name, and what stands behind it.

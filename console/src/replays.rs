@@ -5,7 +5,7 @@
 //!
 //! What a call leaves in memory that it doesn't answer with is seen by those programs and by `compare`, and not here.
 
-use crate::answer::{Answer, Answered};
+use crate::answer::{Answer, Answered, Refusal, Refused};
 use crate::calls::{self, Rows};
 use crate::counted_drive::CountedDrive;
 use crate::input::Input;
@@ -92,14 +92,39 @@ fn ask(call: u8, v: Volume, image: &[u8], q: &Lends) -> String {
         2 => line("label", &calls::label(image, 0, &mut out), as_it_came, |()| written(&out)),
         3 => line("lookup", &calls::lookup(v, image, q.path, Matching::CaseIgnored, &mut work), 0, |icb| (0, sum_icb(*icb))),
         4 => failed(&calls::failed(v, image, q.path, Matching::CaseIgnored, &mut work)),
-        5 => line("list", &calls::list(v, image, q.icb, &mut out, &mut work), as_it_came, |()| written(&out)),
-        6 => line("read", &calls::read(v, image, q.icb, &mut out), as_it_came, |()| written(&out)),
+        5 => {
+            let list = calls::list(v, image, q.icb, &mut out, &mut work);
+            if list.as_ref().is_err_and(|refused| refused.why == Refusal::NoWork) {
+                short(&calls::measure(v, image, q.icb), &list, q.work);
+            }
+            line("list", &list, as_it_came, |()| written(&out))
+        }
+        6 => {
+            let read = calls::read(v, image, q.icb, &mut out);
+            measured(&calls::measure(v, image, q.icb), &read, &out, q.room);
+            line("read", &read, as_it_came, |()| written(&out))
+        }
         7 => line("part", &calls::part(v, image, q.icb), 0, |part| (part.len() as u64, sum(part.iter().copied()))),
         8 => extents(v, image, q),
         _ => line("read_path", &calls::read_path(v, image, q.path, Matching::CaseIgnored, &mut out, &mut work), as_it_came, |()| {
             written(&out)
         }),
     }
+}
+
+/// What is measured is the length of what a read gives, with its number and its count; of one that had too little room, with its count.
+fn measured(measured: &Answered<u64>, read: &Answered<()>, out: &[u8], room: usize) {
+    match read {
+        Err(Refused { why: Refusal::NoRoom, .. }) => short(measured, read, room),
+        _ => assert_eq!(*measured, (*read).map(|answer| answer.map(|()| out.len() as u64))),
+    }
+}
+
+/// A call that was lent too little: what is measured is more, and has the same count.
+fn short(measured: &Answered<u64>, refused: &Answered<()>, lent: usize) {
+    let bytes = measured.as_ref().unwrap();
+    assert!(bytes.value > lent as u64);
+    assert_eq!(bytes.sectors, refused.as_ref().unwrap_err().sectors);
 }
 
 /// The component stands in an answer here, where the list has the lookup's 3.

@@ -8,6 +8,15 @@ pub const FIRST: usize = 64 << 10;
 /// The most work space for a directory: some five million entries. It is all cleared by each call, so a bad disc must not ask for more.
 pub const MOST_DIRECTORY: usize = 256 << 20;
 
+/// The most that the listing of a directory of so many bytes has (docs/RULES.md, 4.9 and 8.9).
+///
+/// A name that is recorded in n bytes, of which the first is its compression id, has at most 2 (n - 1): one or two for each byte, or up to three for each
+/// pair. Its record has 21 more. Its identifier has 38 + n, rounded up to a multiple of 4, which the last one may want. Of all n up to 255 a record is longest beside
+/// its identifier at 254: 527 bytes of 292.
+pub fn most_listed(directory: usize) -> usize {
+    directory.next_multiple_of(4).saturating_mul(527) / 292
+}
+
 /// The most for the records of a show: some six million entries.
 pub const MOST_SHOW: usize = 256 << 20;
 
@@ -21,6 +30,14 @@ pub const SOME_FILE: usize = 256 << 20;
 /// The most for a file of this image. Only one whose extents overlap has more bytes than its disc.
 pub fn most_file(image: &[u8]) -> usize {
     image.len().max(SOME_FILE)
+}
+
+/// An empty vector with room for exactly so many bytes; none where that is more than the most, or can't be had.
+pub fn exactly(bytes: u64, most: usize) -> Option<Vec<u8>> {
+    let bytes = usize::try_from(bytes).ok().filter(|bytes| *bytes <= most)?;
+    let mut room = Vec::new();
+    room.try_reserve_exact(bytes).ok()?;
+    Some(room)
 }
 
 /// An empty vector whose spare room is lent.
@@ -72,5 +89,29 @@ pub fn retry<T, R>(out: &mut Room<T>, work: &mut Room<u8>, mut call: impl FnMut(
         if !grown {
             return answer;
         }
+    }
+}
+
+#[cfg(test)]
+mod tests {
+    use super::*;
+
+    /// Each length of a name, alone and behind another, with use bytes or none, and the last without the bytes that round it up.
+    #[test]
+    fn a_listing_has_no_more() {
+        let name = |n: usize| 2 * n.saturating_sub(1);
+        for n in 0..=255 {
+            assert!(21 + name(n) <= most_listed(38 + n), "{n}");
+            for m in 0..=255 {
+                assert!(42 + name(n) + name(m) <= most_listed((38 + n).next_multiple_of(4) + 38 + m), "{n} {m}");
+            }
+        }
+        assert_eq!((most_listed(0), most_listed(292), most_listed(5 * 292)), (0, 527, 5 * 527));
+    }
+
+    #[test]
+    fn what_is_too_much_is_not_had() {
+        assert_eq!(exactly(5, 5).map(|room| room.capacity()), Some(5));
+        assert_eq!((exactly(6, 5), exactly(u64::MAX, usize::MAX), exactly(0, 0)), (None, None, Some(Vec::new())));
     }
 }

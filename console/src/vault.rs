@@ -344,6 +344,20 @@ impl<B: AsRef<[u8]>> Vault<B> {
         plain(self.counted().read_file(icb))
     }
 
+    /// How many bytes [`Vault::read_file`] gives: what its extents have, as far as its entry says that it goes. It is refused as the read is, but
+    /// for want of memory.
+    ///
+    /// ```
+    /// # fn main() -> Result<(), Box<dyn std::error::Error>> {
+    /// let disc = strandlodge::Vault::open(strandlodge::write(&[("9", b"cue 9")])?)?;
+    /// assert_eq!(disc.measure(disc.lookup("9")?)?, 5);
+    /// # Ok(())
+    /// # }
+    /// ```
+    pub fn measure(&self, icb: impl Into<LongAd>) -> Result<u64> {
+        plain(self.counted().measure(icb))
+    }
+
     /// Looks a path up and reads what it names.
     ///
     /// ```no_run

@@ -74,11 +74,13 @@ fn every_command_answers() {
     answers(&folder.vault(&["get", "show.img", "SHOW/11", "cue"]), "");
     assert_eq!(std::fs::read_to_string(folder.at("cue")).unwrap(), BLACKOUT);
     let stat = "path     SHOW/11\nentry    11\nkind     file\nicb      block 11, partition 5, 2048 bytes, type 0\n\
-                storage  extents: 1, with 16 bytes in all\nextent   16 bytes, type 0 (recorded), block 12, partition none\n\
-                sectors  open 6, lookup 2, read_directory 1, read_directory 1, part 1, extents 1\n";
+                length   16 bytes, as its entry says\nread     16 bytes\n\
+                storage  extents: 1\nextent   16 bytes, type 0 (recorded), block 12, partition none\n\
+                sectors  open 6, lookup 2, read_directory 1, read_directory 1, part 1, extents 1, measure 2\n";
     answers(&folder.vault(&["stat", "show.img", "SHOW/11"]), stat);
     let stat = "path     \nentry    none, this is the root\nkind     directory\nicb      block 3, partition 5, 2048 bytes, type 0\n\
-                storage  embedded, 84 bytes\nsectors  open 6, lookup 0, part 1, extents 1\n";
+                length   84 bytes, as its entry says\nread     84 bytes\n\
+                storage  embedded, 84 bytes\nsectors  open 6, lookup 0, part 1, extents 1, measure 1\n";
     answers(&folder.vault(&["stat", "show.img", ""]), stat);
     assert!(folder.vault(&["--help"]).out.contains("vault get IMAGE PATH FILE"));
     assert!(folder.vault(&["--help"]).out.contains("vault get IMAGE -o TO PATH.."));
@@ -431,7 +433,8 @@ fn wrong_usage_is_said() {
     refuses(&folder, &["stat"], 64, "stat needs IMAGE");
     refuses(&folder, &["sample"], 64, "sample needs FILE");
     refuses(&folder, &["ls", "show.img", "SHOW", "more"], 64, "more follows");
-    refuses(&folder, &["-l", "show.img"], 64, "there is no option -l");
+    refuses(&folder, &["-l", "show.img"], 64, "-l is for ls");
+    refuses(&folder, &["-q", "show.img"], 64, "there is no option -q");
     refuses(&folder, &["--as-written", "--unambiguous", "ls", "show.img"], 64, "two choices");
     refuses(&folder, &["--as-written", "label", "show.img"], 64, "are for a PATH");
     refuses(&folder, &["--unambiguous"], 64, "are for a PATH");
@@ -489,7 +492,7 @@ fn many_files_are_written_to_a_folder() {
     answers(&folder.vault(&["get", "show.img", "SHOW/11", "-o", "to"]), "SHOW/11: 16 bytes, to to/11\n");
     assert_eq!(std::fs::read_to_string(folder.at("to/11")).unwrap(), BLACKOUT);
     let said = folder.vault(&["--sectors", "get", "show.img", "SHOW/11", "SHOW/9", "-o", "to/"]);
-    let calls = "open 6, lookup 2, read_directory 1, read_directory 1, extents 1, lookup 2, read_directory 1, read_directory 1, extents 1, read_all 8";
+    let calls = "open 6, lookup 2, read_directory 1, read_directory 1, measure 2, lookup 2, read_directory 1, read_directory 1, measure 2, read_all 8";
     assert_eq!((said.status, said.error), (0, format!("vault: sectors asked for: {calls}\n")));
 }
 

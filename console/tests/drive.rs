@@ -428,7 +428,7 @@ fn the_command_answers_from_a_drive() {
     let stat = "label    SHOW 1\nstart    sector 288, partition 5\nroot     block 3, partition 5, 2048 bytes, type 0\nsectors  open 6\n";
     assert_eq!(folder.vault(&["stat", "show.img", "--drive"]).out, stat);
     let stat = "path     SHOW/11\nentry    11\nkind     file\nicb      block 11, partition 5, 2048 bytes, type 0\n\
-                sectors  open 6, lookup 2, read_directory 1, read_directory 1\n";
+                length   16 bytes, as its entry says\nsectors  open 6, lookup 2, read_directory 1, read_directory 1\n";
     assert_eq!(folder.vault(&["stat", "show.img", "SHOW/11", "--drive"]).out, stat);
 }
 

@@ -274,10 +274,10 @@ fn every_command_that_opens_goes_through_the_maps() {
     says(
         &["stat", "a.img", "near"],
         "path     near\nentry    near\nkind     file\nicb      block 4, partition 0, 2048 bytes, type 0\n\
-         storage  extents: 2, with 3000 bytes in all\n\
+         length   3000 bytes, as its entry says\nread     3000 bytes\nstorage  extents: 2\n\
          extent   2048 bytes, type 0 (recorded), block 5, partition 0, sector 293\n\
          extent   952 bytes, type 0 (recorded), block 9, partition 1, sector 409\n\
-         sectors  open 7, lookup 1, read_directory 1, part 1, extents 1\n",
+         sectors  open 7, lookup 1, read_directory 1, part 1, extents 1, measure 3\n",
     );
     assert_eq!(folder.vault(&["cat", "a.img", "lost", "--maps"]).status, 4);
     assert_eq!(folder.vault(&["probe", "a.img", "--maps"]).status, folder.vault(&["probe", "a.img"]).status);

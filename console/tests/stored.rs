@@ -291,3 +291,30 @@ fn volumes_answer_every_list() {
     assert_eq!((asked, expected.0.next()), (115, None));
     assert!(stored > 50, "{stored}");
 }
+
+/// What is measured is the length of what is read, with its number and its count, for every stored ICB; and a listing's work space is as much.
+#[test]
+fn every_file_is_as_long_as_it_is_measured() {
+    let mut all = Input(include_bytes!("../../crates/vault_cases/data/images"));
+    let (mut files, mut refused) = (0, 0);
+    while !all.0.is_empty() {
+        all.sized(2);
+        let image = expand(all.sized(4)).unwrap();
+        let (opened, mut queries) = (Counted::open(&image), Input(all.sized(4)));
+        while !queries.0.is_empty() {
+            let (what, _room, _work) = (queries.number(2), queries.number(4), queries.number(4));
+            let (text, Ok(vault)) = (queries.sized(2), &opened) else { continue };
+            let icb = match what {
+                0 => continue,
+                1 => vault.lookup(text).map(|icb| icb.value),
+                _ => Ok(long_ad(text)),
+            };
+            let Ok(icb) = icb else { continue };
+            let measured = vault.measure(icb);
+            assert_eq!(measured, vault.read_file(icb).map(|read| read.map(|bytes| bytes.len() as u64)));
+            files += u32::from(measured.is_ok());
+            refused += u32::from(measured.is_err());
+        }
+    }
+    assert_eq!((files, refused), (623, 50));
+}

@@ -3,7 +3,7 @@
 mod common;
 
 use common::command::{Folder, Said, left_out, tool};
-use common::{Disc, SECTOR, identifier, named, noise, sealed, show};
+use common::{Disc, SECTOR, identifier, named, noise, sealed, short_ad, show};
 use std::fs::{self, File};
 use std::os::unix::fs::{MetadataExt, PermissionsExt, symlink};
 use std::process::{Command, Stdio};
@@ -456,6 +456,8 @@ fn documents_are_read_by_another_program() {
         &["stat", "show.img", "SHOW/9", "--drive"],
         &["info", "show.img"],
         &["check", "ruined.img"],
+        &["ls", "-l", "tricks.img"],
+        &["ls", "-l", "-R", "show.img"],
     ] {
         let document = folder.vault(&[words, &["--json"]].concat()).bytes;
         folder.write("document", &document);
@@ -610,4 +612,35 @@ fn documents_are_json_whatever_the_names_are() {
         );
         assert!(said.bytes.iter().all(|byte| *byte >= b' ' && *byte != 127 || *byte == b'\n'), "{words:?}");
     }
+}
+
+/// Sizes by an entry, by a read, and in extents: of a file whose extents end early, of one that can't be read, and of one that is embedded.
+#[test]
+fn files_have_their_sizes() {
+    let (folder, mut disc) = (Folder::new(), Disc::new());
+    let bytes = disc.lay(&[7; 3000]);
+    let short = disc.entry(0, &[short_ad(2048, bytes), short_ad(100, bytes + 1)].concat(), 5000);
+    let gone = disc.entry(0, &short_ad(2048, 1_000_000), 2048);
+    let embedded = disc.entry(3, b"cue", 3);
+    let root = disc.directory(&[named("short", short, false), named("gone", gone, false), named("embedded", embedded, false)]);
+    disc.root(root);
+    folder.write("a.img", &disc.0);
+    let lines =
+        "        5000         2148      2 short\n        2048    refused:1      1 gone\n           3            3      0 embedded\n";
+    answers(&folder.vault(&["ls", "-l", "a.img"]), lines);
+    answers(&folder.vault(&["ls", "-l", "-R", "a.img"]), lines);
+    answers(&folder.vault(&["ls", "-l", "a.img", "gone"]), "        2048    refused:1      1 gone\n");
+    answers(&folder.vault(&["ls", "-l", "--drive", "a.img", "short"]), "        5000            -      - short\n");
+    let sizes = "\"information_length\": 5000, \"bytes\": 2148, \"answer\": 0, \"extent_count\": 2";
+    let refused = "\"information_length\": 2048, \"bytes\": null, \"answer\": 1, \"extent_count\": 1";
+    for words in [&["ls", "-l"][..], &["ls", "-R", "-l"]] {
+        let said = folder.vault(&[words, &["--json", "a.img"]].concat());
+        assert!(said.status == 0 && said.out.contains(sizes) && said.out.contains(refused), "{said:?}");
+    }
+    assert!(!folder.vault(&["ls", "--json", "a.img"]).out.contains("information_length"));
+    assert!(folder.vault(&["stat", "--json", "a.img", "short"]).out.contains(sizes));
+    let said = folder.vault(&["stat", "a.img", "short"]);
+    assert!(said.out.contains("\nlength   5000 bytes, as its entry says\nread     2148 bytes\nstorage  extents: 2\n"), "{said:?}");
+    let said = folder.vault(&["stat", "a.img", "gone"]);
+    assert!(said.status == 0 && said.out.contains("\nread     none: a sector that was asked for isn't"), "{said:?}");
 }

@@ -2,8 +2,8 @@
 
 mod common;
 
-use common::{Disc, SECTOR, continuation, continued, identifier, named, noise, reclosed, short_ad, show};
-use strandlodge::{AllocExtent, Answer, Counted, How, Kind, Matching, Refusal, Refused, Show};
+use common::{DELETED, Disc, SECTOR, continuation, continued, identifier, marked, named, noise, reclosed, short_ad, show};
+use strandlodge::{AllocExtent, Answer, Counted, How, Kind, Matching, Refusal, Refused, Show, Vault};
 use strandlodge::{probe_vrs, read_volume_label, volume_descriptors};
 
 const UPPER: &[u8] = b"cue 10.1A\nfront wash 80, blue backs 40, follow 6 seconds\n";
@@ -487,4 +487,40 @@ fn a_show_of_a_directory_that_holds_itself() {
     for levels in [1, 2, 16] {
         assert_eq!(refused(vault.show(levels)), (Refusal::TooDeep, 2 * u64::from(levels)));
     }
+}
+
+/// Names of each length, of letters that take two bytes of UTF-8, alone and many, and the last one without the bytes that round it up: what is lent for
+/// their listing is enough.
+#[test]
+fn a_listing_has_room_at_once() {
+    for n in [0, 1, 2, 100, 250, 253, 254, 255] {
+        let recorded: Vec<u8> = [8].into_iter().chain(std::iter::repeat(0xe9)).take(n).collect();
+        let mut disc = Disc::new();
+        let mut bytes = identifier(&recorded, 5, false).repeat(1000);
+        bytes.truncate(bytes.len() - ((38 + n).next_multiple_of(4) - (38 + n)));
+        let root = disc.file(&bytes);
+        disc.root(root);
+        let vault = Vault::open(&disc.0).unwrap();
+        let entries = vault.read_directory(vault.root_directory_icb()).unwrap();
+        assert_eq!((entries.len(), entries[999].name.len()), (1000, 2 * n.saturating_sub(1)), "{n}");
+    }
+}
+
+/// A directory of more than 256 MiB, by extents that overlap: it is refused by 6 before anything is lent, with the count of its sectors. One of as much as is
+/// lent is listed.
+#[test]
+fn a_directory_that_is_too_large_is_refused_at_once() {
+    let of = |extents: usize| {
+        let mut disc = Disc::new();
+        let bytes = marked(named("deleted", 5, false), DELETED).repeat((16 << 20) / 48);
+        let (size, block) = (bytes.len(), disc.lay(&bytes));
+        let root = disc.entry(0, &short_ad(size, block).repeat(extents), (size * extents) as u64);
+        disc.root(root);
+        disc.0
+    };
+    let image = of(17);
+    let vault = Vault::open(&image).unwrap();
+    let (root, sectors) = (vault.root_directory_icb(), 1 + 17 * (((16 << 20) / 48 * 48) as u64).div_ceil(2048));
+    assert_eq!(vault.read_directory(root), Err(Refused { why: Refusal::NoWork, sectors }));
+    assert_eq!(vault.measure(root), Ok(17 * ((16 << 20) / 48 * 48)));
 }

@@ -105,7 +105,7 @@ const PATHS: &[&str] = &["ls", "tree", "cat", "get", "stat"];
 const FOR_PATHS: &str = "--as-written and --unambiguous are for a PATH: that of ls, tree, cat, get or stat";
 
 /// Options that aren't for every command, those that they are for, and what is said else.
-const OPTIONS: [(&str, &[&str], &str); 15] = [
+const OPTIONS: [(&str, &[&str], &str); 16] = [
     ("--as-written", PATHS, FOR_PATHS),
     ("--unambiguous", PATHS, FOR_PATHS),
     ("--raw", PATHS, "--raw is for a PATH: that of ls, tree, cat, get or stat"),
@@ -115,6 +115,7 @@ const OPTIONS: [(&str, &[&str], &str); 15] = [
     ("-R", &["ls"], "-R is for ls"),
     ("-i", &["ls"], "-i is for ls"),
     ("-0", &["ls"], "-0 is for ls"),
+    ("-l", &["ls"], "-l is for ls"),
     ("--json", &["ls", "tree", "stat", "info", "check", "survey"], "--json is for ls, tree, stat, info, check and survey"),
     ("--levels", &["tree", "ls"], "--levels is for tree and ls -R"),
     ("--limit", &["tree", "ls", "get"], "--limit is for tree, ls -R and get -r"),
@@ -244,7 +245,8 @@ pub fn parse(given: impl IntoIterator<Item = OsString>) -> Result<Args, Failure>
     } else {
         command(words, &options)?
     };
-    let style = Style { is_json: options.has("--json"), is_raw: options.has("-0"), has_icbs: options.has("-i") };
+    let style =
+        Style { is_json: options.has("--json"), is_raw: options.has("-0"), has_icbs: options.has("-i"), is_long: options.has("-l") };
     let (sectors, copy, drive) = (options.sectors, options.has("--copy"), options.has("--drive"));
     let (how, wait) = (options.how, options.wait);
     if options.help || options.version {
@@ -488,12 +490,14 @@ mod tests {
 
     #[test]
     fn entries_have_a_style() {
-        let style = |is_json, is_raw, has_icbs| Style { is_json, is_raw, has_icbs };
+        let style = |is_json, is_raw, has_icbs| Style { is_json, is_raw, has_icbs, is_long: false };
         for (line, style) in [
             ("ls a", style(false, false, false)),
             ("ls a -0 -i", style(false, true, true)),
             ("ls -R -i a", style(false, false, true)),
             ("--json check a", style(true, false, false)),
+            ("ls -l --json a", Style { is_long: true, ..style(true, false, false) }),
+            ("ls a -R -l", Style { is_long: true, ..style(false, false, false) }),
         ] {
             assert_eq!(parsed(line).unwrap().style, style, "{line}");
         }
@@ -532,6 +536,7 @@ mod tests {
             "check a --as-written",
             "tree a -0",
             "tree a -i",
+            "tree a -l",
             "cat a b --json",
             "ls a --json -0",
             "get a b c -r",

@@ -13,6 +13,7 @@ use crate::log::Log;
 use crate::many;
 use crate::maps;
 use crate::names::{shown, shown_name};
+use crate::sizes::Sizes;
 use crate::style::{Style, listed};
 use crate::tree;
 use crate::wanted::Wanted;
@@ -20,7 +21,7 @@ use std::ffi::OsStr;
 use std::io::{self, Write};
 use std::os::unix::ffi::OsStrExt;
 use std::path::Path;
-use strandlodge::{AllocExtent, Asked, Counted, How, LongAd, Matching, VolumeDescriptor};
+use strandlodge::{AllocExtent, Asked, Counted, How, LongAd, Matching, Refusal, VolumeDescriptor};
 use strandlodge::{map_table, probe_vrs, volume_descriptors};
 
 /// How a question is asked: how the image is opened, how names are matched, and how the answer is printed.
@@ -95,10 +96,16 @@ pub fn ls<V: Volume>(disc: &mut Disc<V>, wanted: &Wanted, style: Style, out: &mu
     };
     if style.is_json {
         let mut rows = Rows::new(out);
-        entries.iter().try_for_each(|entry| rows.row(&Json::Object(Json::entry(entry))))?;
+        entries.iter().try_for_each(|entry| {
+            let sizes = style.is_long.then(|| disc.sizes(entry.icb));
+            rows.row(&Json::Object(Json::sized(entry, sizes)))
+        })?;
         return rows.end();
     }
-    entries.iter().try_for_each(|entry| style.line(entry, entry.name.as_bytes(), &shown_name(&entry.name), out))
+    entries.iter().try_for_each(|entry| {
+        let sizes = style.is_long.then(|| disc.sizes(entry.icb));
+        style.line(entry, sizes, entry.name.as_bytes(), &shown_name(&entry.name), out)
+    })
 }
 
 /// A descriptor of the volume, with its number.
@@ -128,13 +135,18 @@ fn stat(disc: &mut Disc<Counted>, wanted: &Wanted, style: Style, out: &mut impl 
     let asked = Asked::ReadFile(found.icb);
     let part = disc.count(&path, asked, "part", disc.volume.part(found.icb))?;
     let extents = disc.count(&path, asked, "extents", disc.volume.extents(found.icb))?;
+    let measured = disc.log.count("measure", disc.volume.measure(found.icb)).map_err(Refusal::from);
+    let information = disc.volume.entry(found.icb).map(|entry| entry.information_length);
+    let sizes = Sizes { information, read: Some(measured), extents: Some(extents.len() as u64) };
     if style.is_json {
         let mut all = found_json(&found, &path);
+        all.extend(sizes.json());
         all.extend(extents_json(disc.volume, found.icb, part.len(), &extents));
         all.push(("sectors", disc.log.json()));
         return Json::Object(all).print(out);
     }
     say_found(&found, &path, out)
+        .and_then(|()| sizes.lines().iter().try_for_each(|text| writeln!(out, "{text}")))
         .and_then(|()| say_extents(disc.volume, found.icb, part.len(), &extents, out))
         .and_then(|()| writeln!(out, "sectors  {}", disc.log.sectors()))
         .map_err(Failure::output)
@@ -201,8 +213,7 @@ fn say_extents(vault: Counted, icb: LongAd, embedded: usize, extents: &[AllocExt
         let storage = if embedded > 0 { format!("embedded, {embedded} bytes") } else { "no bytes, no extents".to_string() };
         return writeln!(out, "storage  {storage}");
     }
-    let bytes: u64 = extents.iter().map(|extent| u64::from(extent.length)).sum();
-    writeln!(out, "storage  extents: {}, with {bytes} bytes in all", extents.len())?;
+    writeln!(out, "storage  extents: {}", extents.len())?;
     extents.iter().try_for_each(|extent| {
         let kind = ["recorded", "not recorded", "not allocated"].get(usize::from(extent.extent_type)).unwrap_or(&"a continuation");
         let partition = extent.partition_ref.map_or("none".to_string(), |number| number.to_string());

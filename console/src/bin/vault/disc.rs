@@ -33,6 +33,9 @@ pub trait Volume {
     fn entry(&mut self, icb: LongAd) -> Option<FileEntry>;
     /// The front of a file, looked at beside the calls: of what isn't embedded up to a sector or more.
     fn front(&mut self, icb: LongAd) -> Vec<u8>;
+    /// How many bytes a read gives, and in how many extents they stand; none on a drive, of which no call tells.
+    fn measure(&self, icb: LongAd) -> Option<strandlodge::Answered<u64>>;
+    fn extent_count(&self, icb: LongAd) -> Option<strandlodge::Answered<u64>>;
     /// Of the last call, which sector couldn't be had, where more is known of it than that it isn't there.
     fn missed(&self) -> Option<String>;
     /// Where the last call was refused, and why.
@@ -75,6 +78,14 @@ impl Volume for Counted<'_> {
         let extents = self.extents(icb).map_or(Vec::new(), |extents| extents.value);
         let first = extents.first().and_then(|extent| sector(self.image(), self.extent_sector(icb, extent)?));
         copied(first.unwrap_or(embedded))
+    }
+
+    fn measure(&self, icb: LongAd) -> Option<strandlodge::Answered<u64>> {
+        Some(Counted::measure(self, icb))
+    }
+
+    fn extent_count(&self, icb: LongAd) -> Option<strandlodge::Answered<u64>> {
+        Some(self.extents(icb).map(|extents| extents.map(|extents| extents.len() as u64)))
     }
 
     fn missed(&self) -> Option<String> {
@@ -122,6 +133,14 @@ impl Volume for CountedDrive<File> {
         // It takes the first bytes that come, and no more.
         let _ = CountedDrive::copy_file(self, icb, &mut front);
         front.0
+    }
+
+    fn measure(&self, _: LongAd) -> Option<strandlodge::Answered<u64>> {
+        None
+    }
+
+    fn extent_count(&self, _: LongAd) -> Option<strandlodge::Answered<u64>> {
+        None
     }
 
     fn missed(&self) -> Option<String> {

@@ -99,15 +99,18 @@ fn volume(disc: &mut Disc<CountedDrive<File>>, style: Style, out: &mut impl Writ
     line(out, &format!("sectors  {}", disc.log.sectors()))
 }
 
-/// What a directory has of an entry. Where its bytes stand is shown of an image.
+/// What a directory has of an entry, and its information length. What a read gives, and where that stands, is shown of an image.
 fn stat(disc: &mut Disc<CountedDrive<File>>, wanted: &Wanted, style: Style, out: &mut impl Write) -> Result<(), Failure> {
     let (found, path) = (disc.find(wanted)?, wanted.text());
+    let sizes = disc.sizes(found.icb);
     if style.is_json {
         let mut all = found_json(&found, &path);
+        all.extend(sizes.json());
         all.push(("sectors", disc.log.json()));
         return Json::Object(all).print(out);
     }
     say_found(&found, &path, out).map_err(Failure::output)?;
+    sizes.lines().iter().try_for_each(|text| line(out, text))?;
     line(out, &format!("sectors  {}", disc.log.sectors()))
 }
 

@@ -14,7 +14,7 @@ vault: look into a UDF disc. An image is a file or a drive, and is only read.
   vault cat IMAGE PATH         a file's bytes; PATH is names between slashes
   vault get IMAGE PATH FILE    a file's bytes, to FILE, which is replaced
   vault get IMAGE -o TO PATH.. many files to folder TO; get -r: all of a disc
-  vault stat IMAGE [PATH]      ICB, kind, extents; or volume descriptors, maps
+  vault stat IMAGE [PATH]      ICB, kind, sizes, extents; or descriptors, maps
   vault probe IMAGE            whether it has a recognition sequence: yes or no
   vault check IMAGE            descriptors out of place, or with a ruined body
   vault survey IMAGE..         files, bytes, extents and refusals, in figures
@@ -67,7 +67,7 @@ const COMMANDS: [(&str, &str, [bool; 3]); 13] = [
         "ls",
         "vault ls IMAGE [PATH]\nPrints what a directory holds, a line to an entry, with a slash behind one that\n\
          is a directory.\n  -R         all below it too, by paths: --levels N (16), --limit N (100000)\n\
-         \x20 -i         with the ICB of each, BLOCK:REF, for --icb\n\
+         \x20 -i, -l     with the ICB of each, BLOCK:REF; with length, bytes read, extents\n\
          \x20 -0         as they are recorded, with a zero byte behind each\n  --json     as one document\n",
         [true, true, true],
     ),
@@ -86,8 +86,8 @@ const COMMANDS: [(&str, &str, [bool; 3]); 13] = [
     ("get", GET, [true, true, true]),
     (
         "stat",
-        "vault stat IMAGE [PATH]\nPrints the ICB of what PATH gives, its kind and its extents. Without PATH: the\n\
-         volume's descriptors, its maps, and what they lead to.\n  --json     as one document\n",
+        "vault stat IMAGE [PATH]\nPrints the ICB of what PATH gives, its kind, its length by its entry, the bytes\n\
+         that a read gives, and extents; without PATH the volume's descriptors and maps.\n  --json     as one document\n",
         [true, true, true],
     ),
     (

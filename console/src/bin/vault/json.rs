@@ -1,6 +1,7 @@
 //! Documents for other programs (RFC 8259).
 
 use crate::failure::Failure;
+use crate::sizes::Sizes;
 use std::fmt;
 use std::io::Write;
 use strandlodge::{DirEntry, LongAd};
@@ -45,6 +46,13 @@ impl Json {
     /// What a directory has of an entry: its name as it is recorded.
     pub fn entry(entry: &DirEntry) -> Vec<(&'static str, Json)> {
         vec![("name", Json::text(&entry.name)), ("kind", Json::kind(entry.is_directory)), ("icb", Json::icb(entry.icb))]
+    }
+
+    /// The same with its sizes.
+    pub fn sized(entry: &DirEntry, sizes: Option<Sizes>) -> Vec<(&'static str, Json)> {
+        let mut all = Json::entry(entry);
+        all.extend(sizes.into_iter().flat_map(Sizes::json));
+        all
     }
 
     /// The document, alone on a line.

@@ -17,6 +17,16 @@ impl Log {
         answer.map(|answer| answer.value)
     }
 
+    /// Adds a call's count to those of the same call before it, refused or not, and gives its value.
+    pub fn add<T>(&mut self, call: &'static str, answer: Answered<T>) -> std::result::Result<T, Refused> {
+        let sectors = answer.as_ref().map_or_else(|refused| refused.sectors, |answer| answer.sectors);
+        match self.calls.iter_mut().find(|(name, _)| *name == call) {
+            Some((_, sum)) => *sum = sum.saturating_add(sectors),
+            None => self.calls.push((call, sectors)),
+        }
+        answer.map(|answer| answer.value)
+    }
+
     /// Notes calls that were made many times, each with its counts added up.
     pub fn sums(&mut self, calls: impl IntoIterator<Item = (&'static str, u64)>) {
         self.calls.extend(calls);

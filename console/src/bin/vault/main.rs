@@ -22,6 +22,7 @@ mod names;
 mod records;
 mod report;
 mod signals;
+mod sizes;
 mod steps;
 mod style;
 mod survey;

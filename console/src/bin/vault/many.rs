@@ -19,7 +19,7 @@ use strandlodge::{Asked, Counted, Refused};
 /// Files are read together up to so many bytes; a larger one is read by itself, so that no more is in memory at once than that takes.
 const TOGETHER: u64 = 64 << 20;
 
-/// A file that is there, where it goes, and about how many bytes it has.
+/// A file that is there, where it goes, and how many bytes it has.
 struct Sought<'p> {
     path: &'p [u8],
     to: PathBuf,
@@ -91,8 +91,8 @@ fn find<'p>(disc: &mut Disc<Counted>, path: &'p [u8], folder: &Path, image: &OsS
         return Err(Failure::new(USAGE, format!("{}: {says}", disc.name)));
     }
     // Where that is refused, so is the read.
-    let extents = disc.log.count("extents", disc.volume.extents(found.icb)).unwrap_or_default();
-    Ok(Sought { path, to, bytes: extents.iter().map(|extent| u64::from(extent.length)).sum() })
+    let bytes = disc.log.count("measure", disc.volume.measure(found.icb)).unwrap_or_default();
+    Ok(Sought { path, to, bytes })
 }
 
 /// How many of the next files are read together.

@@ -12,7 +12,7 @@ pub fn shown_name(name: &str) -> String {
 }
 
 fn written(name: &[u8], also: impl Fn(char) -> bool) -> String {
-    let mut text = String::new();
+    let mut text = String::with_capacity(name.len());
     for chunk in name.utf8_chunks() {
         for c in chunk.valid().chars() {
             match c {

@@ -2,6 +2,7 @@
 
 use crate::failure::Failure;
 use crate::names::shown_name;
+use crate::sizes::Sizes;
 use crate::wanted::typed;
 use std::io::Write;
 use strandlodge::DirEntry;
@@ -14,12 +15,15 @@ pub struct Style {
     pub is_raw: bool,
     /// Each with the place of its entry in front of it.
     pub has_icbs: bool,
+    /// Each with its sizes.
+    pub is_long: bool,
 }
 
 impl Style {
-    /// A line for an entry, which goes by this path: as it is recorded, and as it is shown.
-    pub fn line(self, entry: &DirEntry, raw: &[u8], text: &str, out: &mut impl Write) -> Result<(), Failure> {
+    /// A line for an entry, which goes by this path: as it is recorded, and as it is shown. The sizes are those of a long one.
+    pub fn line(self, entry: &DirEntry, sizes: Option<Sizes>, raw: &[u8], text: &str, out: &mut impl Write) -> Result<(), Failure> {
         let icb = if self.has_icbs { typed(entry.icb) + " " } else { String::new() };
+        let icb = sizes.map_or(String::new(), Sizes::columns) + &icb;
         let mark = if entry.is_directory { "/" } else { "" };
         let written = match self.is_raw {
             true => out.write_all(&[icb.as_bytes(), raw, mark.as_bytes(), b"\0"].concat()),

@@ -10,6 +10,7 @@ use crate::disc::{Disc, Volume};
 use crate::failure::{Failure, STOPPED};
 use crate::json::{Json, Rows};
 use crate::names::{shown, shown_name};
+use crate::sizes::Sizes;
 use crate::steps::quoted;
 use crate::style::{Style, listed};
 use crate::wanted::Wanted;
@@ -87,18 +88,23 @@ impl Path {
 /// Where entries are written.
 enum Output<'o, W: Write> {
     Lines(&'o mut W, Form, Style),
-    Document(Rows<'o, W>),
+    Document(Rows<'o, W>, Style),
 }
 
 impl<W: Write> Output<'_, W> {
+    fn is_long(&self) -> bool {
+        let (Output::Lines(_, _, style) | Output::Document(_, style)) = self;
+        style.is_long
+    }
+
     /// The levels are those of the directories that the entry stands in, from the outermost on.
-    fn entry(&mut self, levels: &[Level], entry: &DirEntry, path: &Path) -> Result<(), Failure> {
+    fn entry(&mut self, levels: &[Level], entry: &DirEntry, sizes: Option<Sizes>, path: &Path) -> Result<(), Failure> {
         match self {
             Output::Lines(out, Form::Drawn, _) => line(*out, &drawn(levels, entry)),
-            Output::Lines(out, Form::Paths, style) => style.line(entry, &path.raw, &path.text, *out),
-            Output::Document(rows) => {
+            Output::Lines(out, Form::Paths, style) => style.line(entry, sizes, &path.raw, &path.text, *out),
+            Output::Document(rows, _) => {
                 let mut all = vec![("level", Json::number(levels.len() as u64)), ("path", Json::text(&path.text))];
-                all.extend(Json::entry(entry));
+                all.extend(Json::sized(entry, sizes));
                 rows.row(&Json::Object(all))
             }
         }
@@ -134,9 +140,10 @@ pub fn show<V: Volume>(
 ) -> Result<(), Failure> {
     let (found, path) = (disc.find(wanted)?, wanted.text());
     if let Some(entry) = found.entry.filter(|entry| !entry.is_directory) {
+        let sizes = style.is_long.then(|| disc.sizes(entry.icb));
         return match style.is_json {
-            true => Json::List(vec![Json::Object(Json::entry(&entry))]).print(out),
-            false => line(out, &listed(&entry)),
+            true => Json::List(vec![Json::Object(Json::sized(&entry, sizes))]).print(out),
+            false => line(out, &(sizes.map_or(String::new(), Sizes::columns) + &listed(&entry))),
         };
     }
     let is_drawn = form == Form::Drawn && !style.is_json;
@@ -146,10 +153,10 @@ pub fn show<V: Volume>(
     let mut seen = Seen::default();
     let below = list(disc, &path, found.icb, &mut seen);
     let from = Path::of(if let Wanted::Path(path) = wanted { path } else { b"" });
-    let mut to = if style.is_json { Output::Document(Rows::new(out)) } else { Output::Lines(out, form, style) };
+    let mut to = if style.is_json { Output::Document(Rows::new(out), style) } else { Output::Lines(out, form, style) };
     let done = below.and_then(|entries| walk(disc, from, entries, bounds, &mut seen, &mut to));
     disc.log.sums([("read_directory", seen.sectors)]);
-    if let Output::Document(rows) = to {
+    if let Output::Document(rows, _) = to {
         rows.end()?;
         done?;
     } else {
@@ -192,7 +199,8 @@ fn walk<V: Volume, W: Write>(
             return Err(stopped(disc.name, bounds));
         }
         path.set(level.path, &entry.name);
-        out.entry(&levels, &entry, &path)?;
+        let sizes = out.is_long().then(|| disc.sizes(entry.icb));
+        out.entry(&levels, &entry, sizes, &path)?;
         count.at(seen.entries() + 1);
         if !entry.is_directory {
             seen.files += 1;
