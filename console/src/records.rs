@@ -143,10 +143,13 @@ fn marked(rest: &[u8]) -> Option<(Option<DirEntry>, &[u8])> {
     Some((entry, rest))
 }
 
-/// A name as text; none if there isn't memory for it. Names are written as UTF-8, by the contract of the calls.
+/// A name as text; none if there isn't memory for it. Names are written as UTF-8, by the contract of the calls, of an image that stands still.
 pub(crate) fn text(name: &[u8]) -> Option<String> {
     let mut text = String::new();
     text.try_reserve_exact(name.len()).ok()?;
-    text.push_str(&String::from_utf8_lossy(name));
+    match std::str::from_utf8(name) {
+        Ok(name) => text.push_str(name),
+        Err(_) => text.push_str(&String::from_utf8_lossy(name)),
+    }
     Some(text)
 }

@@ -3,29 +3,38 @@
 /// Text from a disc or from a caller, with what a terminal would act on, hide or turn round written as \u{..}, a backslash as \\, and a byte
 /// that isn't UTF-8 as \x...
 pub fn shown(name: &[u8]) -> String {
-    written(name, |_| false)
-}
-
-/// The same of one name of a path, in which a slash isn't one that stands between two.
-pub fn shown_name(name: &str) -> String {
-    written(name.as_bytes(), |c| c == '/')
-}
-
-fn written(name: &[u8], also: impl Fn(char) -> bool) -> String {
     let mut text = String::with_capacity(name.len());
     for chunk in name.utf8_chunks() {
-        for c in chunk.valid().chars() {
-            match c {
-                '\\' => text.push_str("\\\\"),
-                c if is_tricky(c) || also(c) => text.extend(c.escape_unicode()),
-                c => text.push(c),
-            }
-        }
+        write(chunk.valid(), |_| false, &mut text);
         for byte in chunk.invalid() {
             text.push_str(&format!("\\x{byte:02x}"));
         }
     }
     text
+}
+
+/// The same of one name of a path, in which a slash isn't one that stands between two.
+pub fn shown_name(name: &str) -> String {
+    let mut text = String::with_capacity(name.len());
+    write(name, |c| c == '/', &mut text);
+    text
+}
+
+/// Writes text behind what there is. A directory may have millions of names, so what needs no writing out is put in runs.
+fn write(name: &str, also: impl Fn(char) -> bool, text: &mut String) {
+    let mut from = 0;
+    for (at, c) in name.char_indices() {
+        if c != '\\' && !is_tricky(c) && !also(c) {
+            continue;
+        }
+        text.push_str(&name[from..at]);
+        from = at + c.len_utf8();
+        match c {
+            '\\' => text.push_str("\\\\"),
+            c => text.extend(c.escape_unicode()),
+        }
+    }
+    text.push_str(&name[from..]);
 }
 
 /// Control characters, and format characters: bidirectional marks, line and paragraph separators, those of no width, tags.
