@@ -96,7 +96,7 @@ pub fn retry<T, R>(out: &mut Room<T>, work: &mut Room<u8>, mut call: impl FnMut(
 mod tests {
     use super::*;
 
-    /// Each length of a name, alone and behind another, with use bytes or none, and the last without the bytes that round it up.
+    /// Each length of a name, alone and behind another, the last without the bytes that round it up. Bytes for other uses make an identifier longer alone.
     #[test]
     fn a_listing_has_no_more() {
         let name = |n: usize| 2 * n.saturating_sub(1);

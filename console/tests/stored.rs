@@ -292,7 +292,7 @@ fn volumes_answer_every_list() {
     assert!(stored > 50, "{stored}");
 }
 
-/// What is measured is the length of what is read, with its number and its count, for every stored ICB; and a listing's work space is as much.
+/// What is measured is the length of what is read, with its number and its count, for every stored ICB and every path that gives one.
 #[test]
 fn every_file_is_as_long_as_it_is_measured() {
     let mut all = Input(include_bytes!("../../crates/vault_cases/data/images"));

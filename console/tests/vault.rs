@@ -506,21 +506,16 @@ fn a_listing_has_room_at_once() {
     }
 }
 
-/// A directory of more than 256 MiB, by extents that overlap: it is refused by 6 before anything is lent, with the count of its sectors. One of as much as is
-/// lent is listed.
+/// A directory of more than 256 MiB, by extents that overlap: it is refused by 6 before anything is lent, with the count of its sectors.
 #[test]
 fn a_directory_that_is_too_large_is_refused_at_once() {
-    let of = |extents: usize| {
-        let mut disc = Disc::new();
-        let bytes = marked(named("deleted", 5, false), DELETED).repeat((16 << 20) / 48);
-        let (size, block) = (bytes.len(), disc.lay(&bytes));
-        let root = disc.entry(0, &short_ad(size, block).repeat(extents), (size * extents) as u64);
-        disc.root(root);
-        disc.0
-    };
-    let image = of(17);
-    let vault = Vault::open(&image).unwrap();
-    let (root, sectors) = (vault.root_directory_icb(), 1 + 17 * (((16 << 20) / 48 * 48) as u64).div_ceil(2048));
+    let mut disc = Disc::new();
+    let bytes = marked(named("deleted", 5, false), DELETED).repeat((16 << 20) / 48);
+    let (size, block) = (bytes.len(), disc.lay(&bytes));
+    let root = disc.entry(0, &short_ad(size, block).repeat(17), 17 * size as u64);
+    disc.root(root);
+    let vault = Vault::open(&disc.0).unwrap();
+    let (root, sectors) = (vault.root_directory_icb(), 1 + 17 * size.div_ceil(SECTOR) as u64);
     assert_eq!(vault.read_directory(root), Err(Refused { why: Refusal::NoWork, sectors }));
-    assert_eq!(vault.measure(root), Ok(17 * ((16 << 20) / 48 * 48)));
+    assert_eq!(vault.measure(root), Ok(17 * size as u64));
 }
