@@ -50,6 +50,11 @@ pub struct Lends {
     pub place: *mut usize,
 }
 
+/// A survey says no length: it has a place for each image and one for the shelf.
+fn surveyed(answer: u64, images: usize) -> Reply {
+    Reply { answer, count: 0, length: if answer == 0 { (PLACE * (images + 1)) as u64 } else { 0 } }
+}
+
 /// Makes a call. What was written isn't among the values.
 ///
 /// # Safety
@@ -84,11 +89,7 @@ pub unsafe fn make(q: &Query, lends: Lends) -> Values {
             Call::ReadAll => vault_read_all(v, d, n, p, m, matching, out, q.room, lengths, l, answers, a, work, q.work),
             Call::Show => vault_show(v, d, n, q.levels, out, q.room, work, q.work),
             Call::Measure => vault_measure(v, d, n, icb),
-            // A survey says no length: it has a place for each image and one for the shelf.
-            Call::Survey => {
-                let answer = vault_survey(d, n, lengths, l, q.how, out.cast(), q.room, work, q.work);
-                Reply { answer, count: 0, length: if answer == 0 { (PLACE * (l + 1)) as u64 } else { 0 } }
-            }
+            Call::Survey => surveyed(vault_survey(d, n, lengths, l, q.how, out.cast(), q.room, work, q.work), l),
             Call::Total => Reply { answer: vault_survey_total(out.cast(), q.room, q.images as usize), count: 0, length: 0 },
         }
     };

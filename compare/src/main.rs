@@ -1,7 +1,7 @@
 //! Holds the archives of vault_c and records_c to the original that they were made from.
 //!
 //!     compare [--seconds N] [--seed S] [--first] [--port | --port=PROGRAM]
-//!     compare --bench [--port]        how long the calls take
+//!     compare --bench [--port]        how long the calls take; --rows WORDS: only those with these words in their names
 //!     compare --list FOLDER           the list that crates/replay is held to
 //!     compare --stored FOLDER         the stored output of matching_cases, checked_cases, tree_cases or survey_cases, held to the original
 //!     compare --image FILE            an image that is given, held to the original: all that it lists

@@ -407,8 +407,8 @@ fn row(ours: &mut dyn Ours, mut r: Row) -> std::io::Result<String> {
     Ok(format!("| {} | {mine} |{}{}{}", r.name, beside(&mine, theirs), beside(&mine, others), beside(&mine, copies)))
 }
 
-/// A table of microseconds: the middle of nine rounds, with the least and the most.
-pub fn run(ours: &mut dyn Ours, emulated: bool) -> std::io::Result<()> {
+/// A table of microseconds: the middle of nine rounds, with the least and the most. Of the rows only those with these words in their names.
+pub fn run(ours: &mut dyn Ours, emulated: bool, words: &str) -> std::io::Result<()> {
     if emulated {
         println!(
             "This machine is {}: ours runs under an emulator here, and its figures say nothing of its speed.\n",
@@ -417,8 +417,8 @@ pub fn run(ours: &mut dyn Ours, emulated: bool) -> std::io::Result<()> {
     }
     println!("| call | ours, µs | original, µs | ours / original | libudfread, µs | ours / libudfread | copy, µs | ours / copy |");
     println!("|---|---|---|---|---|---|---|---|");
-    for r in rows() {
-        println!("{}", row(ours, r())?);
+    for r in rows().into_iter().map(|make| make()).filter(|r| r.name.contains(words)) {
+        println!("{}", row(ours, r)?);
     }
     Ok(())
 }

@@ -399,11 +399,11 @@ impl Comparison {
         } else {
             *self.tally.asked.entry((row, case.query.call, e.values.answer)).or_insert(0) += 1;
             e.values.rows.iter().for_each(|(_, answer)| *self.tally.items.entry((row, u64::from(*answer))).or_insert(0) += 1);
+            self.tally.surveyed(row, case);
         }
         self.tally.by_the_rule[0] += u64::from(e.by_the_rule);
         e.ruined.iter().for_each(|ruined| *self.tally.ruined.entry(*ruined).or_insert(0) += 1);
         self.tally.chosen(&disc.image, case);
-        self.tally.surveyed(row, case);
         if let Some(what) = difference(e, given) {
             let text = told(&case.query, case.in_noise, e, given);
             self.keep(name, Some(disc), &format!("{what}\n{text}"));

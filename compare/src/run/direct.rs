@@ -132,6 +132,19 @@ fn list_each(q: &Query, image: &[u8], icb: Icb, levels: u32, (out, from): (&mut 
     }
 }
 
+/// How many bytes of the output the answer has.
+fn front(q: &Query, values: &Values) -> usize {
+    let length = values.length as usize;
+    match q.call {
+        // The row came with figures, and is looked at whole.
+        Call::Total => q.room_bytes(),
+        call if !call.has_room() || values.answer != 0 => 0,
+        Call::Extents => length.saturating_mul(16),
+        Call::Survey => length.saturating_mul(8),
+        _ => length,
+    }
+}
+
 /// One call, and what held of the memory that was lent for it.
 fn call(q: &Query, disc: &[u8], salt: u8) -> Given {
     let mut out = Lending::new(q.room_bytes(), salt);
@@ -141,18 +154,7 @@ fn call(q: &Query, disc: &[u8], salt: u8) -> Given {
         out.put(&q.shelf);
     }
     let mut values = make(q, disc, out.lent(), work.lent(), &mut rows);
-    let gives = q.call.has_room() && values.answer == 0;
-    let said = match q.call {
-        Call::Extents => values.length.saturating_mul(16),
-        Call::Survey => values.length.saturating_mul(8),
-        _ => values.length,
-    };
-    let n = match q.call {
-        // The row came with figures, and is looked at whole.
-        Call::Total => out.length,
-        _ if gives => (said as usize).min(out.length),
-        _ => 0,
-    };
+    let n = front(q, &values).min(out.length);
     values.written = out.bytes()[GUARD..GUARD + n].to_vec();
     let mut held = 0;
     held |= out.guarded() as u8;

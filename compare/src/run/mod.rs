@@ -59,7 +59,7 @@ use strandlodge_sys::sparse;
 use ways::Way;
 
 const USAGE: &str = "usage: compare [--seconds N] [--seed S] [--first] [--port | --port=PROGRAM]
-       compare --bench [--drives | --port | --port=PROGRAM]
+       compare --bench [--drives | --rows WORDS] [--port | --port=PROGRAM]
        compare --list FOLDER
        compare --stored FOLDER
        compare --written [--bench]
@@ -82,6 +82,8 @@ struct Options {
     bench: bool,
     /// Of the benchmark only what is read a sector at a time.
     drives: bool,
+    /// And only the rows with these words in their names.
+    rows: Option<String>,
     list: Option<String>,
     stored: Option<String>,
     image: Option<String>,
@@ -102,6 +104,7 @@ fn options() -> Options {
             "--port" => o.port = true,
             "--bench" => o.bench = true,
             "--drives" => o.drives = true,
+            "--rows" => o.rows = Some(next()),
             "--list" => o.list = Some(next()),
             "--stored" => o.stored = Some(next()),
             "--image" => o.image = Some(next()),
@@ -157,10 +160,10 @@ pub fn main() {
         #[cfg(linked)]
         let is_linked = matches!(way, Way::Best);
         if !o.drives {
-            bench::run(ways::ours(way).as_mut(), emulated).expect("our side answers");
+            bench::run(ways::ours(way).as_mut(), emulated, o.rows.as_deref().unwrap_or("")).expect("our side answers");
         }
         #[cfg(linked)]
-        if is_linked {
+        if is_linked && o.rows.is_none() {
             bench_drives::run().expect("a file can be written");
         }
         return;

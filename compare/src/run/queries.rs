@@ -522,7 +522,7 @@ pub fn shelved(random: &mut Random, shelf: &[u8], lengths: &[u64]) -> Vec<Case> 
         Query::survey(how, &other).with(numbers, most)
     };
     let (by, huge) = (*random.pick(&[1, 2047, 2048, 4096]), u64::MAX - random.below(4) as u64);
-    let all = vec![
+    let all = [
         q.with(numbers + random.below(90), most + random.below(80)),
         q.with(numbers, some),
         q.with(numbers - 1, most),
