@@ -4,22 +4,22 @@ _vault() {
     local commands="label info ls tree cat get stat probe check survey make sample"
     for ((i = 1; i < COMP_CWORD; i++)); do
         case ${COMP_WORDS[i]} in
-            -o | --icb | --levels | --limit | --wait) ((i++)) ;;
+            -o | --icb | --levels | --limit | --wait | --from | --bytes) ((i++)) ;;
             -*) ;;
             *) if [ -z "$command" ]; then command=${COMP_WORDS[i]}; elif [ -z "$image" ]; then image=${COMP_WORDS[i]}; fi ;;
         esac
     done
     case $before in
         -o) COMPREPLY=($(compgen -d -- "$word")); return ;;
-        --icb | --levels | --limit | --wait) return ;;
+        --icb | --levels | --limit | --wait | --from | --bytes) return ;;
     esac
     if [[ $word == -* ]]; then
         local options="--help --sectors --checked --highest --maps --copy --drive"
         case $command in
             ls) options+=" -R -i -l -0 --json --levels --limit --as-written --unambiguous --raw --icb" ;;
             tree) options+=" --json --levels --limit --as-written --unambiguous --raw --icb" ;;
-            cat) options+=" --wait --as-written --unambiguous --raw --icb" ;;
-            get) options+=" -o -r --limit --wait --as-written --unambiguous --raw --icb" ;;
+            cat) options+=" --from --bytes --wait --as-written --unambiguous --raw --icb" ;;
+            get) options+=" -o -r --limit --from --bytes --wait --as-written --unambiguous --raw --icb" ;;
             stat) options+=" --json --as-written --unambiguous --raw --icb" ;;
             info | check | survey) options+=" --json" ;;
             "") options+=" --version" ;;

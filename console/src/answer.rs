@@ -90,7 +90,7 @@ pub enum Refusal {
     NoRoom,
     /// 6: a directory has more bytes than could be lent.
     NoWork,
-    /// 7: there are more extents than slots could be lent.
+    /// 7: there are more extents, or runs, than slots could be lent.
     NoSlot,
     /// 9: two or more entries of a directory match a component of the path. Given under [`Matching::Unambiguous`](crate::Matching) alone.
     Ambiguous,

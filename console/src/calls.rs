@@ -156,6 +156,11 @@ pub fn extents(volume: Volume, image: &[u8], icb: LongAd, row: &mut Vec<Extent>)
     filled(row, |to, slots| unsafe { vault_extents(volume, image.as_ptr(), image.len(), icb.to_c(), to, slots) })
 }
 
+pub fn runs(volume: Volume, image: &[u8], icb: LongAd, row: &mut Vec<Run>) -> Answered<()> {
+    // SAFETY: the head of this module; `slots` slots from `to` on are `row`'s own.
+    filled(row, |to, slots| unsafe { vault_runs(volume, image.as_ptr(), image.len(), icb.to_c(), to, slots) })
+}
+
 #[cfg(test)]
 pub fn read_path(volume: Volume, image: &[u8], path: &[u8], matching: Matching, out: &mut Vec<u8>, work: &mut Vec<u8>) -> Answered<()> {
     let ((work, w), m) = (space(work), matching.number());

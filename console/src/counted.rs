@@ -18,11 +18,11 @@ use strandlodge_sys::vault::{Extent, Volume};
 /// The bytes of a sector, and of a block.
 pub const SECTOR_SIZE: u64 = 2048;
 
-/// The slots that are lent at first for an extent list.
-const FIRST_SLOTS: usize = 256;
+/// The slots that are lent at first for an extent list, or for runs.
+pub(crate) const FIRST_SLOTS: usize = 256;
 
 /// No extent list is longer: 32 continuations of at most 2^20 bytes, and an entry of 2,048, with 8 bytes for each descriptor.
-const MOST_SLOTS: usize = 32 * ((1 << 20) / 8) + 2048 / 8;
+pub(crate) const MOST_SLOTS: usize = 32 * ((1 << 20) / 8) + 2048 / 8;
 
 /// A label has at most 30 recorded bytes of one or two bytes of UTF-8 each, or 15 pairs of at most three.
 const LABEL: usize = 64;

@@ -44,6 +44,11 @@
 //! [`Vault::read_all`] reads a list of paths, by one call of the archive for each 1,024 of them, and gives for each its bytes or why there are
 //! none: a cue that isn't there keeps none of the others back.
 //!
+//! # Large files
+//!
+//! [`Vault::runs`] gives a file as parts of the image, in reading order, and copies none of it: a film is written from a map, or looked into, with 16
+//! bytes of memory for each of its extents. [`Runs::range`] cuts them to a part of the file, and [`Runs::places`] has where they stand.
+//!
 //! # A whole show
 //!
 //! [`Vault::show`] lists all that stands on a volume, down to a number of levels, by one call of the archive: [`Show`] gives the entries in turn, each
@@ -80,8 +85,8 @@
 //! A `&[u8]` says that nobody writes to its bytes while it is borrowed. Memory of one's own is such a slice by itself. A map of a file is one
 //! only if nobody writes to the file, which no map can see to: whoever makes one, by [`Mapped::open`], which is `unsafe` for this reason, or
 //! otherwise, takes that duty over, and hands it on with the slice. Of an image that changes all the same an answer may be that of no image,
-//! neither as it was nor as it is, with bytes in it that were never written; and [`Vault::part`] gives bytes of the image itself, which go on
-//! changing under whoever looks at them.
+//! neither as it was nor as it is, with bytes in it that were never written; and [`Vault::part`] and [`Vault::runs`] give bytes of the image
+//! itself, which go on changing under whoever looks at them.
 //! Where the duty can't be kept, for an image that is written to in its midst or a drive that may read a sector twice, read the image into memory
 //! first, as `std::fs::read` does, or use [`Drive`], which looks at each sector once. A file that only grows at its end keeps it, for a map of the bytes that it has by then.
 //!
@@ -95,7 +100,7 @@
 //! measures a file or a directory and lends what that takes, or lends a little, and more when that was the only trouble, so that a caller sees these
 //! numbers only where the memory can't be had, or where an answer is longer than any sound disc can give: a file of more bytes than its image (and more than 256 MiB), a directory of more
 //! than 256 MiB, in a show together with those above it, and a show of more than 256 MiB of records. Such a disc is refused, and nothing is
-//! allocated by what it says of itself.
+//! allocated by what it says of itself. [`Vault::runs`] copies nothing, and refuses no file for its length: it gives those that don't fit in memory too.
 
 #[cfg(not(all(target_arch = "x86_64", target_os = "linux")))]
 compile_error!("the archive is x86-64 code for Linux");
@@ -116,6 +121,7 @@ mod opening;
 mod parsing;
 mod records;
 mod room;
+mod runs;
 mod sequence;
 mod source;
 mod stack;
@@ -143,6 +149,7 @@ pub use mapped::Mapped;
 pub use maps::PartitionMap;
 pub use matching::Matching;
 pub use records::{AllocExtent, DirEntry, LbAddr, LongAd, ShowEntry};
+pub use runs::{Run, Runs};
 pub use sequence::{Kind, VolumeDescriptor, volume_descriptors};
 pub use source::Missed;
 pub use stack::Item;

@@ -7,7 +7,9 @@
 
 use crate::answer::{Answer, Answered, Refusal, Refused};
 use crate::calls::{self, Rows};
+use crate::counted::Counted;
 use crate::counted_drive::CountedDrive;
+use crate::how::How;
 use crate::input::Input;
 use crate::matching::Matching;
 use crate::records::{LbAddr, LongAd};
@@ -144,6 +146,30 @@ fn extents(v: Volume, image: &[u8], q: &Lends) -> String {
     line("extents", &answer, sum, |()| (row.len() as u64, sum))
 }
 
+/// The runs of a file, with memory as it is needed: joined they are the read, with its refusal and its count. Then with as many slots as there are runs, with
+/// one too few and with none: 7 comes last, with the same count.
+fn hold_runs(volume: Volume, image: &[u8], icb: LongAd) {
+    let vault = Counted::over(image, volume, How::default());
+    let (runs, read) = (vault.runs(icb), vault.read_file(icb));
+    let (runs, read) = match (runs, read) {
+        (Ok(runs), Ok(read)) => (runs, read),
+        (runs, read) => return assert_eq!(runs.map(|runs| runs.len()), read.map(|read| read.len() as u64)),
+    };
+    assert_eq!((runs.sectors, runs.len(), runs.is_empty()), (read.sectors, read.len() as u64, read.is_empty()));
+    let places: Vec<_> = runs.places().collect();
+    assert!(places.iter().all(|run| run.length > 0) && runs.size_hint() == (places.len(), Some(places.len())));
+    let parts: Vec<&[u8]> = runs.value.collect();
+    assert_eq!(parts.concat(), read.value);
+    let stands = |(run, part): (&crate::Run, &&[u8])| part == &&image[run.at as usize..][..run.length as usize];
+    assert!(places.len() == parts.len() && places.iter().zip(&parts).all(stands));
+    for slots in [Some(places.len()), places.len().checked_sub(1), Some(0)].into_iter().flatten() {
+        let mut row = room(slots);
+        let given =
+            calls::runs(volume, image, icb, &mut row).map(|answer| answer.sectors).map_err(|refused| (refused.number(), refused.sectors));
+        assert_eq!(given, if slots < places.len() { Err((7, read.sectors)) } else { Ok(read.sectors) });
+    }
+}
+
 #[test]
 fn the_list_of_the_gate() {
     let mut all = Input(include_bytes!("../../crates/replay/data/images"));
@@ -159,6 +185,7 @@ fn the_list_of_the_gate() {
             let given = ask(call, volume, &image, &Lends { icb, room, work, path: queries.sized(2) });
             let (line, _) = expected.next().unwrap().rsplit_once(' ').unwrap();
             assert_eq!(given, line);
+            hold_runs(volume, &image, icb);
             seen[given.split(' ').nth(1).unwrap().parse::<usize>().unwrap()] += 1;
         }
     }
@@ -203,6 +230,7 @@ fn the_files_of_the_gate() {
             for given in file_case(v, &image, icb, lent, slots) {
                 assert_eq!(given, expected.next().unwrap(), "{what}");
             }
+            hold_runs(v, &image, icb);
             asked += 1;
         }
     }
@@ -335,6 +363,7 @@ fn checked_case(v: Volume, image: &[u8], path: &[u8], icb: LongAd, lent: usize, 
     let read_path = head("read_path", &calls::read_path(v, image, path, matching, &mut out, &mut work)) + &written(&out);
     let list = head("list", &calls::list(v, image, icb, &mut out, &mut work)) + &written(&out);
     let read = head("read", &calls::read(v, image, icb, &mut out)) + &written(&out);
+    hold_runs(v, image, icb);
     let part = calls::part(v, image, icb);
     let bytes = part.as_ref().map_or(&image[..0], |a| a.value);
     let at = if bytes.is_empty() { 0 } else { bytes.as_ptr().addr() - image.as_ptr().addr() };

@@ -3,7 +3,7 @@
 mod common;
 
 use common::command::Folder;
-use common::{SECTOR, show};
+use common::{SECTOR, hold_runs, show};
 use strandlodge::{Answered, Counted, DirEntry, How, LongAd, Matching, Refused};
 
 /// Numbers below a bound, the same in each run.
@@ -57,6 +57,7 @@ fn parts<T>(answer: Answered<T>) -> (std::result::Result<T, u64>, u64) {
 
 /// Reading by path is a lookup and a read, counts added; of a file's bytes an embedded one's are its part.
 fn hold_file(vault: &Counted, path: &[u8], icb: LongAd) {
+    hold_runs(vault, icb);
     let (read, count) = parts(vault.read_file(icb).inspect_err(early));
     let (by_path, both) = parts(vault.read_path(path));
     assert_eq!((&by_path, both), (&read, vault.lookup(path).unwrap().sectors + count));

@@ -4,7 +4,7 @@
 mod common;
 
 use common::command::Folder;
-use common::{SECTOR, VOLUME_BODY, continued, noise, seal, sealed, short_ad, show};
+use common::{SECTOR, VOLUME_BODY, continued, hold_runs, noise, seal, sealed, short_ad, show};
 use strandlodge::{Asked, Cause, Counted, How, Kind, LbAddr, LongAd, MapForm, PartitionMap, Refusal, map_table, volume_descriptors};
 
 const MAPS: How = How { highest: false, checked: false, maps: true };
@@ -160,8 +160,10 @@ fn references_are_resolved_each_by_its_own() {
         assert_eq!((vault.partition_start_sector(), vault.partition_number()), (400, 9));
         for (path, bytes) in [("near", near()), ("far", far()), ("FOLDER/deep", DEEP.to_vec())] {
             assert_eq!(vault.read_path(path).unwrap().value, bytes, "{path}");
+            hold_runs(&vault, vault.lookup(path).unwrap().value);
         }
         let lost = vault.lookup("lost").unwrap();
+        hold_runs(&vault, lost.value);
         assert_eq!(vault.read_file(lost).unwrap_err().why, Refusal::Unsupported);
         assert_eq!(vault.label(), Counted::label_of(&image, how));
         assert_eq!(vault.label().unwrap().value, "SHOW 1");

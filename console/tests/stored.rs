@@ -4,6 +4,7 @@
 
 mod common;
 
+use common::hold_runs;
 use common::input::Input;
 use std::str::Lines;
 use strandlodge::{Counted, How, Kind, LbAddr, LongAd, Matching};
@@ -159,6 +160,7 @@ fn by_icb(vault: &Counted, icb: LongAd, room: usize, expected: &mut Expected) ->
     let listed = vault.read_directory(icb).map(|answer| answer.map(|entries| listing(&entries)));
     let short = held(expected.next(), room, &listed);
     let short = held(expected.next(), room, &vault.read_file(icb)) || short;
+    hold_runs(vault, icb);
     let part = vault.part(icb);
     held(expected.next(), part.as_ref().map_or(0, |part| part.len()), &part);
     short

@@ -54,6 +54,12 @@ pub fn sealed(mut whole: Vec<u8>) -> Vec<u8> {
     whole
 }
 
+/// The runs of a file, joined, are what a read gives, with its refusal and its count.
+pub fn hold_runs(vault: &strandlodge::Counted, icb: strandlodge::LongAd) {
+    let runs = vault.runs(icb).map(|runs| runs.map(|runs| runs.collect::<Vec<_>>().concat()));
+    assert_eq!(runs, vault.read_file(icb));
+}
+
 pub const SECTOR: usize = 2048;
 const START: usize = 288;
 const ROOT: u32 = 3;

@@ -2,6 +2,7 @@
 
 use crate::failure::Failure;
 use crate::names::{self, shown};
+use crate::runs::Span;
 use crate::style::Style;
 use crate::tree::{Bounds, Form};
 use crate::wanted::{Icb, Wanted};
@@ -33,7 +34,7 @@ pub enum Command {
 
 impl Command {
     /// One file is asked for.
-    fn can_wait(&self) -> bool {
+    fn is_of_one_file(&self) -> bool {
         matches!(self, Command::Ask { question: Question::Cat { .. } | Question::Get { .. }, .. })
     }
 
@@ -98,6 +99,8 @@ pub struct Args {
     pub wait: Option<u32>,
     /// How entries are printed.
     pub style: Style,
+    /// What of a file is wanted.
+    pub span: Span,
 }
 
 /// The commands that look at what a disc holds.
@@ -105,7 +108,7 @@ const PATHS: &[&str] = &["ls", "tree", "cat", "get", "stat"];
 const FOR_PATHS: &str = "--as-written and --unambiguous are for a PATH: that of ls, tree, cat, get or stat";
 
 /// Options that aren't for every command, those that they are for, and what is said else.
-const OPTIONS: [(&str, &[&str], &str); 16] = [
+const OPTIONS: [(&str, &[&str], &str); 18] = [
     ("--as-written", PATHS, FOR_PATHS),
     ("--unambiguous", PATHS, FOR_PATHS),
     ("--raw", PATHS, "--raw is for a PATH: that of ls, tree, cat, get or stat"),
@@ -120,6 +123,8 @@ const OPTIONS: [(&str, &[&str], &str); 16] = [
     ("--levels", &["tree", "ls"], "--levels is for tree and ls -R"),
     ("--limit", &["tree", "ls", "get"], "--limit is for tree, ls -R and get -r"),
     ("--wait", &["cat", "get"], FOR_ONE_FILE),
+    ("--from", &["cat", "get"], FOR_A_PART),
+    ("--bytes", &["cat", "get"], FOR_A_PART),
     ("--drive", &["label", "ls", "tree", "cat", "get", "stat"], FOR_DRIVES),
     (
         "--copy",
@@ -128,6 +133,7 @@ const OPTIONS: [(&str, &[&str], &str); 16] = [
     ),
 ];
 const FOR_ONE_FILE: &str = "--wait is for one file: that of cat or get, without -o";
+const FOR_A_PART: &str = "--from and --bytes are for one file: that of cat or get, without -o";
 const FOR_DRIVES: &str = "--drive is for label, ls, tree, cat, stat, and get, with -o only where there is -r";
 
 /// What stands on the line beside words.
@@ -144,6 +150,7 @@ struct Options {
     levels: Option<usize>,
     limit: Option<u64>,
     wait: Option<u32>,
+    span: Span,
 }
 
 impl Options {
@@ -169,6 +176,8 @@ impl Options {
             }
             b"--limit" => self.limit = Some(number(rest.next(), "--limit needs a number, of 1 or more", u64::MAX)?),
             b"--wait" => self.wait = Some(seconds(rest.next())?),
+            b"--from" => self.span.from = bytes(rest.next(), "--from needs N, the number of a byte: 0 is the first")?,
+            b"--bytes" => self.span.bytes = Some(bytes(rest.next(), "--bytes needs N, a number of bytes")?),
             _ if known.is_some() => {}
             other => return Err(Failure::usage(format!("there is no option {}", shown(other)))),
         }
@@ -248,14 +257,21 @@ pub fn parse(given: impl IntoIterator<Item = OsString>) -> Result<Args, Failure>
     let style =
         Style { is_json: options.has("--json"), is_raw: options.has("-0"), has_icbs: options.has("-i"), is_long: options.has("-l") };
     let (sectors, copy, drive) = (options.sectors, options.has("--copy"), options.has("--drive"));
-    let (how, wait) = (options.how, options.wait);
+    let (how, wait, span) = (options.how, options.wait, options.span);
     if options.help || options.version {
-        return Ok(Args { command, sectors, copy, drive, how, matching: Matching::default(), wait, style });
+        return Ok(Args { command, sectors, copy, drive, how, matching: Matching::default(), wait, style, span });
     }
-    if wait.is_some() && !command.can_wait() {
+    if wait.is_some() && !command.is_of_one_file() {
         return Err(Failure::usage(FOR_ONE_FILE));
     }
-    let args = Args { command, sectors, copy, drive, how, matching: options.matching()?, wait, style };
+    let is_part = options.has("--from") || options.has("--bytes");
+    if is_part && !command.is_of_one_file() {
+        return Err(Failure::usage(FOR_A_PART));
+    }
+    if is_part && drive {
+        return Err(Failure::usage("--drive reads a file from its front to its end: it goes with neither --from nor --bytes"));
+    }
+    let args = Args { command, sectors, copy, drive, how, matching: options.matching()?, wait, style, span };
     if drive {
         see_drive(&args)?;
     }
@@ -279,6 +295,11 @@ fn see_drive(args: &Args) -> Result<(), Failure> {
 fn seconds(word: Option<OsString>) -> Result<u32, Failure> {
     let number = word.as_ref().and_then(|word| word.to_str()).and_then(|word| word.parse().ok());
     number.ok_or_else(|| Failure::usage("--wait needs N, a number of seconds"))
+}
+
+fn bytes(word: Option<OsString>, needs: &str) -> Result<u64, Failure> {
+    let number = word.as_ref().and_then(|word| word.to_str()).and_then(|word| word.parse().ok());
+    number.ok_or_else(|| Failure::usage(needs))
 }
 
 fn icb(word: Option<OsString>) -> Result<Icb, Failure> {
@@ -369,7 +390,17 @@ mod tests {
     fn options_stand_anywhere() {
         let label = |image: &str| Command::Ask { image: image.into(), question: Question::Label };
         let (how, matching, wait) = (How::default(), Matching::CaseIgnored, None);
-        let asked = |sectors, copy| Args { command: label("a"), sectors, copy, drive: false, how, matching, wait, style: Style::default() };
+        let asked = |sectors, copy| Args {
+            command: label("a"),
+            sectors,
+            copy,
+            drive: false,
+            how,
+            matching,
+            wait,
+            style: Style::default(),
+            span: Span::default(),
+        };
         assert_eq!(parsed("label a").unwrap(), asked(false, false));
         assert_eq!(parsed("--sectors label a").unwrap(), asked(true, false));
         assert_eq!(parsed("label a --sectors").unwrap(), asked(true, false));
@@ -425,6 +456,18 @@ mod tests {
             [("cat a b", None), ("cat --wait 5 a b", Some(5)), ("get a b c --wait 0", Some(0)), ("--help --wait 7", Some(7))]
         {
             assert_eq!(parsed(line).unwrap().wait, wait, "{line}");
+        }
+    }
+
+    #[test]
+    fn a_part_of_one_file_may_be_wanted() {
+        for (line, from, bytes) in [
+            ("cat a b", 0, None),
+            ("cat a b --from 5", 5, None),
+            ("get a b c --bytes 0", 0, Some(0)),
+            ("--from 0 cat --bytes 18446744073709551615 a b", 0, Some(u64::MAX)),
+        ] {
+            assert_eq!(parsed(line).unwrap().span, Span { from, bytes }, "{line}");
         }
     }
 
@@ -613,6 +656,17 @@ mod tests {
             "get a -o d b --wait 5",
             "sample a --wait 5",
             "--wait 5",
+            "ls a --from 1",
+            "label a --bytes 1",
+            "cat a b --from",
+            "cat a b --from -1",
+            "cat a b --from 1k",
+            "cat a b --bytes x",
+            "cat a b --bytes 18446744073709551616",
+            "cat a b --from 0 --drive",
+            "get a b c --drive --bytes 1",
+            "get a b -o d --from 0",
+            "get -r a -o d --bytes 1",
             "--drive",
             "--drives ls a",
             "probe a --drive",

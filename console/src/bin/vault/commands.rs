@@ -1,7 +1,6 @@
 //! The questions on an image, answered.
 
 use crate::args::Question;
-use crate::bar::Word;
 use crate::check;
 use crate::disc::{Disc, Found, Volume};
 use crate::failure::{Failure, WRONG};
@@ -13,6 +12,7 @@ use crate::log::Log;
 use crate::many;
 use crate::maps;
 use crate::names::{shown, shown_name};
+use crate::runs::{self, Span};
 use crate::sizes::Sizes;
 use crate::style::{Style, listed};
 use crate::tree;
@@ -21,20 +21,21 @@ use std::ffi::OsStr;
 use std::io::{self, Write};
 use std::os::unix::ffi::OsStrExt;
 use std::path::Path;
-use strandlodge::{AllocExtent, Asked, Counted, How, LongAd, Matching, Refusal, VolumeDescriptor};
+use strandlodge::{AllocExtent, Asked, Counted, How, LongAd, Matching, Refusal, Runs, VolumeDescriptor};
 use strandlodge::{map_table, probe_vrs, volume_descriptors};
 
-/// How a question is asked: how the image is opened, how names are matched, and how the answer is printed.
+/// How a question is asked: how the image is opened, how names are matched, how the answer is printed, and what of a file is wanted.
 #[derive(Clone, Copy)]
 pub struct Manner {
     pub how: How,
     pub matching: Matching,
     pub style: Style,
+    pub span: Span,
 }
 
 /// Answers a question on an image, which goes by `name`.
 pub fn ask(question: &Question, manner: Manner, image: &[u8], name: &OsStr, out: &mut impl Write, log: &mut Log) -> Result<(), Failure> {
-    let (file, name, Manner { how, matching, style }) = (name, &shown(name.as_bytes()), manner);
+    let (file, name, Manner { how, matching, style, span }) = (name, &shown(name.as_bytes()), manner);
     let open = |log| Disc::open(image, how, name, matching, log);
     match question {
         Question::Probe => probe(image, out),
@@ -55,15 +56,13 @@ pub fn ask(question: &Question, manner: Manner, image: &[u8], name: &OsStr, out:
         }
         Question::Check => check::check(image, how, name, style, out, log),
         Question::Cat { wanted } => {
-            let bytes = cat(&mut open(log)?, wanted)?;
-            out.write_all(&bytes).map_err(Failure::output)
+            let runs = find(&mut open(log)?, wanted, span)?;
+            runs::print(runs, out)
         }
         Question::Get { wanted, file } => {
             let target = Target::at(file)?;
-            let word = Word::new("reading");
-            let bytes = cat(&mut open(log)?, wanted)?;
-            drop(word);
-            target.write(&bytes)
+            let runs = find(&mut open(log)?, wanted, span)?;
+            runs::put(runs, &target).map(|_| ())
         }
         Question::GetAll { paths, folder } => many::get(&mut open(log)?, paths, Path::new(folder), file, out),
         Question::GetTree { paths, folder, limit } => folder::get(&mut open(log)?, paths, Path::new(folder), *limit, file, out),
@@ -81,10 +80,10 @@ pub fn line(out: &mut impl Write, text: &str) -> Result<(), Failure> {
     writeln!(out, "{text}").map_err(Failure::output)
 }
 
-/// A file's bytes.
-fn cat(disc: &mut Disc<Counted>, wanted: &Wanted) -> Result<Vec<u8>, Failure> {
+/// What is wanted of a file.
+fn find<'a>(disc: &mut Disc<Counted<'a>>, wanted: &Wanted, span: Span) -> Result<Runs<'a>, Failure> {
     let found = disc.find_file(wanted)?;
-    disc.read(&wanted.text(), found.icb)
+    runs::find(disc, &wanted.text(), found.icb, span)
 }
 
 /// A directory's entries, or a file's own.

@@ -6,6 +6,7 @@ use crate::map::copied;
 use crate::maps;
 use crate::names::shown;
 use crate::records::{self, FileEntry};
+use crate::runs::{self, Span};
 use crate::steps::{Step, names, quoted};
 use crate::walk::sector;
 use crate::wanted::Wanted;
@@ -60,9 +61,10 @@ impl Volume for Counted<'_> {
     }
 
     fn copy_file(&mut self, icb: LongAd, to: &mut impl Write) -> Result<Answer<u64>, Uncopied> {
-        let read = self.read_file(icb).map_err(|refused| Uncopied::Refused { refused, written: 0 })?;
-        to.write_all(&read).map_err(Uncopied::Output)?;
-        Ok(read.map(|bytes| bytes.len() as u64))
+        let found = runs::wanted(self, icb, Span::default()).map_err(|refused| Uncopied::Refused { refused, written: 0 })?;
+        let (length, sectors) = (found.len(), found.sectors);
+        runs::write(found.value, to).map_err(Uncopied::Output)?;
+        Ok(Answer { value: length, sectors })
     }
 
     fn icb_sector(&self, icb: LongAd) -> Option<u64> {

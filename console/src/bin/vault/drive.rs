@@ -11,15 +11,16 @@ use crate::image;
 use crate::json::Json;
 use crate::log::Log;
 use crate::names::{self, shown};
+use crate::runs;
 use crate::style::Style;
 use crate::tree;
 use crate::wanted::Wanted;
 use std::ffi::OsStr;
 use std::fs::File;
-use std::io::{self, Write};
+use std::io::{self, IoSlice, Write};
 use std::os::unix::ffi::OsStrExt;
 use std::path::Path;
-use strandlodge::{Asked, CountedDrive, LongAd, Matching, Uncopied, Unopened};
+use strandlodge::{CountedDrive, LongAd, Matching, Uncopied, Unopened};
 
 /// Answers a question on a drive. Nothing of it is kept in memory but the directories on the way, one at a time.
 pub fn ask(question: &Question, manner: Manner, name: &OsStr, out: &mut impl Write, log: &mut Log) -> Result<(), Failure> {
@@ -125,9 +126,9 @@ pub fn copy<V: Volume>(
     let counted = match disc.volume.copy_file(icb, to) {
         Ok(copied) => Ok(copied),
         Err(Uncopied::Refused { refused, .. }) => Err(refused),
-        Err(Uncopied::Output(error)) => return Err(unwritten(error)),
+        Err(Uncopied::Output(error)) => return Err(runs::lost(error, unwritten)),
     };
-    disc.count(path, Asked::ReadFile(icb), "read_file", counted)
+    runs::counted(disc, path, icb, counted)
 }
 
 /// A writer whose bytes fill a bar.
@@ -144,20 +145,26 @@ impl<W: Write> Write for Drawn<'_, W> {
         Ok(n)
     }
 
+    fn write_vectored(&mut self, slices: &[IoSlice]) -> io::Result<usize> {
+        let n = self.to.write_vectored(slices)?;
+        self.bar.add(n as u64);
+        Ok(n)
+    }
+
     fn flush(&mut self) -> io::Result<()> {
         self.to.flush()
     }
 }
 
 /// A writer whose bytes are counted on a terminal.
-struct Metered<W> {
+pub struct Metered<W> {
     to: W,
     bytes: u64,
     count: Count,
 }
 
 impl<W: Write> Metered<W> {
-    fn new(to: W, count: Count) -> Metered<W> {
+    pub fn new(to: W, count: Count) -> Metered<W> {
         Metered { to, bytes: 0, count }
     }
 }
@@ -165,6 +172,13 @@ impl<W: Write> Metered<W> {
 impl<W: Write> Write for Metered<W> {
     fn write(&mut self, bytes: &[u8]) -> io::Result<usize> {
         let n = self.to.write(bytes)?;
+        self.bytes += n as u64;
+        self.count.at(self.bytes >> 20);
+        Ok(n)
+    }
+
+    fn write_vectored(&mut self, slices: &[IoSlice]) -> io::Result<usize> {
+        let n = self.to.write_vectored(slices)?;
         self.bytes += n as u64;
         self.count.at(self.bytes >> 20);
         Ok(n)

@@ -133,7 +133,7 @@ impl<'a> Target<'a> {
 }
 
 /// Standard output, without a buffer.
-fn output() -> io::Result<File> {
+pub fn output() -> io::Result<File> {
     Ok(File::from(io::stdout().as_fd().try_clone_to_owned()?))
 }
 

@@ -80,6 +80,7 @@ const COMMANDS: [(&str, &str, [bool; 3]); 13] = [
     (
         "cat",
         "vault cat IMAGE PATH\nWrites a file's bytes to standard output.\n\
+         \x20 --from N, --bytes N  from byte N on, the first is 0; N bytes at most\n\
          \x20 --wait N   up to N seconds for a file of an image copied front to back\n",
         [true, true, true],
     ),
@@ -123,10 +124,10 @@ const GET: &str = "\
 vault get IMAGE PATH FILE        a file to FILE: whole, or as it was
 vault get IMAGE -o TO PATH..     each to its own name in TO, a folder
 vault get -r IMAGE -o TO [PATH..]  all below each PATH, or all of the disc
+  --from N, --bytes N  of one file: from byte N on, the first is 0; N at most
   --wait N   of one file: up to N seconds for an image copied front to back
   --limit N  of -r: so many entries at most (1000000)
-An old FILE keeps its mode. A link is followed, but not by -r. /dev/stdout is
-written to.
+An old FILE keeps its mode; -r follows no link. /dev/stdout is written to.
 ";
 
 /// The help of a command, where there is such a command.

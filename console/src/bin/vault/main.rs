@@ -21,6 +21,7 @@ mod maps;
 mod names;
 mod records;
 mod report;
+mod runs;
 mod signals;
 mod sizes;
 mod steps;
@@ -77,7 +78,7 @@ fn answer(args: &Args, out: &mut impl Write, log: &mut Log) -> Result<(), Failur
             if let Question::GetAll { folder, .. } | Question::GetTree { folder, .. } = question {
                 file::see_folder(folder)?;
             }
-            let manner = Manner { how: args.how, matching: args.matching, style: args.style };
+            let manner = Manner { how: args.how, matching: args.matching, style: args.style, span: args.span };
             if args.drive {
                 return drive::ask(question, manner, image, out, log);
             }

@@ -1,11 +1,11 @@
 //! `get -o`: many files, each to its own name in a folder.
 
-use crate::bar::Word;
 use crate::commands::line;
 use crate::disc::Disc;
 use crate::failure::{Failure, NO_OUTPUT, UNREAD, USAGE};
 use crate::file::{Target, apart, identity};
 use crate::names::shown;
+use crate::runs::{self, Span};
 use crate::steps::quoted;
 use crate::wanted::Wanted;
 use std::collections::HashSet;
@@ -14,16 +14,13 @@ use std::fs;
 use std::io::Write;
 use std::os::unix::ffi::OsStrExt;
 use std::path::{Path, PathBuf};
-use strandlodge::{Asked, Counted, Refused};
+use strandlodge::{Counted, LongAd};
 
-/// Files are read together up to so many bytes; a larger one is read by itself, so that no more is in memory at once than that takes.
-const TOGETHER: u64 = 64 << 20;
-
-/// A file that is there, where it goes, and how many bytes it has.
+/// A file that is there, and where it goes.
 struct Sought<'p> {
     path: &'p [u8],
+    icb: LongAd,
     to: PathBuf,
-    bytes: u64,
 }
 
 /// What couldn't be had: how many files, and the status for that.
@@ -67,11 +64,11 @@ pub fn get(disc: &mut Disc<Counted>, paths: &[Vec<u8>], folder: &Path, image: &O
             Err(failure) => missed.tell(failure, disc),
         }
     }
-    let mut rest = &wanted[..];
-    while !rest.is_empty() {
-        let (some, behind) = rest.split_at(together(rest));
-        write(disc, some, &mut missed, &mut written, out)?;
-        rest = behind;
+    for file in &wanted {
+        match put(disc, file, &mut written) {
+            Ok(length) => line(out, &format!("{}: {length} bytes, to {}", shown(file.path), shown(file.to.as_os_str().as_bytes())))?,
+            Err(failure) => missed.tell(failure, disc),
+        }
     }
     if missed.files > 0 {
         let says = format!("{}: {} of {} files not written", disc.name, missed.files, paths.len());
@@ -90,62 +87,16 @@ fn find<'p>(disc: &mut Disc<Counted>, path: &'p [u8], folder: &Path, image: &OsS
         let says = format!("{} would be written over {}, to {}", quoted(path), quoted(other.path), shown(to.as_os_str().as_bytes()));
         return Err(Failure::new(USAGE, format!("{}: {says}", disc.name)));
     }
-    // Where that is refused, so is the read.
-    let bytes = disc.log.count("measure", disc.volume.measure(found.icb)).unwrap_or_default();
-    Ok(Sought { path, to, bytes })
+    Ok(Sought { path, icb: found.icb, to })
 }
 
-/// How many of the next files are read together.
-fn together(files: &[Sought]) -> usize {
-    let mut bytes = 0u64;
-    let fit = files.iter().take_while(|file| {
-        bytes = bytes.saturating_add(file.bytes);
-        bytes <= TOGETHER
-    });
-    fit.count().max(1)
-}
-
-/// Reads files together, and writes each.
-fn write(
-    disc: &mut Disc<Counted>,
-    files: &[Sought],
-    missed: &mut Missed,
-    written: &mut Written,
-    out: &mut impl Write,
-) -> Result<(), Failure> {
-    let paths: Vec<&[u8]> = files.iter().map(|file| file.path).collect();
-    let word = Word::new("reading");
-    let read = disc.log.count("read_all", disc.volume.read_all_as(&paths, disc.matching));
-    drop(word);
-    for (file, item) in files.iter().zip(read.map_err(|refused| Failure::refused(disc.name, refused))?) {
-        let to = file.to.as_os_str();
-        let asked = Asked::ReadPath(file.path, disc.matching);
-        let item = match item.map_err(|why| disc.refused(file.path, asked, Refused { why, sectors: 0 })) {
-            Ok(_) if written.has(&file.to) => Err(Failure::file(USAGE, to, "this is the same file as one that was written before")),
-            item => item,
-        };
-        match item.and_then(|bytes| Target::at(to)?.write(&bytes).map(|()| bytes.len())) {
-            Ok(length) => {
-                written.add(&file.to);
-                line(out, &format!("{}: {length} bytes, to {}", shown(file.path), shown(to.as_bytes())))?
-            }
-            Err(failure) => missed.tell(failure, disc),
-        }
+/// Writes one file; not over one that was written before, which has another name on the disc.
+fn put(disc: &mut Disc<Counted>, file: &Sought, written: &mut Written) -> Result<u64, Failure> {
+    let (to, runs) = (file.to.as_os_str(), runs::find(disc, file.path, file.icb, Span::default())?);
+    if written.has(&file.to) {
+        return Err(Failure::file(USAGE, to, "this is the same file as one that was written before"));
     }
-    Ok(())
-}
-
-#[cfg(test)]
-mod tests {
-    use super::*;
-
-    #[test]
-    fn large_files_are_read_by_themselves() {
-        let files = |sizes: &[u64]| sizes.iter().map(|bytes| Sought { path: b"", to: PathBuf::new(), bytes: *bytes }).collect::<Vec<_>>();
-        assert_eq!(together(&files(&[0, 5, 7])), 3);
-        assert_eq!(together(&files(&[TOGETHER, 1])), 1);
-        assert_eq!(together(&files(&[TOGETHER - 1, 1, 1])), 2);
-        assert_eq!(together(&files(&[TOGETHER + 1, 1])), 1);
-        assert_eq!(together(&files(&[u64::MAX, u64::MAX])), 1);
-    }
+    let length = runs::put(runs, &Target::at(to)?)?;
+    written.add(&file.to);
+    Ok(length)
 }

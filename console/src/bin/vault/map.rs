@@ -12,7 +12,7 @@
 //!
 //! What still holds if someone does write: the Rust of this command looks at no byte of a map but for the few numbers of the volume's
 //! descriptors that `stat` shows and `check` goes by, and the sectors of a call that was refused, which are copied to say why: each byte by a load
-//! that isn't repeated. It hands the slice to the archive's calls,
+//! that isn't repeated. A file's bytes go from the map to where they are written by the system's own copy (`runs`). It hands the slice to the archive's calls,
 //! as a pointer and a length, and these stay inside what they are lent whatever the image holds from one look to the next (docs/PROMISES.md,
 //! "What is assumed", says how far that is proved and how far it is tried). The answer may then be that of no image: a mixture of before and
 //! after, with bytes in it that were never written. A file that is cut short meanwhile ends the command with a sentence.

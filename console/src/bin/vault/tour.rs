@@ -7,6 +7,7 @@ use crate::failure::{Failure, NO_IMAGE, NO_OUTPUT};
 use crate::log::Log;
 use crate::make;
 use crate::names::shown;
+use crate::runs::Span;
 use crate::style::Style;
 use crate::wanted::Wanted;
 use std::ffi::OsStr;
@@ -113,7 +114,7 @@ fn text(out: &mut impl Write, text: &str) -> Result<(), Failure> {
 
 /// A command as it is typed, its answer, and what it would say on standard error.
 fn step(image: &[u8], question: Question, matching: Matching, typed: &str, out: &mut impl Write) -> Result<(), Failure> {
-    let (mut log, manner) = (Log::default(), Manner { how: How::default(), matching, style: Style::default() });
+    let (mut log, manner) = (Log::default(), Manner { how: How::default(), matching, style: Style::default(), span: Span::default() });
     text(out, &format!("$ vault {typed}\n"))?;
     let refused = match commands::ask(&question, manner, image, OsStr::new(NAME), out, &mut log) {
         // What is written is the tour itself.

@@ -108,7 +108,7 @@ pub fn missing(image: &[u8], how: How, matching: Matching, wanted: &Wanted) -> O
             Err(refused) => return vault.missing_sector(icb, &refused),
         };
     }
-    let refused = vault.read_file(icb).err()?;
+    let refused = vault.runs(icb).err()?;
     vault.missing_sector(icb, &refused)
 }
 
