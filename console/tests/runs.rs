@@ -257,7 +257,7 @@ fn a_part_of_a_file_is_written() {
 fn a_part_of_a_file_that_is_cut_short_is_refused() {
     let folder = Folder::new();
     let disc = sparse(&folder, &[20_000, 30_000]);
-    assert_eq!(folder.vault(&["cat", "disc.img", "FILM", "--bytes", "7"]).bytes, &noise(7));
+    assert_eq!(folder.vault(&["cat", "disc.img", "FILM", "--bytes", "7"]).bytes, noise(7));
     disc.set_len(disc.metadata().unwrap().len() - 1).unwrap();
     let said = folder.vault(&["cat", "disc.img", "FILM", "--bytes", "7"]);
     assert_eq!((said.status, said.bytes), (1, vec![]));
