@@ -1,4 +1,4 @@
-//! Holds the archives of vault_c and records_c to the original that they were made from.
+//! Holds the archives of vault_c, drives_c, surveys_c and records_c to the original that they were made from.
 //!
 //!     compare [--seconds N] [--seed S] [--first] [--port | --port=PROGRAM]
 //!     compare --bench [--port]        how long the calls take; --rows WORDS: only those with these words in their names

@@ -1,4 +1,4 @@
-//! Reads UDF discs from memory, and writes vaults to it, through the proved archive of `vault_c` (include/vault.h).
+//! Reads UDF discs from memory, and writes vaults to it, through the proved archives of include/vault.h.
 //!
 //! [`Vault`] stands over an image that it owns or borrows, and has the calls of the original's `UdfDisc` under their names; README.md has the two side by
 //! side. [`Drive`] has them over a reader. Their calls give plain values; [`Vault::counted`] and [`Drive::counted`] have the same calls with the number of
