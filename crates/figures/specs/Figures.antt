@@ -1,4 +1,4 @@
--- Figures over files, directories and images: RULES 16.1 to 16.3.
+-- Figures over files, directories and images: RULES 16.1 to 16.3 and 16.11.
 use Prim.Native.Nat.{ℕ, zero, suc, _+_, _-_, _*_, max}
 use mathlib.Core.Path.{_≡_}
 use mathlib.Core.Bool.{_&&_}
@@ -10,7 +10,7 @@ use Rattle.disc.specs.Counts.{reported}
 use Rattle.disc.specs.Refusals.{number}
 use Rattle.disc.specs.declared.refusals.Refusal.the-variants.{BadShelf}
 
--- ---- as true numbers (RULES 16.1)
+-- ---- as true numbers (RULES 16.1 and 16.2)
 
 -- `byFiles` and `byImages` say how many have each answer number, from 0 to 15; `chain` is the longest chain
 pub record Figures : Type 0 where
@@ -78,7 +78,7 @@ unfoldable pub sum : List ℕ → ℕ
 sum [] = 0
 sum (n ∷ ns) = n + sum ns
 
--- ---- in a place of a row of 64-bit numbers (RULES 16.2): each figure as two, the number, held at 2^64 - 1, and whether it is over that, 1 or 0
+-- ---- in a place of a row of 64-bit numbers (RULES 16.3): each figure as two, the number, held at 2^64 - 1, and whether it is over that, 1 or 0
 
 abbrev pub most : ℕ
 most = 0xffff_ffff_ffff_ffff
@@ -122,7 +122,7 @@ rows (f ∷ fs) = row f ++ rows fs
 abbrev pub Adds : Figures → List ℕ → List ℕ → Type 0
 Adds g before after = (f : Figures) → Holds f before → Holds (added f g) after
 
--- ---- places added up where they stand (RULES 16.3): what is said of any numbers, also of such as no figures give
+-- ---- places added up where they stand (RULES 16.11): what is said of any numbers, also of such as no figures give
 
 -- a figure h with its mark o, and another, added: over where one of them is, or the sum is
 abbrev pub summed : ℕ → ℕ → ℕ → ℕ → List ℕ

@@ -1,12 +1,13 @@
 // Figures over files, directories and images, in the places of a lent row: each figure is two numbers, itself, held at 2^64 - 1, and whether it is over that.
 ghost use mathlib.Core.Path.{_≡_};
 ghost use mathlib.Core.List.{_++_};
-ghost use Prim.Native.Nat.{_+_, _*_, _≤_, max};
+ghost use Prim.Native.Nat.{_+_, _*_, _≤_, max, min};
 ghost use lib.ListN.{length, getD, take, drop, replicate};
 ghost use lib.Seq.{sets};
 ghost use Rattle.figures.specs.Figures.{Adds, oneDirectory, oneFile, oneImage, summed, greater, placesAdded, sums, totalOf, totaled, totalAnswer};
 use disc::answers::BAD_SHELF;
 use disc::answers::DONE;
+use disc::counts::lesser;
 
 // How many numbers a place has, two for each of 38 figures: files, directories, bytes, extents, sectors, files by their answer number, images by
 // theirs, and the longest chain.
@@ -116,30 +117,26 @@ fn add_sizes(place: &mut [u64], answer: u64, bytes: u64, extents: u64, sectors: 
     add_longer(place, CHAIN, chain, 0);
 }
 
-// Adds a file by its answer number and what reading it comes to; one with a number of no answer isn't added.
+// Adds a file by its answer number and what reading it comes to; a number over 15, which none is, counts as 15.
 pub fn add_file(place: &mut [u64], answer: u64, bytes: u64, extents: u64, sectors: u64, chain: u64)
-    ensures { λ _. ⌜ (answer ≤ 15 → Adds (oneFile answer bytes extents sectors chain) (now (place .entry)) (now (place .exit))) ⌝ }
+    ensures { λ _. ⌜ Adds (oneFile (min answer 15) bytes extents sectors chain) (now (place .entry)) (now (place .exit)) ⌝ }
 {
     if place.len() != PLACE {
         return;
     }
-    if MOST_ANSWER < answer {
-        return;
-    }
-    add_sizes(place, answer, bytes, extents, sectors, chain);
+    let under = lesser(answer, MOST_ANSWER);
+    add_sizes(place, under, bytes, extents, sectors, chain);
 }
 
 // Adds an image by its answer number, in the same way.
 pub fn add_image(place: &mut [u64], answer: u64)
-    ensures { λ _. ⌜ (answer ≤ 15 → Adds (oneImage answer) (now (place .entry)) (now (place .exit))) ⌝ }
+    ensures { λ _. ⌜ Adds (oneImage (min answer 15)) (now (place .entry)) (now (place .exit)) ⌝ }
 {
     if place.len() != PLACE {
         return;
     }
-    if MOST_ANSWER < answer {
-        return;
-    }
-    add_sum(place, IMAGES_BY_ANSWER + 2 * answer as usize, 1, 0);
+    let under = lesser(answer, MOST_ANSWER);
+    add_sum(place, IMAGES_BY_ANSWER + 2 * under as usize, 1, 0);
 }
 
 // ---- places added up

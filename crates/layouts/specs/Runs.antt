@@ -1,4 +1,4 @@
--- A file as runs of the image: where the bytes of a read stand, in reading order. RULES 7.3 to 7.8.
+-- A file as runs of the image: where the bytes of a read stand, in reading order: RULES 7.19.
 use Prim.Native.Nat.{ℕ, zero, suc, _-_, _*_, min}
 use mathlib.Core.List.{List, [], _∷_, _++_}
 use lib.ListN.{length, take, drop}

@@ -2,10 +2,10 @@
 use mathlib.Core.Path.{_≡_, refl, sym, ap, _∙_}
 use mathlib.Core.Bool.{Bool, true, false}
 use mathlib.Core.List.{List}
-use Prim.Native.Nat.{ℕ, _≤_}
+use Prim.Native.Nat.{ℕ, min}
 use native.Mathlib.Omega.{arith}
 use lib.ListN.{length}
-use Rattle.disc.specs.Counts.{reported}
+use Rattle.disc.specs.Refusals.{number}
 use Rattle.disc.specs.Ask.{Disc, Outcome}
 use Rattle.disc.specs.Ask.Outcome.{answered, refused}
 use Rattle.disc.specs.Ran.{ran}
@@ -25,25 +25,18 @@ adds-same e a = rw e at a
 -- ---- a file
 
 abbrev told : FileSizes → Figures
-told s = oneFile (s .reply .answer) (s .reply .length) (s .extents) (s .reply .count) (s .hops)
-
-listed : (count : ℕ) (o : Outcome (List ℕ)) (extents hops : ℕ) → sizesBy (measuredBy count o) o extents hops .reply .answer ≤ 15
-listed count (answered b) extents hops = omega arith
-listed count (refused why) extents hops = refusal-listed why
+told s = oneFile (min (s .reply .answer) 15) (s .reply .length) (s .extents) (s .reply .count) (s .hops)
 
 told-is : (count : ℕ) (o : Outcome (List ℕ)) (extents hops : ℕ) → told (sizesBy (measuredBy count o) o extents hops) ≡ fileBy count o extents hops
 told-is count (answered b) extents hops = refl
-told-is count (refused why) extents hops = refl
+told-is count (refused why) extents hops =
+    let n : min (number why) 15 ≡ number why = omega (arith, refusal-listed why) in
+    rw n
 
 module _ (d : Disc) (m : Mount) (icb : LongAd) {s : FileSizes} (e : s ≡ sizesOf d m icb) where
-  -- its answer number is one that is counted
-  file-listed : s .reply .answer ≤ 15
-  unfolding sizesOf
-  file-listed = rw e (listed _ (ran d (fileBytes m icb) .outcome) _ _)
-
-  pub file-added : {before after : List ℕ} → (s .reply .answer ≤ 15 → Adds (told s) before after) → Adds (ofFile d m icb) before after
+  pub file-added : {before after : List ℕ} → Adds (told s) before after → Adds (ofFile d m icb) before after
   unfolding sizesOf ofFile
-  file-added h = adds-same (ap told e ∙ told-is _ (ran d (fileBytes m icb) .outcome) _ _) (h file-listed)
+  file-added = adds-same (ap told e ∙ told-is _ (ran d (fileBytes m icb) .outcome) _ _)
 
 -- ---- an entry
 

