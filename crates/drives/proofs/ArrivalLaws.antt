@@ -18,65 +18,48 @@ use Rattle.disc.specs.Ask.{then}
 use Rattle.disc.specs.Images.{sectors}
 use Rattle.disc.specs.declared.refusals.Refusal.{Refusal}
 use Rattle.disc.specs.declared.refusals.Refusal.the-variants.{NoRoom}
-use Rattle.drives.specs.Feeds.{Feed, following, within, Settled, settledBehind, settled}
-use Rattle.drives.specs.Feeds.Feed.{over, stop, hold, put, want}
+use Rattle.drives.specs.Feeds.{Feed, following, naming, settledIn}
+use Rattle.drives.specs.Feeds.Feed.{over, put}
 use Rattle.drives.specs.FileFeeds.{extentFeed, extentsFeed}
-use Rattle.drives.specs.Openings.{mostSectors, refusalOf}
-use Rattle.drives.specs.Readings.{extentsIn, behindExtent, feedOf, isWanting, endTree, treeOf, numberOf, putAt, Goes}
+use Rattle.drives.specs.Openings.{mostSectors}
+use Rattle.drives.specs.Readings.{extentsIn, behindExtent, feedOf, isWanting, leftOf, numberOf, putAt, Goes}
 use Rattle.drives.specs.inner.Turns.{Ends, Stands, extentsBehind}
+use Rattle.drives.specs.inner.Bodies.{Lands}
 use Rattle.drives.specs.inner.Arrivals.{bytesBehind, extentBehind, Arrives, filledBy, Nexts}
 use Rattle.drives.specs.declared.readings.Reading.{Reading}
 use Rattle.drives.proofs.BodyLaws.{take-least}
-use Rattle.drives.proofs.TurnLaws.{stands-done, stands-stop, one-less, inExtent, extent-stands, ends-tree, end-stop}
+use Rattle.drives.proofs.SettleLaws.{IsWant, crowded-wants}
+use Rattle.drives.proofs.TurnLaws.{stands-done, one-less, inExtent, extent-stands, ends-left, ends-not, end-stop}
 
--- ---- a state's tree wants a sector or has ended
-
-unfoldable pub IsWant : Feed → Type 0
-IsWant over = ⊥
-IsWant (stop r) = ⊥
-IsWant (hold n f) = ⊥
-IsWant (put b f) = ⊥
-IsWant (want s k) = Unit {0}
-
-want-settled : (slots room : ℕ) (f : Feed) → IsWant f → settled (within slots room f) ≡ record { bytes = []; rest = within slots room f }
-unfolding IsWant within settled
-want-settled slots room over h = absurd h
-want-settled slots room (stop r) h = absurd h
-want-settled slots room (hold n f) h = absurd h
-want-settled slots room (put b f) h = absurd h
-want-settled slots room (want s k) h = refl
+-- ---- a state that wants a sector
 
 pub feed-wants : (r : Reading) (row : List (List ℕ)) → IsWant (feedOf r row)
-unfolding IsWant feedOf following sectors then extentFeed
-feed-wants r row = pick-both IsWant (eqb (r .phase) 0) tt (pick-both IsWant (eqb (r .phase) 1) tt (pick-both IsWant (eqb (r .phase) 2) tt tt))
-
-pub tree-settled : (r : Reading) (row : List (List ℕ)) (room : ℕ) → settled (treeOf r row room) ≡ record { bytes = []; rest = treeOf r row room }
-unfolding treeOf settled
-tree-settled r row room = by (isWanting r) (eqb (r .answer) 0)
-  where
-    by : (a b : Bool)
-        → settled (pick a (within (length row) (room - r .length) (feedOf r row)) (pick b over (stop (refusalOf (r .answer)))))
-        ≡ record { bytes = []; rest = pick a (within (length row) (room - r .length) (feedOf r row)) (pick b over (stop (refusalOf (r .answer)))) }
-    by true b = want-settled (length row) (room - r .length) (feedOf r row) (feed-wants r row)
-    by false true = refl
-    by false false = refl
+unfolding IsWant feedOf following naming sectors then extentFeed
+feed-wants r row =
+    pick-both IsWant (eqb (r .phase) 0) tt
+    (pick-both IsWant (eqb (r .phase) 1) tt
+    (pick-both IsWant (eqb (r .phase) 2) (crowded-wants (r .scan .full) _ tt) tt))
 
 -- nothing arrives
 pub put-nothing : (filled : ℕ) (out : List ℕ) → out ≡ putAt filled [] out
 put-nothing filled out = let z : filled + 0 ≡ filled = omega arith in rw z (sym (take-append-drop filled out))
 
+pub lands-arrives : (row : List (List ℕ)) (f : Feed) (r : Reading) (row′ : List (List ℕ)) (x : Reading) (out : List ℕ) → Lands row f r row′ x → Arrives f r out row row′ x out
+lands-arrives row f r row′ x out p = record {
+  goes = rw (p .left (length out - r .length)) (record {
+    left = refl;
+    answer = p .answer;
+    count = p .count;
+    filled = p .filled ∙ sym (add-zero (r .length));
+    output = put-nothing (r .length) out;
+  });
+  inside = p .inside;
+}
+
 pub stands-arrives : (row : List (List ℕ)) (f : Feed) (r x : Reading) (out : List ℕ) → Stands row f r x → Arrives f r out row row x out
 stands-arrives row f r x out p =
-    let t = p .tree (length out) in
-    let s = tree-settled x row (length out) in
-    let e : settled (within (length row) (length out - r .length) f) ≡ record { bytes = []; rest = treeOf x row (length out) } = ap settled (sym t) ∙ s in
-    rw e (record {
-      tree = refl;
-      answer = p .answer (length out);
-      count = p .count;
-      filled = p .length ∙ sym (add-zero (r .length));
-      output = put-nothing (r .length) out;
-    })
+    lands-arrives row f r row x out
+    (record { long = refl; left = p .left; answer = p .answer; count = p .count; filled = p .length; inside = λ h w. rw (p .listed w) h })
 
 -- ---- bytes into the output
 
@@ -107,7 +90,7 @@ here-long size here b e l = length-take size b ∙ rw l (sym e)
 
 module _ (r : Reading) (row : List (List ℕ)) (here : ℕ) (e : here ≡ min (r .size) 2048) (x : Reading) (f : x ≡ filledBy r (min (r .missing) here)) (y : Reading) where
   pub next-done : r .missing ≤ here → Ends x 0 y → Nexts r row here x y
-  unfolding bytesBehind within
+  unfolding bytesBehind settledIn
   next-done h p = record { stands = λ b l. stands-done row (bytesBehind r row b) x y p (λ room. rw (here-long (r .size) here b e l, le-leb (r .missing) here h)) }
 
   module _ (h : here < r .missing) where
@@ -189,16 +172,19 @@ module _ (r : Reading) (row : List (List ℕ)) (sector out : List ℕ) (l : leng
 
   module _ (x y : Reading) (f : x ≡ filledBy r k) (out′ : List ℕ) (o : out′ ≡ putAt (r .length) (take (length out - r .length) (take (n - 0) sector)) out) where
     pub extent-full : k < n → Ends x 5 y → Arrives (extentBehind r row sector) r out row row y out′
-    unfolding extentBehind within settled
+    unfolding extentBehind settledIn
     extent-full h p =
         let j = part-long in
-        rw (part-is, lt-leb (length part) (length out - r .length) (omega arith), append-nil (take (length out - r .length) part)) (record {
-          tree = ends-tree x y 5 p row (length out) ∙ end-stop NoRoom;
-          answer = p .answer;
-          count = p .count ∙ rw f;
-          filled = p .length ∙ rw f size;
-          output = o;
-        })
+        record {
+          goes = rw (part-is, lt-leb (length part) (length out - r .length) (omega arith)) (record {
+            left = ends-left x y 5 p row ∙ end-stop NoRoom;
+            answer = p .answer;
+            count = p .count ∙ rw f;
+            filled = p .length ∙ rw f size;
+            output = o;
+          });
+          inside = λ i w. ends-not p w;
+        }
       where
         size : r .length + k ≡ r .length + length (take (length out - r .length) part)
         size = let j = part-long in ap (λ a. r .length + a) (sym (length-take (length out - r .length) part ∙ least j))
@@ -207,24 +193,21 @@ module _ (r : Reading) (row : List (List ℕ)) (sector out : List ℕ) (l : leng
             least j = omega arith
 
     pub extent-arrives : n ≤ k → Nexts r row here x y → Arrives (extentBehind r row sector) r out row row y out′
-    unfolding extentBehind within settled
+    unfolding extentBehind settledIn
     extent-arrives h p =
         let j = part-long in
         let s = p .stands sector l in
-        let t = s .tree (length out) in
-        let m : length out - x .length ≡ length out - r .length - length part = rw f (room j) in
-        let w : treeOf y row (length out) ≡ within (length row) (length out - r .length - length part) (bytesBehind r row sector) = t ∙ rw m in
-        let v : settled (within (length row) (length out - r .length - length part) (bytesBehind r row sector)) ≡ record { bytes = []; rest = treeOf y row (length out) } = ap settled (sym w) ∙ tree-settled y row (length out) in
-        rw (part-is, le-leb (length part) (length out - r .length) (omega arith), v, append-nil part) (record {
-          tree = refl;
-          answer = s .answer (length out);
-          count = s .count ∙ rw f;
-          filled = s .length ∙ rw f (ap (λ a. r .length + a) (all j));
-          output = o ∙ rw (take-all (length out - r .length) part (omega arith));
-        })
+        let t = s .left (length out - r .length - length part) in
+        record {
+          goes = rw (part-is, le-leb (length part) (length out - r .length) (omega arith), t, append-nil part) (record {
+            left = refl;
+            answer = s .answer;
+            count = s .count ∙ rw f;
+            filled = s .length ∙ rw f (ap (λ a. r .length + a) (all j));
+            output = o ∙ rw (take-all (length out - r .length) part (omega arith));
+          });
+          inside = λ i w. rw (s .listed w, f) i;
+        }
       where
-        room : length part ≡ n → length out - (r .length + k) ≡ length out - r .length - length part
-        room j = omega arith
-
         all : length part ≡ n → k ≡ length part
         all j = omega arith

@@ -1,13 +1,13 @@
 -- Laws of a continuation whose sectors come one at a time: what they come to is what all of them joined come to. Assumes nothing.
 use mathlib.Core.Path.{_≡_, refl, ap, sym, _∙_, fun-ext}
-use mathlib.Core.Bool.{Bool, true, false, not, _&&_}
+use mathlib.Core.Bool.{Bool, true, false, not, _&&_, _||_}
 use mathlib.Core.List.{List, [], _∷_, _++_, append-nil, append-assoc}
 use Prim.Native.Nat.{ℕ, zero, suc, _+_, _-_, _*_, _<_, _≤_, min}
 use native.Mathlib.Omega.{arith}
 use lib.ListN.{length, take, drop, replicate, length-append, length-take, length-drop}
 use lib.Seq.{take-all, take-nil, take-append-le, take-append-add, drop-append-le, take-take}
 use lib.Dec.{eqb, ltb, leb}
-use borrow.Author.Tests.{lt-ltb, lt-leb, le-leb, leb-true, leb-false, eqb-true}
+use borrow.Author.Tests.{lt-ltb, le-ltb, lt-leb, le-leb, leb-true, leb-false, eqb-true}
 use Rattle.disc.specs.Choice.{pick}
 use Rattle.disc.specs.Refusals.{number}
 use Rattle.disc.specs.Ask.{Ask, then}
@@ -24,19 +24,20 @@ use Rattle.areas.specs.declared.AdEnding.{AdEnding}
 use Rattle.areas.specs.declared.AdEnding.the-variants.{End, Continuation, Refused}
 use Rattle.areas.specs.Areas.{sizeOf, Area, ended, areaAt}
 use Rattle.areas.proofs.AreaLaws.{area-end}
-use Rattle.drives.specs.Feeds.{Feed, following, within}
-use Rattle.drives.specs.Feeds.Feed.{over, stop, hold, put, want}
+use Rattle.drives.specs.Feeds.{Feed, naming, crowded, settledIn, crowdedBy}
+use Rattle.drives.specs.Feeds.Feed.{over, stop, name, hold, put, want}
 use Rattle.drives.specs.FileFeeds.{joined, chainFeed}
 use Rattle.drives.specs.Openings.{mostSectors}
-use Rattle.drives.specs.Readings.{areaOf, endingOf, carriedIn, padded, restOf, placesIn, isRight, headed, behindArea, feedOf, treeOf}
-use Rattle.drives.specs.inner.Scans.{Alike, Leads, Scans}
-use Rattle.drives.specs.inner.Scans.Alike.{same, crowded}
-use Rattle.drives.specs.inner.Turns.{Ends, Stands}
-use Rattle.drives.specs.inner.Bodies.{isWrong, judged, finished, bodyBehind, inBody, partBehind, withParts, Parts, Lands}
+use Rattle.drives.specs.Readings.{extentsIn, areaOf, endingOf, carriedIn, padded, restOf, isRight, headed, namedIn, behindArea, feedOf, isWanting, leftOf, numberOf}
+use Rattle.drives.specs.inner.Scans.{Leads, Scans}
+use Rattle.drives.specs.inner.Turns.{Ends, quiet, Stands}
+use Rattle.drives.specs.inner.Bodies.{isWrong, judged, finished, bodyBehind, behindBytes, inBody, partBehind, withParts, Parts, Lands}
 use Rattle.drives.specs.declared.scans.Scan.{Scan}
 use Rattle.drives.specs.declared.readings.Body.{Body}
 use Rattle.drives.specs.declared.readings.Reading.{Reading}
-use Rattle.drives.proofs.TurnLaws.{stands-stop, one-less, chain-refused, chain-end, chain-on}
+use Rattle.drives.proofs.SettleLaws.{IsWant, want-quiet, crowded-wants, named-same, headed-ap}
+use Rattle.drives.proofs.ScanLaws.{alike-lost, alike-same}
+use Rattle.drives.proofs.TurnLaws.{stands-stop, one-less, chain-refused, chain-end, chain-on, places-fit}
 
 -- ---- the verdict
 
@@ -72,21 +73,31 @@ module _ (row : List (List ℕ)) (r x : Reading) {k : Bool} (c : k ≡ isChecked
   verdict : n ≡ judged (isChecked (r .mount)) (r .body)
   verdict = rw c at e
 
+  abbrev chain : Feed
+  chain = chainFeed (r .mount) (r .kind) (r .hops) (r .missing) (extentsIn row (r .scan .listed)) (endingOf (r .scan))
+
   pub finish-not : (n ≡ 0 → ⊥) → Ends r n x → Stands row (finished r row) r x
-  unfolding finished within
+  unfolding finished settledIn crowded
   finish-not h p = by (r .body .tagged) (isWrong (isChecked (r .mount)) (r .body)) (r .body .headed) verdict
     where
-      by : (t w g : Bool) → n ≡ pick t (pick w 10 (pick g 0 2)) 2 → Stands row (pick t (pick w (stop BadCrc) (pick g (chainFeed (r .mount) (r .kind) (r .hops) (r .missing) (placesIn row (r .scan)) (endingOf (r .scan))) (stop Malformed))) (stop Malformed)) r x
-      by false w g q = stands-stop row (stop Malformed) r x Malformed (rw q at p) (λ room. refl)
-      by true true g q = stands-stop row (stop BadCrc) r x BadCrc (rw q at p) (λ room. refl)
-      by true false false q = stands-stop row (stop Malformed) r x Malformed (rw q at p) (λ room. refl)
+      ended-by : (why : Refusal) → n ≡ number why → Stands row (crowdedBy (r .scan .full) (stop why)) r x
+      ended-by why q = told (r .scan .full)
+        where
+          told : (b : Bool) → Stands row (pick b (stop why) (stop why)) r x
+          told true = stands-stop row (stop why) r x why (rw q at p) (λ room. refl)
+          told false = stands-stop row (stop why) r x why (rw q at p) (λ room. refl)
+
+      by : (t w g : Bool) → n ≡ pick t (pick w 10 (pick g 0 2)) 2 → Stands row (crowdedBy (r .scan .full) (pick t (pick w (stop BadCrc) (pick g chain (stop Malformed))) (stop Malformed))) r x
+      by false w g q = ended-by Malformed q
+      by true true g q = ended-by BadCrc q
+      by true false false q = ended-by Malformed q
       by true false true q = absurd (h q)
 
-  pub finish-good : n ≡ 0 → Stands row (chainFeed (r .mount) (r .kind) (r .hops) (r .missing) (placesIn row (r .scan)) (endingOf (r .scan))) r x → Stands row (finished r row) r x
+  pub finish-good : n ≡ 0 → Stands row (crowdedBy (r .scan .full) chain) r x → Stands row (finished r row) r x
   unfolding finished
   finish-good h p = by (r .body .tagged) (isWrong (isChecked (r .mount)) (r .body)) (r .body .headed) (sym verdict ∙ h)
     where
-      by : (t w g : Bool) → _≡_ {A = ℕ} (pick t (pick w 10 (pick g 0 2)) 2) 0 → Stands row (pick t (pick w (stop BadCrc) (pick g (chainFeed (r .mount) (r .kind) (r .hops) (r .missing) (placesIn row (r .scan)) (endingOf (r .scan))) (stop Malformed))) (stop Malformed)) r x
+      by : (t w g : Bool) → _≡_ {A = ℕ} (pick t (pick w 10 (pick g 0 2)) 2) 0 → Stands row (crowdedBy (r .scan .full) (pick t (pick w (stop BadCrc) (pick g chain (stop Malformed))) (stop Malformed))) r x
       by false w g q = absurd (omega arith)
       by true true g q = absurd (omega arith)
       by true false false q = absurd (omega arith)
@@ -109,11 +120,12 @@ rest-none kind s h = by (eqb (s .closed) 0) refl
     by true e = area-end kind (carriedIn s ++ []) 0 (length (carriedIn s ++ [])) short ∙ ap ended (sym (ends (eqb-true (s .closed) 0 e)))
     by false e = refl
 
-in-body-none : (r : Reading) (row : List (List ℕ)) (n at : ℕ) → n ≡ 0 → r .scan .carried < sizeOf (r .kind) → r .body .«area_left» ≤ 2048 * n → inBody r row n at ≡ finished r row
-unfolding inBody finished sectors following
+in-body-none : (r : Reading) (row : List (List ℕ)) (n at : ℕ) → n ≡ 0 → r .scan .carried < sizeOf (r .kind) → r .body .«area_left» ≤ 2048 * n
+    → crowdedBy (r .scan .full) (inBody r row n at) ≡ finished r row
+unfolding inBody finished sectors naming
 in-body-none r row n at z h l =
     let y : padded (r .body .«area_left») [] ≡ [] = none (r .body .«area_left») (omega arith) in
-    rw (z, y, rest-none (r .kind) (r .scan) h, append-nil (placesIn row (r .scan)))
+    rw (z, y, rest-none (r .kind) (r .scan) h, append-nil (extentsIn row (r .scan .listed)))
   where
     none : (k : ℕ) → k ≡ 0 → padded k [] ≡ []
     none k e = rw e
@@ -137,20 +149,48 @@ inPart r at left = record {
   length = r .length;
 }
 
-part-stands : (r : Reading) (row : List (List ℕ)) (at left : ℕ) → at + left < mostSectors → r .scan .carried < sizeOf (r .kind) → r .body .«area_left» ≤ 2048 * (left + 1) → Stands row (inBody r row (suc left) at) r (inPart r at left)
-unfolding treeOf feedOf inBody within following sectors then
-part-stands r row at left h c a = record {
-  tree = λ room. rw (lt-ltb (at + left) mostSectors h, lt-ltb (r .scan .carried) (sizeOf (r .kind)) c, le-leb (r .body .«area_left») (2048 * (left + 1)) a);
-  answer = λ room. rw (lt-ltb (at + left) mostSectors h, lt-ltb (r .scan .carried) (sizeOf (r .kind)) c, le-leb (r .body .«area_left») (2048 * (left + 1)) a);
-  count = refl;
-  length = refl;
-}
+body-wants : (r : Reading) (row : List (List ℕ)) (n at : ℕ) → IsWant (inBody r row (suc n) at)
+unfolding IsWant inBody naming sectors then
+body-wants r row n at = tt
+
+part-left : (r : Reading) (row : List (List ℕ)) (at left : ℕ) → at + left < mostSectors → r .scan .carried < sizeOf (r .kind) → r .body .«area_left» ≤ 2048 * (left + 1)
+    → leftOf (inPart r at left) row ≡ crowdedBy (r .scan .full) (inBody r row (suc left) at)
+unfolding leftOf feedOf inBody
+part-left r row at left h c a = rw (lt-ltb (at + left) mostSectors h, lt-ltb (r .scan .carried) (sizeOf (r .kind)) c, le-leb (r .body .«area_left») (2048 * (left + 1)) a)
+
+part-number : (b : Bool) (f : Feed) → IsWant f → 0 ≡ numberOf (pick b (crowded f) f)
+unfolding IsWant crowded
+part-number false over h = absurd h
+part-number false (stop r) h = absurd h
+part-number false (name n f) h = refl
+part-number false (hold n f) h = refl
+part-number false (put b f) h = refl
+part-number false (want s k) h = refl
+part-number true over h = absurd h
+part-number true (stop r) h = absurd h
+part-number true (name n f) h = absurd h
+part-number true (hold n f) h = absurd h
+part-number true (put b f) h = refl
+part-number true (want s k) h = refl
+
+part-stands : (r : Reading) (row : List (List ℕ)) (at left : ℕ) → at + left < mostSectors → r .scan .carried < sizeOf (r .kind) → r .body .«area_left» ≤ 2048 * (left + 1)
+    → Stands row (crowdedBy (r .scan .full) (inBody r row (suc left) at)) r (inPart r at left)
+part-stands r row at left h c a =
+    let e = part-left r row at left h c a in
+    let w = body-wants r row left at in
+    record {
+      left = λ room. want-quiet (length row) room (crowdedBy (r .scan .full) (inBody r row (suc left) at)) (crowded-wants (r .scan .full) (inBody r row (suc left) at) w) ∙ ap quiet (sym e);
+      answer = part-number (r .scan .full) (inBody r row (suc left) at) w ∙ ap numberOf (sym e);
+      count = refl;
+      length = refl;
+      listed = λ u. refl;
+    }
 
 module _ (r : Reading) (row : List (List ℕ)) (x : Reading) (c : r .scan .carried < sizeOf (r .kind)) (a : r .body .«area_left» ≤ 2048 * r .left) where
-  pub further-last : r .left ≡ 0 → Stands row (finished r row) r x → Stands row (inBody r row (r .left) (r .at + 1)) r x
+  pub further-last : r .left ≡ 0 → Stands row (finished r row) r x → Stands row (crowdedBy (r .scan .full) (inBody r row (r .left) (r .at + 1))) r x
   further-last z p = rw (in-body-none r row (r .left) (r .at + 1) z c a) p
 
-  pub further-next : (r .left ≡ 0 → ⊥) → r .at + r .left < mostSectors → x ≡ inPart r (r .at + 1) (r .left - 1) → Stands row (inBody r row (r .left) (r .at + 1)) r x
+  pub further-next : (r .left ≡ 0 → ⊥) → r .at + r .left < mostSectors → x ≡ inPart r (r .at + 1) (r .left - 1) → Stands row (crowdedBy (r .scan .full) (inBody r row (r .left) (r .at + 1))) r x
   further-next z h e =
       rw e (rw (one-less (r .left) z) at (part-stands r row (r .at + 1) (r .left - 1) (less (r .at) (r .left) h z) c (held (r .left) a z)))
     where
@@ -228,35 +268,60 @@ padded-parts n k a more l = by (leb n k) refl
 
 -- ---- places that lead to the same
 
-chain-alike : (m : Mount) (kind missing n slots room : ℕ) (a b : List AllocExtent) (how : AdEnding) → Alike slots a b
-    → within slots room (chainFeed m kind n missing a how) ≡ within slots room (chainFeed m kind n missing b how)
-unfolding within
-chain-alike m kind missing n slots room a b how (same e) = rw e
-chain-alike m kind missing n slots room a b (Refused why) (crowded x y) = rw (chain-refused m kind missing a n why, chain-refused m kind missing b n why)
-chain-alike m kind missing n slots room a b End (crowded x y) = rw (chain-end m kind missing a n, chain-end m kind missing b n, lt-leb (length a) slots x, lt-leb (length b) slots y)
-chain-alike m kind missing n slots room a b (Continuation c) (crowded x y) = rw (chain-on m kind missing a n c, chain-on m kind missing b n c, lt-leb (length a) slots x, lt-leb (length b) slots y)
+-- where an extent was lost, it is of no account which there are
+chain-any : (m : Mount) (kind missing n : ℕ) (a b : List AllocExtent) (how : AdEnding) → crowded (chainFeed m kind n missing a how) ≡ crowded (chainFeed m kind n missing b how)
+unfolding crowded
+chain-any m kind missing n a b (Refused why) = rw (chain-refused m kind missing a n why, chain-refused m kind missing b n why)
+chain-any m kind missing n a b End = rw (chain-end m kind missing a n, chain-end m kind missing b n)
+chain-any m kind missing n a b (Continuation c) = rw (chain-on m kind missing a n c, chain-on m kind missing b n c)
 
-pub leads-within : (mt : Mount) (hops missing room : ℕ) {kind : ℕ} {row row′ : List (List ℕ)} {s s′ : Scan} {m m′ : List ℕ} → Leads kind row s m row′ s′ m′
-    → within (length row) room (chainFeed mt kind hops missing (joined (placesIn row s) (restOf kind s m)) (restOf kind s m .ending))
-    ≡ within (length row) room (chainFeed mt kind hops missing (joined (placesIn row′ s′) (restOf kind s′ m′)) (restOf kind s′ m′ .ending))
-leads-within mt hops missing room {kind} {row} {row′} {s} {s′} {m} {m′} p =
-    rw (p .ending) (chain-alike mt kind missing hops (length row) room (joined (placesIn row s) (restOf kind s m)) (joined (placesIn row′ s′) (restOf kind s′ m′)) (restOf kind s′ m′ .ending) (p .extents))
+module _ (mt : Mount) (hops missing : ℕ) {kind : ℕ} {row row′ : List (List ℕ)} {s s′ : Scan} {m m′ : List ℕ} (p : Leads kind row s m row′ s′ m′) where
+  abbrev before : Feed
+  before = chainFeed mt kind hops missing (joined (extentsIn row (s .listed)) (restOf kind s m)) (restOf kind s m .ending)
 
-pub within-following : {A : Type 0} (slots room : ℕ) (t : Ask A) (f : A → Feed) → within slots room (following t f) ≡ following t (λ a. within slots room (f a))
-unfolding within following
-within-following slots room (done a) f = refl
-within-following slots room (refuse r) f = refl
-within-following slots room (ask s k) f = ap (want s) (fun-ext (λ b. within-following slots room (k b) f))
+  abbrev after : Feed
+  after = chainFeed mt kind hops missing (joined (extentsIn row′ (s′ .listed)) (restOf kind s′ m′)) (restOf kind s′ m′ .ending)
 
-pub within-same : {A : Type 0} (slots room : ℕ) (t : Ask A) (f g : A → Feed) → ((a : A) → within slots room (f a) ≡ within slots room (g a)) → within slots room (following t f) ≡ within slots room (following t g)
-within-same slots room t f g h = within-following slots room t f ∙ ap (following t) (fun-ext h) ∙ sym (within-following slots room t g)
+  pub leads-crowded : crowded before ≡ crowded after
+  leads-crowded = rw (p .ending) (chain-any mt kind missing hops (joined (extentsIn row (s .listed)) (restOf kind s m)) (joined (extentsIn row′ (s′ .listed)) (restOf kind s′ m′)) (restOf kind s′ m′ .ending))
 
-pub headed-same : (slots room : ℕ) (t w g : Bool) (f f′ : Feed) → within slots room f ≡ within slots room f′
-    → within slots room (pick t (pick w (stop BadCrc) (pick g f (stop Malformed))) (stop Malformed)) ≡ within slots room (pick t (pick w (stop BadCrc) (pick g f′ (stop Malformed))) (stop Malformed))
-headed-same slots room false w g f f′ h = refl
-headed-same slots room true true g f f′ h = refl
-headed-same slots room true false false f f′ h = refl
-headed-same slots room true false true f f′ h = h
+  pub leads-same : s′ .full ≡ false → before ≡ after
+  leads-same e = rw (p .ending, alike-same (p .extents) e)
+
+-- where one is lost that has no slot, it is lost to the area that names it
+chain-lost : (m : Mount) (kind missing n slots room : ℕ) (a : List AllocExtent) (how : AdEnding) → ltb slots (length a) ≡ true
+    → settledIn false slots room (chainFeed m kind n missing a how) ≡ settledIn false slots room (crowded (chainFeed m kind n missing a how))
+unfolding settledIn crowded
+chain-lost m kind missing n slots room a (Refused why) h = rw (chain-refused m kind missing a n why)
+chain-lost m kind missing n slots room a End h = rw (chain-end m kind missing a n, h)
+chain-lost m kind missing n slots room a (Continuation c) h = rw (chain-on m kind missing a n c, h)
+
+pub leads-settled : (mt : Mount) (hops missing room : ℕ) {kind : ℕ} {row row′ : List (List ℕ)} {s s′ : Scan} {m m′ : List ℕ} (p : Leads kind row s m row′ s′ m′) → s .full ≡ false
+    → settledIn false (length row) room (before mt hops missing p) ≡ settledIn false (length row) room (crowdedBy (s′ .full) (after mt hops missing p))
+unfolding restOf
+leads-settled mt hops missing room {kind} {row} {row′} {s} {s′} {m} {m′} p f = by (s′ .full) refl
+  where
+    by : (b : Bool) → s′ .full ≡ b → settledIn false (length row) room (before mt hops missing p) ≡ settledIn false (length row) room (crowdedBy b (after mt hops missing p))
+    by false e = ap (settledIn false (length row) room) (leads-same mt hops missing p e)
+    by true e =
+        let g : ltb (length row) (length (joined (extentsIn row (s .listed)) (restOf kind s m))) ≡ true = rw (f, e) at (alike-lost (p .extents)) in
+        chain-lost mt kind missing hops (length row) room (joined (extentsIn row (s .listed)) (restOf kind s m)) (restOf kind s m .ending) g
+        ∙ ap (settledIn false (length row) room) (leads-crowded mt hops missing p)
+
+-- whether an extent was lost: one was before, or more are named than there are places
+or-false : (b : Bool) → (b || false) ≡ b
+or-false true = refl
+or-false false = refl
+
+pub scans-full : (kind : ℕ) (row : List (List ℕ)) (s : Scan) (bytes : List ℕ) (row′ : List (List ℕ)) (s′ : Scan) → Scans kind row s bytes row′ s′
+    → s′ .full ≡ (s .full || ltb (length row) (length (joined (extentsIn row (s .listed)) (restOf kind s bytes))))
+scans-full kind row s bytes row′ s′ p =
+    let q = p .behind [] in
+    let e = alike-lost (q .extents) in
+    let z : length (joined (extentsIn row′ (s′ .listed)) (restOf kind s′ [])) ≤ length row =
+    rw (rest-none kind s′ (q .carries), append-nil (extentsIn row′ (s′ .listed))) (rw (q .long) at (places-fit row′ (s′ .listed))) in
+    let n = le-ltb (length row) (length (joined (extentsIn row′ (s′ .listed)) (restOf kind s′ []))) z in
+    sym (or-false (s′ .full)) ∙ ap (λ b. s′ .full || b) (sym n) ∙ sym e ∙ rw (append-nil bytes)
 
 pub part-held : (left : ℕ) (b : Body) (s : List ℕ) {b′ : Body} → b′ ≡ bodyBehind b s → b .«area_left» ≤ 2048 * (left + 1) → b′ .«area_left» ≤ 2048 * left
 part-held left b s e h = rw e (few (b .«area_left») h)
@@ -275,38 +340,53 @@ scans-carry kind row s bytes row′ s′ p = p .behind [] .carries
 -- behind a further sector
 module _ (r : Reading) (row : List (List ℕ)) (sector : List ℕ) (row′ : List (List ℕ)) (s′ : Scan) (b′ : Body) (l : length sector ≡ 2048) (e : b′ ≡ bodyBehind (r .body) sector)
     {n : ℕ} (q : n ≡ min (r .body .«area_left») 2048) (p : Scans (r .kind) row (r .scan) (take (n - 0) sector) row′ s′) where
-  area-parts : (room : ℕ) (more : List ℕ)
-      → within (length row) room (behindArea r (placesIn row (r .scan)) (restOf (r .kind) (r .scan) (padded (r .body .«area_left») (sector ++ more))))
-      ≡ within (length row) room (behindArea (withParts r s′ (bodyBehind (r .body) sector)) (placesIn row′ s′) (restOf (r .kind) s′ (padded (r .body .«area_left» - 2048) more)))
-  area-parts room more =
-      let k : take (n - 0) sector ≡ take (r .body .«area_left») sector = rw (q, take-least (r .body .«area_left») sector l) in
-      let j : padded (r .body .«area_left») (sector ++ more) ≡ take (n - 0) sector ++ padded (r .body .«area_left» - 2048) more = padded-parts (r .body .«area_left») 2048 sector more l ∙ ap (λ x. x ++ padded (r .body .«area_left» - 2048) more) (sym k) in
-      rw j (leads-within (r .mount) (r .hops) (r .missing) room (p .behind (padded (r .body .«area_left» - 2048) more)))
+  abbrev body′ : Body
+  body′ = bodyBehind (r .body) sector
 
-  part-same : (room : ℕ) → within (length row) room (partBehind r row sector) ≡ within (length row) room (inBody (withParts r s′ b′) row′ (r .left) (r .at + 1))
+  took : take (n - 0) sector ≡ take (r .body .«area_left») sector
+  took = rw (q, take-least (r .body .«area_left») sector l)
+
+  -- what all of its bytes lead to, and what they name
+  parts : (more : List ℕ) → padded (r .body .«area_left») (sector ++ more) ≡ take (n - 0) sector ++ padded (r .body .«area_left» - 2048) more
+  parts more = padded-parts (r .body .«area_left») 2048 sector more l ∙ ap (λ x. x ++ padded (r .body .«area_left» - 2048) more) (sym took)
+
+  leads : (more : List ℕ) → Leads (r .kind) row (r .scan) (padded (r .body .«area_left») (sector ++ more)) row′ s′ (padded (r .body .«area_left» - 2048) more)
+  leads more = rw (parts more) (p .behind (padded (r .body .«area_left» - 2048) more))
+
+  same-crowded : (more : List ℕ) → crowded (behindBytes r row (sector ++ more)) ≡ crowded (behindBytes (withParts r s′ body′) row′ more)
+  same-crowded more =
+      rw (right-parts (r .body) sector more l)
+      (headed-ap crowded (r .body .tagged) (isChecked (r .mount) && not (isRight body′ more)) (r .body .headed) _ _ (leads-crowded (r .mount) (r .hops) (r .missing) (leads more)))
+
+  same-bytes : s′ .full ≡ false → (more : List ℕ) → behindBytes r row (sector ++ more) ≡ behindBytes (withParts r s′ body′) row′ more
+  same-bytes f more =
+      rw (right-parts (r .body) sector more l)
+      (headed-ap (λ x. x) (r .body .tagged) (isChecked (r .mount) && not (isRight body′ more)) (r .body .headed) _ _ (leads-same (r .mount) (r .hops) (r .missing) (leads more) f))
+
+  same-named : s′ .full ≡ false → (more : List ℕ) → namedIn r row (sector ++ more) ≡ namedIn (withParts r s′ body′) row′ more
+  same-named f more =
+      let j : take (r .body .«area_left») (sector ++ more) ≡ take (n - 0) sector ++ take (r .body .«area_left» - 2048) more = parts-of (r .body .«area_left») 2048 sector more l ∙ ap (λ x. x ++ take (r .body .«area_left» - 2048) more) (sym took) in
+      rw j (ap length (alike-same (p .behind (take (r .body .«area_left» - 2048) more) .extents) f))
+
+  part-full : s′ .full ≡ (r .scan .full || ltb (length row) (namedIn r row sector))
+  part-full = rw took at (scans-full (r .kind) row (r .scan) (take (n - 0) sector) row′ s′ p)
+
+  part-same : (room : ℕ) → settledIn false (length row) room (partBehind r row sector) ≡ settledIn false (length row) room (crowdedBy (s′ .full) (inBody (withParts r s′ b′) row′ (r .left) (r .at + 1)))
   unfolding partBehind inBody
-  part-same room = within-same (length row) room (sectors (r .left) (r .at + 1)) _ _ (λ more. rw e (each more))
-    where
-      each : (more : List ℕ)
-          → within (length row) room (headed (isChecked (r .mount)) (r .body) (sector ++ more) (behindArea r (placesIn row (r .scan)) (restOf (r .kind) (r .scan) (padded (r .body .«area_left») (sector ++ more)))))
-          ≡ within (length row) room (headed (isChecked (r .mount)) (bodyBehind (r .body) sector) more (behindArea (withParts r s′ (bodyBehind (r .body) sector)) (placesIn row′ s′) (restOf (r .kind) s′ (padded (r .body .«area_left» - 2048) more))))
-      each more =
-          rw (right-parts (r .body) sector more l)
-          (headed-same (length row) room (r .body .tagged) (isChecked (r .mount) && not (isRight (bodyBehind (r .body) sector) more)) (r .body .headed)
-          (behindArea r (placesIn row (r .scan)) (restOf (r .kind) (r .scan) (padded (r .body .«area_left») (sector ++ more))))
-          (behindArea (withParts r s′ (bodyBehind (r .body) sector)) (placesIn row′ s′) (restOf (r .kind) s′ (padded (r .body .«area_left» - 2048) more)))
-          (area-parts room more))
+  part-same room =
+      rw e
+      (named-same (length row) room (namedIn r row sector) (λ more. namedIn r row (sector ++ more)) (namedIn (withParts r s′ body′) row′) (sectors (r .left) (r .at + 1))
+      (λ more. behindBytes r row (sector ++ more)) (behindBytes (withParts r s′ body′) row′) (r .scan .full) (s′ .full) part-full same-crowded same-named same-bytes)
 
-  pub part-lands : (y x : Reading) → y ≡ withParts r s′ b′ → Stands row′ (inBody y row′ (y .left) (y .at + 1)) y x → Lands row (partBehind r row sector) r row′ x
+  pub part-lands : (y x : Reading) → y ≡ withParts r s′ b′ → Stands row′ (crowdedBy (y .scan .full) (inBody y row′ (y .left) (y .at + 1))) y x → Lands row (partBehind r row sector) r row′ x
   part-lands y x f g =
       let w = rw f at g in
       let h = p .behind [] .long in
       record {
         long = h;
-        stands = record {
-          tree = λ room. w .tree room ∙ rw h (sym (part-same (room - r .length)));
-          answer = w .answer;
-          count = w .count;
-          length = w .length;
-        };
+        left = λ room. part-same room ∙ rw h at (w .left room);
+        answer = w .answer;
+        count = w .count;
+        filled = w .length;
+        inside = λ i v. rw (w .listed v, h) (p .behind [] .inside i);
       }

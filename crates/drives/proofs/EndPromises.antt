@@ -1,13 +1,14 @@
 -- Every opening and every read that is fed comes to an end, from whatever state and whatever slices are lent, and so there is a walk over every disc.
 -- Assumes nothing.
 use mathlib.Core.Path.{_≡_, refl, ap, sym, _∙_}
-use mathlib.Core.Bool.{Bool, true, false}
-use mathlib.Core.List.{List, []}
+use mathlib.Core.Bool.{Bool, true, false, _||_}
+use mathlib.Core.List.{List, [], _++_, append-nil}
 use mathlib.Core.Logic.{⊎-elim}
-use Prim.Native.Nat.{ℕ, _+_, _*_, _≤_, _<_}
+use Prim.Native.Nat.{ℕ, _+_, _-_, _*_, _≤_, _<_}
 use native.Mathlib.Omega.{arith}
 use lib.ListN.{length, take, drop, length-drop}
 use lib.Seq.{length-take-le}
+use lib.Dec.{ltb, leb}
 use borrow.Author.Tests.{eq-eqb}
 use Rattle.disc.specs.Images.{disc}
 use Rattle.disc.proofs.ImageLaws.{split, held, missing}
@@ -15,73 +16,104 @@ use Rattle.disc.specs.Ask.{Disc, Held, Ask, given}
 use Rattle.disc.specs.Ask.Held.{holds, lacks}
 use Rattle.disc.specs.Ask.Ask.{done, refuse, ask}
 use Rattle.disc.specs.declared.refusals.Refusal.{Refusal}
-use Rattle.disc.specs.declared.refusals.Refusal.the-variants.{Io}
+use Rattle.disc.specs.declared.refusals.Refusal.the-variants.{Io, NoRoom, NoSlot}
+use Rattle.disc.proofs.PickLaws.{pick-both}
 use Rattle.volumes.specs.declared.openings.VolumeRecord.{VolumeRecord}
-use Rattle.drives.specs.Feeds.{Feed, lent, branch, settled, fedBy}
-use Rattle.drives.specs.Feeds.Feed.{over, stop, hold, put, want}
+use Rattle.drives.specs.Feeds.{Feed, lent, branch, crowded, Settled, settledIn, fedBy}
+use Rattle.drives.specs.Feeds.Feed.{over, stop, name, hold, put, want}
 use Rattle.drives.specs.Openings.{isWanting as isOpening, wantedSector as openingSector, treeOf as openingTree, Fed as OpeningFed}
-use Rattle.drives.specs.Readings.{isWanting, wantedSector, treeOf, Fed}
+use Rattle.drives.specs.Readings.{feedOf, isWanting, wantedSector, leftOf, Fed}
 use Rattle.drives.specs.declared.openings.Opening.{Opening}
 use Rattle.drives.specs.declared.readings.Reading.{Reading}
 use Rattle.drives.proofs.OpeningLaws.{tree-asks}
-use Rattle.drives.proofs.WalkLaws.{WantsAt, tree-at}
+use Rattle.drives.proofs.SettleLaws.{settled-lost, want-quiet}
+use Rattle.drives.proofs.ArrivalLaws.{feed-wants}
+use Rattle.drives.proofs.GrownLaws.{withLength, length-free, left-grown}
+use Rattle.drives.proofs.WalkLaws.{WantsAt, left-at}
 use Rattle.drives.proofs.Promises.{Walk as OpeningWalk}
 use Rattle.drives.proofs.Promises.Walk.{ends as opened, steps as opens}
-use Rattle.drives.proofs.ReadPromises.{Walk, rest-is}
-use Rattle.drives.proofs.ReadPromises.Walk.{ends, steps}
+use Rattle.drives.proofs.Walks.{Still, rest-is}
+use Rattle.drives.proofs.Walks.Still.{ends, steps}
 
 -- ---- a read
 
--- every sequence of slices that may be lent from here on comes to an end: the state has ended, or does so behind whatever slice is lent next
-pub data Over : Reading → List (List ℕ) → List ℕ → Type 0 where
-  now : {r : Reading} {row : List (List ℕ)} {out : List ℕ} → isWanting r ≡ false → Over r row out
-  later : {r : Reading} {row : List (List ℕ)} {out : List ℕ} → isWanting r ≡ true
-      → ((s : List ℕ) (x : Reading) (row₁ : List (List ℕ)) (out₁ : List ℕ) → Fed r s row out x row₁ out₁ → Over x row₁ out₁) → Over r row out
+-- the row may be lengthened where the extents that wait are in it, as those of a state that `start` and `step` give are
+pub data Lengthens (r : Reading) (row places : List (List ℕ)) : Type 0 where
+  same : places ≡ [] → Lengthens r row places
+  inside : r .scan .listed ≤ length row → Lengthens r row places
 
--- a feed of which every branch ends, as every feed does
+-- every sequence of slices that may be lent from here on comes to an end, whatever outputs are lent with them and whatever `length` is set to: the state has
+-- ended, or does so behind whatever is lent next
+pub data Over : Reading → List (List ℕ) → Type 0 where
+  now : {r : Reading} {row : List (List ℕ)} → isWanting r ≡ false → Over r row
+  later : {r : Reading} {row : List (List ℕ)} → isWanting r ≡ true
+      → ((places : List (List ℕ)) (n : ℕ) (s out : List ℕ) (x : Reading) (row₁ : List (List ℕ)) (out₁ : List ℕ) → Lengthens r row places → Fed (withLength r n) s (row ++ places) out x row₁ out₁ → Over x row₁)
+      → Over r row
+
+-- a feed of which every branch ends, as every feed does, in whatever slots and room
 data Finite : Feed → Type 0 where
   done-feed : Finite over
   refused-feed : (why : Refusal) → Finite (stop why)
-  branches : (s : ℕ) (k : List ℕ → Feed) → ((h : Held) → Finite (settled (given h k (stop Io)) .rest)) → Finite (want s k)
+  branches : (s : ℕ) (k : List ℕ → Feed) → ((h : Held) (slots room : ℕ) → Finite (settledIn false slots room (given h k (stop Io)) .rest)) → Finite (want s k)
 
-finite : (f : Feed) → Finite (settled f .rest)
-unfolding settled
-finite over = done-feed
-finite (stop why) = refused-feed why
-finite (hold n f) = finite f
-finite (put b f) = finite f
-finite (want s k) = branches s k (by (λ b. finite (k b)))
-  where
-    by : ((b : List ℕ) → Finite (settled (k b) .rest)) → (h : Held) → Finite (settled (given h k (stop Io)) .rest)
-    by ih (holds b) = ih b
-    by ih lacks = refused-feed Io
+abbrev Ending : Feed → Type 0
+Ending f = (lost : Bool) (slots room : ℕ) → Finite (settledIn lost slots room f .rest)
 
-not-wanting : (r : Reading) (row : List (List ℕ)) (out : List ℕ) (f : Feed) → treeOf r row (length out) ≡ f → ((s : ℕ) → WantsAt s f → ⊥) → Over r row out
-not-wanting r row out f e h = by (isWanting r) refl
+held-ends : (k : List ℕ → Feed) → ((b : List ℕ) → Ending (k b)) → (h : Held) (slots room : ℕ) → Finite (settledIn false slots room (given h k (stop Io)) .rest)
+unfolding settledIn
+held-ends k ih (holds b) slots room = ih b false slots room
+held-ends k ih lacks slots room = refused-feed Io
+
+crowded-ends : (k : List ℕ → Feed) → ((b : List ℕ) → Ending (k b)) → (h : Held) (slots room : ℕ) → Finite (settledIn false slots room (given h (λ b. crowded (k b)) (stop Io)) .rest)
+unfolding settledIn
+crowded-ends k ih (holds b) slots room = rw settled-lost at (ih b true slots room)
+crowded-ends k ih lacks slots room = refused-feed Io
+
+finite : (f : Feed) → Ending f
+unfolding settledIn crowded
+finite over lost slots room = done-feed
+finite (stop why) lost slots room = refused-feed why
+finite (name n f) lost slots room = finite f (lost || ltb slots n) slots room
+finite (hold n f) lost slots room = pick-both (λ (x : Settled). Finite (x .rest)) (lost || ltb slots n) (refused-feed NoSlot) (finite f false slots room)
+finite (put b f) lost slots room = pick-both (λ (x : Settled). Finite (x .rest)) (leb (length b) room) (finite f lost slots (room - length b)) (refused-feed NoRoom)
+finite (want s k) true slots room = branches s (λ b. crowded (k b)) (crowded-ends k (λ b. finite (k b)))
+finite (want s k) false slots room = branches s k (held-ends k (λ b. finite (k b)))
+
+not-wanting : (r : Reading) (row : List (List ℕ)) (f : Feed) → leftOf r row ≡ f → ((s : ℕ) → WantsAt s f → ⊥) → Over r row
+not-wanting r row f e h = by (isWanting r) refl
   where
-    by : (b : Bool) → isWanting r ≡ b → Over r row out
+    by : (b : Bool) → isWanting r ≡ b → Over r row
     by false w = now w
-    by true w = absurd (h (wantedSector r) (rw e at (tree-at r row (length out) w)))
+    by true w = absurd (h (wantedSector r) (rw e at (left-at r row w)))
 
-over-by : {f : Feed} → Finite f → (r : Reading) (row : List (List ℕ)) (out : List ℕ) → treeOf r row (length out) ≡ f → Over r row out
+lengthened : (r : Reading) (n : ℕ) (row places : List (List ℕ)) → Lengthens r row places → leftOf (withLength r n) (row ++ places) ≡ leftOf r row
+lengthened r n row places (same e) = length-free r n (row ++ places) ∙ rw (e, append-nil row)
+lengthened r n row places (inside h) = length-free r n (row ++ places) ∙ left-grown r row places h
+
+over-by : {f : Feed} → Finite f → (r : Reading) (row : List (List ℕ)) → leftOf r row ≡ f → Over r row
 unfolding WantsAt fedBy
-over-by done-feed r row out e = not-wanting r row out over e (λ s h. h)
-over-by (refused-feed why) r row out e = not-wanting r row out (stop why) e (λ s h. h)
-over-by (branches s k h) r row out e = by (isWanting r) refl (λ b x row₁ out₁ q. over-by (h (lent b)) x row₁ out₁ q)
+over-by done-feed r row e = not-wanting r row over e (λ s h. h)
+over-by (refused-feed why) r row e = not-wanting r row (stop why) e (λ s h. h)
+over-by (branches s k h) r row e = by (isWanting r) refl (λ b slots room x row₁ q. over-by (h (lent b) slots room) x row₁ q)
   where
     by : (t : Bool) → isWanting r ≡ t
-        → ((b : List ℕ) (x : Reading) (row₁ : List (List ℕ)) (out₁ : List ℕ) → treeOf x row₁ (length out₁) ≡ settled (given (lent b) k (stop Io)) .rest → Over x row₁ out₁)
-        → Over r row out
+        → ((b : List ℕ) (slots room : ℕ) (x : Reading) (row₁ : List (List ℕ)) → leftOf x row₁ ≡ settledIn false slots room (given (lent b) k (stop Io)) .rest → Over x row₁)
+        → Over r row
     by false w ih = now w
-    by true w ih = later w (λ b x row₁ out₁ f. ih b x row₁ out₁ (rest-is r row out b x row₁ out₁ w f ∙ ap (λ t. settled (fedBy (lent b) t) .rest) e))
+    by true w ih = later w (λ places n b out x row₁ out₁ l f.
+        ih b (length (row ++ places)) (length out - n) x row₁
+        (rest-is (withLength r n) (row ++ places) out b x row₁ out₁ w f ∙ ap (λ t. settledIn false (length (row ++ places)) (length out - n) (fedBy (lent b) t) .rest) (lengthened r n row places l ∙ e)))
 
 -- from any state, one made by hand too
-pub read-ends : (r : Reading) (row : List (List ℕ)) (out : List ℕ) → Over r row out
-unfolding settled
-read-ends r row out = over-by (rw settles-there at (finite (treeOf r row (length out)))) r row out refl
+pub read-ends : (r : Reading) (row : List (List ℕ)) → Over r row
+unfolding leftOf
+read-ends r row = by (isWanting r) refl
   where
-    settles-there : settled (treeOf r row (length out)) .rest ≡ treeOf r row (length out)
-    settles-there = ap (λ x. x .rest) (Rattle.drives.proofs.ArrivalLaws.tree-settled r row (length out))
+    by : (b : Bool) → isWanting r ≡ b → Over r row
+    by false w = now w
+    by true w =
+        let q : settledIn false 0 0 (feedOf r row) .rest ≡ feedOf r row = ap (λ (x : Settled). x .rest) (want-quiet 0 0 (feedOf r row) (feed-wants r row)) in
+        over-by (rw q at (finite (feedOf r row) false 0 0)) r row (rw w)
 
 -- so there is a walk over every disc whose sectors can be lent, as those of an image can
 pub record Lends (d : Disc) (n : ℕ) : Type 0 where
@@ -107,20 +139,21 @@ pub record Walked (d : Disc) (r : Reading) (row : List (List ℕ)) (out : List �
   pub state : Reading
   pub places : List (List ℕ)
   pub output : List ℕ
-  pub walk : Walk d wanted r row out state places output
+  pub walk : Still d wanted r row out state places output
 
 walk-by : (d : Disc) → ((n : ℕ) → Lends d n) → ((r : Reading) (s : List ℕ) (row : List (List ℕ)) (out : List ℕ) → Step r s row out)
-    → {r : Reading} {row : List (List ℕ)} {out : List ℕ} → Over r row out → Walked d r row out
-walk-by d lend step (now w) = record { wanted = []; state = _; places = _; output = _; walk = ends w }
-walk-by d lend step (later {r} {row} {out} w h) =
+    → {r : Reading} {row : List (List ℕ)} (out : List ℕ) → Over r row → Walked d r row out
+walk-by d lend step out (now w) = record { wanted = []; state = _; places = _; output = _; walk = ends w }
+walk-by d lend step out (later {r} {row} w h) =
     let l = lend (wantedSector r) in
     let x = step r (l .slice) row out in
-    let y = walk-by d lend step (h (l .slice) (x .state) (x .places) (x .output) (x .fed)) in
+    let f : Fed r (l .slice) (row ++ []) out (x .state) (x .places) (x .output) = rw (append-nil row) (x .fed) in
+    let y = walk-by d lend step (x .output) (h [] (r .length) (l .slice) out (x .state) (x .places) (x .output) (same refl) f) in
     record { wanted = _; state = y .state; places = y .places; output = y .output; walk = steps (l .slice) w (l .is) (x .fed) (y .walk) }
 
 pub read-walks : (d : Disc) → ((n : ℕ) → Lends d n) → ((r : Reading) (s : List ℕ) (row : List (List ℕ)) (out : List ℕ) → Step r s row out)
     → (r : Reading) (row : List (List ℕ)) (out : List ℕ) → Walked d r row out
-read-walks d lend step r row out = walk-by d lend step (read-ends r row out)
+read-walks d lend step r row out = walk-by d lend step out (read-ends r row)
 
 -- ---- an opening
 

@@ -21,51 +21,55 @@ use Rattle.entries.specs.declared.«file_entries».EntryRead.{EntryRead}
 use Rattle.entries.specs.declared.«file_entries».EntryRead.the-variants.{Read, Refused}
 use Rattle.entries.proofs.EntryLaws.{read-entry}
 use Rattle.chains.specs.Chains.{mostContinuations}
-use Rattle.drives.specs.Feeds.{Feed, following, within, settled}
+use Rattle.drives.specs.Feeds.{Feed, following, crowdedBy, settledIn}
 use Rattle.drives.specs.Feeds.Feed.{over, stop, put}
 use Rattle.drives.specs.FileFeeds.{joined, chainFeed, entryFeed}
-use Rattle.drives.specs.Readings.{areaOf, endingOf, restOf, placesIn, treeOf, putAt, Goes}
+use Rattle.drives.specs.Readings.{extentsIn, areaOf, endingOf, restOf, putAt, Goes}
 use Rattle.drives.specs.inner.Scans.{begun, Scans}
 use Rattle.drives.specs.inner.Turns.{Ends, Stands}
 use Rattle.drives.specs.inner.Arrivals.{entryBehind, Arrives}
 use Rattle.drives.specs.inner.Entries.{locatedIn, ofEntry, longerBy, Embeds}
 use Rattle.drives.specs.declared.scans.Scan.{Scan}
 use Rattle.drives.specs.declared.readings.Reading.{Reading}
-use Rattle.drives.proofs.TurnLaws.{stands-stop, ends-tree, end-stop}
-use Rattle.drives.proofs.BodyLaws.{leads-within, rest-none}
-use Rattle.drives.proofs.ArrivalLaws.{stands-arrives}
+use Rattle.drives.proofs.TurnLaws.{stands-stop, ends-left, ends-not, end-stop}
+use Rattle.drives.proofs.BodyLaws.{leads-settled, rest-none}
+use Rattle.drives.proofs.ArrivalLaws.{lands-arrives, stands-arrives}
 
 -- ---- the file itself
 
 module _ (r : Reading) (bytes out : List ℕ) {k : ℕ} (u : (k ≡ min (length bytes) (length out - r .length)) × (r .length + k < 2 ^ 64)) (x y : Reading) (f : x ≡ longerBy r k)
     (out′ : List ℕ) (o : out′ ≡ putAt (r .length) (take (length out - r .length) bytes) out) where
   pub embed-full : k < length bytes → Ends x 5 y → Embeds r bytes out y out′
-  unfolding within settled
+  unfolding settledIn
   embed-full h p = record {
-    arrives = λ row.
-        rw (lt-leb (length bytes) (length out - r .length) (omega (arith, u .0)), append-nil (take (length out - r .length) bytes)) (record {
-          tree = ends-tree x y 5 p row (length out) ∙ end-stop NoRoom;
-          answer = p .answer;
-          count = p .count ∙ rw f;
-          filled = p .length ∙ rw f (ap (λ a. r .length + a) size);
-          output = o;
-        });
+    arrives = λ row. record {
+      goes = rw (lt-leb (length bytes) (length out - r .length) (omega (arith, u .0))) (record {
+        left = ends-left x y 5 p row ∙ end-stop NoRoom;
+        answer = p .answer;
+        count = p .count ∙ rw f;
+        filled = p .length ∙ rw f (ap (λ a. r .length + a) size);
+        output = o;
+      });
+      inside = λ i w. ends-not p w;
+    };
   }
     where
       size : k ≡ length (take (length out - r .length) bytes)
       size = let j = length-take (length out - r .length) bytes in omega (arith, u .0)
 
   pub embed-done : length bytes ≤ k → Ends x 0 y → Embeds r bytes out y out′
-  unfolding within settled
+  unfolding settledIn
   embed-done h p = record {
-    arrives = λ row.
-        rw (le-leb (length bytes) (length out - r .length) (omega (arith, u .0)), append-nil bytes) (record {
-          tree = ends-tree x y 0 p row (length out);
-          answer = p .answer;
-          count = p .count ∙ rw f;
-          filled = p .length ∙ rw f (ap (λ a. r .length + a) size);
-          output = o ∙ rw (take-all (length out - r .length) bytes (omega (arith, u .0)));
-        });
+    arrives = λ row. record {
+      goes = rw (le-leb (length bytes) (length out - r .length) (omega (arith, u .0)), append-nil bytes) (record {
+        left = ends-left x y 0 p row;
+        answer = p .answer;
+        count = p .count ∙ rw f;
+        filled = p .length ∙ rw f (ap (λ a. r .length + a) size);
+        output = o ∙ rw (take-all (length out - r .length) bytes (omega (arith, u .0)));
+      });
+      inside = λ i w. ends-not p w;
+    };
   }
     where
       size : k ≡ length bytes
@@ -94,38 +98,40 @@ module _ (r : Reading) (e : FileEntry) (sector out : List ℕ) (row : List (List
         let h = area-in-part sector (e .«area_at») (e .«area_length») (e .kind) 0 (e .«area_length») (omega arith) in
         rw (append-nil (take (e .«area_length») (drop (e .«area_at») sector)), j) (sym (rw add-zero at h))
 
-    chained : (room : ℕ) → within (length row) room (entryFeed (r .mount) (locatedIn r e sector))
-        ≡ within (length row) room (chainFeed (r .mount) (e .kind) mostContinuations (e .«information_length») (placesIn row′ s′) (endingOf s′))
-    unfolding entryFeed restOf areaAt placesIn
+    chained : (room : ℕ) → settledIn false (length row) room (entryFeed (r .mount) (locatedIn r e sector))
+        ≡ settledIn false (length row) room (crowdedBy (s′ .full) (chainFeed (r .mount) (e .kind) mostContinuations (e .«information_length») (extentsIn row′ (s′ .listed)) (endingOf s′)))
+    unfolding entryFeed restOf areaAt
     chained room =
-        let w = leads-within (r .mount) mostContinuations (e .«information_length») room (p .behind []) in
+        let w = leads-settled (r .mount) mostContinuations (e .«information_length») room (p .behind []) refl in
         let v = rest-none (e .kind) s′ (p .behind [] .carries) in
         let a : restOf (e .kind) (begun 0) (take (e .«area_at» + e .«area_length» - e .«area_at») (drop (e .«area_at») sector) ++ []) ≡ areaAt (e .kind) sector (e .«area_at») (e .«area_length») = front in
-        rw (ne-eqb (e .kind) 3 z) (rw (a, v, append-nil (placesIn row′ s′)) at w)
+        rw (ne-eqb (e .kind) 3 z) (rw (a, v, append-nil (extentsIn row′ (s′ .listed))) at w)
       where
         front : restOf (e .kind) (begun 0) (take (e .«area_at» + e .«area_length» - e .«area_at») (drop (e .«area_at») sector) ++ []) ≡ areaAt (e .kind) sector (e .«area_at») (e .«area_length»)
         front = rw part (sym area)
 
     pub file-chained : (y : Reading) → y ≡ ofEntry r (e .kind) (e .«information_length») s′
-        → Stands row′ (chainFeed (y .mount) (y .kind) (y .hops) (y .missing) (placesIn row′ (y .scan)) (endingOf (y .scan))) y x
+        → Stands row′ (crowdedBy (y .scan .full) (chainFeed (y .mount) (y .kind) (y .hops) (y .missing) (extentsIn row′ (y .scan .listed)) (endingOf (y .scan)))) y x
         → Arrives (entryFeed (r .mount) (locatedIn r e sector)) r out row row′ x out
     file-chained y f q =
         let w = rw f at q in
         let h = p .behind [] .long in
-        rw h at (stands-arrives row′ (entryFeed (r .mount) (locatedIn r e sector)) r x out
+        lands-arrives row (entryFeed (r .mount) (locatedIn r e sector)) r row′ x out
         (record {
-          tree = λ room. w .tree room ∙ rw h (sym (chained (room - r .length)));
+          long = h;
+          left = λ room. chained room ∙ rw h at (w .left room);
           answer = w .answer;
           count = w .count;
-          length = w .length;
-        }))
+          filled = w .length;
+          inside = λ i v. rw (w .listed v, h) (p .behind [] .inside (omega arith));
+        })
 
 -- the same of a scan that began at the front
 pub file-listed : (r : Reading) (e : FileEntry) (sector out : List ℕ) (row : List (List ℕ)) (x : Reading) (row′ : List (List ℕ)) (s₀ s′ : Scan) (y : Reading) → (e .kind ≡ 3 → ⊥)
     → e .«area_at» + e .«area_length» ≤ length sector → s₀ ≡ begun 0
     → Scans (e .kind) row s₀ (take (e .«area_at» + e .«area_length» - e .«area_at») (drop (e .«area_at») sector)) row′ s′
     → y ≡ ofEntry r (e .kind) (e .«information_length») s′
-    → Stands row′ (chainFeed (y .mount) (y .kind) (y .hops) (y .missing) (placesIn row′ (y .scan)) (endingOf (y .scan))) y x
+    → Stands row′ (crowdedBy (y .scan .full) (chainFeed (y .mount) (y .kind) (y .hops) (y .missing) (extentsIn row′ (y .scan .listed)) (endingOf (y .scan)))) y x
     → Arrives (entryFeed (r .mount) (locatedIn r e sector)) r out row row′ x out
 file-listed r e sector out row x row′ s₀ s′ y z l g p f q = file-chained r e sector out row x row′ s′ z l (rw g at p) y f q
 
@@ -136,7 +142,7 @@ module _ (r : Reading) (sector out : List ℕ) (row : List (List ℕ)) (x : Read
   entry-inside e h = let i = read-entry c sector q h .inside in omega arith
 
   pub entry-refused : (why : Refusal) {n : ℕ} → g ≡ Refused why → n ≡ number why → Ends r n x → Arrives (entryBehind r (readEntry check sector) sector) r out row row x out
-  unfolding entryBehind following within
+  unfolding entryBehind following settledIn
   entry-refused why h m p =
       let d : readEntry check sector ≡ Refused why = rw (← k, ← q) h in
       rw d (stands-arrives row (stop why) r x out (stands-stop row (stop why) r x why (rw m at p) (λ room. refl)))

@@ -25,9 +25,9 @@ use Rattle.areas.specs.Areas.{Area, areaAt}
 use Rattle.chains.specs.Chains.{mostContinuations, nextArea, continued}
 use Rattle.files.specs.Reads.{joining, extentBytes, extentsBytes}
 use Rattle.files.specs.Files.{Located, entryAt, entryMount, isEmbedded, embeddedBytes, resolved, contentOf, fileAt, fileBytes}
-use Rattle.drives.specs.Feeds.{Feed, following, collected}
+use Rattle.drives.specs.Feeds.{Feed, following, naming, collected}
 use Rattle.drives.specs.Feeds.Feed.{over, stop, hold, put, want}
-use Rattle.drives.specs.FileFeeds.{extentFeed, standing, extentsFeed, chainFeed, entryFeed, fileFeed}
+use Rattle.drives.specs.FileFeeds.{extentFeed, standing, extentsFeed, namedBy, chainFeed, entryFeed, fileFeed}
 
 -- ---- trees
 
@@ -45,6 +45,12 @@ unfolding collected following then
 collected-following front (done a) f = refl
 collected-following front (refuse r) f = refl
 collected-following front (ask s k) f = ap (ask s) (fun-ext (λ b. collected-following front (k b) f))
+
+collected-naming : {A : Type 0} (front : List ℕ) (named : List ℕ → ℕ) (t : Ask A) (f : A → Feed) → collected front (naming named t f) ≡ then t (λ a. collected front (f a))
+unfolding collected naming then
+collected-naming front named (done a) f = refl
+collected-naming front named (refuse r) f = refl
+collected-naming front named (ask s k) f = ap (ask s) (fun-ext (λ b. collected-naming front (λ more. named (b ++ more)) (k b) f))
 
 -- ---- an extent
 
@@ -167,7 +173,7 @@ module _ (m : Mount) where
   collected-chain kind (suc n) missing front es End = collected-extents es missing front ∙ ap (readOf front missing) (sym (append-nil es))
   collected-chain kind (suc n) missing front es (Refused r) = refl
   collected-chain kind (suc n) missing front es (Continuation a) =
-      collected-following front (nextArea m kind a) (λ x. chainFeed m kind n missing (es ++ x .extents) (x .ending))
+      collected-naming front (namedBy kind (a .length) es) (nextArea m kind a) (λ x. chainFeed m kind n missing (es ++ x .extents) (x .ending))
       ∙ then-same (nextArea m kind a) _ _ (λ x.
       collected-chain kind n missing front (es ++ x .extents) (x .ending)
       ∙ then-same (continued m kind n (x .ending)) _ _ (λ more. ap (readOf front missing) (append-assoc es (x .extents) more))

@@ -1,12 +1,12 @@
 -- Laws of a continuation's first sector: what it says of the header, the body and the area is what all sectors joined say. Assumes nothing.
 use mathlib.Core.Path.{_≡_, refl, ap, sym, _∙_}
-use mathlib.Core.Bool.{Bool, true, false, not, _&&_}
+use mathlib.Core.Bool.{Bool, true, false, not, _&&_, _||_}
 use mathlib.Core.List.{List, [], _∷_, _++_, append-nil}
 use Prim.Native.Nat.{ℕ, zero, suc, _+_, _-_, _*_, _<_, _≤_, min}
 use native.Mathlib.Nat.{zero-add}
 use native.Mathlib.Omega.{arith}
 use lib.ListN.{length, getD, take, drop, replicate, length-append, length-take, length-drop, length-replicate, List·getD-append}
-use lib.Seq.{getD-take, getD-drop, take-all, drop-append-le}
+use lib.Seq.{getD-take, getD-drop, take-all, take-nil, take-append-le, drop-append-le}
 use lib.Dec.{eqb, ltb, leb}
 use borrow.Author.Tests.{lt-ltb, le-ltb, lt-leb, le-leb, leb-true, leb-false}
 use Rattle.disc.specs.Choice.{pick}
@@ -22,20 +22,24 @@ use Rattle.tags.specs.Tags.{tagOf, accepted, readTag, bodyRight, withBody, with
 use Rattle.tags.specs.declared.DescriptorTag.{DescriptorTag}
 use Rattle.tags.specs.declared.TagRead.{TagRead}
 use Rattle.tags.specs.declared.TagRead.the-variants.{Read, Refused}
+use Rattle.areas.specs.declared.AllocExtent.{AllocExtent}
 use Rattle.areas.specs.Areas.{sizeOf, Area, areaAt}
 use Rattle.areas.proofs.AreaLaws.{some-size}
 use Rattle.areas.proofs.PartLaws.{same-area}
 use Rattle.chains.specs.Chains.{areaIn}
-use Rattle.drives.specs.Feeds.{Feed, following, within}
+use Rattle.drives.specs.Feeds.{Feed, following, crowded, crowdedBy, settledIn}
 use Rattle.drives.specs.Feeds.Feed.{stop}
-use Rattle.drives.specs.Readings.{areaOf, padded, restOf, extentsIn, placesIn, isRight, headed, behindArea}
+use Rattle.drives.specs.FileFeeds.{joined, areaSaid, namedBy}
+use Rattle.drives.specs.Readings.{areaOf, padded, restOf, extentsIn, isRight, headed, namedIn, behindArea}
 use Rattle.drives.specs.inner.Scans.{begun, Scans}
 use Rattle.drives.specs.inner.Turns.{Stands}
-use Rattle.drives.specs.inner.Bodies.{isHeader, bodyOf, noBody, bodyIn, inBody, headBehind, withParts, Lands}
+use Rattle.drives.specs.inner.Bodies.{isHeader, bodyOf, noBody, bodyIn, behindBytes, inBody, headBehind, withParts, Lands}
 use Rattle.drives.specs.declared.scans.Scan.{Scan}
 use Rattle.drives.specs.declared.readings.Body.{Body}
 use Rattle.drives.specs.declared.readings.Reading.{Reading}
-use Rattle.drives.proofs.BodyLaws.{leb-past, parts-of, padded-parts, leads-within, within-same, headed-same}
+use Rattle.drives.proofs.SettleLaws.{named-same, headed-ap}
+use Rattle.drives.proofs.ScanLaws.{alike-same}
+use Rattle.drives.proofs.BodyLaws.{parts-of, padded-parts, leads-crowded, leads-same, scans-full}
 
 -- ---- the front of joined sectors
 
@@ -165,6 +169,12 @@ module _ (b more : List ℕ) (long : length b ≡ 2048) where
 
 -- ---- what the code makes of the first sector
 
+pub front-none : (headed : Bool) (n : ℕ) → headed ≡ false → 0 ≡ min (pick headed n 0) 2024
+front-none headed n e = rw e
+
+pub front-some : (headed : Bool) (n k : ℕ) → headed ≡ true → k ≡ min n 2024 → k ≡ min (pick headed n 0) 2024
+front-some headed n k e q = rw e q
+
 pub left-none : (headed : Bool) (n : ℕ) → headed ≡ false → 0 ≡ pick headed n 0
 left-none headed n e = rw e
 
@@ -219,66 +229,150 @@ head-held size left s (Read t) e h = rw e (by (eqb (t .id) 258) (leb (24 + u32at
     by true false q = omega arith
     by false f q = omega arith
 
+-- the area that the header says, and what is left of it behind the first sector
+pub area-said : (g : TagRead) (size : ℕ) (s : List ℕ) → pick (bodyIn g size s .headed) (u32at s 20) 0 ≡ areaSaid size s g
+area-said (Read t) size s = refl
+area-said (Refused why) size s = refl
+
+area-left : (g : TagRead) (size : ℕ) (s : List ℕ) → bodyIn g size s .«area_left» ≡ areaSaid size s g - 2024
+area-left (Read t) size s = by (isHeader t size s)
+  where
+    by : (h : Bool) → pick h (u32at s 20 - 2024) 0 ≡ pick h (u32at s 20) 0 - 2024
+    by true = refl
+    by false = refl
+area-left (Refused why) size s = refl
+
 module _ (r : Reading) (row : List (List ℕ)) (sector : List ℕ) (row′ : List (List ℕ)) (s′ : Scan) (l : length sector ≡ 2048)
-    {n : ℕ} (q : n ≡ min (u32at sector 20) 2024) (p : Scans (r .kind) row (begun (r .scan .listed)) (take (24 + n - 24) (drop 24 sector)) row′ s′) where
-  area-same : (room : ℕ) (more : List ℕ) (b′ : Body)
-      → within (length row) room (behindArea r (extentsIn row (r .scan .listed)) (areaAt (r .kind) (sector ++ more) 24 (u32at sector 20)))
-      ≡ within (length row) room (behindArea (withParts r s′ b′) (placesIn row′ s′) (restOf (r .kind) s′ (padded (u32at sector 20 - 2024) more)))
-  unfolding restOf placesIn
-  area-same room more b′ =
-      let m : length (drop 24 sector) ≡ 2024 = length-drop 24 sector ∙ ap (λ k. k - 24) l in
-      let k = least m in
-      rw (front-area sector more l (r .kind) (u32at sector 20), ← k, ← append-nil (extentsIn row (r .scan .listed)))
-      (leads-within (r .mount) (r .hops) (r .missing) room (p .behind (padded (u32at sector 20 - 2024) more)))
+    {n : ℕ} (q : n ≡ min (areaSaid (r .size) sector (readTag sector)) 2024) (p : Scans (r .kind) row (begun (r .scan .listed)) (take (24 + n - 24) (drop 24 sector)) row′ s′) where
+  abbrev es : List AllocExtent
+  es = extentsIn row (r .scan .listed)
+
+  abbrev said : ℕ
+  said = areaSaid (r .size) sector (readTag sector)
+
+  abbrev body′ : Body
+  body′ = bodyIn (readTag sector) (r .size) sector
+
+  front-long : length (drop 24 sector) ≡ 2024
+  front-long = length-drop 24 sector ∙ ap (λ k. k - 24) l
+
+  took : (a : ℕ) → n ≡ min a 2024 → take (24 + n - 24) (drop 24 sector) ≡ take a (drop 24 sector)
+  took a = by (leb a 2024) refl
     where
-      least : length (drop 24 sector) ≡ 2024 → take (24 + n - 24) (drop 24 sector) ≡ take (u32at sector 20) (drop 24 sector)
-      least m = by (u32at sector 20) (leb (u32at sector 20) 2024) refl q
+      by : (b : Bool) → leb a 2024 ≡ b → n ≡ min a 2024 → take (24 + n - 24) (drop 24 sector) ≡ take a (drop 24 sector)
+      by true x q = let h = leb-true a 2024 x in let z : 24 + n - 24 ≡ a = omega arith in rw z
+      by false x q =
+          let h = leb-false a 2024 x in
+          let z : 24 + n - 24 ≡ 2024 = omega arith in
+          let m = front-long in
+          rw (z, take-all 2024 (drop 24 sector) (omega arith), take-all a (drop 24 sector) (omega arith))
+
+  -- ---- how many extents are named
+
+  -- the bytes of the area that have come
+  come : (more : List ℕ) → areaAt (r .kind) (sector ++ more) 24 (min said (length (sector ++ more) - 24)) ≡ restOf (r .kind) (begun (r .scan .listed)) (take (24 + n - 24) (drop 24 sector) ++ take (said - 2024) more)
+  unfolding restOf
+  come more =
+      let k : length (sector ++ more) - 24 ≡ 2024 + length more = rw (length-append sector more, l) (omega arith) in
+      rw k (front-area sector more l (r .kind) (min said (2024 + length more)) ∙ ap (areaOf (r .kind)) (ap2 (cut said q) (rest said)))
+    where
+      ap2 : {a b c d : List ℕ} → a ≡ b → c ≡ d → a ++ c ≡ b ++ d
+      ap2 {a} {b} {c} {d} e f = rw (e, f)
+
+      cut : (a : ℕ) → n ≡ min a 2024 → take (min a (2024 + length more)) (drop 24 sector) ≡ take (24 + n - 24) (drop 24 sector)
+      cut a e = sym (took (min a (2024 + length more)) (e ∙ least a))
         where
-          by : (a : ℕ) (b : Bool) → leb a 2024 ≡ b → n ≡ min a 2024 → take (24 + n - 24) (drop 24 sector) ≡ take a (drop 24 sector)
-          by a true x q = let h = leb-true a 2024 x in let z : 24 + n - 24 ≡ a = omega arith in rw z
-          by a false x q =
-              let h = leb-false a 2024 x in
-              let z : 24 + n - 24 ≡ 2024 = omega arith in
-              rw (z, take-all 2024 (drop 24 sector) (omega arith), take-all a (drop 24 sector) (omega arith))
+          least : (a : ℕ) → min a 2024 ≡ min (min a (2024 + length more)) 2024
+          least a = omega arith
 
-  body-same : (room : ℕ) (more : List ℕ) (check : Bool) (g : TagRead)
-      → within (length row) room (headed check (bodyIn g (r .size) sector) more (behindArea r (extentsIn row (r .scan .listed)) (areaAt (r .kind) (sector ++ more) 24 (u32at sector 20))))
-      ≡ within (length row) room (headed check (bodyIn g (r .size) sector) more (behindArea (withParts r s′ (bodyIn g (r .size) sector)) (placesIn row′ s′) (restOf (r .kind) s′ (padded (bodyIn g (r .size) sector .«area_left») more))))
-  body-same room more check (Refused why) = refl
-  body-same room more check (Read t) = by (isHeader t (r .size) sector) (check && not (isRight (bodyOf t (r .size) sector) more))
+      rest : (a : ℕ) → padded (min a (2024 + length more) - 2024) more ≡ take (a - 2024) more
+      rest a = by (leb (a - 2024) (length more)) refl
+        where
+          by : (b : Bool) → leb (a - 2024) (length more) ≡ b → padded (min a (2024 + length more) - 2024) more ≡ take (a - 2024) more
+          by true x =
+              let h = leb-true (a - 2024) (length more) x in
+              let z : min a (2024 + length more) - 2024 ≡ a - 2024 = omega arith in
+              rw z (take-append-le (a - 2024) more (replicate (a - 2024) 0) h)
+          by false x =
+              let h = leb-false (a - 2024) (length more) x in
+              let z : min a (2024 + length more) - 2024 ≡ length more = omega arith in
+              rw (z, take-append-le (length more) more (replicate (length more) 0) (omega arith), take-all (length more) more (omega arith), take-all (a - 2024) more (omega arith))
+
+  named-come : (more : List ℕ) → namedBy (r .kind) (r .size) es (sector ++ more) ≡ length (joined es (restOf (r .kind) (begun (r .scan .listed)) (take (24 + n - 24) (drop 24 sector) ++ take (said - 2024) more)))
+  named-come more =
+      ap (λ k. length (joined es (areaAt (r .kind) (sector ++ more) 24 (min k (length (sector ++ more) - 24))))) (ap (areaSaid (r .size) (sector ++ more)) (front-tag sector more l) ∙ front-said (readTag sector))
+      ∙ ap (λ x. length (joined es x)) (come more)
     where
-      b′ : Body
-      b′ = bodyOf t (r .size) sector
+      front-said : (g : TagRead) → areaSaid (r .size) (sector ++ more) g ≡ areaSaid (r .size) sector g
+      front-said (Read t) = rw (front-u32 sector more l)
+      front-said (Refused why) = refl
 
-      by : (h w : Bool)
-          → within (length row) room (pick w (stop BadCrc) (pick h (behindArea r (extentsIn row (r .scan .listed)) (areaAt (r .kind) (sector ++ more) 24 (u32at sector 20))) (stop Malformed)))
-          ≡ within (length row) room (pick w (stop BadCrc) (pick h (behindArea (withParts r s′ (bodyOf t (r .size) sector)) (placesIn row′ s′) (restOf (r .kind) s′ (padded (pick h (u32at sector 20 - 2024) 0) more))) (stop Malformed)))
-      by h true = refl
-      by false false = refl
-      by true false = area-same room more (bodyOf t (r .size) sector)
+  head-full : s′ .full ≡ (false || ltb (length row) (namedBy (r .kind) (r .size) es sector))
+  head-full =
+      let e : namedBy (r .kind) (r .size) es sector ≡ length (joined es (restOf (r .kind) (begun (r .scan .listed)) (take (24 + n - 24) (drop 24 sector)))) =
+      ap (namedBy (r .kind) (r .size) es) (sym (append-nil sector)) ∙ named-come [] ∙ rw (take-nil (said - 2024), append-nil (take (24 + n - 24) (drop 24 sector))) in
+      scans-full (r .kind) row (begun (r .scan .listed)) (take (24 + n - 24) (drop 24 sector)) row′ s′ p ∙ rw e
 
-  head-same : (room : ℕ) → within (length row) room (headBehind r row sector) ≡ within (length row) room (inBody (withParts r s′ (bodyIn (readTag sector) (r .size) sector)) row′ (r .left) (r .at + 1))
+  same-named : s′ .full ≡ false → (more : List ℕ) → namedBy (r .kind) (r .size) es (sector ++ more) ≡ namedIn (withParts r s′ body′) row′ more
+  same-named f more = named-come more ∙ rw (area-left (readTag sector) (r .size) sector) (ap length (alike-same (p .behind (take (said - 2024) more) .extents) f))
+
+  -- ---- what the area leads to
+
+  abbrev whole : List ℕ → Feed
+  whole more = behindArea r es (areaAt (r .kind) (sector ++ more) 24 (u32at sector 20))
+
+  abbrev parted : List ℕ → Feed
+  parted more = behindArea (withParts r s′ body′) (extentsIn row′ (s′ .listed)) (restOf (r .kind) s′ (padded (body′ .«area_left») more))
+
+  leads : (a : ℕ) → said ≡ a → (more : List ℕ) → areaAt (r .kind) (sector ++ more) 24 a ≡ restOf (r .kind) (begun (r .scan .listed)) (take (24 + n - 24) (drop 24 sector) ++ padded (a - 2024) more)
+  unfolding restOf
+  leads a e more = rw (took a (rw e at q)) (front-area sector more l (r .kind) a)
+
+  -- by what is to be known of it: all, or what it is where an extent is lost
+  pick-headed : {X : Type 0} (g : Feed → X) (more : List ℕ)
+      → ((a : ℕ) → g (behindArea r es (restOf (r .kind) (begun (r .scan .listed)) (take (24 + n - 24) (drop 24 sector) ++ padded (a - 2024) more)))
+      ≡ g (behindArea (withParts r s′ body′) (extentsIn row′ (s′ .listed)) (restOf (r .kind) s′ (padded (a - 2024) more))))
+      → g (headed (isChecked (r .mount)) body′ more (whole more)) ≡ g (headed (isChecked (r .mount)) body′ more (parted more))
+  pick-headed g more h = by (body′ .headed) refl (area-said (readTag sector) (r .size) sector)
+    where
+      by : (b : Bool) → body′ .headed ≡ b → pick (body′ .headed) (u32at sector 20) 0 ≡ said
+          → g (headed (isChecked (r .mount)) body′ more (whole more)) ≡ g (headed (isChecked (r .mount)) body′ more (parted more))
+      by false e k = rw e
+      by true e k =
+          let a : said ≡ u32at sector 20 = sym k ∙ rw e in
+          let b : body′ .«area_left» ≡ u32at sector 20 - 2024 = area-left (readTag sector) (r .size) sector ∙ rw a in
+          headed-ap g (body′ .tagged) (isChecked (r .mount) && not (isRight body′ more)) (body′ .headed) (whole more) (parted more)
+          (rw (leads (u32at sector 20) a more, b) (h (u32at sector 20)))
+
+  head-same : (room : ℕ) → settledIn false (length row) room (headBehind r row sector)
+      ≡ settledIn false (length row) room (crowdedBy (s′ .full) (inBody (withParts r s′ body′) row′ (r .left) (r .at + 1)))
   unfolding headBehind inBody
-  head-same room = within-same (length row) room (sectors (r .left) (r .at + 1)) _ _ (λ more.
-      ap (within (length row) room) (front-head sector more l (isChecked (r .mount)) (r .kind) (r .size) (behindArea r (extentsIn row (r .scan .listed))))
-      ∙ body-same room more (isChecked (r .mount)) (readTag sector))
+  head-same room =
+      named-same (length row) room (namedBy (r .kind) (r .size) es sector) (λ more. namedBy (r .kind) (r .size) es (sector ++ more)) (namedIn (withParts r s′ body′) row′) (sectors (r .left) (r .at + 1))
+      _ (behindBytes (withParts r s′ body′) row′) false (s′ .full) head-full
+      (λ more. ap crowded (front more) ∙ pick-headed crowded more (λ a. leads-crowded (r .mount) (r .hops) (r .missing) (p .behind (padded (a - 2024) more))))
+      same-named
+      (λ f more. front more ∙ pick-headed (λ x. x) more (λ a. leads-same (r .mount) (r .hops) (r .missing) (p .behind (padded (a - 2024) more)) f))
+    where
+      front : (more : List ℕ) → following (areaIn (r .kind) (r .size) (sector ++ more) (readAed (isChecked (r .mount)) (sector ++ more))) (behindArea r es) ≡ headed (isChecked (r .mount)) body′ more (whole more)
+      front more = front-head sector more l (isChecked (r .mount)) (r .kind) (r .size) (behindArea r es)
 
 module _ (r : Reading) (row : List (List ℕ)) (sector : List ℕ) (row′ : List (List ℕ)) (s′ : Scan) (l : length sector ≡ 2048) where
-  pub head-lands : {area n : ℕ} {g : TagRead} {b′ : Body} {s₀ : Scan} → area ≡ u32at sector 20 → n ≡ min area 2024 → g ≡ readTag sector → b′ ≡ bodyIn g (r .size) sector → s₀ ≡ begun (r .scan .listed)
+  pub head-lands : {n : ℕ} {area : ℕ} {g : TagRead} {b′ : Body} {s₀ : Scan} → g ≡ readTag sector → b′ ≡ bodyIn g (r .size) sector → area ≡ u32at sector 20 → n ≡ min (pick (b′ .headed) area 0) 2024 → s₀ ≡ begun (r .scan .listed)
       → Scans (r .kind) row s₀ (take (24 + n - 24) (drop 24 sector)) row′ s′
-      → (y x : Reading) → y ≡ withParts r s′ b′ → Stands row′ (inBody y row′ (y .left) (y .at + 1)) y x → Lands row (headBehind r row sector) r row′ x
-  head-lands {area} {n} {g} {b′} {s₀} a m t e s p y x f k =
-      let q : n ≡ min (u32at sector 20) 2024 = rw a at m in
+      → (y x : Reading) → y ≡ withParts r s′ b′ → Stands row′ (crowdedBy (y .scan .full) (inBody y row′ (y .left) (y .at + 1))) y x → Lands row (headBehind r row sector) r row′ x
+  head-lands {n} {area} {g} {b′} {s₀} t e a m s p y x f k =
+      let b : b′ ≡ bodyIn (readTag sector) (r .size) sector = rw t at e in
+      let q : n ≡ min (areaSaid (r .size) sector (readTag sector)) 2024 = m ∙ rw (b, a) (ap (λ i. min i 2024) (area-said (readTag sector) (r .size) sector)) in
       let c = rw s at p in
-      let d : y ≡ withParts r s′ (bodyIn (readTag sector) (r .size) sector) = f ∙ ap (withParts r s′) (rw t at e) in
+      let d : y ≡ withParts r s′ (bodyIn (readTag sector) (r .size) sector) = f ∙ ap (withParts r s′) b in
       let w = rw d at k in
       let h = c .behind [] .long in
       record {
         long = h;
-        stands = record {
-          tree = λ room. w .tree room ∙ rw h (sym (head-same r row sector row′ s′ l q c (room - r .length)));
-          answer = w .answer;
-          count = w .count;
-          length = w .length;
-        };
+        left = λ room. head-same r row sector row′ s′ l q c room ∙ rw h at (w .left room);
+        answer = w .answer;
+        count = w .count;
+        filled = w .length;
+        inside = λ i v. rw (w .listed v, h) (c .behind [] .inside i);
       }

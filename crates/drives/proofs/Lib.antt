@@ -1,6 +1,7 @@
 -- Laws of the opening and of the read that are fed a sector at a time.
 pub mod OpeningLaws
 pub mod FeedLaws
+pub mod SettleLaws
 pub mod ScanLaws
 pub mod TurnLaws
 pub mod BodyLaws
@@ -12,8 +13,10 @@ pub mod BranchLaws
 pub mod ReadLaws
 pub mod LimitLaws
 pub mod RefusalLaws
+pub mod GrownLaws
 pub mod WalkLaws
+pub mod Walks
 pub mod Promises
 pub mod ReadPromises
+pub mod StillPromises
 pub mod EndPromises
-pub mod GrownLaws

@@ -8,6 +8,7 @@ use native.Mathlib.Nat.{zero-add}
 use native.Mathlib.Omega.{arith}
 use lib.ListN.{length, take}
 use lib.Dec.{eqb, leb}
+use borrow.Author.Tests.{le-ltb}
 use Rattle.disc.specs.Choice.{pick}
 use Rattle.disc.specs.Counts.{reported}
 use Rattle.disc.specs.Refusals.{number}
@@ -19,7 +20,7 @@ use Rattle.disc.specs.Images.{sectors}
 use Rattle.disc.specs.Places.{placed}
 use Rattle.disc.specs.declared.places.Mount.{Mount}
 use Rattle.disc.specs.declared.refusals.Refusal.the-variants.{Io, NoRoom, NoSlot}
-use Rattle.disc.proofs.PickLaws.{pick-both}
+use Rattle.disc.proofs.PickLaws.{pick-both, not-both}
 use Rattle.disc.proofs.AskLaws.{same-asked}
 use Rattle.disc.proofs.RanLaws.{same-ran}
 use Rattle.records.specs.declared.allocations.LongAd.{LongAd}
@@ -33,15 +34,16 @@ use Rattle.volumes.specs.declared.openings.VolumeRecord.{VolumeRecord}
 use Rattle.volumes.specs.declared.openings.Opened.{Opened}
 use Rattle.disc.specs.Ran.{ran}
 use Rattle.volumes.specs.Sequences.{scan}
-use Rattle.drives.specs.Feeds.{Feed, lent, branch, following, within, endOf, wanted, arrived, heldMost}
-use Rattle.drives.specs.Feeds.Feed.{over, stop, hold, put, want}
+use Rattle.drives.specs.Feeds.{Feed, lent, branch, following, naming, Grown, within, endOf, wanted, arrived, heldMost, shortOf}
+use Rattle.drives.specs.Feeds.Feed.{over, stop, name, hold, put, want}
+use Rattle.drives.specs.Feeds.Short.{enough}
 use Rattle.drives.specs.Feeds.End.{answers, refuses}
-use Rattle.drives.specs.FileFeeds.{extentFeed, standing, extentsFeed, chainFeed, entryFeed, fileFeed}
+use Rattle.drives.specs.FileFeeds.{extentFeed, standing, extentsFeed, namedBy, chainFeed, entryFeed, fileFeed}
 use Rattle.drives.specs.Openings.{isWanting, wantedSector, openedTree, refusalOf, treeOf, behindWanted, saidOf, Stands, Fed}
 use Rattle.drives.specs.declared.openings.Opening.{Opening}
 use Rattle.drives.proofs.OpeningLaws.{tree-asks, ended-tree}
 use Rattle.drives.proofs.FeedLaws.{file-collected}
-use Rattle.drives.proofs.LimitLaws.{outcomeBy, collected-outcome, collected-asked, Front, within-front, Whole, within-whole, Full, within-full, HoldsFirst, Crowded, within-crowded}
+use Rattle.drives.proofs.LimitLaws.{outcomeBy, collected-outcome, collected-asked, Front, within-front, never-short, Full, within-full, HoldsFirst, Crowded, within-crowded}
 
 -- ---- the opening, over a disc
 
@@ -148,23 +150,31 @@ following-first (done a) f h = h a
 following-first (refuse r) f h = tt
 following-first (ask s k) f h = λ b. following-first (k b) f h
 
+naming-first : {A : Type 0} (named : List ℕ → ℕ) (t : Ask A) (f : A → Feed) → ((a : A) → HoldsFirst (f a)) → HoldsFirst (naming named t f)
+unfolding HoldsFirst naming
+naming-first named (done a) f h = h a
+naming-first named (refuse r) f h = tt
+naming-first named (ask s k) f h = λ b. naming-first (λ more. named (b ++ more)) (k b) f h
+
 -- what holds no extent
 unfoldable Free : Feed → Type 0
 Free over = Unit {0}
 Free (stop r) = Unit {0}
+Free (name n f) = ⊥
 Free (hold n f) = ⊥
 Free (put b f) = Free f
 Free (want s k) = (b : List ℕ) → Free (k b)
 
-free-none : (f : Feed) → Free f → (d : Disc) → heldMost d f ≡ 0
+free-none : (f : Feed) → Free f → (d : Disc) (named : ℕ) → heldMost named d f ≡ 0
 unfolding Free heldMost
-free-none over h d = refl
-free-none (stop r) h d = refl
-free-none (hold n f) h d = absurd h
-free-none (put b f) h d = free-none f h d
-free-none (want s k) h d = by (d s) (λ b. free-none (k b) (h b) d)
+free-none over h d named = refl
+free-none (stop r) h d named = refl
+free-none (name n f) h d named = absurd h
+free-none (hold n f) h d named = absurd h
+free-none (put b f) h d named = free-none f h d named
+free-none (want s k) h d named = by (d s) (λ b. free-none (k b) (h b) d named)
   where
-    by : (x : Held) → ((b : List ℕ) → heldMost d (k b) ≡ 0) → given x (λ b. heldMost d (k b)) 0 ≡ 0
+    by : (x : Held) → ((b : List ℕ) → heldMost named d (k b) ≡ 0) → given x (λ b. heldMost named d (k b)) 0 ≡ 0
     by (holds b) ih = ih b
     by lacks ih = refl
 
@@ -172,8 +182,9 @@ free-first : (f : Feed) → Free f → HoldsFirst f
 unfolding Free HoldsFirst
 free-first over h = tt
 free-first (stop r) h = tt
+free-first (name n f) h = absurd h
 free-first (hold n f) h = absurd h
-free-first (put b f) h = λ d. free-none f h d
+free-first (put b f) h = λ d named. free-none f h d named
 free-first (want s k) h = λ b. free-first (k b) (h b)
 
 extent-free : (n at size missing : ℕ) (f : ℕ → Feed) → ((w : ℕ) → Free (f w)) → Free (extentFeed n at size missing f)
@@ -198,29 +209,28 @@ chain-first m kind zero missing es End = free-first (extentsFeed m es missing) (
 chain-first m kind zero missing es (Continuation a) = tt
 chain-first m kind (suc n) missing es (Refused r) = tt
 chain-first m kind (suc n) missing es End = free-first (extentsFeed m es missing) (extents-free m es missing)
-chain-first m kind (suc n) missing es (Continuation a) = following-first (nextArea m kind a) _ (λ x. chain-first m kind n missing (es ++ x .extents) (x .ending))
+chain-first m kind (suc n) missing es (Continuation a) = naming-first (namedBy kind (a .length) es) (nextArea m kind a) _ (λ x. chain-first m kind n missing (es ++ x .extents) (x .ending))
 
 entry-first : (m : Mount) (x : Located) → HoldsFirst (entryFeed m x)
 unfolding HoldsFirst entryFeed heldMost
-entry-first m x = pick-both HoldsFirst (isEmbedded x) (λ d. refl) (chain-first m _ _ _ _ _)
+entry-first m x = pick-both HoldsFirst (isEmbedded x) (λ d named. refl) (chain-first m _ _ _ _ _)
 
 pub file-first : (m : Mount) (icb : LongAd) → HoldsFirst (fileFeed m icb)
 unfolding fileFeed
 file-first m icb = following-first (entryAt m icb) (entryFeed (entryMount m icb)) (entry-first (entryMount m icb))
 
--- within lent memory: the sectors wanted are always a front of the read's list
-pub read-front : (d : Disc) (m : Mount) (icb : LongAd) (slots room : ℕ) → Front (wanted d (within slots room (fileFeed m icb))) (asked d (fileBytes m icb))
-read-front d m icb slots room = rw feed-asked at (within-front d slots room (fileFeed m icb))
+module _ (d : Disc) (m : Mount) (icb : LongAd) (slots room : ℕ) where
+  -- within lent memory, however it grows: the sectors wanted are always a front of the read's list
+  pub read-front : (gs : List Grown) → Front (wanted d (within false slots room gs (fileFeed m icb))) (asked d (fileBytes m icb))
+  read-front gs = rw feed-asked at (within-front d false slots room gs (fileFeed m icb))
 
--- enough of both: list, end and bytes are the read's
-pub read-whole : (d : Disc) (m : Mount) (icb : LongAd) (slots room : ℕ) → heldMost d (fileFeed m icb) ≤ slots → length (arrived d (fileFeed m icb)) ≤ room
-    → Whole d (fileFeed m icb) (within slots room (fileFeed m icb))
-read-whole d m icb slots room h l = within-whole d slots room (fileFeed m icb) h l
+  -- with as many slots and as much room as the whole read takes it falls short of nothing
+  pub read-enough : (gs : List Grown) → heldMost 0 d (fileFeed m icb) ≤ slots → length (arrived d (fileFeed m icb)) ≤ room → shortOf d false slots room gs (fileFeed m icb) ≡ enough
+  read-enough gs h l = never-short d 0 slots false slots room gs (fileFeed m icb) (omega arith) (λ e. not-both e) h l
 
--- 5 exactly where more bytes arrive than there is room for, and it has slots enough; 7 exactly where it hasn't
-pub read-full : (d : Disc) (m : Mount) (icb : LongAd) (slots room : ℕ) → heldMost d (fileFeed m icb) ≤ slots → room < length (arrived d (fileFeed m icb))
-    → Full d room (fileFeed m icb) (within slots room (fileFeed m icb))
-read-full d m icb slots room h l = within-full d slots room (fileFeed m icb) h l
+  -- in memory that stays: 5 exactly where more bytes arrive than there is room for, and it has slots enough; 7 exactly where it hasn't
+  pub read-full : heldMost 0 d (fileFeed m icb) ≤ slots → room < length (arrived d (fileFeed m icb)) → Full d room (fileFeed m icb) (within false slots room [] (fileFeed m icb))
+  read-full h l = within-full d 0 false slots room (fileFeed m icb) (λ e. not-both e) h l
 
-pub read-crowded : (d : Disc) (m : Mount) (icb : LongAd) (slots room : ℕ) → slots < heldMost d (fileFeed m icb) → Crowded d (within slots room (fileFeed m icb))
-read-crowded d m icb slots room l = within-crowded d slots room (fileFeed m icb) (file-first m icb) l
+  pub read-crowded : slots < heldMost 0 d (fileFeed m icb) → Crowded d (within false slots room [] (fileFeed m icb))
+  read-crowded l = within-crowded d 0 false slots room (fileFeed m icb) (sym (le-ltb slots 0 (omega arith))) (file-first m icb) l

@@ -27,18 +27,18 @@ use Rattle.disc.proofs.PickLaws.{not-both}
 use Rattle.disc.proofs.PlaceLaws.{in-nowhere, in-at, in-low, entry-checked}
 use Rattle.records.specs.declared.allocations.LongAd.{LongAd}
 use Rattle.files.specs.Files.{entryIn, entryAt, entryMount}
-use Rattle.drives.specs.Feeds.{Feed, following, lent, within, fedBy, Settled, settled}
+use Rattle.drives.specs.Feeds.{Feed, following, lent, fedBy, Settled, settledIn}
 use Rattle.drives.specs.Feeds.Feed.{stop}
 use Rattle.drives.specs.FileFeeds.{entryFeed, fileFeed}
 use Rattle.drives.specs.Openings.{mostSectors}
-use Rattle.drives.specs.Readings.{feedOf, isWanting, endTree, treeOf, numberOf, putAt, Goes, zeroed, Same, Fed, Starts}
+use Rattle.drives.specs.Readings.{feedOf, isWanting, endTree, leftOf, numberOf, putAt, Goes, zeroed, Same, Fed, Starts}
 use Rattle.drives.specs.inner.Turns.{Ends}
 use Rattle.drives.specs.inner.Bodies.{headBehind, partBehind}
 use Rattle.drives.specs.inner.Arrivals.{beginning, entryBehind, bytesBehind, extentBehind, wantedBehind, Arrives}
 use Rattle.drives.specs.declared.readings.Reading.{Reading}
-use Rattle.drives.proofs.TurnLaws.{ends-tree, end-stop}
+use Rattle.drives.proofs.TurnLaws.{ends-left, ends-not, end-stop}
 use Rattle.drives.proofs.ArrivalLaws.{put-nothing}
-use Rattle.drives.proofs.BranchLaws.{tree-taken, tree-lost}
+use Rattle.drives.proofs.BranchLaws.{left-taken, left-lost}
 
 -- ---- the loop that zeroes a row has come to i
 
@@ -81,12 +81,13 @@ zeroed-long row = simp length-replicate
 
 module _ (m : Mount) (icb : LongAd) (row row′ : List (List ℕ)) (z : row′ ≡ zeroed row) {r : Reading} {o : Mount} (f : o ≡ entryMount m icb) where
   starts-stop : (at : ℕ) (why : Refusal) → entryAt m icb ≡ refuse why → r ≡ beginning o at → (x : Reading) → Ends r (number why) x → Starts (fileFeed m icb) row row′ x
-  unfolding fileFeed following within
+  unfolding fileFeed following
   starts-stop at why e b x p = record {
-    tree = λ room. ends-tree r x (number why) p row′ room ∙ end-stop why ∙ rw e;
+    left = ends-left r x (number why) p row′ ∙ end-stop why ∙ rw e;
     answer = p .answer ∙ rw e;
     count = p .count ∙ rw b;
     filled = p .length ∙ rw b;
+    listed = λ w. ends-not p w;
     zeros = z;
   }
 
@@ -100,15 +101,16 @@ module _ (m : Mount) (icb : LongAd) (row row′ : List (List ℕ)) (z : row′ �
     start-nowhere e x b g = starts-stop 0 Unsupported (rw (ne-eqb (icb .length) 0 l, in-nowhere _ q e)) b x g
 
     pub start-at : {s : Sector} → p ≡ At s → r ≡ beginning o (s .0) → Starts (fileFeed m icb) row row′ r
-    unfolding treeOf feedOf fileFeed entryAt following within
+    unfolding leftOf feedOf fileFeed entryAt following
     start-at {s} e b =
         let k = in-low _ q e in
         let a = in-at _ q e in
         rw (b, f, ne-eqb (icb .length) 0 l, a) (record {
-          tree = λ room. rw (lt-ltb (s .0 + 0) mostSectors (omega arith), z, zeroed-long row, entry-checked m (icb .location .«partition_ref»), sub-zero) refl;
+          left = rw (lt-ltb (s .0 + 0) mostSectors (omega arith), entry-checked m (icb .location .«partition_ref»)) refl;
           answer = refl;
           count = refl;
           filled = refl;
+          listed = λ w. refl;
           zeros = z;
         })
 
@@ -139,6 +141,7 @@ module _ (r : Reading) (sector : List ℕ) (row : List (List ℕ)) (out : List �
     slots = refl;
     room = refl;
     takes = λ t. not-both (sym h ∙ e ∙ t);
+    inside = λ i t. i;
     ends = λ t. not-both (sym h ∙ e ∙ t);
     stays = λ t. record { state = refl; kept = refl; output = refl };
   }
@@ -148,32 +151,33 @@ module _ (r : Reading) (sector : List ℕ) (row : List (List ℕ)) (out : List �
     wanting = sym e ∙ h
 
     pub read-lost : (length sector ≡ 2048 → ⊥) → row′ ≡ zeroed row → Ends (counted r n) 1 x → Fed r sector row out x row′ out
-    unfolding settled
+    unfolding settledIn
     read-lost l z p = record {
       slots = rw z (zeroed-long row);
       room = refl;
-      takes = λ t. rw (ne-eqb (length sector) 2048 l, tree-lost r row (length out) wanting) (record {
-        tree = ends-tree (counted r n) x 1 p row′ (length out) ∙ end-stop Io;
+      takes = λ t. rw (ne-eqb (length sector) 2048 l, left-lost r row wanting) (record {
+        left = ends-left (counted r n) x 1 p row′ ∙ end-stop Io;
         answer = p .answer;
         count = p .count ∙ q;
         filled = p .length ∙ sym (add-zero (r .length));
         output = put-nothing (r .length) out;
       });
+      inside = λ i t. ends-not p t;
       ends = λ t u. z;
       stays = λ t. not-both (sym t ∙ wanting);
     }
 
     module _ (l : length sector ≡ 2048) (out′ : List ℕ) (o : length out′ ≡ length out) where
       goes : Arrives (wantedBehind (counted r n) row sector) (counted r n) out row row′ x out′
-          → Goes (settled (fedBy (lent sector) (treeOf r row (length out)))) (reported (r .count + 1)) (r .length) out x row′ out′
+          → Goes (settledIn false (length row) (length out - r .length) (fedBy (lent sector) (leftOf r row))) (reported (r .count + 1)) (r .length) out x row′ out′
       unfolding wantedBehind entryBehind headBehind partBehind extentBehind bytesBehind
-      goes p = rw (eq-eqb (length sector) 2048 l, tree-taken r row (length out) wanting sector, ← q) p
+      goes p = rw (eq-eqb (length sector) 2048 l, left-taken r row wanting sector, ← q) (p .goes)
 
 -- what is left of a state that has ended isn't in the row
 goes-ended : (s : Settled) (n from : ℕ) (out : List ℕ) (x : Reading) (row row′ : List (List ℕ)) (after : List ℕ) → isWanting x ≡ false → Goes s n from out x row after → Goes s n from out x row′ after
-unfolding treeOf
+unfolding leftOf
 goes-ended s n from out x row row′ after e p = record {
-  tree = rw e (rw e at (p .tree));
+  left = rw e (rw e at (p .left));
   answer = p .answer;
   count = p .count;
   filled = p .filled;
@@ -193,6 +197,7 @@ read-taken r sector row out e h q x row₁ l out′ o k p row′ z = by (isWanti
       slots = k;
       room = o;
       takes = λ u. goes r sector row out e h q x row₁ l out′ o p;
+      inside = p .inside;
       ends = λ u v. not-both (sym v ∙ t);
       stays = λ u. not-both (sym u ∙ wants);
     })
@@ -202,6 +207,7 @@ read-taken r sector row out e h q x row₁ l out′ o k p row′ z = by (isWanti
           slots = rw g (zeroed-long row);
           room = o;
           takes = λ u. goes-ended _ _ _ out x row₁ row′ out′ t (goes r sector row out e h q x row₁ l out′ o p);
+          inside = λ i u. not-both (sym t ∙ u);
           ends = λ u v. g;
           stays = λ u. not-both (sym u ∙ wants);
         }

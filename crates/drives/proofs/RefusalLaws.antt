@@ -10,7 +10,7 @@ use lib.ListN.{length, take}
 use lib.Dec.{eqb, ltb, leb}
 use Rattle.disc.specs.Choice.{pick}
 use Rattle.disc.specs.Refusals.{number}
-use Rattle.disc.specs.Ask.{Disc, Held, Ask, given}
+use Rattle.disc.specs.Ask.{Disc, Held, Ask, given, then}
 use Rattle.disc.specs.Ask.Held.{holds, lacks}
 use Rattle.disc.specs.Ask.Ask.{done, refuse, ask}
 use Rattle.disc.specs.Images.{sectors, sectorsFor}
@@ -36,11 +36,12 @@ use Rattle.entries.specs.declared.«file_entries».EntryRead.the-variants.{Read
 use Rattle.entries.proofs.EntryLaws.{read-entry-refused}
 use Rattle.chains.specs.Chains.{areaIn, nextArea, areaFrom}
 use Rattle.files.specs.Files.{Located, located, entryAt, entryMount, isEmbedded}
-use Rattle.drives.specs.Feeds.{Feed, End as Ending, following, endOf}
-use Rattle.drives.specs.Feeds.Feed.{over, stop, hold, put, want}
+use Rattle.drives.specs.Feeds.{Feed, End as Ending, following, naming, endOf}
+use Rattle.drives.specs.Feeds.Feed.{over, stop, name, hold, put, want}
 use Rattle.drives.specs.Feeds.End.{answers, refuses}
-use Rattle.drives.specs.FileFeeds.{extentFeed, standing, extentsFeed, chainFeed, entryFeed, fileFeed}
-use Rattle.drives.proofs.BranchLaws.{following-then}
+use Rattle.drives.specs.FileFeeds.{extentFeed, standing, extentsFeed, namedBy, chainFeed, entryFeed, fileFeed}
+use Rattle.drives.proofs.SettleLaws.{naming-then}
+use Rattle.drives.proofs.BranchLaws.{area-alone}
 
 -- the numbers that a read says by itself
 abbrev pub Own : Refusal → Type 0
@@ -59,6 +60,7 @@ crc = (λ e. omega arith, λ e. omega arith)
 unfoldable pub Says : Feed → Type 0
 Says over = Unit {0}
 Says (stop r) = Own r
+Says (name n f) = Says f
 Says (hold n f) = Says f
 Says (put b f) = Says f
 Says (want s k) = (b : List ℕ) → Says (k b)
@@ -68,6 +70,7 @@ pub says-end : (d : Disc) (f : Feed) → Says f → {r : Refusal} → endOf d f 
 unfolding Says endOf
 says-end d over h e = absurd (let z : _≡_ {A = ℕ} 0 1 = cc in omega arith)
 says-end d (stop why) h {r} e = let z : why ≡ r = cc in rw z at h
+says-end d (name n f) h e = says-end d f h e
 says-end d (hold n f) h e = says-end d f h e
 says-end d (put b f) h e = says-end d f h e
 says-end d (want s k) h {r} e = by (d s) e (λ b. says-end d (k b) (h b))
@@ -110,10 +113,12 @@ area-closed kind s i size = by (areaAt kind s i size .ending) refl
     by (Continuation a) h = tt
     by (Refused r) h = subst Own (sym (area-refused kind s i size h)) unsupported
 
-sectors-say : (n at : ℕ) (f : List ℕ → Feed) → ((s : List ℕ) → Says (f s)) → Says (following (sectors n at) f)
-unfolding Says following sectors
-sectors-say zero at f h = h []
-sectors-say (suc n) at f h = λ b. subst Says (sym (following-then (sectors n (at + 1)) (λ rest. done (b ++ rest)) f)) (sectors-say n (at + 1) (λ rest. f (b ++ rest)) (λ s. h (b ++ s)))
+sectors-say : (named : List ℕ → ℕ) (n at : ℕ) (f : List ℕ → Feed) → ((s : List ℕ) → Says (f s)) → Says (naming named (sectors n at) f)
+unfolding Says naming following sectors
+sectors-say named zero at f h = h []
+sectors-say named (suc n) at f h = λ b.
+    subst Says (sym (naming-then (λ more. named (b ++ more)) (sectors n (at + 1)) (λ rest. done (b ++ rest)) f (λ m more. refl)))
+    (sectors-say (λ more. named (b ++ more)) n (at + 1) (λ rest. f (b ++ rest)) (λ s. h (b ++ s)))
 
 area-says : (check : Bool) (kind size : ℕ) (s : List ℕ) (f : Area → Feed) → ((x : Area) → Closed (x .ending) → Says (f x)) → Says (following (areaIn kind size s (readAed check s)) f)
 unfolding Says following
@@ -127,16 +132,21 @@ area-says check kind size s f h = by (readAed check s) refl
         told true = malformed
         told false = h (areaAt kind s 24 (t .«length_of_allocation_descriptors»)) (area-closed kind s 24 (t .«length_of_allocation_descriptors»))
 
-next-says : (m : Mount) (kind : ℕ) (a : AdContinuation) (f : Area → Feed) → ((x : Area) → Closed (x .ending) → Says (f x)) → Says (following (nextArea m kind a) f)
-unfolding Says following nextArea areaFrom
-next-says m kind a f h = by (placed m (a .«partition_ref») (a .block .0)) (ltb (a .length) 24) (ltb 1048576 (a .length))
+next-says : (named : List ℕ → ℕ) (m : Mount) (kind : ℕ) (a : AdContinuation) (f : Area → Feed) → ((x : Area) → Closed (x .ending) → Says (f x)) → Says (naming named (nextArea m kind a) f)
+unfolding Says naming nextArea areaFrom
+next-says named m kind a f h = by (placed m (a .«partition_ref») (a .block .0)) (ltb (a .length) 24) (ltb 1048576 (a .length))
   where
+    area : List ℕ → Ask Area
+    area s = areaIn kind (a .length) s (readAed (isChecked m) s)
+
     by : (o : Option ℕ) (short long : Bool)
-        → Says (following (placing o (λ at. pick short (refuse Malformed) (pick long (refuse Unsupported) (Rattle.disc.specs.Ask.then (sectors (sectorsFor (a .length)) at) (λ s. areaIn kind (a .length) s (readAed (isChecked m) s)))))) f)
+        → Says (naming named (placing o (λ at. pick short (refuse Malformed) (pick long (refuse Unsupported) (then (sectors (sectorsFor (a .length)) at) area)))) f)
     by none short long = unsupported
     by (some at) true long = malformed
     by (some at) false true = unsupported
-    by (some at) false false = subst Says (sym (following-then (sectors (sectorsFor (a .length)) at) _ f)) (sectors-say (sectorsFor (a .length)) at _ (λ s. area-says (isChecked m) kind (a .length) s f h))
+    by (some at) false false =
+        subst Says (sym (naming-then named (sectors (sectorsFor (a .length)) at) area f (λ n s. area-alone n kind (a .length) s (readAed (isChecked m) s) f)))
+        (sectors-say named (sectorsFor (a .length)) at _ (λ s. area-says (isChecked m) kind (a .length) s f h))
 
 chain-says : (m : Mount) (kind n missing : ℕ) (es : List AllocExtent) (how : AdEnding) → Closed how → Says (chainFeed m kind n missing es how)
 unfolding Says Closed chainFeed
@@ -145,7 +155,7 @@ chain-says m kind zero missing es End h = extents-say m es missing
 chain-says m kind zero missing es (Continuation a) h = malformed
 chain-says m kind (suc n) missing es (Refused r) h = h
 chain-says m kind (suc n) missing es End h = extents-say m es missing
-chain-says m kind (suc n) missing es (Continuation a) h = next-says m kind a _ (λ x q. chain-says m kind n missing (es ++ x .extents) (x .ending) q)
+chain-says m kind (suc n) missing es (Continuation a) h = next-says (namedBy kind (a .length) es) m kind a _ (λ x q. chain-says m kind n missing (es ++ x .extents) (x .ending) q)
 
 -- ---- the entry
 

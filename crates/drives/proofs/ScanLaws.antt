@@ -1,6 +1,6 @@
 -- Laws of an area whose bytes come one at a time: each place leads to what the whole area gives. Assumes nothing.
 use mathlib.Core.Path.{_≡_, refl, ap, sym, _∙_}
-use mathlib.Core.Bool.{Bool, true, false}
+use mathlib.Core.Bool.{Bool, true, false, _||_}
 use mathlib.Core.List.{List, [], _∷_, _++_, map, map-append, append-nil, append-assoc}
 use mathlib.Core.Logic.{⊎-elim}
 use Prim.Native.Nat.{ℕ, zero, suc, _+_, _-_, _<_, _≤_, min}
@@ -12,6 +12,7 @@ use lib.Seq.{getD-take, getD-append-add, take-suc-set, drop-cons, length-take-le
 use lib.Dec.{eqb, ltb}
 use borrow.Author.Tests.{lt-ltb, le-ltb, eq-eqb, ne-eqb}
 use Rattle.disc.specs.Choice.{pick}
+use Rattle.disc.proofs.PickLaws.{not-both}
 use Rattle.disc.specs.declared.places.PartitionRef.{PartitionRef}
 use Rattle.disc.specs.declared.places.PartitionRef.the-variants.{Unnamed, Named}
 use Rattle.disc.specs.declared.refusals.Refusal.{Refusal}
@@ -26,9 +27,9 @@ use Rattle.areas.specs.Areas.{sizeOf, extent, Area, ended, areaAt, nextOf}
 use Rattle.areas.proofs.AreaLaws.{some-size, small-size}
 use Rattle.areas.proofs.FrontLaws.{front-extent, front-continuation, front-end, front-refused}
 use Rattle.drives.specs.FileFeeds.{joined}
-use Rattle.drives.specs.Readings.{referenceIn, extentIn, extentsIn, areaOf, endingOf, carriedIn, restOf, placesIn}
+use Rattle.drives.specs.Readings.{referenceIn, extentIn, extentsIn, areaOf, endingOf, carriedIn, restOf}
 use Rattle.drives.specs.inner.Scans.{Alike, Leads, Scans, Stores, Closes, Continues, WholeWith, Whole}
-use Rattle.drives.specs.inner.Scans.Alike.{same, crowded}
+use Rattle.drives.specs.inner.Scans.Alike.{same, lost}
 use Rattle.drives.specs.declared.scans.Scan.{Scan}
 
 -- ---- the numbers of the row
@@ -50,66 +51,59 @@ words-are e n h = rw h
 
 -- ---- lists that are alike
 
-pub alike-trans : {slots : ℕ} {a b c : List AllocExtent} → Alike slots a b → Alike slots b c → Alike slots a c
-alike-trans (same p) (same q) = same (p ∙ q)
-alike-trans {slots} (same p) (crowded x y) = crowded (rw p x) y
-alike-trans {slots} (crowded x y) (same q) = crowded x (rw q at y)
-alike-trans (crowded x y) (crowded z w) = crowded x w
+pub alike-trans : {slots : ℕ} {f g h : Bool} {a b c : List AllocExtent} → Alike slots f a g b → Alike slots g b h c → Alike slots f a h c
+alike-trans (same p q) (same u v) = same (p ∙ u) (q ∙ v)
+alike-trans {slots} (same p q) (lost u v) = lost (rw (p, q) u) v
+alike-trans (lost u v) (same p q) = lost u (sym p ∙ v)
+alike-trans (lost u v) (lost p q) = lost u q
 
-long-behind : (slots : ℕ) (a b : List AllocExtent) → slots < length a → slots < length (a ++ b)
-long-behind slots a b h = rw (length-append a b) (omega arith)
+-- an extent is lost in both or in none
+or-true : (b : Bool) → (b || true) ≡ true
+or-true true = refl
+or-true false = refl
 
--- the extents that found no place
-abbrev lost : List (List ℕ) → List AllocExtent
-lost row = replicate (suc (length row)) (extent 0 0 0 Unnamed)
+pub alike-lost : {slots : ℕ} {f g : Bool} {a b : List AllocExtent} → Alike slots f a g b → (f || ltb slots (length a)) ≡ (g || ltb slots (length b))
+alike-lost (same p q) = rw (p, q)
+alike-lost (lost u v) = u ∙ rw v
 
-lost-long : (row : List (List ℕ)) (a : List AllocExtent) → length row < length (a ++ lost row)
-lost-long row a = rw (length-append a (lost row), length-replicate (suc (length row)) (extent 0 0 0 Unnamed)) (omega arith)
+pub alike-same : {slots : ℕ} {f g : Bool} {a b : List AllocExtent} → Alike slots f a g b → g ≡ false → a ≡ b
+alike-same (same p q) e = q
+alike-same (lost u v) e = not-both (sym e ∙ v)
 
 -- ---- an extent is stored
+
+extents-count : (row : List (List ℕ)) (n : ℕ) → length row ≤ n → length (extentsIn row n) ≡ length row
+extents-count row n h = rw (take-all n row h) (mapped row)
+  where
+    mapped : (l : List (List ℕ)) → length (map extentIn l) ≡ length l
+    mapped [] = refl
+    mapped (x ∷ l) = ap suc (mapped l)
 
 module _ (row : List (List ℕ)) (s : Scan) (e : AllocExtent) (s′ : Scan) where
   pub store-placed : (w : List ℕ) → extentIn w ≡ e → s .listed < length row → s′ .listed ≡ s .listed + 1 → s′ .full ≡ s .full → s′ .closed ≡ s .closed → s′ .carried ≡ 0
       → Stores row s e (set row (s .listed) w) s′
-  unfolding placesIn
   store-placed w k h l f c z = record {
     long = length-set row (s .listed) w;
     closed = c;
     carried = z;
-    places = λ more. rw (l, f, length-set row (s .listed) w) (by (s .full) more);
+    places = λ more. same (sym f) (rw (l, taken) (sym (append-assoc (extentsIn row (s .listed)) (e ∷ []) more)));
+    inside = λ i. rw l (omega arith);
   }
     where
-      row′ : List (List ℕ)
-      row′ = set row (s .listed) w
-
-      taken : extentsIn row′ (s .listed + 1) ≡ extentsIn row (s .listed) ++ e ∷ []
+      taken : extentsIn (set row (s .listed) w) (s .listed + 1) ≡ extentsIn row (s .listed) ++ e ∷ []
       taken = rw (add-one, take-suc-set row (s .listed) w h, map-append extentIn (take (s .listed) row) (w ∷ []), k)
 
-      by : (b : Bool) (more : List AllocExtent)
-          → Alike (length row) ((extentsIn row (s .listed) ++ pick b (lost row) []) ++ e ∷ more) ((extentsIn row′ (s .listed + 1) ++ pick b (lost row) []) ++ more)
-      by true more = crowded
-          (long-behind (length row) (extentsIn row (s .listed) ++ lost row) (e ∷ more) (lost-long row (extentsIn row (s .listed))))
-          (long-behind (length row) (extentsIn row′ (s .listed + 1) ++ lost row) more (lost-long row (extentsIn row′ (s .listed + 1))))
-      by false more = same (rw (taken, append-nil (extentsIn row (s .listed)), append-nil (extentsIn row (s .listed) ++ e ∷ [])) (sym (append-assoc (extentsIn row (s .listed)) (e ∷ []) more)))
-
   pub store-lost : length row ≤ s .listed → s′ .listed ≡ s .listed → s′ .full ≡ true → s′ .closed ≡ s .closed → s′ .carried ≡ 0 → Stores row s e row s′
-  unfolding placesIn
   store-lost h l f c z = record {
     long = refl;
     closed = c;
     carried = z;
-    places = λ more. rw (l, f) (crowded (filled (pick (s .full) (lost row) []) more) (long-behind (length row) (extentsIn row (s .listed) ++ lost row) more (lost-long row (extentsIn row (s .listed)))));
+    places = λ more. lost (rw (lt-ltb (length row) (length (extentsIn row (s .listed) ++ e ∷ more)) (past more)) (or-true (s .full))) f;
+    inside = λ i. rw l i;
   }
     where
-      count : length (extentsIn row (s .listed)) ≡ length row
-      count = rw (take-all (s .listed) row h) (mapped row)
-        where
-          mapped : (l : List (List ℕ)) → length (map extentIn l) ≡ length l
-          mapped [] = refl
-          mapped (x ∷ l) = ap suc (mapped l)
-
-      filled : (x more : List AllocExtent) → length row < length ((extentsIn row (s .listed) ++ x) ++ e ∷ more)
-      filled x more = rw (length-append (extentsIn row (s .listed) ++ x) (e ∷ more), length-append (extentsIn row (s .listed)) x, count) (omega arith)
+      past : (more : List AllocExtent) → length row < length (extentsIn row (s .listed) ++ e ∷ more)
+      past more = let k = extents-count row (s .listed) h in rw (length-append (extentsIn row (s .listed)) (e ∷ more), k) (omega arith)
 
 -- ---- an area is closed
 
@@ -126,17 +120,17 @@ module _ (s s′ : Scan) (n : s′ .listed ≡ s .listed) (f : s′ .full ≡ s 
 module _ (kind : ℕ) (carry : List ℕ) (long : length carry ≡ 20) {x : AdStep} {c : AdCursor} (at : c .at ≡ 0) (left : c .left ≡ sizeOf kind) (e : x ≡ nextOf kind carry c) where
   module _ (row : List (List ℕ)) (s : Scan) where
     pub whole-extent : (a : AllocExtent) (n : AdCursor) → x ≡ Extent a n → s .closed ≡ 0 → (row′ : List (List ℕ)) (s′ : Scan) → Stores row s a row′ s′ → Whole kind row s carry row′ s′
-    unfolding restOf areaOf placesIn
+    unfolding restOf areaOf
     whole-extent a n h z row′ s′ p = record {
       behind = λ more.
           let d = front-extent kind carry long c at left a n (sym e ∙ h) more in
-          record { long = p .long; ending = rw (d, p .closed, z, p .carried); extents = rw (d, p .closed, z, p .carried) (p .places (areaOf kind more .extents)); carried = p .carried };
+          record { long = p .long; ending = rw (d, p .closed, z, p .carried); extents = rw (d, p .closed, z, p .carried) (p .places (areaOf kind more .extents)); carried = p .carried; inside = p .inside };
     }
 
     closed-as : (s′ : Scan) (more : List ℕ) (y : Area) → areaOf kind (take (sizeOf kind) carry ++ more) ≡ y → restOf kind s′ more ≡ y → s′ .listed ≡ s .listed → s′ .full ≡ s .full → s′ .carried ≡ 0
         → WholeWith kind row s carry row s′ more
-    unfolding placesIn areaOf
-    closed-as s′ more y a b n f z = record { long = refl; ending = rw (a, b); extents = rw (a, b, n, f) (same refl); carried = z }
+    unfolding areaOf
+    closed-as s′ more y a b n f z = record { long = refl; ending = rw (a, b); extents = rw (a, b, n) (same (sym f) refl); carried = z; inside = λ i. rw n i }
 
     pub whole-continuation : (a : AdContinuation) → x ≡ GoesOn a → (s′ : Scan) → Continues s a s′ → Whole kind row s carry row s′
     unfolding restOf areaOf
@@ -168,7 +162,7 @@ byte-index kind i h = let l = small-size kind refl in omega arith
 module _ (kind : ℕ) (row : List (List ℕ)) (s : Scan) (b : ℕ) (fits : s .carried < sizeOf kind) where
   pub byte-closed : (s .closed ≡ 0 → ⊥) → Scans kind row s (b ∷ []) row s
   unfolding restOf
-  byte-closed h = record { behind = λ more. record { long = refl; ending = rw (ne-eqb (s .closed) 0 h); extents = rw (ne-eqb (s .closed) 0 h) (same refl); carries = fits } }
+  byte-closed h = record { behind = λ more. record { long = refl; ending = rw (ne-eqb (s .closed) 0 h); extents = rw (ne-eqb (s .closed) 0 h) (same refl refl); carries = fits; inside = λ i. i } }
 
   module _ (z : s .closed ≡ 0) (long : length (s .carry) ≡ 20) where
     kept : take (s .carried + 1) (set (s .carry) (s .carried) b) ≡ carriedIn s ++ b ∷ []
@@ -176,27 +170,28 @@ module _ (kind : ℕ) (row : List (List ℕ)) (s : Scan) (b : ℕ) (fits : s .ca
 
     pub byte-carried : (s′ : Scan) → s .carried + 1 < sizeOf kind → s′ .closed ≡ s .closed → s′ .carried ≡ s .carried + 1 → s′ .carry ≡ set (s .carry) (s .carried) b
         → s′ .listed ≡ s .listed → s′ .full ≡ s .full → Scans kind row s (b ∷ []) row s′
-    unfolding restOf placesIn
+    unfolding restOf
     byte-carried s′ h c i e n f = record {
       behind = λ more.
           let g : (carriedIn s ++ b ∷ []) ++ more ≡ carriedIn s ++ b ∷ more = append-assoc (carriedIn s) (b ∷ []) more in
           record {
             long = refl;
             ending = rw (c, z, i, e, kept, g);
-            extents = rw (c, z, i, e, kept, g, n, f) (same refl);
+            extents = rw (c, z, i, e, kept, g, n) (same (sym f) refl);
             carries = rw i h;
+            inside = λ j. rw n j;
           };
     }
 
     pub byte-whole : sizeOf kind ≤ s .carried + 1 → (row′ : List (List ℕ)) (s′ : Scan) → Whole kind row s (set (s .carry) (s .carried) b) row′ s′ → Scans kind row s (b ∷ []) row′ s′
-    unfolding restOf placesIn
+    unfolding restOf
     byte-whole h row′ s′ p = record {
       behind = λ more.
           let e : sizeOf kind ≡ s .carried + 1 = omega arith in
           let l = some-size kind in
           let k : take (sizeOf kind) (set (s .carry) (s .carried) b) ++ more ≡ carriedIn s ++ b ∷ more = rw (e, kept) (append-assoc (carriedIn s) (b ∷ []) more) in
           let q = p .behind more in
-          record { long = q .long; ending = rw (z, ← k) (q .ending); extents = rw (z, ← k) (q .extents); carries = rw (q .carried) (omega arith) };
+          record { long = q .long; ending = rw (z, ← k) (q .ending); extents = rw (z, ← k) (q .extents); carries = rw (q .carried) (omega arith); inside = q .inside };
     }
 
 -- ---- the loop
@@ -208,6 +203,7 @@ leads-trans p q = record {
   ending = p .ending ∙ q .ending;
   extents = alike-trans (p .extents) (rw (p .long) at (q .extents));
   carries = q .carries;
+  inside = λ i. rw (p .long) at (q .inside (rw (p .long) (p .inside i)));
 }
 
 pub record Along (kind : ℕ) (row : List (List ℕ)) (first : Scan) (bytes : List ℕ) (row′ : List (List ℕ)) (s : Scan) (i : ℕ) : Type 0 where
@@ -216,7 +212,7 @@ pub record Along (kind : ℕ) (row : List (List ℕ)) (first : Scan) (bytes : Li
 
 module _ (kind : ℕ) (row : List (List ℕ)) (first : Scan) (bytes : List ℕ) where
   pub along-starts : first .carried < sizeOf kind → Along kind row first bytes row first 0
-  along-starts h = record { carries = h; leads = λ more. record { long = refl; ending = refl; extents = same refl; carries = h } }
+  along-starts h = record { carries = h; leads = λ more. record { long = refl; ending = refl; extents = same refl refl; carries = h; inside = λ i. i } }
 
   module _ (row′ : List (List ℕ)) (s : Scan) (i : ℕ) (p : Along kind row first bytes row′ s i) where
     pub along-fits : s .carried < sizeOf kind

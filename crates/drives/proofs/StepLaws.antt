@@ -12,14 +12,12 @@ use Rattle.disc.specs.Places.{isChecked}
 use Rattle.disc.proofs.PickLaws.{not-both}
 use Rattle.areas.specs.Areas.{sizeOf}
 use Rattle.entries.specs.FileEntries.{readEntry}
-use Rattle.drives.specs.Feeds.{Feed}
 use Rattle.drives.specs.Openings.{mostSectors}
 use Rattle.drives.specs.Readings.{isSound, isWanting, wantedSector}
-use Rattle.drives.specs.inner.Turns.{Stands}
 use Rattle.drives.specs.inner.Bodies.{headBehind, partBehind, Lands}
 use Rattle.drives.specs.inner.Arrivals.{entryBehind, extentBehind, wantedBehind, Arrives}
 use Rattle.drives.specs.declared.readings.Reading.{Reading}
-use Rattle.drives.proofs.ArrivalLaws.{stands-arrives}
+use Rattle.drives.proofs.ArrivalLaws.{lands-arrives}
 
 -- ---- whether a sector is wanted
 
@@ -91,9 +89,6 @@ module _ (r : Reading) {w : Bool} (e : w ≡ isWanting r) where
   wants-at h = rw (← e, h)
 
 -- ---- by what was wanted
-
-lands-arrives : (row : List (List ℕ)) (f : Feed) (r : Reading) (row′ : List (List ℕ)) (x : Reading) (out : List ℕ) → Lands row f r row′ x → Arrives f r out row row′ x out
-lands-arrives row f r row′ x out p = rw (p .long) at (stands-arrives row′ f r x out (p .stands))
 
 module _ (r : Reading) (row : List (List ℕ)) (sector out : List ℕ) (row′ : List (List ℕ)) (x : Reading) where
   pub taken-entry : (out′ : List ℕ) → r .phase ≡ 0 → Arrives (entryBehind r (readEntry (isChecked (r .mount)) sector) sector) r out row row′ x out′ → Arrives (wantedBehind r row sector) r out row row′ x out′

@@ -32,12 +32,12 @@ use Rattle.areas.specs.declared.AdEnding.{AdEnding}
 use Rattle.areas.specs.declared.AdEnding.the-variants.{End, Continuation, Refused}
 use Rattle.areas.specs.Areas.{Area, extent}
 use Rattle.chains.specs.Chains.{areaFrom, nextArea}
-use Rattle.drives.specs.Feeds.{Feed, following, within}
+use Rattle.drives.specs.Feeds.{Feed, naming, crowded, settledIn, crowdedBy}
 use Rattle.drives.specs.Feeds.Feed.{over, stop, hold, put, want}
-use Rattle.drives.specs.FileFeeds.{extentFeed, extentsFeed, joined, chainFeed}
+use Rattle.drives.specs.FileFeeds.{extentFeed, extentsFeed, joined, namedBy, chainFeed}
 use Rattle.drives.specs.Openings.{mostSectors}
-use Rattle.drives.specs.Readings.{referenceIn, extentIn, extentsIn, endingOf, placesIn, feedOf, isWanting, endTree, treeOf, numberOf}
-use Rattle.drives.specs.inner.Turns.{Ends, Stands, extentsBehind, Enters, EntersAt, continuing, nextOf, Chains, ContinuesAt}
+use Rattle.drives.specs.Readings.{referenceIn, extentIn, extentsIn, endingOf, feedOf, isWanting, endTree, leftOf, numberOf}
+use Rattle.drives.specs.inner.Turns.{Ends, quiet, Stands, extentsBehind, Enters, EntersAt, continuing, nextOf, Chains, ContinuesAt}
 use Rattle.drives.specs.declared.scans.Scan.{Scan}
 use Rattle.drives.specs.declared.readings.Reading.{Reading}
 use Rattle.drives.specs.declared.turns.Entered.{Entered}
@@ -45,28 +45,34 @@ use Rattle.drives.proofs.OpeningLaws.{refusal-known}
 
 -- ---- an end
 
-pub ends-tree : (r x : Reading) (n : ℕ) → Ends r n x → (row : List (List ℕ)) (room : ℕ) → treeOf x row room ≡ endTree n
-unfolding treeOf
-ends-tree r x n e row room = rw (e .phase, e .answer)
+pub ends-left : (r x : Reading) (n : ℕ) → Ends r n x → (row : List (List ℕ)) → leftOf x row ≡ endTree n
+unfolding leftOf
+ends-left r x n e row = rw (e .phase, e .answer)
+
+-- an end wants nothing
+pub ends-not : {A : Type 0} {r x : Reading} {n : ℕ} → Ends r n x → isWanting x ≡ true → A
+ends-not {A} {r} {x} e w = let z : isWanting x ≡ false = rw (e .phase) in not-both (sym z ∙ w)
 
 pub end-stop : (why : Refusal) → endTree (number why) ≡ stop why
 end-stop why = rw (ne-eqb (number why) 0 (refusal-numbered why), refusal-known why)
 
 module _ (row : List (List ℕ)) (f : Feed) (r x : Reading) where
-  pub stands-done : Ends r 0 x → ((room : ℕ) → within (length row) room f ≡ over) → Stands row f r x
+  pub stands-done : Ends r 0 x → ((room : ℕ) → settledIn false (length row) room f ≡ quiet over) → Stands row f r x
   stands-done e h = record {
-    tree = λ room. ends-tree r x 0 e row room ∙ sym (h (room - r .length));
-    answer = λ room. e .answer ∙ rw (ends-tree r x 0 e row room);
+    left = λ room. h room ∙ ap quiet (sym (ends-left r x 0 e row));
+    answer = e .answer ∙ rw (ends-left r x 0 e row);
     count = e .count;
     length = e .length;
+    listed = ends-not e;
   }
 
-  pub stands-stop : (why : Refusal) → Ends r (number why) x → ((room : ℕ) → within (length row) room f ≡ stop why) → Stands row f r x
+  pub stands-stop : (why : Refusal) → Ends r (number why) x → ((room : ℕ) → settledIn false (length row) room f ≡ quiet (stop why)) → Stands row f r x
   stands-stop why e h = record {
-    tree = λ room. ends-tree r x (number why) e row room ∙ end-stop why ∙ sym (h (room - r .length));
-    answer = λ room. e .answer ∙ rw (ends-tree r x (number why) e row room, end-stop why);
+    left = λ room. h room ∙ ap quiet (sym (ends-left r x (number why) e row ∙ end-stop why));
+    answer = e .answer ∙ rw (ends-left r x (number why) e row, end-stop why);
     count = e .count;
     length = e .length;
+    listed = ends-not e;
   }
 
 pub one-less : (n : ℕ) → (n ≡ 0 → ⊥) → suc (n - 1) ≡ n
@@ -96,12 +102,13 @@ inExtent r at left size next = record {
 
 pub extent-stands : (r : Reading) (at left size next : ℕ) → at + left < mostSectors → (row : List (List ℕ))
     → Stands row (extentFeed (suc left) at size (r .missing) (extentsBehind r row next)) r (inExtent r at left size next)
-unfolding treeOf feedOf within extentFeed
+unfolding leftOf feedOf settledIn extentFeed
 extent-stands r at left size next h row = record {
-  tree = λ room. rw (lt-ltb (at + left) mostSectors h);
-  answer = λ room. rw (lt-ltb (at + left) mostSectors h);
+  left = λ room. rw (lt-ltb (at + left) mostSectors h);
+  answer = rw (lt-ltb (at + left) mostSectors h);
   count = refl;
   length = refl;
+  listed = λ w. refl;
 }
 
 sectors-some : (size : ℕ) → (size ≡ 0 → ⊥) → sectorsFor size ≡ 0 → ⊥
@@ -113,7 +120,7 @@ sectors-low size at n h l e = omega arith
 
 module _ (r : Reading) (at size next : ℕ) (e : Entered) where
   pub at-done : {x : Reading} → size ≡ 0 → r .missing ≡ 0 → Ends r 0 x → (e .skips ≡ false) × (e .reading ≡ x) → EntersAt r at size next e
-  unfolding extentFeed within
+  unfolding extentFeed settledIn
   at-done {x} z m p g = record {
     passes = λ t. not-both (sym (g .0) ∙ t);
     misses = λ t. not-both (sym (g .0) ∙ t);
@@ -136,7 +143,7 @@ at-skips r at size next z h = record { passes = λ t f. rw z; misses = λ t. h; 
 module _ (r : Reading) (w : List ℕ) (next : ℕ) (e : Entered) where
   stopped : {x : Reading} → ((es : List AllocExtent) → extentsFeed (r .mount) (extentIn w ∷ es) (r .missing) ≡ stop Unsupported) → Ends r 4 x
       → (e .skips ≡ false) × (e .reading ≡ x) → Enters r w next e
-  unfolding within
+  unfolding settledIn
   stopped {x} h p g = record {
     passes = λ t. not-both (sym (g .0) ∙ t);
     stands = λ t row. rw (g .1, h (drop next (extentsIn row (r .scan .listed)))) (stands-stop row (stop Unsupported) r x Unsupported p (λ room. refl));
@@ -201,7 +208,7 @@ module _ (r : Reading) (row : List (List ℕ)) (from : ℕ) where
     seeks-found d e h k t = rw (← (p .same), here d h) (k .stands t row)
 
     pub seeks-ends : (x : Reading) → n ≤ i → Ends r 0 x → Stands row (extentsFeed (r .mount) (drop from (extentsIn row (r .scan .listed))) (r .missing)) r x
-    unfolding extentsFeed within
+    unfolding extentsFeed settledIn
     seeks-ends x h k =
         let l = extents-long row (r .scan .listed) in
         let z : drop i (extentsIn row (r .scan .listed)) ≡ [] = drop-of-length-le (extentsIn row (r .scan .listed)) {i = i} (omega arith) in
@@ -229,25 +236,26 @@ atHeader r at left size = record {
 
 module _ (r : Reading) (at size : ℕ) (x : Reading) where
   pub continue-short : size < 24 → Ends r 2 x → ContinuesAt r at size x
-  unfolding areaFrom following within
+  unfolding areaFrom naming settledIn
   continue-short h e = record { stands = λ row. rw (lt-ltb size 24 h) (stands-stop row (stop Malformed) r x Malformed e (λ room. refl)) }
 
   pub continue-long : 24 ≤ size → 1048576 < size → Ends r 4 x → ContinuesAt r at size x
-  unfolding areaFrom following within
+  unfolding areaFrom naming settledIn
   continue-long l h e = record { stands = λ row. rw (le-ltb size 24 l, lt-ltb 1048576 size h) (stands-stop row (stop Unsupported) r x Unsupported e (λ room. refl)) }
 
   pub continue-at : 24 ≤ size → size ≤ 1048576 → at < 2 ^ 33 → {n : ℕ} → n ≡ sectorsFor size → x ≡ atHeader r at (n - 1) size → ContinuesAt r at size x
-  unfolding areaFrom treeOf feedOf within sectors then following
+  unfolding areaFrom leftOf feedOf settledIn sectors then naming
   continue-at l h b {n} q e = record {
     stands = λ row.
         let k : suc (n - 1) ≡ sectorsFor size = one-less n (λ y. sectors-some size (λ z. few z l) (sym q ∙ y)) ∙ q in
         let s : at + (n - 1) < mostSectors = sectors-low size at n (omega arith) b q in
         let w : size ≤ 2048 * (n - 1 + 1) = held size n q l in
         rw (e, le-ltb size 24 l, le-ltb 1048576 size h, ← k) (record {
-          tree = λ room. rw (lt-ltb (at + (n - 1)) mostSectors s, le-leb size (2048 * (n - 1 + 1)) w);
-          answer = λ room. rw (lt-ltb (at + (n - 1)) mostSectors s, le-leb size (2048 * (n - 1 + 1)) w);
+          left = λ room. rw (lt-ltb (at + (n - 1)) mostSectors s, le-leb size (2048 * (n - 1 + 1)) w);
+          answer = rw (lt-ltb (at + (n - 1)) mostSectors s, le-leb size (2048 * (n - 1 + 1)) w);
           count = refl;
           length = refl;
+          listed = λ w. refl;
         });
   }
     where
@@ -258,18 +266,18 @@ module _ (r : Reading) (at size : ℕ) (x : Reading) where
       few z l = omega arith
 
 continuing-some : (m : Mount) (kind n missing : ℕ) (es : List AllocExtent) (a : AdContinuation) → (n ≡ 0 → ⊥)
-    → continuing m kind n missing es a ≡ following (nextArea m kind a) (λ x. chainFeed m kind (n - 1) missing (joined es x) (x .ending))
+    → continuing m kind n missing es a ≡ naming (namedBy kind (a .length) es) (nextArea m kind a) (λ x. chainFeed m kind (n - 1) missing (joined es x) (x .ending))
 continuing-some m kind zero missing es a h = absurd (h refl)
 continuing-some m kind (suc n) missing es a h = let z : suc n - 1 ≡ n = omega arith in rw z
 
 module _ (r x : Reading) where
   pub chain-none : r .hops ≡ 0 → Ends r 2 x → Chains r x
-  unfolding within
+  unfolding settledIn
   chain-none z e = record { stands = λ row. stands-stop row _ r x Malformed e (λ room. rw z) }
 
   module _ (z : r .hops ≡ 0 → ⊥) {f : PartitionRef} (y : f ≡ referenceIn (r .scan .«next_reference»)) {p : Placed} (q : StandsAt (r .mount) f (r .scan .«next_block») p) where
     pub chain-nowhere : p ≡ Nowhere → Ends r 4 x → Chains r x
-    unfolding nextArea following within
+    unfolding nextArea naming settledIn
     chain-nowhere h e = record {
       stands = λ row.
           let d : placed (r .mount) (referenceIn (r .scan .«next_reference»)) (r .scan .«next_block») ≡ none = rw y at (stands-nowhere (r .mount) f (r .scan .«next_block») q h) in
@@ -302,11 +310,11 @@ module _ (m : Mount) (kind missing : ℕ) (es : List AllocExtent) where
   chain-on zero a = refl
   chain-on (suc n) a = refl
 
-  -- more extents than slots, unless the area itself is refused
-  chain-crowded : (slots room n : ℕ) (b : Bool) (a : AdContinuation) → slots < length es → within slots room (chainFeed m kind n missing es (pick b End (Continuation a))) ≡ stop NoSlot
-  unfolding within
-  chain-crowded slots room n true a h = rw (chain-end n, lt-leb (length es) slots h)
-  chain-crowded slots room n false a h = rw (chain-on n a, lt-leb (length es) slots h)
+  -- where an extent was lost, unless the area itself is refused
+  pub chain-crowded : (n : ℕ) (b : Bool) (a : AdContinuation) → crowded (chainFeed m kind n missing es (pick b End (Continuation a))) ≡ stop NoSlot
+  unfolding crowded
+  chain-crowded n true a = rw (chain-end n)
+  chain-crowded n false a = rw (chain-on n a)
 
 ending-open : (s : Scan) → s .closed ≤ 2 → endingOf s ≡ pick (ltb (s .closed) 2) End (Continuation (nextOf s))
 ending-open s h = by (ltb (s .closed) 2) refl
@@ -315,50 +323,50 @@ ending-open s h = by (ltb (s .closed) 2) refl
     by true e = refl
     by false e = let l = ltb-false (s .closed) 2 e in rw (eq-eqb (s .closed) 2 (omega arith))
 
-places-crowded : (row : List (List ℕ)) (s : Scan) → s .full ≡ true → length row < length (placesIn row s)
-unfolding placesIn
-places-crowded row s e =
-    rw (e, length-append (extentsIn row (s .listed)) (replicate (suc (length row)) (extent 0 0 0 Unnamed)), length-replicate (suc (length row)) (extent 0 0 0 Unnamed)) (omega arith)
-
-places-are : (row : List (List ℕ)) (s : Scan) → s .full ≡ false → placesIn row s ≡ extentsIn row (s .listed)
-unfolding placesIn
-places-are row s e = rw (e, append-nil (extentsIn row (s .listed)))
-
-places-fit : (row : List (List ℕ)) (n : ℕ) → length (extentsIn row n) ≤ length row
+pub places-fit : (row : List (List ℕ)) (n : ℕ) → length (extentsIn row n) ≤ length row
 places-fit row n = let l = extents-long row n in omega arith
 
 stands-held : (row : List (List ℕ)) (f g : Feed) (n : ℕ) (r x : Reading) → f ≡ hold n g → n ≤ length row → Stands row g r x → Stands row f r x
-unfolding within
-stands-held row f g n r x e h p = rw e (record { tree = λ room. p .tree room ∙ rw (le-leb n (length row) h); answer = p .answer; count = p .count; length = p .length })
+unfolding settledIn
+stands-held row f g n r x e h p =
+    rw e (record { left = λ room. rw (le-ltb (length row) n h) (p .left room); answer = p .answer; count = p .count; length = p .length; listed = p .listed })
 
 module _ (row : List (List ℕ)) (r x : Reading) where
-  pub accept-refused : 2 < r .scan .closed → Ends r 4 x → Stands row (chainFeed (r .mount) (r .kind) (r .hops) (r .missing) (placesIn row (r .scan)) (endingOf (r .scan))) r x
-  unfolding within
+  abbrev es : List AllocExtent
+  es = extentsIn row (r .scan .listed)
+
+  pub accept-refused : 2 < r .scan .closed → Ends r 4 x → Stands row (crowdedBy (r .scan .full) (chainFeed (r .mount) (r .kind) (r .hops) (r .missing) es (endingOf (r .scan)))) r x
+  unfolding settledIn crowded
   accept-refused h e =
-      rw (le-ltb (r .scan .closed) 2 (omega arith), ne-eqb (r .scan .closed) 2 (λ z. omega arith), chain-refused (r .mount) (r .kind) (r .missing) (placesIn row (r .scan)) (r .hops) Unsupported)
-      (stands-stop row (stop Unsupported) r x Unsupported e (λ room. refl))
+      rw (le-ltb (r .scan .closed) 2 (omega arith), ne-eqb (r .scan .closed) 2 (λ z. omega arith), chain-refused (r .mount) (r .kind) (r .missing) es (r .hops) Unsupported)
+      (by (r .scan .full))
+    where
+      by : (b : Bool) → Stands row (pick b (stop Unsupported) (stop Unsupported)) r x
+      by true = stands-stop row (stop Unsupported) r x Unsupported e (λ room. refl)
+      by false = stands-stop row (stop Unsupported) r x Unsupported e (λ room. refl)
 
   module _ (undone : r .scan .closed ≤ 2) where
-    pub accept-full : r .scan .full ≡ true → Ends r 7 x → Stands row (chainFeed (r .mount) (r .kind) (r .hops) (r .missing) (placesIn row (r .scan)) (endingOf (r .scan))) r x
+    pub accept-full : r .scan .full ≡ true → Ends r 7 x → Stands row (crowdedBy (r .scan .full) (chainFeed (r .mount) (r .kind) (r .hops) (r .missing) es (endingOf (r .scan)))) r x
+    unfolding settledIn
     accept-full f e =
-        rw (ending-open (r .scan) undone)
-        (stands-stop row _ r x NoSlot e (λ room. chain-crowded (r .mount) (r .kind) (r .missing) (placesIn row (r .scan)) (length row) room (r .hops) (ltb (r .scan .closed) 2) (nextOf (r .scan)) (places-crowded row (r .scan) f)))
+        let q : crowdedBy (r .scan .full) (chainFeed (r .mount) (r .kind) (r .hops) (r .missing) es (endingOf (r .scan))) ≡ stop NoSlot =
+        rw (f, ending-open (r .scan) undone) (chain-crowded (r .mount) (r .kind) (r .missing) es (r .hops) (ltb (r .scan .closed) 2) (nextOf (r .scan))) in
+        rw q (stands-stop row (stop NoSlot) r x NoSlot e (λ room. refl))
 
     module _ (f : r .scan .full ≡ false) where
-      pub accept-continues : r .scan .closed ≡ 2 → Chains r x → Stands row (chainFeed (r .mount) (r .kind) (r .hops) (r .missing) (placesIn row (r .scan)) (endingOf (r .scan))) r x
-      unfolding chainFeed placesIn
+      pub accept-continues : r .scan .closed ≡ 2 → Chains r x → Stands row (crowdedBy (r .scan .full) (chainFeed (r .mount) (r .kind) (r .hops) (r .missing) es (endingOf (r .scan)))) r x
       accept-continues z p =
-          stands-held row _ _ (length (extentsIn row (r .scan .listed))) r x
-          (rw (z, places-are row (r .scan) f) (chain-on (r .mount) (r .kind) (r .missing) (extentsIn row (r .scan .listed)) (r .hops) (nextOf (r .scan))))
+          stands-held row _ _ (length es) r x
+          (rw (f, z) (chain-on (r .mount) (r .kind) (r .missing) es (r .hops) (nextOf (r .scan))))
           (places-fit row (r .scan .listed)) (p .stands row)
 
       pub accept-ends : (r .scan .closed ≡ 2 → ⊥)
-          → Stands row (extentsFeed (r .mount) (drop 0 (extentsIn row (r .scan .listed))) (r .missing)) r x
-          → Stands row (chainFeed (r .mount) (r .kind) (r .hops) (r .missing) (placesIn row (r .scan)) (endingOf (r .scan))) r x
+          → Stands row (extentsFeed (r .mount) (drop 0 es) (r .missing)) r x
+          → Stands row (crowdedBy (r .scan .full) (chainFeed (r .mount) (r .kind) (r .hops) (r .missing) es (endingOf (r .scan)))) r x
       accept-ends z p =
           let l : r .scan .closed < 2 = below (r .scan .closed) undone z in
-          stands-held row _ (extentsFeed (r .mount) (extentsIn row (r .scan .listed)) (r .missing)) (length (extentsIn row (r .scan .listed))) r x
-          (rw (lt-ltb (r .scan .closed) 2 l, places-are row (r .scan) f) (chain-end (r .mount) (r .kind) (r .missing) (extentsIn row (r .scan .listed)) (r .hops)))
+          stands-held row _ (extentsFeed (r .mount) es (r .missing)) (length es) r x
+          (rw (f, lt-ltb (r .scan .closed) 2 l) (chain-end (r .mount) (r .kind) (r .missing) es (r .hops)))
           (places-fit row (r .scan .listed))
           p
         where

@@ -1,50 +1,47 @@
--- What a step makes of a feed on a disc: the sector that is wanted is the front of the list, and the bytes that arrive are the front of all that do.
--- Assumes nothing.
+-- What a step makes of a feed on a disc, as lent memory grows: the sector that is wanted is the front of the list, and the bytes that arrive are the front of
+-- all that do. Assumes nothing.
 use mathlib.Core.Path.{_≡_, refl, ap, sym, _∙_}
-use mathlib.Core.Bool.{true}
-use mathlib.Core.List.{List, [], _∷_, _++_, append-assoc}
+use mathlib.Core.Bool.{Bool, true, false, _||_}
+use mathlib.Core.List.{List, [], _∷_, _++_, append-nil, append-assoc}
 use Prim.Native.Nat.{ℕ, _+_, _-_, _≤_}
+use native.Mathlib.Nat.{add-zero, sub-zero}
 use native.Mathlib.Omega.{arith}
 use lib.ListN.{length, take, drop, length-append, length-take, length-drop}
-use lib.Seq.{length-take-le, take-append-seam, drop-append-add, drop-drop}
-use lib.Dec.{eqb}
+use lib.Seq.{length-take-le, take-append-seam, take-append-add, drop-append-add}
+use lib.Dec.{eqb, ltb, leb}
+use Rattle.disc.specs.Choice.{pick}
 use Rattle.disc.specs.Ask.{Disc, Held, given, then, Agree}
 use Rattle.disc.specs.Ask.Held.{holds, lacks}
 use Rattle.disc.specs.Images.{sectors}
-use Rattle.disc.specs.declared.refusals.Refusal.the-variants.{Io}
+use Rattle.disc.specs.declared.refusals.Refusal.the-variants.{Io, NoRoom, NoSlot}
 use Rattle.disc.proofs.PickLaws.{pick-both}
-use Rattle.drives.specs.Feeds.{Feed, End, following, within, endOf, wanted, arrived, Settled, settled, fedBy}
-use Rattle.drives.specs.Feeds.Feed.{over, stop, hold, put, want}
-use Rattle.drives.specs.Feeds.End.{answers, refuses}
+use Rattle.drives.specs.Feeds.{Feed, following, naming, crowded, Settled, settledBehind, settledIn, fedBy, Grown, firstOf, behindFirst, within, endOf, wanted, arrived}
+use Rattle.drives.specs.Feeds.Feed.{over, stop, name, hold, put, want}
 use Rattle.drives.specs.FileFeeds.{extentFeed}
-use Rattle.drives.specs.Readings.{feedOf, isWanting, wantedSector, treeOf, putAt}
+use Rattle.drives.specs.Readings.{feedOf, isWanting, wantedSector, leftOf, putAt}
 use Rattle.drives.specs.declared.readings.Reading.{Reading}
-use Rattle.drives.proofs.ArrivalLaws.{put-nothing}
+use Rattle.drives.proofs.SettleLaws.{within-lost}
 
 -- ---- the sector that is wanted
 
 unfoldable pub WantsAt : ℕ → Feed → Type 0
 WantsAt s over = ⊥
 WantsAt s (stop r) = ⊥
+WantsAt s (name n f) = ⊥
 WantsAt s (hold n f) = ⊥
 WantsAt s (put b f) = ⊥
 WantsAt s (want t k) = t ≡ s
 
 feed-at : (r : Reading) (row : List (List ℕ)) → WantsAt (r .at) (feedOf r row)
-unfolding WantsAt feedOf following sectors then extentFeed
-feed-at r row = pick-both (WantsAt (r .at)) (eqb (r .phase) 0) refl (pick-both (WantsAt (r .at)) (eqb (r .phase) 1) refl (pick-both (WantsAt (r .at)) (eqb (r .phase) 2) refl refl))
+unfolding WantsAt feedOf following naming crowded sectors then extentFeed
+feed-at r row =
+    pick-both (WantsAt (r .at)) (eqb (r .phase) 0) refl
+    (pick-both (WantsAt (r .at)) (eqb (r .phase) 1) refl
+    (pick-both (WantsAt (r .at)) (eqb (r .phase) 2) (pick-both (WantsAt (r .at)) (r .scan .full) refl refl) refl))
 
-within-at : (slots room s : ℕ) (f : Feed) → WantsAt s f → WantsAt s (within slots room f)
-unfolding WantsAt within
-within-at slots room s over h = absurd h
-within-at slots room s (stop r) h = absurd h
-within-at slots room s (hold n f) h = absurd h
-within-at slots room s (put b f) h = absurd h
-within-at slots room s (want t k) h = h
-
-pub tree-at : (r : Reading) (row : List (List ℕ)) (room : ℕ) → isWanting r ≡ true → WantsAt (wantedSector r) (treeOf r row room)
-unfolding treeOf
-tree-at r row room w = rw w (within-at (length row) (room - r .length) (r .at) (feedOf r row) (feed-at r row))
+pub left-at : (r : Reading) (row : List (List ℕ)) → isWanting r ≡ true → WantsAt (wantedSector r) (leftOf r row)
+unfolding leftOf
+left-at r row w = rw w (feed-at r row)
 
 -- g is what a disc makes of f by its sector s
 pub record Feeds (d : Disc) (s : ℕ) (f g : Feed) : Type 0 where
@@ -52,67 +49,87 @@ pub record Feeds (d : Disc) (s : ℕ) (f g : Feed) : Type 0 where
   pub ends : endOf d f ≡ endOf d g
   pub bytes : arrived d f ≡ arrived d g
 
-fed-at : (d : Disc) (s : ℕ) (f : Feed) → WantsAt s f → Feeds d s f (fedBy (d s) f)
-unfolding WantsAt wanted endOf arrived fedBy
-fed-at d s over h = absurd h
-fed-at d s (stop r) h = absurd h
-fed-at d s (hold n f) h = absurd h
-fed-at d s (put b f) h = absurd h
-fed-at d s (want t k) h = rw h (by (d s) refl)
+-- the sector is lent in what memory has grown to
+pub fed-at : (d : Disc) (s slots room : ℕ) (gs : List Grown) (f : Feed) → WantsAt s f
+    → Feeds d s (within false slots room gs f) (within false (slots + firstOf gs .slots) (room + firstOf gs .room) (behindFirst gs) (fedBy (d s) f))
+unfolding WantsAt wanted endOf arrived fedBy within
+fed-at d s slots room gs over h = absurd h
+fed-at d s slots room gs (stop r) h = absurd h
+fed-at d s slots room gs (name n f) h = absurd h
+fed-at d s slots room gs (hold n f) h = absurd h
+fed-at d s slots room gs (put b f) h = absurd h
+fed-at d s slots room gs (want t k) h = rw h (by (d s) refl)
   where
-    by : (x : Held) → d s ≡ x → Feeds d s (want s k) (given x k (stop Io))
+    cut : Feed → Feed
+    cut f = within false (slots + firstOf gs .slots) (room + firstOf gs .room) (behindFirst gs) f
+
+    by : (x : Held) → d s ≡ x → Feeds d s (want s (λ b. cut (k b))) (cut (given x k (stop Io)))
     by (holds b) e = record { list = rw e refl; ends = rw e refl; bytes = rw e refl }
     by lacks e = record { list = rw e refl; ends = rw e refl; bytes = rw e refl }
 
-pub tree-fed : (d : Disc) (r : Reading) (row : List (List ℕ)) (room : ℕ) → isWanting r ≡ true
-    → Feeds d (wantedSector r) (treeOf r row room) (fedBy (d (wantedSector r)) (treeOf r row room))
-tree-fed d r row room w = fed-at d (wantedSector r) (treeOf r row room) (tree-at r row room w)
-
 -- ---- what arrives before the next sector is wanted
 
-pub record Settles (d : Disc) (f : Feed) (x : Settled) : Type 0 where
-  pub list : wanted d f ≡ wanted d (x .rest)
-  pub ends : endOf d f ≡ endOf d (x .rest)
-  pub bytes : arrived d f ≡ x .bytes ++ arrived d (x .rest)
+-- behind those bytes f is g
+pub record Settles (d : Disc) (b : List ℕ) (f g : Feed) : Type 0 where
+  pub list : wanted d f ≡ wanted d g
+  pub ends : endOf d f ≡ endOf d g
+  pub bytes : arrived d f ≡ b ++ arrived d g
 
-pub settles : (d : Disc) (f : Feed) → Settles d f (settled f)
-unfolding wanted endOf arrived settled
-settles d over = record { list = refl; ends = refl; bytes = refl }
-settles d (stop r) = record { list = refl; ends = refl; bytes = refl }
-settles d (hold n f) = let p = settles d f in record { list = p .list; ends = p .ends; bytes = p .bytes }
-settles d (put b f) =
-    let p = settles d f in
-    record { list = p .list; ends = p .ends; bytes = ap (λ x. b ++ x) (p .bytes) ∙ sym (append-assoc b (settled f .bytes) (arrived d (settled f .rest))) }
-settles d (want s k) = record { list = refl; ends = refl; bytes = refl }
+-- what is left behind a step, in the room that is left
+abbrev leftIn : ℕ → ℕ → List Grown → Settled → Feed
+leftIn slots room gs x = within false slots (room - length (x .bytes)) gs (x .rest)
 
--- ---- bytes put behind bytes
-
-put-on : (from : ℕ) (a b out : List ℕ) → from + length b ≤ length out → putAt (from + length b) a (putAt from b out) ≡ putAt from (b ++ a) out
-put-on from a b out h =
-    let t : length (take from out) ≡ from = length-take-le from out (omega arith) in
-    let l : length (take from out ++ b) ≡ from + length b = length-append (take from out) b ∙ rw t refl in
-    let g : putAt from b out ≡ (take from out ++ b) ++ drop (from + length b) out = sym (append-assoc (take from out) b (drop (from + length b) out)) in
-    let u : take (from + length b) (putAt from b out) ≡ take from out ++ b = ap (take (from + length b)) g ∙ rw l at (take-append-seam (take from out ++ b) (drop (from + length b) out)) in
-    let v : drop (from + length b + length a) (putAt from b out) ≡ drop (from + length (b ++ a)) out = ap (drop (from + length b + length a)) g ∙ rw l at (drop-append-add (take from out ++ b) (drop (from + length b) out) (length a)) ∙ behind in
-    ap (λ x. x ++ (a ++ drop (from + length b + length a) (putAt from b out))) u
-    ∙ ap (λ x. (take from out ++ b) ++ (a ++ x)) v
-    ∙ append-assoc (take from out) b (a ++ drop (from + length (b ++ a)) out)
-    ∙ ap (λ x. take from out ++ x) (sym (append-assoc b a (drop (from + length (b ++ a)) out)))
+pub settles : (d : Disc) (lost : Bool) (slots room : ℕ) (gs : List Grown) (f : Feed)
+    → Settles d (settledIn lost slots room f .bytes) (within lost slots room gs f) (leftIn slots room gs (settledIn lost slots room f))
+unfolding wanted endOf arrived settledIn within
+settles d lost slots room gs over = record { list = refl; ends = refl; bytes = refl }
+settles d lost slots room gs (stop r) = record { list = refl; ends = refl; bytes = refl }
+settles d lost slots room gs (name n f) = settles d (lost || ltb slots n) slots room gs f
+settles d lost slots room gs (hold n f) = by (lost || ltb slots n) (settles d false slots room gs f)
   where
-    behind : drop (length a) (drop (from + length b) out) ≡ drop (from + length (b ++ a)) out
-    behind = let z : from + length b + length a ≡ from + length (b ++ a) = rw (length-append b a) (omega arith) in rw (drop-drop, z)
-
-pub put-twice : (from : ℕ) (a b out : List ℕ) → length (putAt from b out) ≡ length out → putAt (from + length b) a (putAt from b out) ≡ putAt from (b ++ a) out
-put-twice from a [] out l = let z : from + 0 ≡ from = omega arith in ap (putAt (from + 0) a) (sym (put-nothing from out)) ∙ rw z refl
-put-twice from a (x ∷ b) out l = put-on from a (x ∷ b) out fits
+    by : (t : Bool) → Settles d (settledIn false slots room f .bytes) (within false slots room gs f) (leftIn slots room gs (settledIn false slots room f))
+        → Settles d (pick t (record { bytes = []; rest = stop NoSlot }) (settledIn false slots room f) .bytes) (pick t (stop NoSlot) (within false slots room gs f))
+        (leftIn slots room gs (pick t (record { bytes = []; rest = stop NoSlot }) (settledIn false slots room f)))
+    by true ih = record { list = refl; ends = refl; bytes = refl }
+    by false ih = ih
+settles d lost slots room gs (put b f) = by (leb (length b) room) (settles d lost slots (room - length b) gs f)
   where
-    fits : from + length (x ∷ b) ≤ length out
-    fits =
-        let i = length-append (take from out) ((x ∷ b) ++ drop (from + length (x ∷ b)) out) in
-        let j = length-append (x ∷ b) (drop (from + length (x ∷ b)) out) in
-        let k = length-take from out in
-        let n = length-drop (from + length (x ∷ b)) out in
-        omega arith
+    by : (t : Bool) → Settles d (settledIn lost slots (room - length b) f .bytes) (within lost slots (room - length b) gs f) (leftIn slots (room - length b) gs (settledIn lost slots (room - length b) f))
+        → Settles d (pick t (settledBehind b (settledIn lost slots (room - length b) f)) (record { bytes = take room b; rest = stop NoRoom }) .bytes)
+        (pick t (put b (within lost slots (room - length b) gs f)) (put (take room b) (stop NoRoom)))
+        (leftIn slots room gs (pick t (settledBehind b (settledIn lost slots (room - length b) f)) (record { bytes = take room b; rest = stop NoRoom })))
+    by true ih = fits (settledIn lost slots (room - length b) f) ih
+      where
+        fits : (x : Settled) → Settles d (x .bytes) (within lost slots (room - length b) gs f) (leftIn slots (room - length b) gs x)
+            → Settles d (b ++ x .bytes) (put b (within lost slots (room - length b) gs f)) (leftIn slots room gs (settledBehind b x))
+        fits x ih =
+            let z : room - length (b ++ x .bytes) ≡ room - length b - length (x .bytes) = rw (length-append b (x .bytes)) (omega arith) in
+            rw z (record { list = ih .list; ends = ih .ends; bytes = ap (λ a. b ++ a) (ih .bytes) ∙ sym (append-assoc b (x .bytes) (arrived d (leftIn slots (room - length b) gs x))) })
+    by false ih = record { list = refl; ends = refl; bytes = refl }
+settles d true slots room gs (want s k) =
+    rw (sub-zero, ← within-lost slots room gs (want s k)) (record { list = refl; ends = refl; bytes = refl })
+settles d false slots room gs (want s k) = rw sub-zero (record { list = refl; ends = refl; bytes = refl })
+
+-- ---- bytes behind those that were filled
+
+module _ (from : ℕ) (b out : List ℕ) (h : from ≤ length out) (l : length (putAt from b out) ≡ length out) where
+  front-long : length (take from out) ≡ from
+  front-long = length-take-le from out h
+
+  pub put-fits : from + length b ≤ length out
+  put-fits =
+      let i = length-append (take from out) (b ++ drop (from + length b) out) in
+      let j = length-append b (drop (from + length b) out) in
+      let k = front-long in
+      omega arith
+
+  pub put-front : take (from + length b) (putAt from b out) ≡ take from out ++ b
+  put-front = rw front-long at (take-append-add (take from out) (b ++ drop (from + length b) out) (length b)) ∙ ap (λ x. take from out ++ x) (take-append-seam b (drop (from + length b) out))
+
+  pub put-behind : drop (from + length b) (putAt from b out) ≡ drop (from + length b) out
+  put-behind =
+      rw front-long at (drop-append-add (take from out) (b ++ drop (from + length b) out) (length b))
+      ∙ rw (add-zero (length b)) at (drop-append-add b (drop (from + length b) out) 0)
 
 -- ---- two discs that agree on the sectors wanted
 
@@ -125,6 +142,7 @@ pub same-feed : (f : Feed) (d e : Disc) → Agree d e (wanted d f) → Same d e 
 unfolding wanted endOf arrived Agree
 same-feed over d e h = record { list = refl; ends = refl; bytes = refl }
 same-feed (stop r) d e h = record { list = refl; ends = refl; bytes = refl }
+same-feed (name n f) d e h = let p = same-feed f d e h in record { list = p .list; ends = p .ends; bytes = p .bytes }
 same-feed (hold n f) d e h = let p = same-feed f d e h in record { list = p .list; ends = p .ends; bytes = p .bytes }
 same-feed (put b f) d e h = let p = same-feed f d e h in record { list = p .list; ends = p .ends; bytes = ap (λ x. b ++ x) (p .bytes) }
 same-feed (want s k) d e h = by (d s) refl (h .0) (h .1) (λ b. same-feed (k b) d e)

@@ -1,6 +1,7 @@
 -- Reading a file as a feed: each sector's bytes reach the output as it arrives, and extents are held from the area that names them on. RULES 6.15
 -- to 6.18, 7.1 to 7.9, 14.4 to 14.8. That this is the read of `files`, its bytes collected, is proved (proofs/FeedLaws.antt).
-use Prim.Native.Nat.{ℕ, zero, suc, _+_, _-_}
+use Prim.Native.Nat.{ℕ, zero, suc, _+_, _-_, min}
+use mathlib.Core.Bool.{_&&_}
 use mathlib.Core.List.{List, [], _∷_, _++_}
 use mathlib.Core.Option.{Option, none, some}
 use lib.ListN.{length, take}
@@ -10,6 +11,10 @@ use Rattle.disc.specs.Images.{sectorsFor}
 use Rattle.disc.specs.Places.{placed}
 use Rattle.disc.specs.declared.places.Mount.{Mount}
 use Rattle.disc.specs.declared.refusals.Refusal.the-variants.{Malformed, Unsupported}
+use Rattle.records.specs.Bytes.{u32at}
+use Rattle.tags.specs.Tags.{readTag}
+use Rattle.tags.specs.declared.TagRead.{TagRead}
+use Rattle.tags.specs.declared.TagRead.the-variants.{Read, Refused as NoTag}
 use Rattle.records.specs.declared.allocations.LongAd.{LongAd}
 use Rattle.areas.specs.declared.AllocExtent.{AllocExtent}
 use Rattle.areas.specs.declared.AdEnding.{AdEnding}
@@ -17,7 +22,7 @@ use Rattle.areas.specs.declared.AdEnding.the-variants.{End, Continuation, Refus
 use Rattle.areas.specs.Areas.{Area, areaAt}
 use Rattle.chains.specs.Chains.{mostContinuations, nextArea}
 use Rattle.files.specs.Files.{Located, entryAt, entryMount, isEmbedded, embeddedBytes}
-use Rattle.drives.specs.Feeds.{Feed, following}
+use Rattle.drives.specs.Feeds.{Feed, following, naming}
 use Rattle.drives.specs.Feeds.Feed.{over, stop, hold, put, want}
 
 -- ---- the extents
@@ -57,6 +62,15 @@ accepted es f = hold (length es) f
 abbrev pub joined : List AllocExtent → Area → List AllocExtent
 joined es x = es ++ x .extents
 
+-- how many bytes the area of a continuation of `size` bytes has, by the tag at its front (4/14.5): none where that is no header, or the area doesn't fit
+abbrev pub areaSaid : ℕ → List ℕ → TagRead → ℕ
+areaSaid size s (Read t) = pick (eqb (t .id) 258 && leb (24 + u32at s 20) size) (u32at s 20) 0
+areaSaid size s (NoTag r) = 0
+
+-- how many extents there are in all once the bytes s of a continuation have come: `es`, and those that its area names so far
+abbrev pub namedBy : ℕ → ℕ → List AllocExtent → List ℕ → ℕ
+namedBy kind size es s = length (joined es (areaAt kind s 24 (min (areaSaid size s (readTag s)) (length s - 24))))
+
 unfoldable pub chainFeed : Mount → ℕ → ℕ → ℕ → List AllocExtent → AdEnding → Feed
 chainFeed m kind zero missing es (Refused r) = stop r
 chainFeed m kind zero missing es End = accepted es (extentsFeed m es missing)
@@ -64,7 +78,7 @@ chainFeed m kind zero missing es (Continuation a) = accepted es (stop Malformed)
 chainFeed m kind (suc n) missing es (Refused r) = stop r
 chainFeed m kind (suc n) missing es End = accepted es (extentsFeed m es missing)
 chainFeed m kind (suc n) missing es (Continuation a) =
-    accepted es (following (nextArea m kind a) (λ x. chainFeed m kind n missing (joined es x) (x .ending)))
+    accepted es (naming (namedBy kind (a .length) es) (nextArea m kind a) (λ x. chainFeed m kind n missing (joined es x) (x .ending)))
 
 -- ---- the entry
 

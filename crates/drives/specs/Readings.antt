@@ -1,6 +1,6 @@
 -- A file's read, fed a sector at a time: the place in its feed that a state stands for with the row in which its extents wait, and a step.
 -- RULES 6 and 7, 14.1 to 14.9.
-use Prim.Native.Nat.{ℕ, zero, suc, _+_, _-_, _*_}
+use Prim.Native.Nat.{ℕ, zero, suc, _+_, _-_, _*_, _≤_}
 use mathlib.Core.Path.{_≡_}
 use mathlib.Core.Bool.{Bool, true, false, not, _&&_}
 use mathlib.Core.List.{List, [], _∷_, _++_, map}
@@ -24,9 +24,9 @@ use Rattle.areas.specs.declared.AdEnding.the-variants.{End, Continuation, Refus
 use Rattle.areas.specs.Areas.{sizeOf, extent, continuation, Area, ended, areaAt}
 use Rattle.chains.specs.Chains.{areaIn, nextArea}
 use Rattle.files.specs.Files.{entryIn}
-use Rattle.drives.specs.Feeds.{Feed, following, within, lent, fedBy, Settled, settled}
-use Rattle.drives.specs.Feeds.Feed.{over, stop, hold, put, want}
-use Rattle.drives.specs.FileFeeds.{extentFeed, extentsFeed, joined, chainFeed, entryFeed}
+use Rattle.drives.specs.Feeds.{Feed, following, naming, crowdedBy, lent, fedBy, Settled, settledIn}
+use Rattle.drives.specs.Feeds.Feed.{over, stop, name, hold, put, want}
+use Rattle.drives.specs.FileFeeds.{extentFeed, extentsFeed, joined, namedBy, chainFeed, entryFeed}
 use Rattle.drives.specs.Openings.{refusalOf, mostSectors}
 use Rattle.drives.specs.declared.scans.Scan.{Scan}
 use Rattle.drives.specs.declared.readings.Body.{Body}
@@ -69,10 +69,6 @@ padded n more = take n (more ++ replicate n 0)
 unfoldable pub restOf : ℕ → Scan → List ℕ → Area
 restOf kind s more = pick (eqb (s .closed) 0) (areaOf kind (carriedIn s ++ more)) (ended (endingOf s))
 
--- the extents so far; where one of this area found no place, more than there are places
-unfoldable pub placesIn : List (List ℕ) → Scan → List AllocExtent
-placesIn row s = extentsIn row (s .listed) ++ pick (s .full) (replicate (suc (length row)) (extent 0 0 0 Unnamed)) []
-
 -- ---- a continuation that arrives in parts
 
 -- the rest of its body has the CRC that the tag says
@@ -89,6 +85,10 @@ headed check b more f =
 
 -- ---- what is left
 
+-- how many extents there are in all once the next bytes of a continuation have come
+abbrev pub namedIn : Reading → List (List ℕ) → List ℕ → ℕ
+namedIn r row more = length (joined (extentsIn row (r .scan .listed)) (restOf (r .kind) (r .scan) (take (r .body .«area_left») more)))
+
 -- behind an area
 abbrev pub behindArea : Reading → List AllocExtent → Area → Feed
 behindArea r es x = chainFeed (r .mount) (r .kind) (r .hops) (r .missing) (joined es x) (x .ending)
@@ -102,12 +102,14 @@ unfoldable pub feedOf : Reading → List (List ℕ) → Feed
 feedOf r row =
     pick (eqb (r .phase) 0) (following (entryIn (isChecked (r .mount)) (r .at)) (entryFeed (r .mount)))
     (pick (eqb (r .phase) 1)
-    (following (then (sectors (suc (r .left)) (r .at)) (λ s. areaIn (r .kind) (r .size) s (readAed (isChecked (r .mount)) s)))
+    (naming (namedBy (r .kind) (r .size) (extentsIn row (r .scan .listed)))
+    (then (sectors (suc (r .left)) (r .at)) (λ s. areaIn (r .kind) (r .size) s (readAed (isChecked (r .mount)) s)))
     (behindArea r (extentsIn row (r .scan .listed))))
     (pick (eqb (r .phase) 2)
-    (following (sectors (suc (r .left)) (r .at)) (λ more.
+    (crowdedBy (r .scan .full)
+    (naming (namedIn r row) (sectors (suc (r .left)) (r .at)) (λ more.
     headed (isChecked (r .mount)) (r .body) more
-    (behindArea r (placesIn row (r .scan)) (restOf (r .kind) (r .scan) (padded (r .body .«area_left») more)))))
+    (behindArea r (extentsIn row (r .scan .listed)) (restOf (r .kind) (r .scan) (padded (r .body .«area_left») more))))))
     (extentFeed (suc (r .left)) (r .at) (r .size) (r .missing) (behindExtent r row))))
 
 -- a continuation's sectors hold all of its bytes; within one less than a whole descriptor is carried, and its sectors hold the rest of the area
@@ -129,9 +131,9 @@ wantedSector r = pick (isWanting r) (r .at) 0
 abbrev pub endTree : ℕ → Feed
 endTree answer = pick (eqb answer 0) over (stop (refusalOf answer))
 
--- in an output of `room` bytes
-unfoldable pub treeOf : Reading → List (List ℕ) → ℕ → Feed
-treeOf r row room = pick (isWanting r) (within (length row) (room - r .length) (feedOf r row)) (endTree (r .answer))
+-- whatever output it has, and however long the row is
+unfoldable pub leftOf : Reading → List (List ℕ) → Feed
+leftOf r row = pick (isWanting r) (feedOf r row) (endTree (r .answer))
 
 -- ---- a step
 
@@ -139,6 +141,7 @@ treeOf r row room = pick (isWanting r) (within (length row) (room - r .length) (
 abbrev pub numberOf : Feed → ℕ
 numberOf over = 0
 numberOf (stop r) = number r
+numberOf (name n f) = 0
 numberOf (hold n f) = 0
 numberOf (put b f) = 0
 numberOf (want s k) = 0
@@ -149,7 +152,7 @@ putAt filled b out = take filled out ++ (b ++ drop (filled + length b) out)
 
 -- the state, the row and the output with which it goes on: b arrived, and f is left
 pub record Goes (x : Settled) (n from : ℕ) (out : List ℕ) (r : Reading) (row : List (List ℕ)) (after : List ℕ) : Type 0 where
-  pub tree : treeOf r row (length out) ≡ x .rest
+  pub left : leftOf r row ≡ x .rest
   pub answer : r .answer ≡ numberOf (x .rest)
   pub count : r .count ≡ n
   pub filled : r .length ≡ from + length (x .bytes)
@@ -164,18 +167,22 @@ pub record Same (r : Reading) (row : List (List ℕ)) (out : List ℕ) (r′ : R
   pub kept : row′ ≡ row
   pub output : out′ ≡ out
 
--- a step of a state that wants a sector takes the branch of what was lent, and counts; of one that has ended it changes nothing
+-- a step of a state that wants a sector takes the branch of what was lent, in the slots and the room of this step, and counts; of one that has ended it
+-- changes nothing. The places below `listed` are in the row
 pub record Fed (r : Reading) (sector : List ℕ) (row : List (List ℕ)) (out : List ℕ) (r′ : Reading) (row′ : List (List ℕ)) (out′ : List ℕ) : Type 0 where
   pub slots : length row′ ≡ length row
   pub room : length out′ ≡ length out
-  pub takes : isWanting r ≡ true → Goes (settled (fedBy (lent sector) (treeOf r row (length out)))) (reported (r .count + 1)) (r .length) out r′ row′ out′
+  pub takes : isWanting r ≡ true
+      → Goes (settledIn false (length row) (length out - r .length) (fedBy (lent sector) (leftOf r row))) (reported (r .count + 1)) (r .length) out r′ row′ out′
+  pub inside : r .scan .listed ≤ length row → isWanting r′ ≡ true → r′ .scan .listed ≤ length row′
   pub ends : isWanting r ≡ true → isWanting r′ ≡ false → row′ ≡ zeroed row
   pub stays : isWanting r ≡ false → Same r row out r′ row′ out′
 
 -- where it starts: whatever the output is
 pub record Starts (f : Feed) (row row′ : List (List ℕ)) (r : Reading) : Type 0 where
-  pub tree : (room : ℕ) → treeOf r row′ room ≡ within (length row) room f
+  pub left : leftOf r row′ ≡ f
   pub answer : r .answer ≡ numberOf f
   pub count : r .count ≡ 0
   pub filled : r .length ≡ 0
+  pub listed : isWanting r ≡ true → r .scan .listed ≡ 0
   pub zeros : row′ ≡ zeroed row

@@ -1,11 +1,12 @@
 // A continuation whose sectors come one at a time: what its header says, its body summed, and its area scanned.
 ghost use mathlib.Core.Path.{_≡_};
 ghost use mathlib.Core.Bool.{_&&_};
-ghost use Prim.Native.Nat.{_+_, _-_, _*_, _<_, _≤_};
+ghost use Prim.Native.Nat.{_+_, _-_, _*_, _<_, _≤_, min};
 ghost use lib.ListN.{length};
 ghost use lib.Dec.{eqb, leb};
 ghost use Rattle.disc.specs.Choice.{pick};
 ghost use Rattle.areas.specs.Areas.{sizeOf};
+ghost use Rattle.drives.specs.Feeds.{crowdedBy};
 ghost use Rattle.drives.specs.inner.Bodies.{isWrong, judged, bodyIn, bodyOf, bodyBehind, finished, inBody, headBehind, partBehind, Parts, Lands};
 ghost use Rattle.drives.specs.inner.Turns.{Stands};
 use crate::readings::Body;
@@ -77,7 +78,7 @@ fn finish(r: Reading, row: &[[u32; 4]]) -> Reading
 // The next sector of the continuation, or what all of them came to.
 fn further(r: Reading, row: &[[u32; 4]]) -> Reading
     requires { ⌜ (r .at + r .left < 0x1000_0000_0000) × (r .scan .carried < sizeOf (r .kind)) × (r .body .«area_left» ≤ 2048 * r .left) ⌝ }
-    ensures { λ x. ⌜ Stands (now (row .entry)) (inBody r (now (row .entry)) (r .left) (r .at + 1)) r x ⌝ }
+    ensures { λ x. ⌜ Stands (now (row .entry)) (crowdedBy (r .scan .full) (inBody r (now (row .entry)) (r .left) (r .at + 1))) r x ⌝ }
 {
     if r.left == 0 {
         return finish(r, row);
@@ -151,6 +152,16 @@ fn left_of(headed: bool, area: u32) -> u32
     area - 2024
 }
 
+// How much of the area stands in the first sector, none where there is no header.
+fn front_of(headed: bool, area: u32) -> usize
+    ensures { λ r. ⌜ r ≡ min (pick headed area 0) 2024 ⌝ }
+{
+    if !headed {
+        return 0;
+    }
+    least(area as usize, 2024)
+}
+
 // The header's part of a body, of a tag that is good.
 fn body_of(t: DescriptorTag, size: u32, sector: &[u8]) -> Body
     requires { ⌜ length (now sector) ≡ 2048 ⌝ }
@@ -196,8 +207,7 @@ pub(crate) fn take_head(r: Reading, sector: &[u8], row: &mut [[u32; 4]]) -> Read
 {
     let scan = r.scan;
     let body = body_in(DescriptorTag::parse(sector), r.size, sector);
-    let area = le32(sector, 20) as usize;
-    let n = least(area, 2024);
+    let n = front_of(body.headed, le32(sector, 20));
     let end = 24 + n;
     let listed = take_bytes(r.kind, begin(scan.listed), &sector[24..end], row);
     let x = with_parts(r, listed, body);

@@ -3,8 +3,9 @@ ghost use mathlib.Core.Path.{_≡_};
 ghost use mathlib.Core.Bool.{false};
 ghost use Prim.Native.Nat.{_<_, _≤_, _^_};
 ghost use lib.ListN.{drop};
+ghost use Rattle.drives.specs.Feeds.{crowdedBy};
 ghost use Rattle.drives.specs.FileFeeds.{extentsFeed, chainFeed};
-ghost use Rattle.drives.specs.Readings.{extentsIn, placesIn, endingOf};
+ghost use Rattle.drives.specs.Readings.{extentsIn, endingOf};
 ghost use Rattle.drives.specs.inner.Turns.{Ends, Stands, Enters, EntersAt, Chains, ContinuesAt};
 use crate::readings::Reading;
 use crate::scans::reference_in;
@@ -152,7 +153,7 @@ fn continue_chain(r: Reading) -> Reading
 
 // Behind an area that has arrived whole: its own refusal, an extent without a place, then its continuation, or the extents.
 pub(crate) fn accept(r: Reading, row: &[[u32; 4]]) -> Reading
-    ensures { λ x. ⌜ Stands (now (row .entry)) (chainFeed (r .mount) (r .kind) (r .hops) (r .missing) (placesIn (now (row .entry)) (r .scan)) (endingOf (r .scan))) r x ⌝ }
+    ensures { λ x. ⌜ Stands (now (row .entry)) (crowdedBy (r .scan .full) (chainFeed (r .mount) (r .kind) (r .hops) (r .missing) (extentsIn (now (row .entry)) (r .scan .listed)) (endingOf (r .scan)))) r x ⌝ }
 {
     let s = r.scan;
     if 2 < s.closed {

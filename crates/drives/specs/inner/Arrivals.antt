@@ -1,6 +1,7 @@
 -- What a sector leads to once it has arrived: for the contracts of private functions.
-use Prim.Native.Nat.{ℕ, _+_, _-_, _*_}
+use Prim.Native.Nat.{ℕ, _+_, _-_, _≤_}
 use mathlib.Core.Path.{_≡_}
+use mathlib.Core.Bool.{true, false}
 use mathlib.Core.List.{List, [], _++_}
 use lib.ListN.{length, take, drop}
 use lib.Dec.{eqb, leb}
@@ -10,10 +11,10 @@ use Rattle.disc.specs.declared.places.Mount.{Mount}
 use Rattle.entries.specs.FileEntries.{readEntry}
 use Rattle.entries.specs.declared.«file_entries».EntryRead.{EntryRead}
 use Rattle.files.specs.Files.{located}
-use Rattle.drives.specs.Feeds.{Feed, following, within, settled}
+use Rattle.drives.specs.Feeds.{Feed, following, settledIn}
 use Rattle.drives.specs.Feeds.Feed.{over, put}
 use Rattle.drives.specs.FileFeeds.{extentFeed, entryFeed}
-use Rattle.drives.specs.Readings.{behindExtent, Goes}
+use Rattle.drives.specs.Readings.{behindExtent, isWanting, Goes}
 use Rattle.drives.specs.inner.Turns.{Stands}
 use Rattle.drives.specs.inner.Bodies.{noBody, headBehind, partBehind}
 use Rattle.drives.specs.inner.Scans.{begun}
@@ -60,8 +61,9 @@ wantedBehind r row b =
     (extentBehind r row b)))
 
 -- with its bytes in the output
-abbrev pub Arrives : Feed → Reading → List ℕ → List (List ℕ) → List (List ℕ) → Reading → List ℕ → Type 0
-Arrives f r out row row′ x out′ = Goes (settled (within (length row) (length out - r .length) f)) (r .count) (r .length) out x row′ out′
+pub record Arrives (f : Feed) (r : Reading) (out : List ℕ) (row row′ : List (List ℕ)) (x : Reading) (out′ : List ℕ) : Type 0 where
+  pub goes : Goes (settledIn false (length row) (length out - r .length) f) (r .count) (r .length) out x row′ out′
+  pub inside : r .scan .listed ≤ length row → isWanting x ≡ true → x .scan .listed ≤ length row′
 
 -- the same state with n bytes more at the output, and n fewer missing
 abbrev pub filledBy : Reading → ℕ → Reading

@@ -1,5 +1,5 @@
 -- A continuation whose sectors come one at a time: what the private functions say.
-use Prim.Native.Nat.{ℕ, _+_, _-_}
+use Prim.Native.Nat.{ℕ, _+_, _-_, _≤_}
 use mathlib.Core.Path.{_≡_}
 use mathlib.Core.Bool.{Bool, true, false, not, _&&_}
 use mathlib.Core.List.{List, [], _++_}
@@ -15,10 +15,11 @@ use Rattle.tags.specs.declared.DescriptorTag.{DescriptorTag}
 use Rattle.tags.specs.declared.TagRead.{TagRead}
 use Rattle.tags.specs.declared.TagRead.the-variants.{Read, Refused}
 use Rattle.chains.specs.Chains.{areaIn}
-use Rattle.drives.specs.Feeds.{Feed, following}
-use Rattle.drives.specs.FileFeeds.{chainFeed}
-use Rattle.drives.specs.Readings.{extentsIn, endingOf, padded, restOf, placesIn, isRight, headed, behindArea}
-use Rattle.drives.specs.inner.Turns.{Stands}
+use Rattle.drives.specs.Feeds.{Feed, following, naming, settledIn, crowdedBy}
+use Rattle.drives.specs.Feeds.Feed.{name}
+use Rattle.drives.specs.FileFeeds.{namedBy, chainFeed}
+use Rattle.drives.specs.Readings.{extentsIn, endingOf, padded, restOf, isRight, headed, namedIn, behindArea, isWanting, leftOf, numberOf}
+use Rattle.drives.specs.inner.Turns.{quiet}
 use Rattle.drives.specs.declared.scans.Scan.{Scan}
 use Rattle.drives.specs.declared.readings.Body.{Body}
 use Rattle.drives.specs.declared.readings.Reading.{Reading}
@@ -32,7 +33,10 @@ abbrev pub judged : Bool → Body → ℕ
 judged check b = pick (b .tagged) (pick (isWrong check b) 10 (pick (b .headed) 0 2)) 2
 
 unfoldable pub finished : Reading → List (List ℕ) → Feed
-finished r row = headed (isChecked (r .mount)) (r .body) [] (chainFeed (r .mount) (r .kind) (r .hops) (r .missing) (placesIn row (r .scan)) (endingOf (r .scan)))
+finished r row =
+    crowdedBy (r .scan .full)
+    (headed (isChecked (r .mount)) (r .body) []
+    (chainFeed (r .mount) (r .kind) (r .hops) (r .missing) (extentsIn row (r .scan .listed)) (endingOf (r .scan))))
 
 -- ---- what its sectors say of its body
 
@@ -71,25 +75,29 @@ bodyBehind b s = record {
 
 -- ---- what is left behind a sector
 
+-- behind bytes of it, all of its others being `more`
+abbrev pub behindBytes : Reading → List (List ℕ) → List ℕ → Feed
+behindBytes r row more =
+    headed (isChecked (r .mount)) (r .body) more
+    (behindArea r (extentsIn row (r .scan .listed)) (restOf (r .kind) (r .scan) (padded (r .body .«area_left») more)))
+
 -- n sectors of it from `at` on
 unfoldable pub inBody : Reading → List (List ℕ) → ℕ → ℕ → Feed
-inBody r row n at =
-    following (sectors n at) (λ more.
-    headed (isChecked (r .mount)) (r .body) more
-    (behindArea r (placesIn row (r .scan)) (restOf (r .kind) (r .scan) (padded (r .body .«area_left») more))))
+inBody r row n at = naming (namedIn r row) (sectors n at) (behindBytes r row)
 
 -- behind a further sector, and behind the first
 unfoldable pub partBehind : Reading → List (List ℕ) → List ℕ → Feed
 partBehind r row b =
-    following (sectors (r .left) (r .at + 1)) (λ more.
-    headed (isChecked (r .mount)) (r .body) (b ++ more)
-    (behindArea r (placesIn row (r .scan)) (restOf (r .kind) (r .scan) (padded (r .body .«area_left») (b ++ more)))))
+    crowdedBy (r .scan .full)
+    (name (namedIn r row b)
+    (naming (λ more. namedIn r row (b ++ more)) (sectors (r .left) (r .at + 1)) (λ more. behindBytes r row (b ++ more))))
 
 unfoldable pub headBehind : Reading → List (List ℕ) → List ℕ → Feed
 headBehind r row b =
-    following (sectors (r .left) (r .at + 1)) (λ more.
+    name (namedBy (r .kind) (r .size) (extentsIn row (r .scan .listed)) b)
+    (naming (λ more. namedBy (r .kind) (r .size) (extentsIn row (r .scan .listed)) (b ++ more)) (sectors (r .left) (r .at + 1)) (λ more.
     following (areaIn (r .kind) (r .size) (b ++ more) (readAed (isChecked (r .mount)) (b ++ more)))
-    (behindArea r (extentsIn row (r .scan .listed))))
+    (behindArea r (extentsIn row (r .scan .listed)))))
 
 -- a state with another place in the area and in the body
 abbrev pub withParts : Reading → Scan → Body → Reading
@@ -116,4 +124,8 @@ pub record Parts (r : Reading) (s : Scan) (b : Body) (x : Reading) : Type 0 wher
 -- where the row was written meanwhile
 pub record Lands (row : List (List ℕ)) (f : Feed) (r : Reading) (row′ : List (List ℕ)) (x : Reading) : Type 0 where
   pub long : length row′ ≡ length row
-  pub stands : Stands row′ f r x
+  pub left : (room : ℕ) → settledIn false (length row) room f ≡ quiet (leftOf x row′)
+  pub answer : x .answer ≡ numberOf (leftOf x row′)
+  pub count : x .count ≡ r .count
+  pub filled : x .length ≡ r .length
+  pub inside : r .scan .listed ≤ length row → isWanting x ≡ true → x .scan .listed ≤ length row′

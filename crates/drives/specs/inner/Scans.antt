@@ -1,15 +1,16 @@
 -- An area whose bytes come one at a time: what the private functions say.
 use Prim.Native.Nat.{ℕ, _<_, _≤_}
 use mathlib.Core.Path.{_≡_}
-use mathlib.Core.Bool.{false}
+use mathlib.Core.Bool.{Bool, true, false, _||_}
 use mathlib.Core.List.{List, _∷_, _++_}
 use lib.ListN.{length, take, replicate}
+use lib.Dec.{ltb}
 use Rattle.areas.specs.Areas.{Area, sizeOf}
 use Rattle.areas.specs.declared.AllocExtent.{AllocExtent}
 use Rattle.areas.specs.declared.AdContinuation.{AdContinuation}
 use Rattle.areas.specs.declared.AdEnding.the-variants.{Continuation}
 use Rattle.drives.specs.FileFeeds.{joined}
-use Rattle.drives.specs.Readings.{areaOf, endingOf, restOf, placesIn}
+use Rattle.drives.specs.Readings.{extentsIn, areaOf, endingOf, restOf}
 use Rattle.drives.specs.declared.scans.Scan.{Scan}
 
 abbrev pub begun : ℕ → Scan
@@ -24,17 +25,18 @@ begun listed = record {
   «next_reference» = 0;
 }
 
--- two lists of extents are alike for so many slots: the same, or both are more than there are slots
-pub data Alike (slots : ℕ) (a b : List AllocExtent) : Type 0 where
-  same : a ≡ b → Alike slots a b
-  crowded : slots < length a → slots < length b → Alike slots a b
+-- two lists of extents are alike for so many slots, each with whether an extent was lost before: the same, or one is lost in both
+pub data Alike (slots : ℕ) (full : Bool) (a : List AllocExtent) (full′ : Bool) (b : List AllocExtent) : Type 0 where
+  same : full ≡ full′ → a ≡ b → Alike slots full a full′ b
+  lost : (full || ltb slots (length a)) ≡ true → full′ ≡ true → Alike slots full a full′ b
 
 -- two places in an area with the bytes that are yet to come lead to the same
 pub record Leads (kind : ℕ) (row : List (List ℕ)) (s : Scan) (more : List ℕ) (row′ : List (List ℕ)) (s′ : Scan) (more′ : List ℕ) : Type 0 where
   pub long : length row′ ≡ length row
   pub ending : restOf kind s more .ending ≡ restOf kind s′ more′ .ending
-  pub extents : Alike (length row) (joined (placesIn row s) (restOf kind s more)) (joined (placesIn row′ s′) (restOf kind s′ more′))
+  pub extents : Alike (length row) (s .full) (joined (extentsIn row (s .listed)) (restOf kind s more)) (s′ .full) (joined (extentsIn row′ (s′ .listed)) (restOf kind s′ more′))
   pub carries : s′ .carried < sizeOf kind
+  pub inside : s .listed ≤ length row → s′ .listed ≤ length row
 
 -- behind some bytes
 pub record Scans (kind : ℕ) (row : List (List ℕ)) (s : Scan) (bytes : List ℕ) (row′ : List (List ℕ)) (s′ : Scan) : Type 0 where
@@ -45,7 +47,8 @@ pub record Stores (row : List (List ℕ)) (s : Scan) (e : AllocExtent) (row′ :
   pub long : length row′ ≡ length row
   pub closed : s′ .closed ≡ s .closed
   pub carried : s′ .carried ≡ 0
-  pub places : (more : List AllocExtent) → Alike (length row) (placesIn row s ++ e ∷ more) (placesIn row′ s′ ++ more)
+  pub places : (more : List AllocExtent) → Alike (length row) (s .full) (extentsIn row (s .listed) ++ e ∷ more) (s′ .full) (extentsIn row′ (s′ .listed) ++ more)
+  pub inside : s .listed ≤ length row → s′ .listed ≤ length row
 
 -- an area that has ended
 pub record Closes (s : Scan) (closed : ℕ) (s′ : Scan) : Type 0 where
@@ -65,8 +68,9 @@ pub record Continues (s : Scan) (a : AdContinuation) (s′ : Scan) : Type 0 wher
 pub record WholeWith (kind : ℕ) (row : List (List ℕ)) (s : Scan) (carry : List ℕ) (row′ : List (List ℕ)) (s′ : Scan) (more : List ℕ) : Type 0 where
   pub long : length row′ ≡ length row
   pub ending : areaOf kind (take (sizeOf kind) carry ++ more) .ending ≡ restOf kind s′ more .ending
-  pub extents : Alike (length row) (joined (placesIn row s) (areaOf kind (take (sizeOf kind) carry ++ more))) (joined (placesIn row′ s′) (restOf kind s′ more))
+  pub extents : Alike (length row) (s .full) (joined (extentsIn row (s .listed)) (areaOf kind (take (sizeOf kind) carry ++ more))) (s′ .full) (joined (extentsIn row′ (s′ .listed)) (restOf kind s′ more))
   pub carried : s′ .carried ≡ 0
+  pub inside : s .listed ≤ length row → s′ .listed ≤ length row
 
 pub record Whole (kind : ℕ) (row : List (List ℕ)) (s : Scan) (carry : List ℕ) (row′ : List (List ℕ)) (s′ : Scan) : Type 0 where
   pub behind : (more : List ℕ) → WholeWith kind row s carry row′ s′ more

@@ -14,10 +14,10 @@ use Rattle.areas.specs.declared.AllocExtent.{AllocExtent}
 use Rattle.areas.specs.declared.AdContinuation.{AdContinuation}
 use Rattle.areas.specs.Areas.{continuation}
 use Rattle.chains.specs.Chains.{areaFrom, nextArea}
-use Rattle.drives.specs.Feeds.{Feed, following, within, settled}
+use Rattle.drives.specs.Feeds.{Feed, naming, Settled, settledIn}
 use Rattle.drives.specs.Feeds.Feed.{over, stop}
-use Rattle.drives.specs.FileFeeds.{extentFeed, extentsFeed, joined, chainFeed}
-use Rattle.drives.specs.Readings.{referenceIn, extentIn, extentsIn, treeOf, numberOf, Goes}
+use Rattle.drives.specs.FileFeeds.{extentFeed, extentsFeed, joined, namedBy, chainFeed}
+use Rattle.drives.specs.Readings.{referenceIn, extentIn, extentsIn, isWanting, leftOf, numberOf}
 use Rattle.drives.specs.declared.scans.Scan.{Scan}
 use Rattle.drives.specs.declared.readings.Reading.{Reading}
 use Rattle.drives.specs.declared.turns.Entered.{Entered}
@@ -29,12 +29,17 @@ pub record Ends (r : Reading) (number : ℕ) (r′ : Reading) : Type 0 where
   pub count : r′ .count ≡ r .count
   pub length : r′ .length ≡ r .length
 
+-- no byte arrives
+abbrev pub quiet : Feed → Settled
+quiet f = record { bytes = []; rest = f }
+
 -- a state that stands for what is left of a read, with no byte put meanwhile
 pub record Stands (row : List (List ℕ)) (f : Feed) (r r′ : Reading) : Type 0 where
-  pub tree : (room : ℕ) → treeOf r′ row room ≡ within (length row) (room - r .length) f
-  pub answer : (room : ℕ) → r′ .answer ≡ numberOf (treeOf r′ row room)
+  pub left : (room : ℕ) → settledIn false (length row) room f ≡ quiet (leftOf r′ row)
+  pub answer : r′ .answer ≡ numberOf (leftOf r′ row)
   pub count : r′ .count ≡ r .count
   pub length : r′ .length ≡ r .length
+  pub listed : isWanting r′ ≡ true → r′ .scan .listed ≡ r .scan .listed
 
 -- what follows an extent with the others from `next` on
 abbrev pub extentsBehind : Reading → List (List ℕ) → ℕ → ℕ → Feed
@@ -56,7 +61,7 @@ pub record EntersAt (r : Reading) (at size next : ℕ) (e : Entered) : Type 0 wh
 -- the continuation of an area that was accepted
 abbrev pub continuing : Mount → ℕ → ℕ → ℕ → List AllocExtent → AdContinuation → Feed
 continuing m kind zero missing es a = stop Malformed
-continuing m kind (suc n) missing es a = following (nextArea m kind a) (λ x. chainFeed m kind n missing (joined es x) (x .ending))
+continuing m kind (suc n) missing es a = naming (namedBy kind (a .length) es) (nextArea m kind a) (λ x. chainFeed m kind n missing (joined es x) (x .ending))
 
 abbrev pub nextOf : Scan → AdContinuation
 nextOf s = continuation (s .«next_length») (record { 0 = s .«next_block» }) (referenceIn (s .«next_reference»))
@@ -67,4 +72,4 @@ pub record Chains (r x : Reading) : Type 0 where
 -- from a sector on
 pub record ContinuesAt (r : Reading) (at size : ℕ) (x : Reading) : Type 0 where
   pub stands : (row : List (List ℕ))
-      → Stands row (following (areaFrom (isChecked (r .mount)) (r .kind) size at) (λ y. chainFeed (r .mount) (r .kind) (r .hops - 1) (r .missing) (joined (extentsIn row (r .scan .listed)) y) (y .ending))) r x
+      → Stands row (naming (namedBy (r .kind) size (extentsIn row (r .scan .listed))) (areaFrom (isChecked (r .mount)) (r .kind) size at) (λ y. chainFeed (r .mount) (r .kind) (r .hops - 1) (r .missing) (joined (extentsIn row (r .scan .listed)) y) (y .ending))) r x
