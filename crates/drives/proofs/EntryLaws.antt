@@ -27,8 +27,9 @@ use Rattle.drives.specs.FileFeeds.{joined, chainFeed, entryFeed}
 use Rattle.drives.specs.Readings.{extentsIn, areaOf, endingOf, restOf, putAt, Goes}
 use Rattle.drives.specs.inner.Scans.{begun, Scans}
 use Rattle.drives.specs.inner.Turns.{Ends, Stands}
+use Rattle.drives.specs.inner.Bodies.{Lands}
 use Rattle.drives.specs.inner.Arrivals.{entryBehind, Arrives}
-use Rattle.drives.specs.inner.Entries.{locatedIn, ofEntry, longerBy, Embeds}
+use Rattle.drives.specs.inner.Entries.{locatedIn, ofEntry, chainOf, longerBy, Embeds}
 use Rattle.drives.specs.declared.scans.Scan.{Scan}
 use Rattle.drives.specs.declared.readings.Reading.{Reading}
 use Rattle.drives.proofs.TurnLaws.{stands-stop, ends-left, ends-not, end-stop}
@@ -85,55 +86,46 @@ module _ (r : Reading) (e : FileEntry) (sector out : List ℕ) (row : List (List
       let k : e .«area_at» + n - e .«area_at» ≡ min (e .«area_length») (e .«information_length») = omega arith in
       rw (eq-eqb (e .kind) 3 z) (rw k at (p .arrives row))
 
-  module _ (row′ : List (List ℕ)) (s′ : Scan) (z : e .kind ≡ 3 → ⊥) (l : e .«area_at» + e .«area_length» ≤ length sector)
-      (p : Scans (e .kind) row (begun 0) (take (e .«area_at» + e .«area_length» - e .«area_at») (drop (e .«area_at») sector)) row′ s′) where
-    part : take (e .«area_at» + e .«area_length» - e .«area_at») (drop (e .«area_at») sector) ≡ take (e .«area_length») (drop (e .«area_at») sector)
-    part = let k : e .«area_at» + e .«area_length» - e .«area_at» ≡ e .«area_length» = omega arith in rw k
+  pub file-listed : (row′ : List (List ℕ)) → (e .kind ≡ 3 → ⊥) → e .«area_at» + e .«area_length» ≤ length sector
+      → Lands row (chainOf r (e .kind) (e .«information_length») (take (e .«area_at» + e .«area_length» - e .«area_at») (drop (e .«area_at») sector))) r row′ x
+      → Arrives (entryFeed (r .mount) (locatedIn r e sector)) r out row row′ x out
+  unfolding entryFeed areaAt areaOf
+  file-listed row′ z l p = rw (ne-eqb (e .kind) 3 z, area) (lands-arrives row _ r row′ x out p)
+    where
+      area : areaAt (e .kind) sector (e .«area_at») (e .«area_length») ≡ areaOf (e .kind) (take (e .«area_at» + e .«area_length» - e .«area_at») (drop (e .«area_at») sector))
+      area =
+          let k : e .«area_at» + e .«area_length» - e .«area_at» ≡ e .«area_length» = omega arith in
+          let d = length-drop (e .«area_at») sector in
+          let j = length-take-le (e .«area_length») (drop (e .«area_at») sector) (omega arith) in
+          let h = area-in-part sector (e .«area_at») (e .«area_length») (e .kind) 0 (e .«area_length») (omega arith) in
+          rw (k, j) (sym (rw add-zero at h))
 
-    area : areaAt (e .kind) sector (e .«area_at») (e .«area_length») ≡ areaOf (e .kind) (take (e .«area_length») (drop (e .«area_at») sector) ++ [])
-    unfolding areaOf
-    area =
-        let d = length-drop (e .«area_at») sector in
-        let j = length-take-le (e .«area_length») (drop (e .«area_at») sector) (omega arith) in
-        let h = area-in-part sector (e .«area_at») (e .«area_length») (e .kind) 0 (e .«area_length») (omega arith) in
-        rw (append-nil (take (e .«area_length») (drop (e .«area_at») sector)), j) (sym (rw add-zero at h))
-
-    chained : (room : ℕ) → settledIn false (length row) room (entryFeed (r .mount) (locatedIn r e sector))
-        ≡ settledIn false (length row) room (crowdedBy (s′ .full) (chainFeed (r .mount) (e .kind) mostContinuations (e .«information_length») (extentsIn row′ (s′ .listed)) (endingOf s′)))
-    unfolding entryFeed restOf areaAt
-    chained room =
-        let w = leads-settled (r .mount) mostContinuations (e .«information_length») room (p .behind []) refl in
-        let v = rest-none (e .kind) s′ (p .behind [] .carries) in
-        let a : restOf (e .kind) (begun 0) (take (e .«area_at» + e .«area_length» - e .«area_at») (drop (e .«area_at») sector) ++ []) ≡ areaAt (e .kind) sector (e .«area_at») (e .«area_length») = front in
-        rw (ne-eqb (e .kind) 3 z) (rw (a, v, append-nil (extentsIn row′ (s′ .listed))) at w)
-      where
-        front : restOf (e .kind) (begun 0) (take (e .«area_at» + e .«area_length» - e .«area_at») (drop (e .«area_at») sector) ++ []) ≡ areaAt (e .kind) sector (e .«area_at») (e .«area_length»)
-        front = rw part (sym area)
-
-    pub file-chained : (y : Reading) → y ≡ ofEntry r (e .kind) (e .«information_length») s′
-        → Stands row′ (crowdedBy (y .scan .full) (chainFeed (y .mount) (y .kind) (y .hops) (y .missing) (extentsIn row′ (y .scan .listed)) (endingOf (y .scan)))) y x
-        → Arrives (entryFeed (r .mount) (locatedIn r e sector)) r out row row′ x out
-    file-chained y f q =
-        let w = rw f at q in
-        let h = p .behind [] .long in
-        lands-arrives row (entryFeed (r .mount) (locatedIn r e sector)) r row′ x out
-        (record {
-          long = h;
-          left = λ room. chained room ∙ rw h at (w .left room);
-          answer = w .answer;
-          count = w .count;
-          filled = w .length;
-          inside = λ i v. rw (w .listed v, h) (p .behind [] .inside (omega arith));
-        })
-
--- the same of a scan that began at the front
-pub file-listed : (r : Reading) (e : FileEntry) (sector out : List ℕ) (row : List (List ℕ)) (x : Reading) (row′ : List (List ℕ)) (s₀ s′ : Scan) (y : Reading) → (e .kind ≡ 3 → ⊥)
-    → e .«area_at» + e .«area_length» ≤ length sector → s₀ ≡ begun 0
-    → Scans (e .kind) row s₀ (take (e .«area_at» + e .«area_length» - e .«area_at») (drop (e .«area_at») sector)) row′ s′
-    → y ≡ ofEntry r (e .kind) (e .«information_length») s′
+-- the area in the entry, scanned from the front of the row on
+pub area-lands : (r : Reading) (kind missing : ℕ) (area : List ℕ) (row : List (List ℕ)) {s₀ : Scan} (s′ : Scan) (row′ : List (List ℕ)) → s₀ ≡ begun 0 → Scans kind row s₀ area row′ s′
+    → (y x : Reading) → y ≡ ofEntry r kind missing s′
     → Stands row′ (crowdedBy (y .scan .full) (chainFeed (y .mount) (y .kind) (y .hops) (y .missing) (extentsIn row′ (y .scan .listed)) (endingOf (y .scan)))) y x
-    → Arrives (entryFeed (r .mount) (locatedIn r e sector)) r out row row′ x out
-file-listed r e sector out row x row′ s₀ s′ y z l g p f q = file-chained r e sector out row x row′ s′ z l (rw g at p) y f q
+    → Lands row (chainOf r kind missing area) r row′ x
+unfolding restOf
+area-lands r kind missing area row s′ row′ g q y x f k =
+    let p = rw g at q in
+    let w = rw f at k in
+    let h = p .behind [] .long in
+    record {
+      long = h;
+      left = λ room. chained p room ∙ rw h at (w .left room);
+      answer = w .answer;
+      count = w .count;
+      filled = w .length;
+      inside = λ i v. rw (w .listed v, h) (p .behind [] .inside (omega arith));
+    }
+  where
+    chained : Scans kind row (begun 0) area row′ s′ → (room : ℕ)
+        → settledIn false (length row) room (chainOf r kind missing area)
+        ≡ settledIn false (length row) room (crowdedBy (s′ .full) (chainFeed (r .mount) kind mostContinuations missing (extentsIn row′ (s′ .listed)) (endingOf s′)))
+    chained p room =
+        let w = leads-settled (r .mount) mostContinuations missing room (p .behind []) refl in
+        let v = rest-none kind s′ (p .behind [] .carries) in
+        rw (append-nil area, v, append-nil (extentsIn row′ (s′ .listed))) at w
 
 -- ---- its sector
 

@@ -5,8 +5,9 @@ ghost use lib.ListN.{length};
 ghost use Rattle.disc.specs.Places.{isChecked};
 ghost use Rattle.entries.specs.FileEntries.{readEntry};
 ghost use Rattle.drives.specs.FileFeeds.{entryFeed};
+ghost use Rattle.drives.specs.inner.Bodies.{Lands};
 ghost use Rattle.drives.specs.inner.Arrivals.{entryBehind, Arrives};
-ghost use Rattle.drives.specs.inner.Entries.{locatedIn, ofEntry, longerBy, Embeds};
+ghost use Rattle.drives.specs.inner.Entries.{locatedIn, ofEntry, chainOf, longerBy, Embeds};
 use crate::arrivals::put;
 use crate::readings::Reading;
 use crate::scans::Scan;
@@ -60,6 +61,15 @@ fn take_embedded(r: Reading, bytes: &[u8], out: &mut [u8]) -> Reading
     over(x, DONE)
 }
 
+// The area that stands in a file's entry: the front of its chain. So many bytes of the file are missing.
+fn take_area(r: Reading, kind: u8, missing: u64, area: &[u8], row: &mut [[u32; 4]]) -> Reading
+    ensures { λ x. ⌜ Lands (now (row .entry)) (chainOf r kind missing (now (area .entry))) r (now (row .exit)) x ⌝ }
+{
+    let listed = take_bytes(kind, begin(0), area, row);
+    let x = of_entry(r, kind, missing, listed);
+    accept(x, row)
+}
+
 // The entry of a file, whose area lies within its sector.
 fn take_file(
     r: Reading,
@@ -78,9 +88,7 @@ fn take_file(
         return take_embedded(r, &sector[at..end], out);
     }
     let end = at + e.area_length;
-    let listed = take_bytes(e.kind, begin(0), &sector[at..end], row);
-    let x = of_entry(r, e.kind, e.information_length, listed);
-    accept(x, row)
+    take_area(r, e.kind, e.information_length, &sector[at..end], row)
 }
 
 // The entry's sector.

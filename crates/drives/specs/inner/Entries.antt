@@ -7,7 +7,10 @@ use Rattle.disc.specs.Ask.Ask.{done}
 use Rattle.entries.specs.declared.«file_entries».FileEntry.{FileEntry}
 use Rattle.chains.specs.Chains.{mostContinuations}
 use Rattle.files.specs.Files.{Located}
+use Rattle.drives.specs.Feeds.{Feed}
 use Rattle.drives.specs.Feeds.Feed.{over, put}
+use Rattle.drives.specs.FileFeeds.{chainFeed}
+use Rattle.drives.specs.Readings.{areaOf}
 use Rattle.drives.specs.inner.Arrivals.{Arrives}
 use Rattle.drives.specs.declared.scans.Scan.{Scan}
 use Rattle.drives.specs.declared.readings.Reading.{Reading}
@@ -34,6 +37,10 @@ ofEntry r kind missing s = record {
   count = r .count;
   length = r .length;
 }
+
+-- what follows the area in its entry
+abbrev pub chainOf : Reading → ℕ → ℕ → List ℕ → Feed
+chainOf r kind missing area = chainFeed (r .mount) kind mostContinuations missing (areaOf kind area .extents) (areaOf kind area .ending)
 
 -- with n bytes more at the output
 abbrev pub longerBy : Reading → ℕ → Reading
