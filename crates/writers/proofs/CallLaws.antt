@@ -4,22 +4,23 @@ use mathlib.Core.Bool.{Bool, true, false}
 use mathlib.Core.List.{List, [], _∷_, _++_, append-assoc}
 use Prim.Native.Nat.{ℕ, zero, suc, _+_, _-_, _*_, _/_, _<_, _≤_, _^_}
 use native.Mathlib.Omega.{arith}
+use native.Mathlib.Nat.{sub-zero}
 use lib.ListN.{length, drop}
-use lib.Seq.{sets}
+use borrow.Rule.Slice.PartMut.{midOf, putMid}
 use lib.Dec.{eqb, leb, ltb}
 use borrow.Author.Tests.{eq-eqb, ne-eqb, lt-ltb, le-ltb, le-leb, lt-leb, eqb-true, ltb-false}
 use Rattle.disc.specs.Choice.{pick}
 use Rattle.disc.specs.Refusals.{number}
 use Rattle.disc.specs.declared.refusals.Refusal.the-variants.{NoRoom, BadName, BadFiles}
 use Rattle.disc.proofs.PickLaws.{not-both}
-use Rattle.disc.proofs.MoveLaws.{sets-front}
+use Rattle.disc.proofs.MoveLaws.{sets-whole}
+use Rattle.disc.specs.Images.{sectorsFor}
 use Rattle.writers.specs.Layout.{zeros, blocksOf, total, directorySize, joined, front, directoryPart, entriesPart, filesPart, anchorAt, image}
 use Rattle.writers.specs.Refusing.{namesIn, isEnded, areGood, goodNames, areShort, sum, goodFiles, refusedBy, totalOf, Written, writes}
-use Rattle.writers.specs.inner.Pours.{Poured, Heads, Ready, head}
+use Rattle.writers.specs.inner.Pours.{Poured, Kept, Named, Heads, Staged, Ready, Sized, Sums, head}
 use Rattle.writers.specs.declared.WriteReply.{WriteReply}
-use Rattle.writers.proofs.PourLaws.{poured-then, poured-as}
+use Rattle.writers.proofs.PourLaws.{poured-then, poured-as, poured-front, front-long}
 use Rattle.writers.proofs.FileLaws.{blocks-few}
-use Rattle.writers.proofs.PartLaws.{sizes-few}
 
 -- ---- the files
 
@@ -76,14 +77,11 @@ module _ (names lengths : List ℕ) {b : Bool} (e : b ≡ goodNames names) where
     unfolding totalOf
     total-files g k = rw (← e, h, ← f, g) k
 
-    pub total-done : c ≡ true → {n : ℕ} → n ≡ blocksOf lengths → record { answer = 0; sectors = (384 + n) / 32 * 32 } ≡ totalOf names lengths
+    pub total-done : c ≡ true → {n : ℕ} → Sums sectorsFor lengths n → record { answer = 0; sectors = (384 + n) / 32 * 32 } ≡ totalOf names lengths
     unfolding totalOf
-    total-done g k = rw (← e, h, ← f, g, k)
+    total-done g k = rw (← e, h, ← f, g, k .is (files-good names lengths (sym f ∙ g) .short))
 
 module _ (names lengths : List ℕ) {c : Bool} (f : c ≡ goodFiles names lengths) (g : c ≡ true) where
-  pub good-short : areShort lengths ≡ true
-  good-short = files-good names lengths (sym f ∙ g) .short
-
   pub good-few : length lengths ≤ 64
   good-few = let q = files-good names lengths (sym f ∙ g) in omega (arith, q .few, q .alike)
 
@@ -116,83 +114,99 @@ module _ (names lengths : List ℕ) {r : WriteReply} (e : r ≡ totalOf names le
         by true false p q k = absurd (let z : 14 ≡ 0 = sym (ap (λ (x : WriteReply). x .answer) k) ∙ h in omega arith)
         by false b p q k = absurd (let z : 13 ≡ 0 = sym (ap (λ (x : WriteReply). x .answer) k) ∙ h in omega arith)
 
-    pub write-short : areShort lengths ≡ true
-    write-short = files-good names lengths (passed .filed) .short
+    filed : Files names lengths
+    filed = files-good names lengths (passed .filed)
 
     pub write-few : length lengths ≤ 64
-    write-few = let q = files-good names lengths (passed .filed) in omega (arith, q .few, q .alike)
+    write-few = omega (arith, filed .few, filed .alike)
 
-    module _ {s : ℕ} (f : s ≡ sum lengths) (staging lent : List ℕ) where
+    is : r .sectors ≡ total lengths
+    is = ap (λ (x : WriteReply). x .sectors) (passed .is)
+
+    pub write-least : 384 ≤ r .sectors
+    write-least = omega (arith, is)
+
+    pub write-most : r .sectors ≤ 67108864
+    write-most = omega (arith, is, blocks-few lengths (filed .short), write-few)
+
+    module _ {s : ℕ} (f : Sums (λ n. n) lengths s) (staging lent : List ℕ) where
+      summed-is : s ≡ sum lengths
+      summed-is = f .is (filed .short)
+
       pub write-staging : length staging < s → {q : WriteReply} → q ≡ refusedBy BadFiles → record { reply = q; image = lent } ≡ writes names lengths staging lent
       unfolding writes
-      write-staging k g = rw (passed .named, passed .filed, lt-leb (sum lengths) (length staging) (omega arith), g)
+      write-staging k g = rw (passed .named, passed .filed, lt-leb (sum lengths) (length staging) (omega (arith, summed-is)), g)
 
       module _ (k : s ≤ length staging) where
+        staged : leb (sum lengths) (length staging) ≡ true
+        staged = le-leb (sum lengths) (length staging) (omega (arith, summed-is))
+
         pub write-room : length lent / 2048 < r .sectors → {q : WriteReply} → q ≡ refusedBy NoRoom → record { reply = q; image = lent } ≡ writes names lengths staging lent
         unfolding writes
-        write-room l g =
-            let t : r .sectors ≡ total lengths = ap (λ (x : WriteReply). x .sectors) (passed .is) in
-            rw (passed .named, passed .filed, le-leb (sum lengths) (length staging) (omega arith), lt-leb (total lengths) (length lent / 2048) (omega arith), g)
+        write-room l g = rw (passed .named, passed .filed, staged, lt-leb (total lengths) (length lent / 2048) (omega (arith, is)), g)
+
+        ready : Ready names lengths staging (r .sectors)
+        ready =
+            let w = names-good names (passed .named) in
+            record { heads = record { named = record { good = w .good; few = filed .few }; short = filed .short }; alike = filed .alike; staged = omega (arith, summed-is); is = is }
 
         module _ (l : r .sectors ≤ length lent / 2048) where
-          pub write-ready : Ready names lengths staging lent (r .sectors)
-          write-ready =
-              let t : r .sectors ≡ total lengths = ap (λ (x : WriteReply). x .sectors) (passed .is) in
-              let q = files-good names lengths (passed .filed) in
-              let w = names-good names (passed .named) in
-              record {
-                ended = w .ended;
-                good = w .good;
-                few = q .few;
-                alike = q .alike;
-                few-files = omega (arith, q .few, q .alike);
-                short = q .short;
-                staged = omega arith;
-                sized = omega (arith, sizes-few (namesIn names) (w .good), q .few);
-                blocks = omega (arith, blocks-few lengths (q .short), q .few, q .alike);
-                is = t;
-                room = omega arith;
-              }
+          pub write-end : r .sectors * 2048 ≤ length lent
+          write-end = omega arith
 
-          pub write-done : {d : List ℕ} → d ≡ image (namesIn names) lengths staging ++ drop (2048 * r .sectors) lent → record { reply = r; image = d } ≡ writes names lengths staging lent
+          pub write-lent : length (midOf 0 (r .sectors * 2048 - 0) lent) ≡ 2048 * r .sectors
+          write-lent = front-long (r .sectors * 2048) lent write-end ∙ omega arith
+
+          pub write-done : {d : List ℕ} → (Ready names lengths staging (r .sectors) → d ≡ image (namesIn names) lengths staging)
+              → record { reply = r; image = putMid 0 (r .sectors * 2048 - 0) lent d } ≡ writes names lengths staging lent
           unfolding writes
-          write-done g =
-              let t : r .sectors ≡ total lengths = ap (λ (x : WriteReply). x .sectors) (passed .is) in
-              let u = g ∙ ap (λ j. image (namesIn names) lengths staging ++ drop (2048 * j) lent) t in
-              rw (passed .named, passed .filed, le-leb (sum lengths) (length staging) (omega arith), le-leb (total lengths) (length lent / 2048) (omega arith), u)
+          write-done {d} g =
+              let e : r .sectors * 2048 ≡ 2048 * total lengths = omega (arith, is) in
+              let u : putMid 0 (r .sectors * 2048 - 0) lent d ≡ image (namesIn names) lengths staging ++ drop (2048 * total lengths) lent = rw (g ready, sub-zero, e) in
+              rw (passed .named, passed .filed, staged, le-leb (total lengths) (length lent / 2048) (omega (arith, is)), u)
               (ap (λ x. record { reply = x; image = image (namesIn names) lengths staging ++ drop (2048 * total lengths) lent }) (passed .is))
 
 -- ---- the image
 
-pub ready-heads : {names lengths staging lent : List ℕ} {sectors : ℕ} → Ready names lengths staging lent sectors → Heads names lengths lent
-ready-heads p = record {
-  ended = p .ended;
-  good = p .good;
-  few = p .few;
-  few-files = p .few-files;
-  short = p .short;
-  sized = p .sized;
-  room = omega (arith, p .is, p .room);
+pub head-poured : (names lengths : List ℕ) (size : ℕ) {b m k r : ℕ} {d e f g : List ℕ} → Sized names b → Poured (joined (front size (length lengths) b)) 573440 0 d e m
+    → Kept (Named names) (directoryPart (namesIn names)) 16384 m (m + 16384) e f k → Kept (areShort lengths ≡ true) (joined (entriesPart lengths)) 131072 k (k + 131072) f g r
+    → Kept (Heads names lengths) (head (namesIn names) lengths size) 720896 0 720896 d g r
+head-poured names lengths size h p q t = record {
+  within = omega (arith, p .place, q .within, t .within);
+  same = t .same ∙ q .same ∙ p .same;
+  poured = λ y. poured-as (poured-then (poured-then p (q .poured (y .named))) (t .poured (y .short))) (rw (h .is (y .named))) refl;
 }
 
-pub head-poured : (names lengths : List ℕ) (size : ℕ) {b m k r : ℕ} {d e f g : List ℕ} → b ≡ directorySize (namesIn names)
-    → Poured (joined (front size (length lengths) b)) 573440 0 d e m → Poured (directoryPart (namesIn names)) 16384 m e f k → Poured (joined (entriesPart lengths)) 131072 k f g r
-    → Poured (head (namesIn names) lengths size) 720896 0 d g r
-head-poured names lengths size h p q t = poured-as (poured-then (poured-then p q) t) (rw h) refl
+module _ (names lengths staging : List ℕ) (sectors : ℕ) (d : List ℕ) (h : (length lengths ≤ 64) × (384 ≤ sectors) × (sectors ≤ 67108864) × (length d ≡ 2048 * sectors)) where
+  last : 2048 ≤ length d
+  last = omega (arith, h .1, h .3)
 
-pub image-poured : {names lengths staging d : List ℕ} {sectors : ℕ} → Ready names lengths staging d sectors → {b m k r : ℕ} {e f g : List ℕ} → (b ≡ blocksOf lengths) × (b < 2 ^ 40)
-    → Poured (head (namesIn names) lengths (sectors - 273)) 720896 0 d e m → Poured (filesPart lengths staging) (2048 * blocksOf lengths) m e f k
-    → Poured (zeros (2048 * (sectors - 353 - b)) ++ anchorAt (sectors - 1)) (2048 * (sectors - 353 - b) + 2048) k f g r
-    → g ≡ image (namesIn names) lengths staging ++ drop (2048 * sectors) d
-unfolding image
-image-poured {names} {lengths} {staging} {d} {sectors} y {b} h p q t =
-    let whole = poured-then (poured-then p q) t in
-    let n : length (image (namesIn names) lengths staging) ≡ 2048 * sectors = ap length (sym is) ∙ whole .long ∙ size (blocksOf lengths) sectors b (h .0) (y .is) in
-    whole .bytes ∙ rw is (sets-front (image (namesIn names) lengths staging) d (omega (arith, n, y .room)) ∙ rw n)
-  where
-    size : (blocks sectors b : ℕ) → b ≡ blocks → sectors ≡ (384 + blocks) / 32 * 32 → 720896 + 2048 * blocks + (2048 * (sectors - 353 - b) + 2048) ≡ 2048 * sectors
-    size blocks sectors b e f = omega arith
+  module _ {m : ℕ} {e : List ℕ} (p : Kept (Heads names lengths) (head (namesIn names) lengths (sectors - 273)) 720896 0 720896 d e m) where
+    abbrev files : List ℕ
+    files = midOf 0 (length d - 2048 - 0) e
 
-    is : (head (namesIn names) lengths (sectors - 273) ++ filesPart lengths staging) ++ (zeros (2048 * (sectors - 353 - b)) ++ anchorAt (sectors - 1)) ≡ image (namesIn names) lengths staging
-    is =
-        rw (h .0, y .is, ← y .alike) (sym (append-assoc (joined (front (total lengths - 273) (length (namesIn names)) (directorySize (namesIn names))) ++ directoryPart (namesIn names) ++ joined (entriesPart lengths) ++ filesPart lengths staging) (zeros (2048 * (total lengths - 353 - blocksOf lengths))) (anchorAt (total lengths - 1))))
+    pub pour-front : length d - 2048 ≤ length e
+    pour-front = omega (arith, p .same)
+
+    files-room : length files ≡ length d - 2048
+    files-room = front-long (length d - 2048) e pour-front
+
+    pub pour-data : m ≤ length files
+    pour-data = omega (arith, files-room, p .within, h .1, h .3)
+
+    module _ {k : ℕ} {y : List ℕ} (q : Kept (Staged lengths staging m files) (filesPart lengths staging) (2048 * blocksOf lengths) m (length files) files y k) where
+      pub pour-left : k ≤ length d - 2048
+      pour-left = omega (arith, q .within, files-room)
+
+      pub pour-done : {r : ℕ} {g : List ℕ} → Poured (zeros (length d - 2048 - k) ++ anchorAt (sectors - 1)) (length d - 2048 - k + 2048) k (putMid 0 (length d - 2048 - 0) e y) g r
+          → Ready names lengths staging sectors → g ≡ image (namesIn names) lengths staging
+      unfolding image
+      pour-done t z =
+          let first = p .poured (z .heads) in
+          let fits : m + 2048 * blocksOf lengths ≤ length d - 2048 = omega (arith, first .place, h .3, z .is) in
+          let body = poured-front pour-front fits (q .poured (record { whole = z .staged; room = omega (arith, fits, files-room) })) in
+          let whole = poured-then (poured-then first body) t in
+          let n : length d - 2048 - k ≡ 2048 * (total lengths - 353 - blocksOf lengths) = omega (arith, first .place, body .place, h .3, z .is) in
+          let is : (head (namesIn names) lengths (sectors - 273) ++ filesPart lengths staging) ++ (zeros (length d - 2048 - k) ++ anchorAt (sectors - 1)) ≡ image (namesIn names) lengths staging = rw (n, z .is, ← z .alike) (simp append-assoc) in
+          let all : 720896 + 2048 * blocksOf lengths + (length d - 2048 - k + 2048) ≡ length d = omega (arith, first .place, body .place, pour-left, last) in
+          whole .bytes ∙ sets-whole _ d (whole .long ∙ all) ∙ is

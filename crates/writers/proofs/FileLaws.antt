@@ -2,7 +2,7 @@
 use mathlib.Core.Path.{_≡_, refl, ap, sym, _∙_}
 use mathlib.Core.Bool.{Bool, true, false}
 use mathlib.Core.List.{List, [], _∷_, _++_}
-use Prim.Native.Nat.{ℕ, zero, suc, _+_, _-_, _*_, _/_, _<_, _≤_, _^_}
+use Prim.Native.Nat.{ℕ, zero, suc, _+_, _-_, _*_, _/_, _<_, _≤_, _^_, min, zero-le}
 use native.Mathlib.Nat.{add-sub-cancel-left}
 use native.Mathlib.Numerals.{add-one}
 use native.Mathlib.Omega.{arith}
@@ -16,7 +16,7 @@ use Rattle.disc.proofs.PickLaws.{not-both}
 use Rattle.disc.proofs.MoveLaws.{sets-append}
 use Rattle.writers.specs.Layout.{summed, zeros, blocksOf, filesPart}
 use Rattle.writers.specs.Refusing.{longest, areShort, sum}
-use Rattle.writers.specs.inner.Pours.{Poured}
+use Rattle.writers.specs.inner.Pours.{Poured, Kept, Staged, Sums}
 use Rattle.writers.proofs.PourLaws.{poured-then, poured-as}
 use mir.Val.{Fits}
 use mir.Syntax.{w64}
@@ -45,11 +45,7 @@ module _ {lengths : List ℕ} {i : ℕ} (p : Shortening lengths i) where
       let k : areShort (drop i lengths) ≡ true = rw (drop-of-length-le lengths) in
       sym k ∙ p .rest
 
--- what it says of the one at i, and of those behind
-pub record Short (lengths : List ℕ) (i : ℕ) : Type 0 where
-  pub first : getD lengths i 0 ≤ longest
-  pub others : areShort (drop (i + 1) lengths) ≡ true
-
+-- what it says of the first, of those behind, and of the one at i
 pub short-cons : (n : ℕ) (ns : List ℕ) → areShort (n ∷ ns) ≡ true → (n ≤ longest) × (areShort ns ≡ true)
 unfolding areShort
 short-cons n ns e = by (ltb longest n) refl e
@@ -58,11 +54,14 @@ short-cons n ns e = by (ltb longest n) refl e
     by true f g = not-both g
     by false f g = (ltb-false longest n f, g)
 
-pub short-at : (lengths : List ℕ) (i : ℕ) → areShort (drop i lengths) ≡ true → i < length lengths → Short lengths i
-short-at lengths i e h =
-    let q : areShort (getD lengths i 0 ∷ drop (i + 1) lengths) ≡ true = rw (add-one, ← drop-cons lengths i 0) e in
-    let r = short-cons (getD lengths i 0) (drop (i + 1) lengths) q in
-    record { first = r .0; others = r .1 }
+short-get : (lengths : List ℕ) (i : ℕ) → areShort lengths ≡ true → getD lengths i 0 ≤ longest
+short-get [] i e = zero-le
+short-get (n ∷ ns) zero e = short-cons n ns e .0
+short-get (n ∷ ns) (suc i) e = short-get ns i (short-cons n ns e .1)
+
+-- a length that isn't too long is held as it is
+pub held-is : (lengths : List ℕ) (i : ℕ) {m : ℕ} → m ≡ min (getD lengths i 0) longest → areShort lengths ≡ true → m ≡ getD lengths i 0
+held-is lengths i e s = omega (arith, short-get lengths i s)
 
 -- ---- sums
 
@@ -74,61 +73,69 @@ pub summed-none : {A : Type 0} (f : A → ℕ) (l : List A) (i : ℕ) → length
 unfolding summed
 summed-none f l i h = rw (drop-of-length-le l)
 
--- where each is at most m
-pub sum-few : (lengths : List ℕ) → areShort lengths ≡ true → sum lengths ≤ length lengths * longest
-unfolding summed
-sum-few [] e = omega arith
-sum-few (n ∷ ns) e = let r = short-cons n ns e in omega (arith, r .0, sum-few ns (r .1))
-
+-- where none is too long
 pub blocks-few : (lengths : List ℕ) → areShort lengths ≡ true → blocksOf lengths ≤ length lengths * 524287
 unfolding summed
 blocks-few [] e = omega arith
 blocks-few (n ∷ ns) e = let r = short-cons n ns e in let k : sectorsFor n ≤ 524287 = omega (arith, r .0) in omega (arith, blocks-few ns (r .1))
 
+-- the loop that adds has come to i: n is small whatever the lengths are
 pub record Summing (f : ℕ → ℕ) (l : List ℕ) (n i : ℕ) : Type 0 where
-  pub rest : n + summed f (drop i l) ≡ summed f l
-  pub bound : summed f l < 2 ^ 40
+  pub small : n ≤ i * longest
+  pub within : i ≤ length l
+  pub few : length l ≤ 64
+  pub rest : areShort l ≡ true → n + summed f (drop i l) ≡ summed f l
 
-pub sum-starts : (l : List ℕ) → (areShort l ≡ true) × (length l ≤ 64) → Summing (λ n. n) l 0 0
-sum-starts l h = record { rest = omega arith; bound = omega (arith, sum-few l (h .0), h .1) }
-
-pub blocks-starts : (l : List ℕ) → (areShort l ≡ true) × (length l ≤ 64) → Summing sectorsFor l 0 0
-blocks-starts l h = record { rest = omega arith; bound = omega (arith, blocks-few l (h .0), h .1) }
+pub sum-starts : (f : ℕ → ℕ) (l : List ℕ) → length l ≤ 64 → Summing f l 0 0
+sum-starts f l h = record { small = omega arith; within = omega arith; few = h; rest = λ s. omega arith }
 
 module _ (f : ℕ → ℕ) {l : List ℕ} {n i : ℕ} (p : Summing f l n i) where
-  next-sum : i < length l → Summing f l (n + f (getD l i 0)) (i + 1)
-  next-sum h = record { rest = omega (arith, p .rest, summed-at f l i 0 h); bound = p .bound }
+  next-sum : i < length l → {m : ℕ} → m ≡ min (getD l i 0) longest → f m ≤ longest → Summing f l (n + f m) (i + 1)
+  next-sum h {m} e k = record {
+    small = omega (arith, p .small);
+    within = omega arith;
+    few = p .few;
+    rest = λ s. let q : f m ≡ f (getD l i 0) = ap f (held-is l i e s) in omega (arith, p .rest s, summed-at f l i 0 h);
+  }
 
-  pub sum-ends : length l ≤ i → n ≡ summed f l
-  sum-ends h = omega (arith, p .rest, summed-none f l i h)
+  pub sum-ends : length l ≤ i → Sums f l n
+  sum-ends h = record { small = omega (arith, p .small, p .within, p .few); is = λ s. omega (arith, p .rest s, summed-none f l i h) }
 
-module _ {l : List ℕ} {n i : ℕ} where
-  pub sum-adds : Summing (λ m. m) l n i → i < length l → Fits w64 (n + getD l i 0)
-  sum-adds p h = record { fits = omega (arith, p .rest, p .bound, summed-at (λ m. m) l i 0 h) }
+pub blocks-round : (k : ℕ) {m : ℕ} → m ≡ min k longest → Fits w64 (m + 2047)
+blocks-round k e = record { fits = omega arith }
 
-  pub sum-next : Summing (λ m. m) l n i → i < length l → Summing (λ m. m) l (n + getD l i 0) (i + 1)
-  sum-next p h = next-sum (λ m. m) p h
+module _ {l : List ℕ} {n i m : ℕ} (e : m ≡ min (getD l i 0) longest) where
+  pub sum-adds : Summing (λ k. k) l n i → i < length l → Fits w64 (n + m)
+  sum-adds p h = record { fits = omega (arith, p .small, p .few) }
 
-  pub blocks-next : Summing sectorsFor l n i → i < length l → Summing sectorsFor l (n + (getD l i 0 + 2047) / 2048) (i + 1)
-  blocks-next p h = next-sum sectorsFor p h
+  pub sum-next : Summing (λ k. k) l n i → i < length l → Summing (λ k. k) l (n + m) (i + 1)
+  sum-next p h = next-sum (λ k. k) p h e (omega arith)
 
-  pub blocks-round : Summing sectorsFor l n i → i < length l → Fits w64 (getD l i 0 + 2047)
-  blocks-round p h = record { fits = omega (arith, p .rest, p .bound, summed-at sectorsFor l i 0 h) }
+  pub blocks-adds : Summing sectorsFor l n i → i < length l → Fits w64 (n + (m + 2047) / 2048)
+  blocks-adds p h = record { fits = omega (arith, p .small, p .few) }
 
-  pub blocks-low : Summing sectorsFor l n i → n < 2 ^ 40
-  blocks-low p = omega (arith, p .rest, p .bound)
-
-  pub blocks-adds : Summing sectorsFor l n i → i < length l → Fits w64 (n + (getD l i 0 + 2047) / 2048)
-  blocks-adds p h = record { fits = omega (arith, p .rest, p .bound, summed-at sectorsFor l i 0 h) }
+  pub blocks-next : Summing sectorsFor l n i → i < length l → Summing sectorsFor l (n + (m + 2047) / 2048) (i + 1)
+  blocks-next p h = next-sum sectorsFor p h e (omega arith)
 
 -- ---- the files poured
 
-pub file-poured : (text : List ℕ) {at m r : ℕ} {d e f : List ℕ} → Poured text (length text) at d e m
-    → Poured (zeros ((length text + 2047) / 2048 * 2048 - length text)) ((length text + 2047) / 2048 * 2048 - length text) m e f r
-    → Poured (text ++ zeros (2048 * sectorsFor (length text) - length text)) (2048 * sectorsFor (length text)) at d f r
-file-poured text p q =
-    let k : (length text + 2047) / 2048 * 2048 - length text ≡ 2048 * sectorsFor (length text) - length text = omega arith in
-    poured-as (poured-then p q) (ap (λ j. text ++ zeros j) k) (omega arith)
+-- one file: nothing is poured where there is no room for it
+module _ (text : List ℕ) {at : ℕ} (d : List ℕ) (a : at ≤ length d) where
+  abbrev Filled : List ℕ → ℕ → Type 0
+  Filled f r = Kept (at + 2048 * sectorsFor (length text) ≤ length d) (text ++ zeros (2048 * sectorsFor (length text) - length text)) (2048 * sectorsFor (length text)) at (length d) d f r
+
+  pub file-none : length d - at < (length text + 2047) / 2048 * 2048 → Filled d at
+  file-none h = record { within = a; same = refl; poured = λ k. absurd (omega arith) }
+
+  pub file-room : (length text + 2047) / 2048 * 2048 ≤ length d - at → at + length text ≤ length d
+  file-room h = omega arith
+
+  pub file-poured : (length text + 2047) / 2048 * 2048 ≤ length d - at → {m r : ℕ} {e f : List ℕ} → Poured text (length text) at d e m
+      → Poured (zeros ((length text + 2047) / 2048 * 2048 - length text)) ((length text + 2047) / 2048 * 2048 - length text) m e f r → Filled f r
+  file-poured h {m} {r} {e} {f} p q =
+      let k : (length text + 2047) / 2048 * 2048 - length text ≡ 2048 * sectorsFor (length text) - length text = omega arith in
+      let w : Poured (text ++ zeros (2048 * sectorsFor (length text) - length text)) (2048 * sectorsFor (length text)) at d f r = poured-as (poured-then p q) (ap (λ j. text ++ zeros j) k) (omega arith) in
+      record { within = omega (arith, w .place); same = w .same; poured = λ _. w }
 
 pub files-long : (lengths staging : List ℕ) → sum lengths ≤ length staging → length (filesPart lengths staging) ≡ 2048 * blocksOf lengths
 unfolding filesPart summed
@@ -138,63 +145,66 @@ files-long (n ∷ ns) staging h =
     let l : length (filesPart ns (drop n staging)) ≡ 2048 * blocksOf ns = files-long ns (drop n staging) (rw length-drop (omega arith)) in
     rw (length-append, length-append, k, length-replicate, l) (omega arith)
 
-pub record Filing (lengths staging image₀ : List ℕ) (at : ℕ) (image : List ℕ) (i from place : ℕ) : Type 0 where
+-- the loop has come to file i, and stays inside what was lent whatever the lengths are; where they are good, what is left to pour is what the files left are
+pub record Filed (lengths staging image₀ : List ℕ) (at : ℕ) (image : List ℕ) (i from place : ℕ) : Type 0 where
   pub rest : sets image place (filesPart (drop i lengths) (drop from staging)) ≡ sets image₀ at (filesPart lengths staging)
   pub taken : from + sum (drop i lengths) ≡ sum lengths
   pub room : place + 2048 * blocksOf (drop i lengths) ≡ at + 2048 * blocksOf lengths
-  pub fits : at + 2048 * blocksOf lengths ≤ length image₀
-  pub short : areShort (drop i lengths) ≡ true
-  pub same : length image ≡ length image₀
-  pub whole : sum lengths ≤ length staging
-  pub bound : sum lengths < 2 ^ 40
 
-pub file-starts : (lengths staging image : List ℕ) (at : ℕ) → (areShort lengths ≡ true) × (length lengths ≤ 64) × (sum lengths ≤ length staging) × (at + 2048 * blocksOf lengths ≤ length image)
-    → Filing lengths staging image at image 0 0 at
-file-starts lengths staging image at h = record { rest = refl; taken = omega arith; room = refl; fits = h .3; short = h .0; same = refl; whole = h .2; bound = omega (arith, sum-few lengths (h .0), h .1) }
+pub record Filing (lengths staging image₀ : List ℕ) (at : ℕ) (image : List ℕ) (i from place : ℕ) : Type 0 where
+  pub inside : from ≤ length staging
+  pub within : place ≤ length image
+  pub same : length image ≡ length image₀
+  pub filed : Staged lengths staging at image₀ → Filed lengths staging image₀ at image i from place
+
+pub files-start : (lengths staging image : List ℕ) (at : ℕ) → at ≤ length image → Filing lengths staging image at image 0 0 at
+files-start lengths staging image at h = record { inside = omega arith; within = h; same = refl; filed = λ s. record { rest = refl; taken = omega arith; room = refl } }
 
 module _ {lengths staging image₀ : List ℕ} {at : ℕ} {image : List ℕ} {i from place : ℕ} (p : Filing lengths staging image₀ at image i from place) where
-  pub file-end : i < length lengths → from + getD lengths i 0 ≤ length staging
-  file-end h = omega (arith, p .taken, p .whole, summed-at (λ n. n) lengths i 0 h)
+  pub files-left : from ≤ length staging
+  files-left = p .inside
 
-  pub file-adds : i < length lengths → Fits w64 (from + getD lengths i 0)
-  file-adds h = record { fits = omega (arith, p .taken, p .bound, summed-at (λ n. n) lengths i 0 h) }
+  pub files-room : place ≤ length image
+  files-room = p .within
 
-  part-long : i < length lengths → length (take (from + getD lengths i 0 - from) (drop from staging)) ≡ getD lengths i 0
-  part-long h = rw add-sub-cancel-left (length-take-le (getD lengths i 0) (drop from staging) (rw length-drop (omega (arith, file-end h))))
+  module _ {n : ℕ} (e : n ≡ min (getD lengths i 0) (length staging - from)) where
+    pub files-end : from + n ≤ length staging
+    files-end = omega (arith, p .inside)
 
-  pub file-small : i < length lengths → length (take (from + getD lengths i 0 - from) (drop from staging)) ≤ longest
-  file-small h = rw (part-long h) (short-at lengths i (p .short) h .first)
+    abbrev part : List ℕ
+    part = take (from + n - from) (drop from staging)
 
-  pub file-room : i < length lengths → place + 2048 * sectorsFor (length (take (from + getD lengths i 0 - from) (drop from staging))) ≤ length image
-  file-room h = rw (part-long h) (omega (arith, p .room, p .fits, p .same, summed-at sectorsFor lengths i 0 h))
+    part-long : length part ≡ n
+    part-long = rw add-sub-cancel-left (length-take-le n (drop from staging) (rw length-drop (omega (arith, files-end))))
 
-  pub file-next : i < length lengths → {f : List ℕ} {r : ℕ}
-      → Poured (take (from + getD lengths i 0 - from) (drop from staging) ++ zeros (2048 * sectorsFor (length (take (from + getD lengths i 0 - from) (drop from staging))) - length (take (from + getD lengths i 0 - from) (drop from staging))))
-      (2048 * sectorsFor (length (take (from + getD lengths i 0 - from) (drop from staging)))) place image f r
-      → Filing lengths staging image₀ at f (i + 1) (from + getD lengths i 0) r
+    pub files-next : i < length lengths → {f : List ℕ} {r : ℕ}
+        → Kept (place + 2048 * sectorsFor (length part) ≤ length image) (part ++ zeros (2048 * sectorsFor (length part) - length part)) (2048 * sectorsFor (length part)) place (length image) image f r
+        → Filing lengths staging image₀ at f (i + 1) (from + n) r
+    unfolding filesPart
+    files-next h {f} {r} q = record { inside = files-end; within = omega (arith, q .within, q .same); same = q .same ∙ p .same; filed = λ s. next s (p .filed s) }
+      where
+        next : Staged lengths staging at image₀ → Filed lengths staging image₀ at image i from place → Filed lengths staging image₀ at f (i + 1) (from + n) r
+        next s w =
+            let bytes = summed-at (λ m. m) lengths i 0 h in
+            let blocks = summed-at sectorsFor lengths i 0 h in
+            let is : n ≡ getD lengths i 0 = omega (arith, w .taken, s .whole, bytes) in
+            let fits : place + 2048 * sectorsFor (length part) ≤ length image = rw (part-long, is) (omega (arith, w .room, s .room, p .same, blocks)) in
+            let text : List ℕ = take n (drop from staging) ++ zeros (2048 * sectorsFor n - n) in
+            let y : Poured text (2048 * sectorsFor n) place image f r = rw (part-long, add-sub-cancel-left) at (q .poured fits) in
+            let others : List ℕ = filesPart (drop (i + 1) lengths) (drop (from + n) staging) in
+            let split : filesPart (drop i lengths) (drop from staging) ≡ text ++ others = rw (add-one, drop-cons lengths i 0, ← is, ← drop-drop n from staging) in
+            let t : sets image place (filesPart (drop i lengths) (drop from staging)) ≡ sets f r others = rw split (sets-append text others image place ∙ rw (y .bytes, y .place, y .long)) in
+            let k : sectorsFor n ≡ sectorsFor (getD lengths i 0) = ap sectorsFor is in
+            record { rest = sym t ∙ w .rest; taken = omega (arith, w .taken, bytes); room = omega (arith, w .room, y .place, blocks) }
+
+  pub files-done : length lengths ≤ i → Kept (Staged lengths staging at image₀) (filesPart lengths staging) (2048 * blocksOf lengths) at (length image₀) image₀ image place
   unfolding filesPart
-  file-next h {f} {r} q₀ =
-      let n : ℕ = getD lengths i 0 in
-      let q : Poured (take n (drop from staging) ++ zeros (2048 * sectorsFor n - n)) (2048 * sectorsFor n) place image f r = rw (part-long h, add-sub-cancel-left) at q₀ in
-      let s : filesPart (drop i lengths) (drop from staging) ≡ (take n (drop from staging) ++ zeros (2048 * sectorsFor n - n)) ++ filesPart (drop (i + 1) lengths) (drop (from + n) staging) = rw (add-one, drop-cons lengths i 0, ← drop-drop n from staging) in
-      let t : sets image place (filesPart (drop i lengths) (drop from staging)) ≡ sets f r (filesPart (drop (i + 1) lengths) (drop (from + n) staging)) =
-      rw s (sets-append (take n (drop from staging) ++ zeros (2048 * sectorsFor n - n)) (filesPart (drop (i + 1) lengths) (drop (from + n) staging)) image place ∙ rw (q .bytes, q .place, q .long)) in
-      record {
-        rest = sym t ∙ p .rest;
-        taken = omega (arith, p .taken, summed-at (λ m. m) lengths i 0 h);
-        room = omega (arith, p .room, q .place, summed-at sectorsFor lengths i 0 h);
-        fits = p .fits;
-        short = short-at lengths i (p .short) h .others;
-        same = q .same ∙ p .same;
-        whole = p .whole;
-        bound = p .bound;
+  files-done h = record { within = omega (arith, p .within, p .same); same = p .same; poured = λ s. done s (p .filed s) }
+    where
+      done : Staged lengths staging at image₀ → Filed lengths staging image₀ at image i from place → Poured (filesPart lengths staging) (2048 * blocksOf lengths) at image₀ image place
+      done s w = record {
+        bytes = rw (drop-of-length-le lengths) at (w .rest);
+        long = files-long lengths staging (s .whole);
+        place = omega (arith, w .room, summed-none sectorsFor lengths i h);
+        same = p .same;
       }
-
-  pub file-ends : length lengths ≤ i → Poured (filesPart lengths staging) (2048 * blocksOf lengths) at image₀ image place
-  unfolding filesPart
-  file-ends h = record {
-    bytes = rw (drop-of-length-le lengths) at (p .rest);
-    long = files-long lengths staging (p .whole);
-    place = omega (arith, p .room, summed-none sectorsFor lengths i h);
-    same = p .same;
-  }

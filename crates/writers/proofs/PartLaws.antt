@@ -2,11 +2,11 @@
 use mathlib.Core.Path.{_≡_, refl, ap, sym, _∙_}
 use mathlib.Core.Bool.{Bool, true, false}
 use mathlib.Core.List.{List, [], _∷_, _++_, append-nil}
-use Prim.Native.Nat.{ℕ, zero, suc, _+_, _-_, _*_, _/_, _<_, _≤_, _^_}
+use Prim.Native.Nat.{ℕ, zero, suc, _+_, _-_, _*_, _/_, _<_, _≤_, _^_, min}
 use native.Mathlib.Numerals.{add-one}
 use native.Mathlib.Omega.{arith}
-use lib.ListN.{length, getD, take, drop, length-append, length-replicate, drop-of-length-le}
-use lib.Seq.{drop-cons, sets}
+use lib.ListN.{length, getD, take, drop, length-append, length-drop, length-replicate, drop-of-length-le}
+use lib.Seq.{drop-cons, sets, length-take-le}
 use lib.Dec.{eqb, ltb}
 use mir.Val.{Fits}
 use mir.Syntax.{w32}
@@ -17,12 +17,12 @@ use Rattle.disc.proofs.PickLaws.{not-both}
 use Rattle.disc.proofs.MoveLaws.{sets-append}
 use Rattle.names.specs.Names.{untilZero}
 use Rattle.writers.specs.Layout.{summed, zeros, blocksOf, identifierSize, namesSize, directorySize, joined, blanks, sector, sealed, entryBody, identifierBody, fileEntry, identifierAt, entries, entriesPart, identifiers, directory, directoryPart, recognition, recognitionPart, sequence, integrityPart, rootPart, front, rootEntry, anchorAt, primaryBody, infoBody, partitionBody, logicalBody, unallocatedBody, terminatingBody, integrityBody, fileSetBody}
-use Rattle.writers.specs.Refusing.{namesIn, isEnded, isGood, isAmong, areGood, areShort, allPlain}
-use Rattle.writers.specs.inner.Pours.{Poured, Laid, NameEnd}
+use Rattle.writers.specs.Refusing.{longest, namesIn, isGood, isAmong, areGood, areShort, allPlain}
+use Rattle.writers.specs.inner.Pours.{Poured, Laid, Kept, NameEnd, NameStop, Named, Sized}
 use Rattle.writers.proofs.PourLaws.{poured-then, poured-as, sealed-long, joined-append, laid-append, laid-cons}
 use Rattle.writers.proofs.BodyLaws.{identifier-long}
-use Rattle.writers.proofs.NameLaws.{names-at, names-none, name-part, ended-at, unended-at}
-use Rattle.writers.proofs.FileLaws.{Short, short-at, summed-at, summed-none, blocks-few}
+use Rattle.writers.proofs.NameLaws.{name-short, names-at, names-none, name-part}
+use Rattle.writers.proofs.FileLaws.{held-is}
 
 -- ---- entries
 
@@ -47,41 +47,20 @@ entries-long i block [] = refl
 entries-long i block (n ∷ ns) =
     rw (length-append, entry-long (16 + i) 5 0x1084 n (16 + i) (pick (eqb n 0) 0 block), entries-long (i + 1) (block + sectorsFor n) ns) (omega arith)
 
+-- the loop has come to entry i: its place and its block are bounded whatever the lengths are
 pub record Entering (lengths image₀ : List ℕ) (at : ℕ) (image : List ℕ) (place block i : ℕ) : Type 0 where
-  pub rest : sets image place (joined (entries i block (drop i lengths))) ≡ sets image₀ at (joined (entries 0 80 lengths))
   pub room : place ≡ at + 2048 * i
   pub fits : at + 2048 * length lengths ≤ length image₀
   pub within : i ≤ length lengths
   pub few : length lengths ≤ 64
-  pub blocks : block + blocksOf (drop i lengths) ≡ 80 + blocksOf lengths
-  pub small : blocksOf lengths ≤ 33554368
-  pub short : areShort (drop i lengths) ≡ true
+  pub low : block ≤ 80 + i * 524287
   pub same : length image ≡ length image₀
+  pub rest : areShort lengths ≡ true → sets image place (joined (entries i block (drop i lengths))) ≡ sets image₀ at (joined (entries 0 80 lengths))
 
-pub enter-starts : (lengths image : List ℕ) (at : ℕ) → (areShort lengths ≡ true) × (length lengths ≤ 64) × (at + 2048 * length lengths ≤ length image)
-    → Entering lengths image at image at 80 0
-enter-starts lengths image at h = record {
-  rest = refl;
-  room = omega arith;
-  fits = h .2;
-  within = omega arith;
-  few = h .1;
-  blocks = refl;
-  small = omega (arith, blocks-few lengths (h .0), h .1);
-  short = h .0;
-  same = refl;
-}
+pub enter-starts : (lengths image : List ℕ) (at : ℕ) → (length lengths ≤ 64) × (at + 2048 * length lengths ≤ length image) → Entering lengths image at image at 80 0
+enter-starts lengths image at h = record { room = omega arith; fits = h .1; within = omega arith; few = h .0; low = omega arith; same = refl; rest = λ s. refl }
 
 module _ {lengths image₀ : List ℕ} {at : ℕ} {image : List ℕ} {place block i : ℕ} (p : Entering lengths image₀ at image place block i) where
-  pub enter-cast : i < length lengths → Fits w32 (getD lengths i 0)
-  enter-cast h = record { fits = omega (arith, short-at lengths i (p .short) h .first) }
-
-  pub enter-round : i < length lengths → Fits w32 (getD lengths i 0 + 2047)
-  enter-round h = record { fits = omega (arith, short-at lengths i (p .short) h .first) }
-
-  pub enter-block : i < length lengths → Fits w32 (block + (getD lengths i 0 + 2047) / 2048)
-  enter-block h = record { fits = omega (arith, p .blocks, p .small, summed-at sectorsFor lengths i 0 h) }
-
   pub enter-index : i < length lengths → Fits w32 i
   enter-index h = record { fits = omega (arith, p .few) }
 
@@ -91,38 +70,45 @@ module _ {lengths image₀ : List ℕ} {at : ℕ} {image : List ℕ} {place bloc
   pub enter-room : i < length lengths → place + 2048 ≤ length image
   enter-room h = omega (arith, p .room, p .fits, p .same)
 
-  pub enter-next : i < length lengths → {f : List ℕ} {r : ℕ} → Laid (sector (fileEntry i (getD lengths i 0) block) ∷ []) place image f r
-      → Entering lengths image₀ at f r (block + (getD lengths i 0 + 2047) / 2048) (i + 1)
-  unfolding entries joined
-  enter-next h {f} {r} l =
-      let q = l .poured in
-      let n : ℕ = getD lengths i 0 in
-      let x : List ℕ = sector (fileEntry i n block) in
-      let rest : List ℕ = joined (entries (i + 1) (block + sectorsFor n) (drop (i + 1) lengths)) in
-      let dc : drop i lengths ≡ n ∷ drop (i + 1) lengths = rw (add-one i) (drop-cons lengths i 0 h) in
-      let s : joined (entries i block (drop i lengths)) ≡ (x ++ []) ++ rest = rw dc (ap (λ l. l ++ rest) (sym (append-nil x))) in
-      let t : sets image place (joined (entries i block (drop i lengths))) ≡ sets f r rest = rw s (sets-append (x ++ []) rest image place ∙ rw (q .bytes, q .place, q .long)) in
-      record {
-        rest = sym t ∙ p .rest;
-        room = omega (arith, p .room, q .place);
-        fits = p .fits;
-        within = omega arith;
-        few = p .few;
-        blocks = omega (arith, p .blocks, summed-at sectorsFor lengths i 0 h);
-        small = p .small;
-        short = short-at lengths i (p .short) h .others;
-        same = q .same ∙ p .same;
-      }
+  module _ {n : ℕ} (m : n ≡ min (getD lengths i 0) longest) where
+    pub enter-cast : Fits w32 n
+    enter-cast = record { fits = omega arith }
 
-  pub enter-ends : length lengths ≤ i → Poured (joined (entries 0 80 lengths)) (2048 * length lengths) at image₀ image place
+    pub enter-round : Fits w32 (n + 2047)
+    enter-round = record { fits = omega arith }
+
+    pub enter-block : i < length lengths → Fits w32 (block + (n + 2047) / 2048)
+    enter-block h = record { fits = omega (arith, p .low, p .few) }
+
+    pub enter-next : i < length lengths → {f : List ℕ} {r : ℕ} → Laid (sector (fileEntry i n block) ∷ []) place image f r → Entering lengths image₀ at f r (block + (n + 2047) / 2048) (i + 1)
+    unfolding entries joined
+    enter-next h {f} {r} l = record {
+      room = omega (arith, p .room, l .poured .place);
+      fits = p .fits;
+      within = omega arith;
+      few = p .few;
+      low = omega (arith, p .low);
+      same = l .poured .same ∙ p .same;
+      rest = λ s. sym (next s) ∙ p .rest s;
+    }
+      where
+        next : areShort lengths ≡ true → sets image place (joined (entries i block (drop i lengths))) ≡ sets f r (joined (entries (i + 1) (block + sectorsFor n) (drop (i + 1) lengths)))
+        next s =
+            let q = l .poured in
+            let x : List ℕ = sector (fileEntry i n block) in
+            let others : List ℕ = joined (entries (i + 1) (block + sectorsFor n) (drop (i + 1) lengths)) in
+            let dc : drop i lengths ≡ n ∷ drop (i + 1) lengths = rw (add-one i, held-is lengths i m s) (drop-cons lengths i 0 h) in
+            let t : joined (entries i block (drop i lengths)) ≡ (x ++ []) ++ others = rw dc (ap (λ l. l ++ others) (sym (append-nil x))) in
+            rw t (sets-append (x ++ []) others image place ∙ rw (q .bytes, q .place, q .long))
+
+  pub enter-ends : length lengths ≤ i → Kept (areShort lengths ≡ true) (joined (entries 0 80 lengths)) (2048 * length lengths) at (at + 2048 * length lengths) image₀ image place
   unfolding entries joined
   enter-ends h =
-      record {
-        bytes = rw (drop-of-length-le lengths) at (p .rest);
-        long = entries-long 0 80 lengths;
-        place = omega (arith, p .room, p .within);
-        same = p .same;
-      }
+      let k : place ≡ at + 2048 * length lengths = omega (arith, p .room, p .within) in
+      record { within = omega arith; same = p .same; poured = λ s. record { bytes = done s; long = entries-long 0 80 lengths; place = k; same = p .same } }
+    where
+      done : areShort lengths ≡ true → image ≡ sets image₀ at (joined (entries 0 80 lengths))
+      done s = rw (drop-of-length-le lengths) at (p .rest s)
 
 -- ---- names that are good
 
@@ -150,34 +136,80 @@ unfolding summed
 sizes-few [] e = omega arith
 sizes-few (n ∷ ns) e = let g = good-cons n ns e in let k : identifierSize (length n) ≤ 168 = omega (arith, g .small) in omega (arith, sizes-few ns (g .others))
 
+-- ---- the names that are left of good ones, where i are done
+
+pub record Left (names : List ℕ) (i from : ℕ) : Type 0 where
+  pub good : areGood (namesIn (drop from names)) ≡ true
+  pub few : i + length (namesIn (drop from names)) ≤ 64
+
+left-starts : (names : List ℕ) → Named names → Left names 0 0
+left-starts names g = record { good = g .good; few = omega (arith, g .few) }
+
+module _ {names : List ℕ} {i from : ℕ} (p : Left names i from) where
+  left-none : 64 ≤ i → namesIn (drop from names) ≡ []
+  left-none h = none (namesIn (drop from names)) (omega (arith, p .few))
+    where
+      none : (ns : List (List ℕ)) → length ns ≤ 0 → ns ≡ []
+      none [] k = refl
+      none (n ∷ ns) k = absurd (omega arith)
+
+  module _ (h : from < length names) {end : ℕ} (e : NameStop names from end) where
+    true-end : NameEnd names from (from + length (untilZero (drop from names)))
+    true-end = record { is = refl; within = let k = rw length-drop at (name-short (drop from names)) in omega arith }
+
+    left-end : NameEnd names from end
+    left-end = e .is (good-cons _ _ (rw (names-at names from true-end h) at (p .good)) .small)
+
+    left-first : namesIn (drop from names) ≡ untilZero (drop from names) ∷ namesIn (drop (end + 1) names)
+    left-first = names-at names from left-end h
+
+    left-size : namesSize (namesIn (drop from names)) ≡ identifierSize (length (untilZero (drop from names))) + namesSize (namesIn (drop (end + 1) names))
+    unfolding summed
+    left-size = rw left-first
+
+    left-next : Left names (i + 1) (end + 1)
+    left-next =
+        let k : length (namesIn (drop from names)) ≡ suc (length (namesIn (drop (end + 1) names))) = ap length left-first in
+        record { good = good-cons _ _ (rw left-first at (p .good)) .others; few = omega (arith, p .few) }
+
+none-size : {names : List (List ℕ)} → names ≡ [] → namesSize names ≡ 0
+unfolding summed
+none-size e = rw e
+
 -- ---- the directory's size
 
-pub record Sizing (names : List ℕ) (size from : ℕ) : Type 0 where
+pub record Sizes (names : List ℕ) (size i from : ℕ) : Type 0 where
+  pub left : Left names i from
   pub rest : size + namesSize (namesIn (drop from names)) ≡ directorySize (namesIn names)
-  pub bound : directorySize (namesIn names) ≤ 10792
 
-pub size-starts : (names : List ℕ) → (areGood (namesIn names) ≡ true) × (length (namesIn names) ≤ 64) → Sizing names 40 0
-size-starts names h = record { rest = refl; bound = omega (arith, sizes-few (namesIn names) (h .0), h .1) }
+pub record Sizing (names : List ℕ) (size from i : ℕ) : Type 0 where
+  pub small : size ≤ 40 + i * 168
+  pub few : i ≤ 64
+  pub sized : Named names → Sizes names size i from
 
-module _ {names : List ℕ} {size from : ℕ} (p : Sizing names size from) where
-  module _ (h : from < length names) {end : ℕ} (e : NameEnd names from end) where
-    size-first : namesSize (namesIn (drop from names)) ≡ (end - from + 42) / 4 * 4 + namesSize (namesIn (drop (end + 1) names))
-    unfolding summed
-    size-first =
-        let k : end - from ≡ length (untilZero (drop from names)) = omega arith in
-        rw (names-at names from e h, k)
+pub size-starts : (names : List ℕ) → Sizing names 40 0 0
+size-starts names = record { small = omega arith; few = omega arith; sized = λ g. record { left = left-starts names g; rest = refl } }
 
-    pub size-next : Sizing names (size + (end - from + 42) / 4 * 4) (end + 1)
-    size-next = record { rest = omega (arith, p .rest, size-first); bound = p .bound }
+module _ {names : List ℕ} {size from i : ℕ} (p : Sizing names size from i) where
+  pub size-fits : i < 64 → {end : ℕ} → NameStop names from end → size + (end - from + 42) / 4 * 4 ≤ 10792
+  size-fits k e = omega (arith, p .small, e .small)
 
-    pub size-fits : size + (end - from + 42) / 4 * 4 ≤ 10792
-    size-fits = omega (arith, p .rest, p .bound, size-first)
+  pub size-next : i < 64 → from < length names → {end : ℕ} → NameStop names from end → Sizing names (size + (end - from + 42) / 4 * 4) (end + 1) (i + 1)
+  size-next k h {end} e = record { small = omega (arith, p .small, e .small); few = omega arith; sized = λ g. next (p .sized g) }
+    where
+      next : Sizes names size i from → Sizes names (size + (end - from + 42) / 4 * 4) (i + 1) (end + 1)
+      next w =
+          let l : end - from ≡ length (untilZero (drop from names)) = omega (arith, left-end (w .left) h e .is) in
+          record { left = left-next (w .left) h e; rest = omega (arith, w .rest, left-size (w .left) h e) }
 
-  pub size-ends : length names ≤ from → size ≡ directorySize (namesIn names)
-  unfolding summed
-  size-ends h =
-      let k : namesSize (namesIn (drop from names)) ≡ 0 = rw (names-none names from h) in
-      omega (arith, p .rest)
+  size-done : (Left names i from → namesIn (drop from names) ≡ []) → Sized names size
+  size-done z = record { small = omega (arith, p .small, p .few); is = λ g. let w = p .sized g in omega (arith, w .rest, none-size (z (w .left))) }
+
+  pub size-stops : length names ≤ from → Sized names size
+  size-stops h = size-done (λ l. names-none names from h)
+
+  pub size-ends : 64 ≤ i → Sized names size
+  size-ends h = size-done (λ l. left-none l h)
 
 -- ---- identifiers
 
@@ -189,105 +221,81 @@ unfolding identifiers summed
 identifiers-long i o [] = refl
 identifiers-long i o (n ∷ ns) = rw (length-append, identifier-size o i n, identifiers-long (i + 1) (o + identifierSize (length n)) ns)
 
-pub record Naming (names image₀ : List ℕ) (at : ℕ) (image : List ℕ) (place i from : ℕ) : Type 0 where
+-- the loop has come to the i-th name: its place is bounded whatever the names are; where they are good, what is left to pour is what the names left are
+pub record Placed (names image₀ : List ℕ) (at : ℕ) (image : List ℕ) (place i from : ℕ) : Type 0 where
+  pub left : Left names i from
   pub rest : sets image place (identifiers i (place - at + 40) (namesIn (drop from names))) ≡ sets image₀ at (identifiers 0 40 (namesIn names))
-  pub above : at ≤ place
   pub room : place + namesSize (namesIn (drop from names)) ≡ at + namesSize (namesIn names)
-  pub fits : at + namesSize (namesIn names) ≤ length image₀
-  pub small : namesSize (namesIn names) ≤ 10752
-  pub left : i + length (namesIn (drop from names)) ≤ 64
-  pub good : areGood (namesIn (drop from names)) ≡ true
-  pub ended : isEnded (drop from names) ≡ true
-  pub same : length image ≡ length image₀
 
-pub name-starts : (names image : List ℕ) (at : ℕ) → (isEnded names ≡ true) × (areGood (namesIn names) ≡ true) × (length (namesIn names) ≤ 64) × (at + namesSize (namesIn names) ≤ length image)
-    → Naming names image at image at 0 0
+pub record Naming (names image₀ : List ℕ) (at : ℕ) (image : List ℕ) (place i from : ℕ) : Type 0 where
+  pub above : at ≤ place
+  pub low : place ≤ at + i * 168
+  pub few : i ≤ 64
+  pub fits : at + 10752 ≤ length image₀
+  pub same : length image ≡ length image₀
+  pub placed : Named names → Placed names image₀ at image place i from
+
+pub name-starts : (names image : List ℕ) (at : ℕ) → at + 10752 ≤ length image → Naming names image at image at 0 0
 name-starts names image at h =
     let z : at - at + 40 ≡ 40 = omega arith in
-    record {
-      rest = rw z;
-      above = omega arith;
-      room = refl;
-      fits = h .3;
-      small = omega (arith, sizes-few (namesIn names) (h .1), h .2);
-      left = omega (arith, h .2);
-      good = h .1;
-      ended = h .0;
-      same = refl;
-    }
+    record { above = omega arith; low = omega arith; few = omega arith; fits = h; same = refl; placed = λ g. record { left = left-starts names g; rest = rw z; room = refl } }
 
 module _ {names image₀ : List ℕ} {at : ℕ} {image : List ℕ} {place i from : ℕ} (p : Naming names image₀ at image place i from) where
   pub name-above : at ≤ place
   name-above = p .above
 
-  pub name-low : place - at + 40 < 16384
-  name-low = omega (arith, p .room, p .small)
+  pub name-low : i < 64 → place - at + 40 < 16384
+  name-low k = omega (arith, p .low)
 
-  module _ (h : from < length names) {end : ℕ} (e : NameEnd names from end) where
-    part-is : take (end - from) (drop from names) ≡ untilZero (drop from names)
-    part-is = name-part names from e
+  module _ (k : i < 64) (h : from < length names) {end : ℕ} (e : NameStop names from end) where
+    abbrev part : List ℕ
+    part = take (end - from) (drop from names)
 
-    good : Good (untilZero (drop from names)) (namesIn (drop (end + 1) names))
-    good = good-cons _ _ (rw (names-at names from e h) at (p .good))
+    part-long : length part ≡ end - from
+    part-long = length-take-le (end - from) (drop from names) (rw length-drop (omega (arith, e .within)))
 
-    first : namesSize (namesIn (drop from names)) ≡ identifierSize (length (untilZero (drop from names))) + namesSize (namesIn (drop (end + 1) names))
-    unfolding summed
-    first = rw (names-at names from e h)
+    pub name-small : length part ≤ 127
+    name-small = rw part-long (omega (arith, e .small))
 
-    count : length (namesIn (drop from names)) ≡ suc (length (namesIn (drop (end + 1) names)))
-    count = ap length (names-at names from e h)
+    pub name-room : place + identifierSize (length part) ≤ length image
+    name-room = omega (arith, name-small, p .low, p .fits, p .same)
 
-    pub name-few : i < 64
-    name-few = omega (arith, p .left, count)
-
-    pub name-small : length (take (end - from) (drop from names)) ≤ 127
-    name-small = rw part-is (good .small)
-
-    pub name-room : place + identifierSize (length (take (end - from) (drop from names))) ≤ length image
-    name-room = rw part-is (omega (arith, p .room, p .fits, p .same, first))
-
-    inside : end < length names
-    inside = by (ltb end (length names)) refl
-      where
-        by : (t : Bool) → ltb end (length names) ≡ t → end < length names
-        by true f = ltb-true end (length names) f
-        by false f = not-both (sym (unended-at names from e h (ltb-false end (length names) f)) ∙ p .ended)
-
-    pub name-next : {f : List ℕ} {r : ℕ}
-        → Poured (identifierAt (place - at + 40) 0 (16 + i) (8 ∷ take (end - from) (drop from names))) (identifierSize (length (take (end - from) (drop from names)))) place image f r
-        → Naming names image₀ at f r (i + 1) (end + 1)
+    pub name-next : {f : List ℕ} {r : ℕ} → Poured (identifierAt (place - at + 40) 0 (16 + i) (8 ∷ part)) (identifierSize (length part)) place image f r → Naming names image₀ at f r (i + 1) (end + 1)
     unfolding identifiers
-    name-next {f} {r} q₀ =
-        let n : List ℕ = untilZero (drop from names) in
-        let q : Poured (identifierAt (place - at + 40) 0 (16 + i) (8 ∷ n)) (identifierSize (length n)) place image f r = rw part-is at q₀ in
-        let o : place - at + 40 + identifierSize (length n) ≡ r - at + 40 = omega (arith, q .place, p .above) in
-        let rest : List ℕ = identifiers (i + 1) (r - at + 40) (namesIn (drop (end + 1) names)) in
-        let s : identifiers i (place - at + 40) (namesIn (drop from names)) ≡ identifierAt (place - at + 40) 0 (16 + i) (8 ∷ n) ++ rest = rw (names-at names from e h, o) in
-        let t : sets image place (identifiers i (place - at + 40) (namesIn (drop from names))) ≡ sets f r rest =
-        rw s (sets-append (identifierAt (place - at + 40) 0 (16 + i) (8 ∷ n)) rest image place ∙ rw (q .long, ← q .place, ← q .bytes)) in
-        record {
-          rest = sym t ∙ p .rest;
-          above = omega (arith, p .above, q .place);
-          room = omega (arith, p .room, q .place, first);
-          fits = p .fits;
-          small = p .small;
-          left = omega (arith, p .left, count);
-          good = good .others;
-          ended = sym (ended-at names from e h inside) ∙ p .ended;
-          same = q .same ∙ p .same;
-        }
+    name-next {f} {r} q₀ = record {
+      above = omega (arith, p .above, q₀ .place);
+      low = omega (arith, p .low, q₀ .place, name-small);
+      few = omega arith;
+      fits = p .fits;
+      same = q₀ .same ∙ p .same;
+      placed = λ g. next (p .placed g);
+    }
+      where
+        next : Placed names image₀ at image place i from → Placed names image₀ at f r (i + 1) (end + 1)
+        next w =
+            let n : List ℕ = untilZero (drop from names) in
+            let q : Poured (identifierAt (place - at + 40) 0 (16 + i) (8 ∷ n)) (identifierSize (length n)) place image f r = rw (name-part names from (left-end (w .left) h e)) at q₀ in
+            let o : place - at + 40 + identifierSize (length n) ≡ r - at + 40 = omega (arith, q .place, p .above) in
+            let others : List ℕ = identifiers (i + 1) (r - at + 40) (namesIn (drop (end + 1) names)) in
+            let s : identifiers i (place - at + 40) (namesIn (drop from names)) ≡ identifierAt (place - at + 40) 0 (16 + i) (8 ∷ n) ++ others = rw (left-first (w .left) h e, o) in
+            let t : sets image place (identifiers i (place - at + 40) (namesIn (drop from names))) ≡ sets f r others =
+            rw s (sets-append (identifierAt (place - at + 40) 0 (16 + i) (8 ∷ n)) others image place ∙ rw (q .long, ← q .place, ← q .bytes)) in
+            record { left = left-next (w .left) h e; rest = sym t ∙ w .rest; room = omega (arith, w .room, q .place, left-size (w .left) h e) }
 
-  pub name-ends : length names ≤ from → Poured (identifiers 0 40 (namesIn names)) (namesSize (namesIn names)) at image₀ image place
-  unfolding identifiers summed
-  name-ends h =
-      let z = names-none names from h in
-      let k : namesSize (namesIn (drop from names)) ≡ 0 = rw z in
-      record {
-        bytes = rw z at (p .rest);
-        long = identifiers-long 0 40 (namesIn names);
-        place = omega (arith, p .room, k);
-        same = p .same;
-      }
+  name-done : (Left names i from → namesIn (drop from names) ≡ []) → Kept (Named names) (identifiers 0 40 (namesIn names)) (namesSize (namesIn names)) at (at + 10752) image₀ image place
+  unfolding identifiers
+  name-done z = record { within = omega (arith, p .low, p .few); same = p .same; poured = λ g. done (p .placed g) }
+    where
+      done : Placed names image₀ at image place i from → Poured (identifiers 0 40 (namesIn names)) (namesSize (namesIn names)) at image₀ image place
+      done w =
+          let y = z (w .left) in
+          record { bytes = rw y at (w .rest); long = identifiers-long 0 40 (namesIn names); place = omega (arith, w .room, none-size y); same = p .same }
+
+  pub name-stops : length names ≤ from → Kept (Named names) (identifiers 0 40 (namesIn names)) (namesSize (namesIn names)) at (at + 10752) image₀ image place
+  name-stops h = name-done (λ l. names-none names from h)
+
+  pub name-ends : 64 ≤ i → Kept (Named names) (identifiers 0 40 (namesIn names)) (namesSize (namesIn names)) at (at + 10752) image₀ image place
+  name-ends h = name-done (λ l. left-none l h)
 
 -- ---- the parts
 
@@ -295,21 +303,31 @@ pub directory-long : (names : List (List ℕ)) → length (directory names) ≡ 
 unfolding directory identifierBody
 directory-long names = rw (length-append, identifiers-long 0 40 names) (omega (arith, sealed-long 257 8 (identifierBody 10 2 [])))
 
-pub directory-poured : (ns : List (List ℕ)) {at m k r : ℕ} {d e f g : List ℕ} → Poured (identifierAt 0 10 2 []) 40 at d e m → Poured (identifiers 0 40 ns) (namesSize ns) m e f k
-    → Poured (zeros (at + 16384 - k)) (at + 16384 - k) k f g r → namesSize ns ≤ 10752 → Poured (directoryPart ns) 16384 at d g r
+pub directory-poured : (names : List ℕ) {at m k r : ℕ} {d e f g : List ℕ} → Poured (identifierAt 0 10 2 []) 40 at d e m
+    → Kept (Named names) (identifiers 0 40 (namesIn names)) (namesSize (namesIn names)) m (m + 10752) e f k → Poured (zeros (at + 16384 - k)) (at + 16384 - k) k f g r
+    → Kept (Named names) (directoryPart (namesIn names)) 16384 at (at + 16384) d g r
 unfolding directoryPart directory
-directory-poured ns {at} {m} {k} p q t h =
-    let z : at + 16384 - k ≡ 16384 - directorySize ns = omega (arith, p .place, q .place, h) in
-    poured-as (poured-then (poured-then p q) t) (ap (λ j. (identifierAt 0 10 2 [] ++ identifiers 0 40 ns) ++ zeros j) z) (omega (arith, p .place, q .place, h))
+directory-poured names {at} {m} {k} {r} {d} {e} {f} {g} p q t = record { within = omega (arith, p .place, q .within, t .place); same = t .same ∙ q .same ∙ p .same; poured = λ y. whole y (q .poured y) }
+  where
+    whole : Named names → Poured (identifiers 0 40 (namesIn names)) (namesSize (namesIn names)) m e f k → Poured (directoryPart (namesIn names)) 16384 at d g r
+    whole y w =
+        let h : namesSize (namesIn names) ≤ 10752 = omega (arith, sizes-few (namesIn names) (y .good), y .few) in
+        let z : at + 16384 - k ≡ 16384 - directorySize (namesIn names) = omega (arith, p .place, w .place) in
+        poured-as (poured-then (poured-then p w) t) (ap (λ j. (identifierAt 0 10 2 [] ++ identifiers 0 40 (namesIn names)) ++ zeros j) z) (omega (arith, p .place, w .place))
 
-pub entries-poured : (lengths : List ℕ) {at m r : ℕ} {d e f : List ℕ} → Poured (joined (entries 0 80 lengths)) (2048 * length lengths) at d e m → Laid (blanks (64 - length lengths)) m e f r
-    → length lengths ≤ 64 → Poured (joined (entriesPart lengths)) 131072 at d f r
+pub entries-poured : (lengths : List ℕ) {at m r : ℕ} {d e f : List ℕ}
+    → Kept (areShort lengths ≡ true) (joined (entries 0 80 lengths)) (2048 * length lengths) at (at + 2048 * length lengths) d e m → Laid (blanks (64 - length lengths)) m e f r
+    → length lengths ≤ 64 → Kept (areShort lengths ≡ true) (joined (entriesPart lengths)) 131072 at (at + 131072) d f r
 unfolding entriesPart
 entries-poured lengths p q h =
-    poured-as (poured-then p (q .poured)) (sym (joined-append (entries 0 80 lengths) (blanks (64 - length lengths)))) (rw (length-replicate (64 - length lengths) (zeros 2048)) (omega arith))
+    let k : length (blanks (64 - length lengths)) ≡ 64 - length lengths = length-replicate (64 - length lengths) (zeros 2048) in
+    record {
+      within = omega (arith, p .within, q .poured .place);
+      same = q .poured .same ∙ p .same;
+      poured = λ s. poured-as (poured-then (p .poured s) (q .poured)) (sym (joined-append (entries 0 80 lengths) (blanks (64 - length lengths)))) (omega arith);
+    }
 
-pub end-poured : (n location : ℕ) {at m r : ℕ} {d e f : List ℕ} → Poured (zeros (2048 * n)) (2048 * n) at d e m → Laid (anchorAt location ∷ []) m e f r
-    → Poured (zeros (2048 * n) ++ anchorAt location) (2048 * n + 2048) at d f r
+pub end-poured : (n location : ℕ) {at m r : ℕ} {d e f : List ℕ} → Poured (zeros n) n at d e m → Laid (anchorAt location ∷ []) m e f r → Poured (zeros n ++ anchorAt location) (n + 2048) at d f r
 unfolding joined
 end-poured n location p q = poured-as (poured-then p (q .poured)) (rw append-nil) refl
 

@@ -2,10 +2,10 @@
 use mathlib.Core.Path.{_≡_, refl, sym, ap, _∙_}
 use mathlib.Core.List.{List, [], _∷_, _++_, append-nil, append-assoc}
 use Prim.Native.Nat.{ℕ, zero, suc, _+_, _-_, _*_, _≤_}
-use native.Mathlib.Nat.{add-sub-cancel-left}
+use native.Mathlib.Nat.{add-sub-cancel-left, sub-zero}
 use native.Mathlib.Omega.{arith}
-use lib.ListN.{length, take, drop, replicate, length-append, length-drop, length-replicate, replicate-append-replicate}
-use lib.Seq.{sets, sets-eq, length-sets, drop-drop, length-take-le, take-all, drop-length, take-length}
+use lib.ListN.{length, take, drop, replicate, length-append, length-drop, length-replicate, replicate-append-replicate, take-append-drop}
+use lib.Seq.{sets, sets-eq, length-sets, drop-drop, length-take-le, take-all, drop-length, take-length, take-append-le, drop-append-le}
 use borrow.Rule.Slice.PartMut.{midOf, putMid}
 use Rattle.disc.specs.Moves.{over}
 use Rattle.disc.proofs.MoveLaws.{sets-append}
@@ -49,6 +49,23 @@ poured-then {a} {b} {d} {e} {f} {n} {k} {at} {m} {r} p q = record {
 
 pub poured-as : {a b d e : List ℕ} {n k at r : ℕ} → Poured a n at d e r → a ≡ b → n ≡ k → Poured b k at d e r
 poured-as p e f = rw (e, f) at p
+
+-- ---- a front of what is lent
+
+pub front-long : (n : ℕ) (d : List ℕ) → n ≤ length d → length (midOf 0 (n - 0) d) ≡ n
+front-long n d h = rw sub-zero (length-take-le n d h)
+
+sets-left : (v a b : List ℕ) (at : ℕ) → at + length v ≤ length a → sets (a ++ b) at v ≡ sets a at v ++ b
+sets-left v a b at h =
+    let k : at ≤ length a = omega arith in
+    let l : at + length v ≤ length (a ++ b) = rw length-append (omega arith) in
+    sets-eq v (a ++ b) at l ∙ rw (take-append-le at a b k, drop-append-le (at + length v) a b h, sets-eq v a at h) (simp append-assoc)
+
+-- what is poured into the front is poured into the whole
+pub poured-front : {text d y : List ℕ} {size at n r : ℕ} → n ≤ length d → at + size ≤ n → Poured text size at (midOf 0 (n - 0) d) y r → Poured text size at d (putMid 0 (n - 0) d y) r
+poured-front {text} {d} {y} {size} {at} {n} h k p =
+    let e : putMid 0 (n - 0) d y ≡ sets d at text = rw (p .bytes, sub-zero) (sym (sets-left text (take n d) (drop n d) at (rw (length-take-le n d h) (omega (arith, p .long)))) ∙ rw take-append-drop) in
+    record { bytes = e; long = p .long; place = p .place; same = rw (e, length-sets) }
 
 -- ---- sectors
 

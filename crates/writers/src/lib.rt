@@ -8,12 +8,11 @@ pub mod seals;
 pub mod structures;
 
 ghost use mathlib.Core.Path.{_≡_};
-ghost use mathlib.Core.List.{_++_};
-ghost use Prim.Native.Nat.{_*_};
-ghost use lib.ListN.{drop};
+ghost use Prim.Native.Nat.{_*_, _≤_};
+ghost use lib.ListN.{length};
 ghost use Rattle.writers.specs.Layout.{image as layout};
 ghost use Rattle.writers.specs.Refusing.{namesIn, goodFiles, refusedBy, totalOf, writes};
-ghost use Rattle.writers.specs.inner.Pours.{Poured, Heads, Ready, head};
+ghost use Rattle.writers.specs.inner.Pours.{Kept, Heads, Ready, head};
 use crate::contents::are_short;
 use crate::contents::blocks_of;
 use crate::contents::pour_files;
@@ -77,8 +76,8 @@ pub fn total(names: &[u8], lengths: &[u64]) -> WriteReply
 
 // What stands before the files, sectors 0 to 351: of a partition of so many blocks.
 fn pour_head(names: &[u8], lengths: &[u64], size: u32, image: &mut [u8]) -> usize
-    requires { ⌜ Heads (now names) (now lengths) (now image) ⌝ }
-    ensures { λ r. ⌜ Poured (head (namesIn (now (names .entry))) (now (lengths .entry)) size) 720896 0 (now (image .entry)) (now (image .exit)) r ⌝ }
+    requires { ⌜ (length (now lengths) ≤ 64) × (720896 ≤ length (now image)) ⌝ }
+    ensures { λ r. ⌜ Kept (Heads (now (names .entry)) (now (lengths .entry))) (head (namesIn (now (names .entry))) (now (lengths .entry)) size) 720896 0 720896 (now (image .entry)) (now (image .exit)) r ⌝ }
 {
     let bytes = directory_size(names);
     let behind = pour_front(size, lengths.len() as u32, bytes as u32, image);
@@ -86,20 +85,16 @@ fn pour_head(names: &[u8], lengths: &[u64], size: u32, image: &mut [u8]) -> usiz
     pour_entries(lengths, image, entries)
 }
 
-// The image over the front of what is lent, part by part.
+// The image over all that is lent, part by part. Names and lengths are looked at again, and what they hold by now may be other than what was tested: then
+// it is no vault's image, but each part stays in its place, and the files before the last sector.
 fn pour(names: &[u8], lengths: &[u64], staging: &[u8], sectors: u64, image: &mut [u8])
-    requires { ⌜ Ready (now names) (now lengths) (now staging) (now image) sectors ⌝ }
-    ensures { λ _. ⌜ now (image .exit) ≡ layout (namesIn (now (names .entry))) (now (lengths .entry)) (now (staging .entry)) ++ drop (2048 * sectors) (now (image .entry)) ⌝ }
+    requires { ⌜ (length (now lengths) ≤ 64) × (384 ≤ sectors) × (sectors ≤ 67108864) × (length (now image) ≡ 2048 * sectors) ⌝ }
+    ensures { λ _. ⌜ (Ready (now (names .entry)) (now (lengths .entry)) (now (staging .entry)) sectors → now (image .exit) ≡ layout (namesIn (now (names .entry))) (now (lengths .entry)) (now (staging .entry))) ⌝ }
 {
-    let blocks = blocks_of(lengths);
+    let last = image.len() - 2048;
     let data = pour_head(names, lengths, (sectors - 273) as u32, image);
-    let rest = pour_files(lengths, staging, image, data);
-    pour_end(
-        (sectors - 353 - blocks) as usize,
-        (sectors - 1) as u32,
-        image,
-        rest,
-    );
+    let rest = pour_files(lengths, staging, &mut image[0..last], data);
+    pour_end(last - rest, (sectors - 1) as u32, image, rest);
 }
 
 // A vault of these files: names, each ended by a zero byte; the length of each; the staging area, in which the files stand one behind another. The image
@@ -117,6 +112,7 @@ pub fn write(names: &[u8], lengths: &[u64], staging: &[u8], image: &mut [u8]) ->
     if ((image.len() / 2048) as u64) < reply.sectors {
         return refusal(Refusal::NoRoom);
     }
-    pour(names, lengths, staging, reply.sectors, image);
+    let end = reply.sectors as usize * 2048;
+    pour(names, lengths, staging, reply.sectors, &mut image[0..end]);
     reply
 }

@@ -5,9 +5,8 @@ ghost use Prim.Native.Nat.{_+_, _≤_, _<_};
 ghost use lib.Dec.{eqb};
 ghost use lib.ListN.{length, drop};
 ghost use Rattle.names.specs.Names.{lower, sameName};
-ghost use Rattle.writers.specs.Layout.{directorySize};
-ghost use Rattle.writers.specs.Refusing.{namesIn, isPlain, isGood, isAmong, areGood, goodNames};
-ghost use Rattle.writers.specs.inner.Pours.{NameEnd};
+ghost use Rattle.writers.specs.Refusing.{namesIn, isPlain, isGood, isAmong, goodNames};
+ghost use Rattle.writers.specs.inner.Pours.{NameEnd, NameStop, Named, Sized};
 
 // Where the name that starts at `at` ends.
 pub(crate) fn name_end(names: &[u8], at: usize) -> usize
@@ -24,6 +23,18 @@ pub(crate) fn name_end(names: &[u8], at: usize) -> usize
     i
 }
 
+// Where it ends if no more than 127 bytes are written of it, whatever the names hold by now.
+pub(crate) fn name_stop(names: &[u8], at: usize) -> usize
+    requires { ⌜ at ≤ length (now names) ⌝ }
+    ensures { λ r. ⌜ NameStop (now (names .entry)) at r ⌝ }
+{
+    let end = name_end(names, at);
+    if 127 < end - at {
+        return at + 127;
+    }
+    end
+}
+
 // How many names there are.
 pub(crate) fn count_of(names: &[u8]) -> usize
     ensures { λ r. ⌜ r ≡ length (namesIn (now (names .entry))) ⌝ }
@@ -38,17 +49,21 @@ pub(crate) fn count_of(names: &[u8]) -> usize
     n
 }
 
-// The bytes of the directory.
+// The bytes of the directory, of 64 names at most.
 pub(crate) fn directory_size(names: &[u8]) -> usize
-    requires { ⌜ (areGood (namesIn (now names)) ≡ true) × (length (namesIn (now names)) ≤ 64) ⌝ }
-    ensures { λ r. ⌜ r ≡ directorySize (namesIn (now (names .entry))) ⌝ }
+    ensures { λ r. ⌜ Sized (now (names .entry)) r ⌝ }
 {
     let mut size: usize = 40;
     let mut from = 0;
-    while from < names.len() {
-        let end = name_end(names, from);
+    let mut i: usize = 0;
+    while i < 64 {
+        if names.len() <= from {
+            return size;
+        }
+        let end = name_stop(names, from);
         size += (end - from + 42) / 4 * 4;
         from = end + 1;
+        i += 1;
     }
     size
 }

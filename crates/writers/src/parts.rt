@@ -5,9 +5,10 @@ ghost use mathlib.Core.List.{_++_};
 ghost use Prim.Native.Nat.{_+_, _*_, _≤_, _<_};
 ghost use lib.ListN.{length};
 ghost use Rattle.writers.specs.Layout.{zeros, namesSize, joined, recognitionPart, sequence, integrityPart, rootPart, front, identifiers, directoryPart, entries, entriesPart, anchorAt};
-ghost use Rattle.writers.specs.Refusing.{namesIn, areGood, isEnded, areShort};
-ghost use Rattle.writers.specs.inner.Pours.{Poured};
-use crate::namings::name_end;
+ghost use Rattle.writers.specs.Refusing.{namesIn, areShort};
+ghost use Rattle.writers.specs.inner.Pours.{Poured, Kept, Named};
+use crate::contents::held;
+use crate::namings::name_stop;
 use crate::seals::blank;
 use crate::seals::blank_sectors;
 use crate::seals::put_sector;
@@ -86,16 +87,19 @@ pub(crate) fn pour_front(size: u32, files: u32, directory: u32, image: &mut [u8]
     pour_root(directory, image, root)
 }
 
-// The files' identifiers, behind the parent's.
+// The files' identifiers, behind the parent's: of 64 names at most.
 fn pour_identifiers(names: &[u8], image: &mut [u8], at: usize) -> usize
-    requires { ⌜ (isEnded (now names) ≡ true) × (areGood (namesIn (now names)) ≡ true) × (length (namesIn (now names)) ≤ 64) × (at + namesSize (namesIn (now names)) ≤ length (now image)) ⌝ }
-    ensures { λ r. ⌜ Poured (identifiers 0 40 (namesIn (now (names .entry)))) (namesSize (namesIn (now (names .entry)))) at (now (image .entry)) (now (image .exit)) r ⌝ }
+    requires { ⌜ at + 10752 ≤ length (now image) ⌝ }
+    ensures { λ r. ⌜ Kept (Named (now (names .entry))) (identifiers 0 40 (namesIn (now (names .entry)))) (namesSize (namesIn (now (names .entry)))) at (at + 10752) (now (image .entry)) (now (image .exit)) r ⌝ }
 {
     let mut place = at;
     let mut i: u32 = 0;
     let mut from = 0;
-    while from < names.len() {
-        let end = name_end(names, from);
+    while i < 64 {
+        if names.len() <= from {
+            return place;
+        }
+        let end = name_stop(names, from);
         let o = (place - at + 40) as u32;
         place = identifier(&names[from..end], i, o, image, place);
         i += 1;
@@ -106,8 +110,8 @@ fn pour_identifiers(names: &[u8], image: &mut [u8], at: usize) -> usize
 
 // The directory, in eight sectors.
 pub(crate) fn pour_directory(names: &[u8], image: &mut [u8], at: usize) -> usize
-    requires { ⌜ (isEnded (now names) ≡ true) × (areGood (namesIn (now names)) ≡ true) × (length (namesIn (now names)) ≤ 64) × (namesSize (namesIn (now names)) ≤ 10752) × (at + 16384 ≤ length (now image)) ⌝ }
-    ensures { λ r. ⌜ Poured (directoryPart (namesIn (now (names .entry)))) 16384 at (now (image .entry)) (now (image .exit)) r ⌝ }
+    requires { ⌜ at + 16384 ≤ length (now image) ⌝ }
+    ensures { λ r. ⌜ Kept (Named (now (names .entry))) (directoryPart (namesIn (now (names .entry)))) 16384 at (at + 16384) (now (image .entry)) (now (image .exit)) r ⌝ }
 {
     let first = parent(image, at);
     let behind = pour_identifiers(names, image, first);
@@ -116,14 +120,14 @@ pub(crate) fn pour_directory(names: &[u8], image: &mut [u8], at: usize) -> usize
 
 // The files' entries, of which the first begins in block 80.
 fn pour_entry_row(lengths: &[u64], image: &mut [u8], at: usize) -> usize
-    requires { ⌜ (areShort (now lengths) ≡ true) × (length (now lengths) ≤ 64) × (at + 2048 * length (now lengths) ≤ length (now image)) ⌝ }
-    ensures { λ r. ⌜ Poured (joined (entries 0 80 (now (lengths .entry)))) (2048 * length (now (lengths .entry))) at (now (image .entry)) (now (image .exit)) r ⌝ }
+    requires { ⌜ (length (now lengths) ≤ 64) × (at + 2048 * length (now lengths) ≤ length (now image)) ⌝ }
+    ensures { λ r. ⌜ Kept (areShort (now (lengths .entry)) ≡ true) (joined (entries 0 80 (now (lengths .entry)))) (2048 * length (now (lengths .entry))) at (at + 2048 * length (now (lengths .entry))) (now (image .entry)) (now (image .exit)) r ⌝ }
 {
     let mut place = at;
     let mut block: u32 = 80;
     let mut i = 0;
     while i < lengths.len() {
-        let size = lengths[i] as u32;
+        let size = held(lengths[i]) as u32;
         place = file_entry(i as u32, size, block, image, place);
         block += (size + 2047) / 2048;
         i += 1;
@@ -133,18 +137,18 @@ fn pour_entry_row(lengths: &[u64], image: &mut [u8], at: usize) -> usize
 
 // The entries, in 64 sectors.
 pub(crate) fn pour_entries(lengths: &[u64], image: &mut [u8], at: usize) -> usize
-    requires { ⌜ (areShort (now lengths) ≡ true) × (length (now lengths) ≤ 64) × (at + 131072 ≤ length (now image)) ⌝ }
-    ensures { λ r. ⌜ Poured (joined (entriesPart (now (lengths .entry)))) 131072 at (now (image .entry)) (now (image .exit)) r ⌝ }
+    requires { ⌜ (length (now lengths) ≤ 64) × (at + 131072 ≤ length (now image)) ⌝ }
+    ensures { λ r. ⌜ Kept (areShort (now (lengths .entry)) ≡ true) (joined (entriesPart (now (lengths .entry)))) 131072 at (at + 131072) (now (image .entry)) (now (image .exit)) r ⌝ }
 {
     let behind = pour_entry_row(lengths, image, at);
     blank_sectors(64 - lengths.len(), image, behind)
 }
 
-// Zeros up to the last sector, and the anchor in it.
+// So many zeros, up to the last sector, and the anchor in it.
 pub(crate) fn pour_end(n: usize, location: u32, image: &mut [u8], at: usize) -> usize
-    requires { ⌜ at + 2048 * n + 2048 ≤ length (now image) ⌝ }
-    ensures { λ r. ⌜ Poured (zeros (2048 * n) ++ anchorAt location) (2048 * n + 2048) at (now (image .entry)) (now (image .exit)) r ⌝ }
+    requires { ⌜ at + n + 2048 ≤ length (now image) ⌝ }
+    ensures { λ r. ⌜ Poured (zeros n ++ anchorAt location) (n + 2048) at (now (image .entry)) (now (image .exit)) r ⌝ }
 {
-    let last = blank(2048 * n, image, at);
+    let last = blank(n, image, at);
     anchor(location, image, last)
 }

@@ -2,11 +2,11 @@
 use borrow.Author.Needs.{needs}
 use Prim.Native.Nat.{_-_}
 use lib.ListN.{length}
-use Rattle.writers.proofs.FileLaws.{Filing, file-starts, file-end, file-adds, file-small, file-room, file-next, file-ends}
+use Rattle.writers.proofs.FileLaws.{Filing, files-start, files-left, files-room, files-end, files-next, files-done}
 use Rattle.writers.proofs.contents.pour_files.Statement.{statement}
 use Rattle.writers.proofs.contents.pour_files.Tie as tie
 
-ruleset rules = (file-starts, file-end, file-adds, file-small, file-room, file-next, file-ends, needs)
+ruleset rules = (files-start, files-left, files-room, files-end, files-next, files-done, needs)
 
 abbrev Inv-loop : tie.InvT-loop
 Inv-loop lengths staging image₀ at i₀ from₀ place₀ image i from place = Filing lengths staging image₀ at image i from place
@@ -20,6 +20,8 @@ pour-files-spec =
     (λ c. search rules)
     (λ c. search rules)
     (λ c. search rules)
+    (λ c. search rules)
+    (λ c κs. search rules)
     (λ c. search rules)
     (λ c. search rules)
     (λ c. search rules)

@@ -20,6 +20,7 @@ sum-of-spec =
     (λ c. search rules)
     (λ c. search rules)
     (λ c. search rules)
+    (λ c κs. search rules)
     (λ c. search rules)
     (λ c. search rules)
     (λ c. search rules)

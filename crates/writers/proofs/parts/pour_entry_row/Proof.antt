@@ -20,6 +20,7 @@ pour-entry-row-spec =
     (λ c. search rules)
     (λ c. search rules)
     (λ c. search rules)
+    (λ c κs. search rules)
     (λ c. search rules)
     (λ c. search rules)
     (λ c κs. search rules)
