@@ -1,8 +1,8 @@
 -- The returns of the two calls. Assumes nothing.
 use mathlib.Core.Path.{_≡_, refl, ap, sym, _∙_}
 use mathlib.Core.Bool.{Bool, true, false}
-use mathlib.Core.List.{List, [], _∷_, _++_, append-assoc}
-use Prim.Native.Nat.{ℕ, zero, suc, _+_, _-_, _*_, _/_, _<_, _≤_, _^_}
+use mathlib.Core.List.{List, _++_, append-assoc}
+use Prim.Native.Nat.{ℕ, _+_, _-_, _*_, _/_, _<_, _≤_}
 use native.Mathlib.Omega.{arith}
 use native.Mathlib.Nat.{sub-zero}
 use lib.ListN.{length, drop}
@@ -10,12 +10,11 @@ use borrow.Rule.Slice.PartMut.{midOf, putMid}
 use lib.Dec.{eqb, leb, ltb}
 use borrow.Author.Tests.{eq-eqb, ne-eqb, lt-ltb, le-ltb, le-leb, lt-leb, eqb-true, ltb-false}
 use Rattle.disc.specs.Choice.{pick}
-use Rattle.disc.specs.Refusals.{number}
 use Rattle.disc.specs.declared.refusals.Refusal.the-variants.{NoRoom, BadName, BadFiles}
 use Rattle.disc.proofs.PickLaws.{not-both}
 use Rattle.disc.proofs.MoveLaws.{sets-whole}
 use Rattle.disc.specs.Images.{sectorsFor}
-use Rattle.writers.specs.Layout.{zeros, blocksOf, total, directorySize, joined, front, directoryPart, entriesPart, filesPart, anchorAt, image}
+use Rattle.writers.specs.Layout.{zeros, blocksOf, total, joined, front, directoryPart, entriesPart, filesPart, anchorAt, image}
 use Rattle.writers.specs.Refusing.{namesIn, isEnded, areGood, goodNames, areShort, sum, goodFiles, refusedBy, totalOf, Written, writes}
 use Rattle.writers.specs.inner.Pours.{Poured, Kept, Named, Heads, Staged, Ready, Sized, Sums, head}
 use Rattle.writers.specs.declared.WriteReply.{WriteReply}
@@ -151,7 +150,7 @@ module _ (names lengths : List ℕ) {r : WriteReply} (e : r ≡ totalOf names le
             record { heads = record { named = record { good = w .good; few = filed .few }; short = filed .short }; alike = filed .alike; staged = omega (arith, summed-is); is = is }
 
         module _ (l : r .sectors ≤ length lent / 2048) where
-          pub write-end : r .sectors * 2048 ≤ length lent
+          write-end : r .sectors * 2048 ≤ length lent
           write-end = omega arith
 
           pub write-lent : length (midOf 0 (r .sectors * 2048 - 0) lent) ≡ 2048 * r .sectors
@@ -185,17 +184,14 @@ module _ (names lengths staging : List ℕ) (sectors : ℕ) (d : List ℕ) (h : 
     abbrev files : List ℕ
     files = midOf 0 (length d - 2048 - 0) e
 
-    pub pour-front : length d - 2048 ≤ length e
+    pour-front : length d - 2048 ≤ length e
     pour-front = omega (arith, p .same)
 
     files-room : length files ≡ length d - 2048
     files-room = front-long (length d - 2048) e pour-front
 
-    pub pour-data : m ≤ length files
-    pour-data = omega (arith, files-room, p .within, h .1, h .3)
-
     module _ {k : ℕ} {y : List ℕ} (q : Kept (Staged lengths staging m files) (filesPart lengths staging) (2048 * blocksOf lengths) m (length files) files y k) where
-      pub pour-left : k ≤ length d - 2048
+      pour-left : k ≤ length d - 2048
       pour-left = omega (arith, q .within, files-room)
 
       pub pour-done : {r : ℕ} {g : List ℕ} → Poured (zeros (length d - 2048 - k) ++ anchorAt (sectors - 1)) (length d - 2048 - k + 2048) k (putMid 0 (length d - 2048 - 0) e y) g r

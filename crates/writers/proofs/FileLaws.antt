@@ -2,14 +2,14 @@
 use mathlib.Core.Path.{_≡_, refl, ap, sym, _∙_}
 use mathlib.Core.Bool.{Bool, true, false}
 use mathlib.Core.List.{List, [], _∷_, _++_}
-use Prim.Native.Nat.{ℕ, zero, suc, _+_, _-_, _*_, _/_, _<_, _≤_, _^_, min, zero-le}
+use Prim.Native.Nat.{ℕ, zero, suc, _+_, _-_, _*_, _/_, _<_, _≤_, min, zero-le}
 use native.Mathlib.Nat.{add-sub-cancel-left}
 use native.Mathlib.Numerals.{add-one}
 use native.Mathlib.Omega.{arith}
 use lib.ListN.{length, getD, take, drop, length-append, length-drop, length-replicate, drop-of-length-le}
 use lib.Seq.{drop-cons, drop-drop, sets, length-take-le}
 use lib.Dec.{ltb}
-use borrow.Author.Tests.{lt-ltb, le-ltb, ltb-true, ltb-false}
+use borrow.Author.Tests.{lt-ltb, le-ltb, ltb-false}
 use Rattle.disc.specs.Choice.{pick}
 use Rattle.disc.specs.Images.{sectorsFor}
 use Rattle.disc.proofs.PickLaws.{not-both}
@@ -18,8 +18,6 @@ use Rattle.writers.specs.Layout.{summed, zeros, blocksOf, filesPart}
 use Rattle.writers.specs.Refusing.{longest, areShort, sum}
 use Rattle.writers.specs.inner.Pours.{Poured, Kept, Staged, Sums}
 use Rattle.writers.proofs.PourLaws.{poured-then, poured-as}
-use mir.Val.{Fits}
-use mir.Syntax.{w64}
 
 -- ---- none is too long
 
@@ -101,18 +99,9 @@ module _ (f : ℕ → ℕ) {l : List ℕ} {n i : ℕ} (p : Summing f l n i) wher
   pub sum-ends : length l ≤ i → Sums f l n
   sum-ends h = record { small = omega (arith, p .small, p .within, p .few); is = λ s. omega (arith, p .rest s, summed-none f l i h) }
 
-pub blocks-round : (k : ℕ) {m : ℕ} → m ≡ min k longest → Fits w64 (m + 2047)
-blocks-round k e = record { fits = omega arith }
-
 module _ {l : List ℕ} {n i m : ℕ} (e : m ≡ min (getD l i 0) longest) where
-  pub sum-adds : Summing (λ k. k) l n i → i < length l → Fits w64 (n + m)
-  sum-adds p h = record { fits = omega (arith, p .small, p .few) }
-
   pub sum-next : Summing (λ k. k) l n i → i < length l → Summing (λ k. k) l (n + m) (i + 1)
   sum-next p h = next-sum (λ k. k) p h e (omega arith)
-
-  pub blocks-adds : Summing sectorsFor l n i → i < length l → Fits w64 (n + (m + 2047) / 2048)
-  blocks-adds p h = record { fits = omega (arith, p .small, p .few) }
 
   pub blocks-next : Summing sectorsFor l n i → i < length l → Summing sectorsFor l (n + (m + 2047) / 2048) (i + 1)
   blocks-next p h = next-sum sectorsFor p h e (omega arith)
@@ -126,9 +115,6 @@ module _ (text : List ℕ) {at : ℕ} (d : List ℕ) (a : at ≤ length d) where
 
   pub file-none : length d - at < (length text + 2047) / 2048 * 2048 → Filled d at
   file-none h = record { within = a; same = refl; poured = λ k. absurd (omega arith) }
-
-  pub file-room : (length text + 2047) / 2048 * 2048 ≤ length d - at → at + length text ≤ length d
-  file-room h = omega arith
 
   pub file-poured : (length text + 2047) / 2048 * 2048 ≤ length d - at → {m r : ℕ} {e f : List ℕ} → Poured text (length text) at d e m
       → Poured (zeros ((length text + 2047) / 2048 * 2048 - length text)) ((length text + 2047) / 2048 * 2048 - length text) m e f r → Filled f r
@@ -161,14 +147,8 @@ pub files-start : (lengths staging image : List ℕ) (at : ℕ) → at ≤ lengt
 files-start lengths staging image at h = record { inside = omega arith; within = h; same = refl; filed = λ s. record { rest = refl; taken = omega arith; room = refl } }
 
 module _ {lengths staging image₀ : List ℕ} {at : ℕ} {image : List ℕ} {i from place : ℕ} (p : Filing lengths staging image₀ at image i from place) where
-  pub files-left : from ≤ length staging
-  files-left = p .inside
-
-  pub files-room : place ≤ length image
-  files-room = p .within
-
   module _ {n : ℕ} (e : n ≡ min (getD lengths i 0) (length staging - from)) where
-    pub files-end : from + n ≤ length staging
+    files-end : from + n ≤ length staging
     files-end = omega (arith, p .inside)
 
     abbrev part : List ℕ

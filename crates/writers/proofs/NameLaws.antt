@@ -14,7 +14,7 @@ use Rattle.disc.specs.Choice.{pick}
 use Rattle.disc.proofs.PickLaws.{not-both}
 use Rattle.names.specs.Names.{untilZero, lower, sameName}
 use Rattle.writers.specs.Layout.{summed, identifierSize, directorySize}
-use Rattle.writers.specs.inner.Pours.{NameEnd, NameStop}
+use Rattle.writers.specs.inner.Pours.{NameEnd}
 use Rattle.writers.specs.Refusing.{namesFrom, namesIn, endsFrom, isEnded, isPlain, allPlain, isGood, isAmong, areGood, goodNames}
 
 -- ---- the loop over a name has come to i
@@ -44,17 +44,6 @@ module _ {names : List ℕ} {at i : ℕ} (p : Spelling names at i) where
   spell-ends h =
       let k : length (untilZero (drop i names)) ≡ 0 = rw (drop-of-length-le names) in
       record { is = omega (arith, p .rest); within = p .within }
-
--- no more than 127 bytes of it
-module _ {names : List ℕ} {at end : ℕ} (e : NameEnd names at end) where
-  pub stop-above : at ≤ end
-  stop-above = omega (arith, e .is)
-
-  pub stop-cut : 127 < end - at → NameStop names at (at + 127)
-  stop-cut h = record { above = omega arith; small = omega arith; within = omega (arith, e .within); is = λ k. absurd (omega (arith, e .is)) }
-
-  pub stop-whole : end - at ≤ 127 → NameStop names at end
-  stop-whole h = record { above = stop-above; small = omega (arith, stop-above); within = e .within; is = λ k. e }
 
 -- ---- a name where it stands
 

@@ -2,21 +2,19 @@
 use mathlib.Core.Path.{_≡_, refl, ap, sym, _∙_}
 use mathlib.Core.Bool.{Bool, true, false}
 use mathlib.Core.List.{List, [], _∷_, _++_, append-nil}
-use Prim.Native.Nat.{ℕ, zero, suc, _+_, _-_, _*_, _/_, _<_, _≤_, _^_, min}
+use Prim.Native.Nat.{ℕ, suc, _+_, _-_, _*_, _/_, _<_, _≤_, min}
 use native.Mathlib.Numerals.{add-one}
 use native.Mathlib.Omega.{arith}
 use lib.ListN.{length, getD, take, drop, length-append, length-drop, length-replicate, drop-of-length-le}
 use lib.Seq.{drop-cons, sets, length-take-le}
 use lib.Dec.{eqb, ltb}
-use mir.Val.{Fits}
-use mir.Syntax.{w32}
-use borrow.Author.Tests.{eqb-false, ltb-true, ltb-false}
+use borrow.Author.Tests.{eqb-false, ltb-false}
 use Rattle.disc.specs.Choice.{pick}
 use Rattle.disc.specs.Images.{sectorsFor}
 use Rattle.disc.proofs.PickLaws.{not-both}
 use Rattle.disc.proofs.MoveLaws.{sets-append}
 use Rattle.names.specs.Names.{untilZero}
-use Rattle.writers.specs.Layout.{summed, zeros, blocksOf, identifierSize, namesSize, directorySize, joined, blanks, sector, sealed, entryBody, identifierBody, fileEntry, identifierAt, entries, entriesPart, identifiers, directory, directoryPart, recognition, recognitionPart, sequence, integrityPart, rootPart, front, rootEntry, anchorAt, primaryBody, infoBody, partitionBody, logicalBody, unallocatedBody, terminatingBody, integrityBody, fileSetBody}
+use Rattle.writers.specs.Layout.{summed, zeros, identifierSize, namesSize, directorySize, joined, blanks, sector, sealed, entryBody, identifierBody, fileEntry, identifierAt, entries, entriesPart, identifiers, directory, directoryPart, recognition, recognitionPart, sequence, integrityPart, rootPart, front, rootEntry, anchorAt, primaryBody, infoBody, partitionBody, logicalBody, unallocatedBody, terminatingBody, integrityBody, fileSetBody}
 use Rattle.writers.specs.Refusing.{longest, namesIn, isGood, isAmong, areGood, areShort, allPlain}
 use Rattle.writers.specs.inner.Pours.{Poured, Laid, Kept, NameEnd, NameStop, Named, Sized}
 use Rattle.writers.proofs.PourLaws.{poured-then, poured-as, sealed-long, joined-append, laid-append, laid-cons}
@@ -61,25 +59,7 @@ pub enter-starts : (lengths image : List ℕ) (at : ℕ) → (length lengths ≤
 enter-starts lengths image at h = record { room = omega arith; fits = h .1; within = omega arith; few = h .0; low = omega arith; same = refl; rest = λ s. refl }
 
 module _ {lengths image₀ : List ℕ} {at : ℕ} {image : List ℕ} {place block i : ℕ} (p : Entering lengths image₀ at image place block i) where
-  pub enter-index : i < length lengths → Fits w32 i
-  enter-index h = record { fits = omega (arith, p .few) }
-
-  pub enter-few : i < length lengths → i < 64
-  enter-few h = omega (arith, p .few)
-
-  pub enter-room : i < length lengths → place + 2048 ≤ length image
-  enter-room h = omega (arith, p .room, p .fits, p .same)
-
   module _ {n : ℕ} (m : n ≡ min (getD lengths i 0) longest) where
-    pub enter-cast : Fits w32 n
-    enter-cast = record { fits = omega arith }
-
-    pub enter-round : Fits w32 (n + 2047)
-    enter-round = record { fits = omega arith }
-
-    pub enter-block : i < length lengths → Fits w32 (block + (n + 2047) / 2048)
-    enter-block h = record { fits = omega (arith, p .low, p .few) }
-
     pub enter-next : i < length lengths → {f : List ℕ} {r : ℕ} → Laid (sector (fileEntry i n block) ∷ []) place image f r → Entering lengths image₀ at f r (block + (n + 2047) / 2048) (i + 1)
     unfolding entries joined
     enter-next h {f} {r} l = record {
@@ -191,9 +171,6 @@ pub size-starts : (names : List ℕ) → Sizing names 40 0 0
 size-starts names = record { small = omega arith; few = omega arith; sized = λ g. record { left = left-starts names g; rest = refl } }
 
 module _ {names : List ℕ} {size from i : ℕ} (p : Sizing names size from i) where
-  pub size-fits : i < 64 → {end : ℕ} → NameStop names from end → size + (end - from + 42) / 4 * 4 ≤ 10792
-  size-fits k e = omega (arith, p .small, e .small)
-
   pub size-next : i < 64 → from < length names → {end : ℕ} → NameStop names from end → Sizing names (size + (end - from + 42) / 4 * 4) (end + 1) (i + 1)
   size-next k h {end} e = record { small = omega (arith, p .small, e .small); few = omega arith; sized = λ g. next (p .sized g) }
     where
@@ -241,12 +218,6 @@ name-starts names image at h =
     record { above = omega arith; low = omega arith; few = omega arith; fits = h; same = refl; placed = λ g. record { left = left-starts names g; rest = rw z; room = refl } }
 
 module _ {names image₀ : List ℕ} {at : ℕ} {image : List ℕ} {place i from : ℕ} (p : Naming names image₀ at image place i from) where
-  pub name-above : at ≤ place
-  name-above = p .above
-
-  pub name-low : i < 64 → place - at + 40 < 16384
-  name-low k = omega (arith, p .low)
-
   module _ (k : i < 64) (h : from < length names) {end : ℕ} (e : NameStop names from end) where
     abbrev part : List ℕ
     part = take (end - from) (drop from names)
@@ -254,11 +225,8 @@ module _ {names image₀ : List ℕ} {at : ℕ} {image : List ℕ} {place i from
     part-long : length part ≡ end - from
     part-long = length-take-le (end - from) (drop from names) (rw length-drop (omega (arith, e .within)))
 
-    pub name-small : length part ≤ 127
+    name-small : length part ≤ 127
     name-small = rw part-long (omega (arith, e .small))
-
-    pub name-room : place + identifierSize (length part) ≤ length image
-    name-room = omega (arith, name-small, p .low, p .fits, p .same)
 
     pub name-next : {f : List ℕ} {r : ℕ} → Poured (identifierAt (place - at + 40) 0 (16 + i) (8 ∷ part)) (identifierSize (length part)) place image f r → Naming names image₀ at f r (i + 1) (end + 1)
     unfolding identifiers

@@ -5,7 +5,7 @@ use Prim.Native.Nat.{ℕ, zero, suc, _+_, _-_, _*_, _≤_}
 use native.Mathlib.Nat.{add-sub-cancel-left, sub-zero}
 use native.Mathlib.Omega.{arith}
 use lib.ListN.{length, take, drop, replicate, length-append, length-drop, length-replicate, replicate-append-replicate, take-append-drop}
-use lib.Seq.{sets, sets-eq, length-sets, drop-drop, length-take-le, take-all, drop-length, take-length, take-append-le, drop-append-le}
+use lib.Seq.{sets, sets-eq, length-sets, drop-drop, length-take-le, drop-length, take-length, take-append-le, drop-append-le}
 use borrow.Rule.Slice.PartMut.{midOf, putMid}
 use Rattle.disc.specs.Moves.{over}
 use Rattle.disc.proofs.MoveLaws.{sets-append}

@@ -85,7 +85,8 @@ pub(crate) fn pour_files(lengths: &[u64], staging: &[u8], image: &mut [u8], at: 
     let mut from: usize = 0;
     let mut place = at;
     while i < lengths.len() {
-        let end = from + least(lengths[i] as usize, staging.len() - from);
+        let left = staging.len() - from;
+        let end = from + least(lengths[i] as usize, left);
         place = pour_file(&staging[from..end], image, place);
         from = end;
         i += 1;

@@ -6,7 +6,7 @@ ghost use lib.Dec.{eqb};
 ghost use lib.ListN.{length, drop};
 ghost use Rattle.names.specs.Names.{lower, sameName};
 ghost use Rattle.writers.specs.Refusing.{namesIn, isPlain, isGood, isAmong, goodNames};
-ghost use Rattle.writers.specs.inner.Pours.{NameEnd, NameStop, Named, Sized};
+ghost use Rattle.writers.specs.inner.Pours.{NameEnd, NameStop, Sized};
 
 // Where the name that starts at `at` ends.
 pub(crate) fn name_end(names: &[u8], at: usize) -> usize

@@ -1,10 +1,10 @@
 -- `writers::write` meets its contract: each return is a case of `writes`; where nothing is refused the image is poured. Assumes nothing.
 use borrow.Author.Needs.{needs}
-use Rattle.writers.proofs.CallLaws.{write-refused, write-few, write-staging, write-room, write-end, write-least, write-most, write-lent, write-done}
+use Rattle.writers.proofs.CallLaws.{write-refused, write-few, write-staging, write-room, write-least, write-most, write-lent, write-done}
 use Rattle.writers.proofs.write.Statement.{statement}
 use Rattle.writers.proofs.write.Tie as tie
 
-ruleset rules = (write-refused, write-few, write-staging, write-room, write-end, write-least, write-most, write-lent, write-done, needs)
+ruleset rules = (write-refused, write-few, write-staging, write-room, write-least, write-most, write-lent, write-done, needs)
 
 pub write-spec : {M : Type 1} → statement M
 write-spec =

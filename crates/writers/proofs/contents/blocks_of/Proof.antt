@@ -3,11 +3,11 @@ use borrow.Author.Needs.{needs}
 use Prim.Native.Nat.{_-_}
 use lib.ListN.{length}
 use Rattle.disc.specs.Images.{sectorsFor}
-use Rattle.writers.proofs.FileLaws.{Summing, sum-starts, blocks-round, blocks-adds, blocks-next, sum-ends}
+use Rattle.writers.proofs.FileLaws.{Summing, sum-starts, blocks-next, sum-ends}
 use Rattle.writers.proofs.contents.blocks_of.Statement.{statement}
 use Rattle.writers.proofs.contents.blocks_of.Tie as tie
 
-ruleset rules = (sum-starts, blocks-round, blocks-adds, blocks-next, sum-ends, needs)
+ruleset rules = (sum-starts, blocks-next, sum-ends, needs)
 
 abbrev Inv-loop : tie.InvT-loop
 Inv-loop lengths n₀ i₀ n i = Summing sectorsFor lengths n i

@@ -2,11 +2,11 @@
 use borrow.Author.Needs.{needs}
 use Prim.Native.Nat.{_-_}
 use lib.ListN.{length}
-use Rattle.writers.proofs.FileLaws.{Filing, files-start, files-left, files-room, files-end, files-next, files-done}
+use Rattle.writers.proofs.FileLaws.{Filing, files-start, files-next, files-done}
 use Rattle.writers.proofs.contents.pour_files.Statement.{statement}
 use Rattle.writers.proofs.contents.pour_files.Tie as tie
 
-ruleset rules = (files-start, files-left, files-room, files-end, files-next, files-done, needs)
+ruleset rules = (files-start, files-next, files-done, needs)
 
 abbrev Inv-loop : tie.InvT-loop
 Inv-loop lengths staging image₀ at i₀ from₀ place₀ image i from place = Filing lengths staging image₀ at image i from place

@@ -2,11 +2,11 @@
 use borrow.Author.Needs.{needs}
 use Prim.Native.Nat.{_-_}
 use lib.ListN.{length}
-use Rattle.writers.proofs.FileLaws.{Summing, sum-starts, sum-adds, sum-next, sum-ends}
+use Rattle.writers.proofs.FileLaws.{Summing, sum-starts, sum-next, sum-ends}
 use Rattle.writers.proofs.contents.sum_of.Statement.{statement}
 use Rattle.writers.proofs.contents.sum_of.Tie as tie
 
-ruleset rules = (sum-starts, sum-adds, sum-next, sum-ends, needs)
+ruleset rules = (sum-starts, sum-next, sum-ends, needs)
 
 abbrev Inv-loop : tie.InvT-loop
 Inv-loop lengths n₀ i₀ n i = Summing (λ m. m) lengths n i

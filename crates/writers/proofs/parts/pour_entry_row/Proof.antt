@@ -2,11 +2,11 @@
 use borrow.Author.Needs.{needs}
 use Prim.Native.Nat.{_-_}
 use lib.ListN.{length}
-use Rattle.writers.proofs.PartLaws.{Entering, enter-starts, enter-cast, enter-round, enter-block, enter-index, enter-few, enter-room, enter-next, enter-ends}
+use Rattle.writers.proofs.PartLaws.{Entering, enter-starts, enter-next, enter-ends}
 use Rattle.writers.proofs.parts.pour_entry_row.Statement.{statement}
 use Rattle.writers.proofs.parts.pour_entry_row.Tie as tie
 
-ruleset rules = (enter-starts, enter-cast, enter-round, enter-block, enter-index, enter-few, enter-room, enter-next, enter-ends, needs)
+ruleset rules = (enter-starts, enter-next, enter-ends, needs)
 
 abbrev Inv-loop : tie.InvT-loop
 Inv-loop lengths image₀ at place₀ block₀ i₀ image place block i = Entering lengths image₀ at image place block i

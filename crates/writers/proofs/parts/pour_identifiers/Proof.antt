@@ -1,11 +1,11 @@
 -- `writers::parts::pour_identifiers` meets its contract: what is left to pour is what the names left are. Assumes nothing.
 use borrow.Author.Needs.{needs}
 use Prim.Native.Nat.{_-_}
-use Rattle.writers.proofs.PartLaws.{Naming, name-starts, name-above, name-low, name-small, name-room, name-next, name-stops, name-ends}
+use Rattle.writers.proofs.PartLaws.{Naming, name-starts, name-next, name-stops, name-ends}
 use Rattle.writers.proofs.parts.pour_identifiers.Statement.{statement}
 use Rattle.writers.proofs.parts.pour_identifiers.Tie as tie
 
-ruleset rules = (name-starts, name-above, name-low, name-small, name-room, name-next, name-stops, name-ends, needs)
+ruleset rules = (name-starts, name-next, name-stops, name-ends, needs)
 
 abbrev Inv-loop : tie.InvT-loop
 Inv-loop names image₀ at place₀ i₀ from₀ image place i from = Naming names image₀ at image place i from
