@@ -171,6 +171,7 @@ pub head-poured : (names lengths : List ℕ) (size : ℕ) {b m k r : ℕ} {d e f
     → Kept (Named names) (directoryPart (namesIn names)) 16384 m (m + 16384) e f k → Kept (areShort lengths ≡ true) (joined (entriesPart lengths)) 131072 k (k + 131072) f g r
     → Kept (Heads names lengths) (head (namesIn names) lengths size) 720896 0 720896 d g r
 head-poured names lengths size h p q t = record {
+  above = omega arith;
   within = omega (arith, p .place, q .within, t .within);
   same = t .same ∙ q .same ∙ p .same;
   poured = λ y. poured-as (poured-then (poured-then p (q .poured (y .named))) (t .poured (y .short))) (rw (h .is (y .named))) refl;

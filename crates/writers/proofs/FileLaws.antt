@@ -114,14 +114,14 @@ module _ (text : List ℕ) {at : ℕ} (d : List ℕ) (a : at ≤ length d) where
   Filled f r = Kept (at + 2048 * sectorsFor (length text) ≤ length d) (text ++ zeros (2048 * sectorsFor (length text) - length text)) (2048 * sectorsFor (length text)) at (length d) d f r
 
   pub file-none : length d - at < (length text + 2047) / 2048 * 2048 → Filled d at
-  file-none h = record { within = a; same = refl; poured = λ k. absurd (omega arith) }
+  file-none h = record { above = omega arith; within = a; same = refl; poured = λ k. absurd (omega arith) }
 
   pub file-poured : (length text + 2047) / 2048 * 2048 ≤ length d - at → {m r : ℕ} {e f : List ℕ} → Poured text (length text) at d e m
       → Poured (zeros ((length text + 2047) / 2048 * 2048 - length text)) ((length text + 2047) / 2048 * 2048 - length text) m e f r → Filled f r
   file-poured h {m} {r} {e} {f} p q =
       let k : (length text + 2047) / 2048 * 2048 - length text ≡ 2048 * sectorsFor (length text) - length text = omega arith in
       let w : Poured (text ++ zeros (2048 * sectorsFor (length text) - length text)) (2048 * sectorsFor (length text)) at d f r = poured-as (poured-then p q) (ap (λ j. text ++ zeros j) k) (omega arith) in
-      record { within = omega (arith, w .place); same = w .same; poured = λ _. w }
+      record { above = omega (arith, w .place); within = omega (arith, w .place); same = w .same; poured = λ _. w }
 
 pub files-long : (lengths staging : List ℕ) → sum lengths ≤ length staging → length (filesPart lengths staging) ≡ 2048 * blocksOf lengths
 unfolding filesPart summed
@@ -139,12 +139,13 @@ pub record Filed (lengths staging image₀ : List ℕ) (at : ℕ) (image : List 
 
 pub record Filing (lengths staging image₀ : List ℕ) (at : ℕ) (image : List ℕ) (i from place : ℕ) : Type 0 where
   pub inside : from ≤ length staging
+  pub above : at ≤ place
   pub within : place ≤ length image
   pub same : length image ≡ length image₀
   pub filed : Staged lengths staging at image₀ → Filed lengths staging image₀ at image i from place
 
 pub files-start : (lengths staging image : List ℕ) (at : ℕ) → at ≤ length image → Filing lengths staging image at image 0 0 at
-files-start lengths staging image at h = record { inside = omega arith; within = h; same = refl; filed = λ s. record { rest = refl; taken = omega arith; room = refl } }
+files-start lengths staging image at h = record { inside = omega arith; above = omega arith; within = h; same = refl; filed = λ s. record { rest = refl; taken = omega arith; room = refl } }
 
 module _ {lengths staging image₀ : List ℕ} {at : ℕ} {image : List ℕ} {i from place : ℕ} (p : Filing lengths staging image₀ at image i from place) where
   module _ {n : ℕ} (e : n ≡ min (getD lengths i 0) (length staging - from)) where
@@ -161,7 +162,7 @@ module _ {lengths staging image₀ : List ℕ} {at : ℕ} {image : List ℕ} {i 
         → Kept (place + 2048 * sectorsFor (length part) ≤ length image) (part ++ zeros (2048 * sectorsFor (length part) - length part)) (2048 * sectorsFor (length part)) place (length image) image f r
         → Filing lengths staging image₀ at f (i + 1) (from + n) r
     unfolding filesPart
-    files-next h {f} {r} q = record { inside = files-end; within = omega (arith, q .within, q .same); same = q .same ∙ p .same; filed = λ s. next s (p .filed s) }
+    files-next h {f} {r} q = record { inside = files-end; above = omega (arith, p .above, q .above); within = omega (arith, q .within, q .same); same = q .same ∙ p .same; filed = λ s. next s (p .filed s) }
       where
         next : Staged lengths staging at image₀ → Filed lengths staging image₀ at image i from place → Filed lengths staging image₀ at f (i + 1) (from + n) r
         next s w =
@@ -179,7 +180,7 @@ module _ {lengths staging image₀ : List ℕ} {at : ℕ} {image : List ℕ} {i 
 
   pub files-done : length lengths ≤ i → Kept (Staged lengths staging at image₀) (filesPart lengths staging) (2048 * blocksOf lengths) at (length image₀) image₀ image place
   unfolding filesPart
-  files-done h = record { within = omega (arith, p .within, p .same); same = p .same; poured = λ s. done s (p .filed s) }
+  files-done h = record { above = p .above; within = omega (arith, p .within, p .same); same = p .same; poured = λ s. done s (p .filed s) }
     where
       done : Staged lengths staging at image₀ → Filed lengths staging image₀ at image i from place → Poured (filesPart lengths staging) (2048 * blocksOf lengths) at image₀ image place
       done s w = record {

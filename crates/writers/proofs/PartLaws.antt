@@ -85,7 +85,7 @@ module _ {lengths image₀ : List ℕ} {at : ℕ} {image : List ℕ} {place bloc
   unfolding entries joined
   enter-ends h =
       let k : place ≡ at + 2048 * length lengths = omega (arith, p .room, p .within) in
-      record { within = omega arith; same = p .same; poured = λ s. record { bytes = done s; long = entries-long 0 80 lengths; place = k; same = p .same } }
+      record { above = omega arith; within = omega arith; same = p .same; poured = λ s. record { bytes = done s; long = entries-long 0 80 lengths; place = k; same = p .same } }
     where
       done : areShort lengths ≡ true → image ≡ sets image₀ at (joined (entries 0 80 lengths))
       done s = rw (drop-of-length-le lengths) at (p .rest s)
@@ -252,7 +252,7 @@ module _ {names image₀ : List ℕ} {at : ℕ} {image : List ℕ} {place i from
 
   name-done : (Left names i from → namesIn (drop from names) ≡ []) → Kept (Named names) (identifiers 0 40 (namesIn names)) (namesSize (namesIn names)) at (at + 10752) image₀ image place
   unfolding identifiers
-  name-done z = record { within = omega (arith, p .low, p .few); same = p .same; poured = λ g. done (p .placed g) }
+  name-done z = record { above = p .above; within = omega (arith, p .low, p .few); same = p .same; poured = λ g. done (p .placed g) }
     where
       done : Placed names image₀ at image place i from → Poured (identifiers 0 40 (namesIn names)) (namesSize (namesIn names)) at image₀ image place
       done w =
@@ -275,7 +275,7 @@ pub directory-poured : (names : List ℕ) {at m k r : ℕ} {d e f g : List ℕ} 
     → Kept (Named names) (identifiers 0 40 (namesIn names)) (namesSize (namesIn names)) m (m + 10752) e f k → Poured (zeros (at + 16384 - k)) (at + 16384 - k) k f g r
     → Kept (Named names) (directoryPart (namesIn names)) 16384 at (at + 16384) d g r
 unfolding directoryPart directory
-directory-poured names {at} {m} {k} {r} {d} {e} {f} {g} p q t = record { within = omega (arith, p .place, q .within, t .place); same = t .same ∙ q .same ∙ p .same; poured = λ y. whole y (q .poured y) }
+directory-poured names {at} {m} {k} {r} {d} {e} {f} {g} p q t = record { above = omega (arith, p .place, q .within, t .place); within = omega (arith, p .place, q .within, t .place); same = t .same ∙ q .same ∙ p .same; poured = λ y. whole y (q .poured y) }
   where
     whole : Named names → Poured (identifiers 0 40 (namesIn names)) (namesSize (namesIn names)) m e f k → Poured (directoryPart (namesIn names)) 16384 at d g r
     whole y w =
@@ -290,6 +290,7 @@ unfolding entriesPart
 entries-poured lengths p q h =
     let k : length (blanks (64 - length lengths)) ≡ 64 - length lengths = length-replicate (64 - length lengths) (zeros 2048) in
     record {
+      above = omega (arith, p .above, q .poured .place);
       within = omega (arith, p .within, q .poured .place);
       same = q .poured .same ∙ p .same;
       poured = λ s. poured-as (poured-then (p .poured s) (q .poured)) (sym (joined-append (entries 0 80 lengths) (blanks (64 - length lengths)))) (omega arith);

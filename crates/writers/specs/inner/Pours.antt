@@ -24,6 +24,7 @@ pub record Laid (ss : List (List ℕ)) (at : ℕ) (before after : List ℕ) (r :
 
 -- the place behind is no farther than `limit`, and the slice keeps its length, whatever the contents are; where they are `good`, the text stands there
 pub record Kept (good : Type 0) (text : List ℕ) (size at limit : ℕ) (before after : List ℕ) (r : ℕ) : Type 0 where
+  pub above : at ≤ r
   pub within : r ≤ limit
   pub same : length after ≡ length before
   pub poured : good → Poured text size at before after r
