@@ -1,13 +1,13 @@
 // Files read by a list of paths, each into the room that those before it left. The work space is all zero on return.
 ghost use mathlib.Core.Path.{_≡_};
 ghost use mathlib.Core.Bool.{true};
-ghost use Prim.Native.Nat.{_+_, _<_, _≤_, _^_};
+ghost use Prim.Native.Nat.{_+_, _<_, _^_, min};
 ghost use lib.ListN.{length, set, replicate};
 ghost use Rattle.disc.specs.Ran.{ran};
 ghost use Rattle.disc.specs.Images.{disc};
 ghost use Rattle.directories.specs.Lookups.{readPathOf};
-ghost use Rattle.cue_stacks.specs.Stacks.{items, readAllOf};
-ghost use Rattle.cue_stacks.specs.inner.Turns.{placeBehind, allRead, On, Turns};
+ghost use Rattle.cue_stacks.specs.Stacks.{readAllOf};
+ghost use Rattle.cue_stacks.specs.inner.Turns.{isLast, placeBehind, On, Turns, Passes};
 use crate::items::item_end;
 use crate::items::items_behind;
 use directories::lookups::read_reached;
@@ -32,15 +32,23 @@ struct Place {
     count: u64,
 }
 
-// The place behind an item that ends at `end` and was answered so.
-fn place_behind(paths: &[u8], p: Place, end: usize, reply: Reply) -> Place
+// Whether the item that ends at `end`, with which so many places are taken, is the last one that is read: the list ends there, or the shorter row
+// does. Who counted the items may have found fewer than are there now.
+fn is_last(bytes: usize, rows: usize, end: usize, places: usize) -> bool
+    ensures { λ r. ⌜ r ≡ isLast bytes rows end places ⌝ }
+{
+    (bytes <= end) | (rows <= places)
+}
+
+// The place behind an item that ends at `end` and was answered so, in a list of so many bytes.
+fn place_behind(bytes: usize, rows: usize, p: Place, end: usize, reply: Reply) -> Place
     requires { ⌜ (p .places + 1 < 2 ^ 64) × (p .filled + reply .length < 2 ^ 64) ⌝ }
-    ensures { λ r. ⌜ r ≡ placeBehind (now (paths .entry)) p end reply ⌝ }
+    ensures { λ r. ⌜ r ≡ placeBehind bytes rows p end reply ⌝ }
 {
     let places = p.places + 1;
     let filled = p.filled + reply.length as usize;
     let count = add_counts(p.count, reply.count);
-    if paths.len() <= end {
+    if is_last(bytes, rows, end, places) {
         return Place {
             going: false,
             from: end,
@@ -81,9 +89,10 @@ fn read_item(
     answers: &mut [u32],
     work: &mut [u8],
 ) -> Place
-    requires { ⌜ (p .going ≡ true) × On (now paths) p (length (now out)) (length (now lengths)) (length (now answers)) ⌝ }
+    requires { ⌜ (p .going ≡ true) × On (length (now paths)) (length (now out)) (min (length (now lengths)) (length (now answers))) p ⌝ }
     ensures { λ q. ⌜ Turns (λ path. ran (disc (now (image .entry))) (readPathOf matching mount (length (now (work .entry))) root path)) (now (paths .entry)) p (now (out .entry)) (now (lengths .entry)) (now (answers .entry)) q (now (out .exit)) (now (lengths .exit)) (now (answers .exit)) ⌝ }
 {
+    let rows = least(lengths.len(), answers.len());
     let from = p.from;
     let filled = p.filled;
     let end = item_end(paths, from);
@@ -97,10 +106,10 @@ fn read_item(
         work,
     );
     put_reply(reply, lengths, answers, p.places);
-    place_behind(paths, p, end, reply)
+    place_behind(paths.len(), rows, p, end, reply)
 }
 
-// Reads every item, each behind those before it. What is left in the work space is of no use to the caller.
+// Reads every item that has a place in both rows, each behind those before it. What is left in the work space is of no use to the caller.
 fn read_items(
     image: &[u8],
     mount: Mount,
@@ -112,8 +121,8 @@ fn read_items(
     answers: &mut [u32],
     work: &mut [u8],
 ) -> Reply
-    requires { ⌜ (length (items (now paths)) ≤ length (now lengths)) × (length (items (now paths)) ≤ length (now answers)) ⌝ }
-    ensures { λ r. ⌜ record { reply = r; out = now (out .exit); lengths = now (lengths .exit); answers = now (answers .exit) } ≡ allRead (λ path. ran (disc (now (image .entry))) (readPathOf matching mount (length (now (work .entry))) root path)) (now (paths .entry)) (now (out .entry)) (now (lengths .entry)) (now (answers .entry)) ⌝ }
+    requires { ⌜ (0 < length (now lengths)) × (0 < length (now answers)) ⌝ }
+    ensures { λ r. ⌜ Passes (λ path. ran (disc (now (image .entry))) (readPathOf matching mount (length (now (work .entry))) root path)) (now (paths .entry)) (now (out .entry)) (now (lengths .entry)) (now (answers .entry)) (record { reply = r; out = now (out .exit); lengths = now (lengths .exit); answers = now (answers .exit) }) ⌝ }
 {
     let mut p = Place {
         going: true,

@@ -1,7 +1,7 @@
 -- The items one at a time: a place among them, and what it leads to.
-use Prim.Native.Nat.{ℕ, _+_, _-_, _≤_, _<_}
+use Prim.Native.Nat.{ℕ, _+_, _-_, _≤_, _<_, min}
 use mathlib.Core.Path.{_≡_}
-use mathlib.Core.Bool.{true, false}
+use mathlib.Core.Bool.{Bool, true, false, _||_}
 use mathlib.Core.List.{List, [], _++_}
 use lib.ListN.{length, take, drop}
 use lib.Seq.{sets}
@@ -13,10 +13,14 @@ use Rattle.disc.specs.declared.replies.Reply.{Reply}
 use Rattle.cue_stacks.specs.Stacks.{items, Stack, stacked, Stacked, laid}
 use Rattle.cue_stacks.specs.declared.stacks.Place.{Place}
 
--- the place behind an item that ends at `end` and was answered so
-unfoldable pub placeBehind : List ℕ → Place → ℕ → Reply → Place
-placeBehind paths p end reply =
-    pick (leb (length paths) end)
+-- whether the item that ends at `end`, with which so many places are taken, is the last one that is read
+unfoldable pub isLast : ℕ → ℕ → ℕ → ℕ → Bool
+isLast bytes rows end places = leb bytes end || leb rows places
+
+-- the place behind an item that ends at `end` and was answered so, in a list of so many bytes; `rows` is how many places the shorter row has
+unfoldable pub placeBehind : ℕ → ℕ → Place → ℕ → Reply → Place
+placeBehind bytes rows p end reply =
+    pick (isLast bytes rows end (p .places + 1))
     (record { going = false; from = end; places = p .places + 1; filled = p .filled + reply .length; count = reported (p .count + reply .count) })
     (record { going = true; from = end + 1; places = p .places + 1; filled = p .filled + reply .length; count = reported (p .count + reply .count) })
 
@@ -45,23 +49,35 @@ start = record { going = true; from = 0; places = 0; filled = 0; count = 0 }
 abbrev pub allRead : (List ℕ → Ran (List ℕ)) → List ℕ → List ℕ → List ℕ → List ℕ → Stacked
 allRead read paths out lengths answers = laid lengths answers (stacked read out (items paths))
 
--- there is room for what was filled, and a place for each item that is left
-pub record On (paths : List ℕ) (p : Place) (out lengths answers : ℕ) : Type 0 where
-  pub within : p .from ≤ length paths
+-- the place is inside what was lent, whatever the paths say
+pub record On (bytes out rows : ℕ) (p : Place) : Type 0 where
+  pub within : p .from ≤ bytes
   pub room : p .filled ≤ out
-  pub lengths-fit : p .places + length (itemsAt paths p) ≤ lengths
-  pub answers-fit : p .places + length (itemsAt paths p) ≤ answers
+  pub placed : p .going ≡ true → p .places < rows
   pub counted : p .count ≤ 0xffff_ffff_ffff_ffff
 
--- how far it is to the end
-abbrev pub turnsLeft : List ℕ → Place → ℕ
-turnsLeft paths p = pick (p .going) (1 + (length paths - p .from)) 0
+-- both rows have a place for each item that is left
+abbrev pub Enough : List ℕ → ℕ → Place → Type 0
+Enough paths rows p = p .places + length (itemsAt paths p) ≤ rows
 
--- one item read: a place nearer the end that leads to the same
+-- how far it is to the end
+abbrev pub turnsLeft : ℕ → Place → ℕ
+turnsLeft bytes p = pick (p .going) (1 + (bytes - p .from)) 0
+
+-- one item read: a place nearer the end, inside what was lent. It leads to the same where there are places enough.
 pub record Turns (read : List ℕ → Ran (List ℕ)) (paths : List ℕ) (p : Place) (out lengths answers : List ℕ) (q : Place) (out′ lengths′ answers′ : List ℕ) : Type 0 where
-  pub same : leadsTo read paths q out′ lengths′ answers′ ≡ leadsTo read paths p out lengths answers
-  pub on : On paths q (length out) (length lengths) (length answers)
+  pub on : On (length paths) (length out) (min (length lengths) (length answers)) q
   pub out-long : length out′ ≡ length out
   pub lengths-long : length lengths′ ≡ length lengths
   pub answers-long : length answers′ ≡ length answers
-  pub less : turnsLeft paths q < turnsLeft paths p
+  pub less : turnsLeft (length paths) q < turnsLeft (length paths) p
+  pub enough : Enough paths (min (length lengths) (length answers)) p → Enough paths (min (length lengths) (length answers)) q
+  pub same : Enough paths (min (length lengths) (length answers)) p → leadsTo read paths q out′ lengths′ answers′ ≡ leadsTo read paths p out lengths answers
+
+-- all items read that have a place in both rows: what is filled is inside the output. Where each item has one, all are read.
+pub record Passes (read : List ℕ → Ran (List ℕ)) (paths out lengths answers : List ℕ) (left : Stacked) : Type 0 where
+  pub room : left .reply .length ≤ length out
+  pub out-long : length (left .out) ≡ length out
+  pub lengths-long : length (left .lengths) ≡ length lengths
+  pub answers-long : length (left .answers) ≡ length answers
+  pub whole : length (items paths) ≤ min (length lengths) (length answers) → left ≡ allRead read paths out lengths answers

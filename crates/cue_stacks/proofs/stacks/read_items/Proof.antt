@@ -17,7 +17,7 @@ Inv-loop image mount root paths matching out₀ lengths₀ answers₀ work₀ p�
     Reading (λ path. ran (disc image) (readPathOf matching mount (length work₀) root path)) paths out₀ lengths₀ answers₀ p out lengths answers × (length work ≡ length work₀)
 
 abbrev μ-loop : tie.MeasureT-loop
-μ-loop image mount root paths matching out₀ lengths₀ answers₀ work₀ p₀ out lengths answers work p = turnsLeft paths p
+μ-loop image mount root paths matching out₀ lengths₀ answers₀ work₀ p₀ out lengths answers work p = turnsLeft (length paths) p
 
 again : tie.Need-loop-again Inv-loop μ-loop
 again c =
