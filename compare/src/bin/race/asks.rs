@@ -1,6 +1,7 @@
-//! What is asked of an image, and what has to hold of an answer whatever the image holds meanwhile.
+//! What is asked of an image, and what has to hold of an answer whatever the image, the path or a row holds meanwhile.
 
 use crate::faults;
+use crate::flips::Of;
 use crate::memory::{Piece, Side, Store};
 use crate::stage::Raced;
 use common::calls::{Call, Choice, PLACE, Query, Values};
@@ -17,9 +18,10 @@ const MATCHINGS: [u32; 3] = [CASE_IGNORED, AS_WRITTEN, UNAMBIGUOUS];
 const PLENTY: usize = 1 << 19;
 const MANY_SLOTS: usize = 1 << 13;
 
-/// A query, what it is called if it goes wrong, and the answers that the image's two states give while they stand still.
+/// A query in both states of the flip, what it is called if it goes wrong, and the answers that the two states give while they stand still.
 pub struct Ask {
     pub query: Query,
+    pub other: Query,
     pub words: &'static str,
     still: [[u64; 4]; 2],
 }
@@ -33,6 +35,22 @@ impl Ask {
 
 fn summed(v: &Values) -> [u64; 4] {
     [v.answer, v.count, v.length, v.place]
+}
+
+/// What a call is lent that somebody may write to meanwhile.
+#[derive(Clone, Copy)]
+pub struct Flipped<'q> {
+    /// Where the image starts, and how long it is.
+    pub image: (*const u8, usize),
+    /// Where the path, or a shelf's row of lengths, starts if that is what is flipped, and the query in its other state.
+    pub found: Option<(*mut u8, &'q Query)>,
+}
+
+impl<'q> Flipped<'q> {
+    /// An image, and nothing else.
+    pub fn image(at: *const u8, length: usize) -> Flipped<'q> {
+        Flipped { image: (at, length), found: None }
+    }
 }
 
 /// The memory that is lent for calls.
@@ -57,44 +75,48 @@ struct Lent<'s> {
 }
 
 impl Lender {
-    /// Makes a call on an image that somebody may write to meanwhile. The bits of `sides` say with which guard each piece is flush. Gives
+    /// Makes a call while somebody may write to what it is about. The bits of `sides` say with which guard each piece is flush. Gives
     /// what was answered, or what must not be.
-    pub fn ask(&mut self, q: &Query, image: (*const u8, usize), sides: u64) -> Result<Values, String> {
+    pub fn ask(&mut self, q: &Query, flipped: Flipped, sides: u64) -> Result<Values, String> {
         let side = |bit: u32| if sides >> bit & 1 == 0 { Side::Left } else { Side::Right };
-        let mut path = self.path.piece(q.path.len(), side(0));
+        let (other, found) = flipped.found.map_or((q, None), |(at, other)| (other, Some(at)));
+        let (found_path, found_row) = if q.call == Call::Survey { (None, found) } else { (found, None) };
+        let mut path = self.path.piece(if found_path.is_some() { 0 } else { q.path.len() }, side(0));
         let mut out = self.out.piece(q.room_bytes(), side(1));
         let mut work = self.work.piece(if q.call.has_work() { q.work } else { 0 }, side(2));
         let mut place = self.place.piece(size_of::<usize>(), side(3));
-        let mut lengths = self.lengths.piece(q.places[0] * size_of::<u64>(), side(4));
+        let mut lengths = self.lengths.piece(if found_row.is_some() { 0 } else { q.places[0] * size_of::<u64>() }, side(4));
         let mut answers = self.answers.piece(q.places[1] * size_of::<u32>(), side(5));
-        path.bytes().copy_from_slice(&q.path);
+        path.bytes().iter_mut().zip(&q.path).for_each(|(to, byte)| *to = *byte);
         lengths.bytes().chunks_exact_mut(8).zip(&q.shelf).for_each(|(to, n)| to.copy_from_slice(&n.to_le_bytes()));
-        let (image_at, image_length) = image;
+        let (image_at, image_length) = flipped.image;
         let lends = Lends {
             image: image_at,
             image_length,
-            path: path.at(),
+            path: found_path.unwrap_or(path.at()),
             out: out.at(),
             work: work.at(),
-            lengths: lengths.at().cast(),
+            lengths: found_row.unwrap_or(lengths.at()).cast(),
             answers: answers.at().cast(),
             place: place.at().cast(),
         };
-        faults::lend([
-            (lends.image.addr(), image_length),
-            (lends.path.addr(), path.length),
-            (lends.out.addr(), out.length),
-            (lends.work.addr(), work.length),
-            (lends.lengths.addr(), lengths.length),
-            (lends.answers.addr(), answers.length),
-            (lends.place.addr(), place.length),
+        faults::lend(&[
+            ("image", lends.image.addr(), image_length),
+            ("path", lends.path.addr(), q.path.len()),
+            ("output", lends.out.addr(), out.length),
+            ("work space", lends.work.addr(), work.length),
+            ("lengths", lends.lengths.addr(), q.places[0] * size_of::<u64>()),
+            ("answers", lends.answers.addr(), answers.length),
+            ("place", lends.place.addr(), place.length),
         ]);
-        // SAFETY: the pieces are of six stores, and the image of another: none overlap, and each is as long as said.
+        // SAFETY: the pieces are of six stores, and what is flipped of others: none overlap, and each is as long as said.
         let mut values = unsafe { linked::make(q, lends) };
-        in_range(q, &values, image_length)?;
+        in_range(q, other, &values, image_length)?;
         if q.call == Call::ReadAll && values.answer == 0 {
-            values.rows = rows(q.items().count(), lengths.bytes(), answers.bytes());
-            in_rows(q, &values)?;
+            // No answer number is as the row came.
+            let items = answers.words_written(size_of::<u32>());
+            values.rows = rows(items, lengths.bytes(), answers.bytes());
+            in_rows(q, other, &values)?;
         }
         held(q, &values, Lent { path, out, work, lengths, answers, place })?;
         Ok(values)
@@ -116,10 +138,12 @@ fn is_listed(q: &Query, answer: u64) -> bool {
         || answer == TOO_DEEP && q.call == Call::Show
 }
 
-/// The rows of a list: a place for each path, each with an answer of a read by path, no length where it is refused, and all lengths together.
-fn in_rows(q: &Query, v: &Values) -> Result<(), String> {
-    if v.rows.len() != q.items().count() {
-        return Err(format!("done with {} places, and {} paths", v.rows.len(), q.items().count()));
+/// The rows of a list: a place for each path as long as there are places, each with an answer of a read by path, no length where it is
+/// refused, and all lengths together. How many paths there are may be other in the list's other state.
+fn in_rows(q: &Query, other: &Query, v: &Values) -> Result<(), String> {
+    let [a, b] = [q, other].map(|q| q.items().count().min(q.places[0]).min(q.places[1]));
+    if v.rows.len() < a.min(b) || v.rows.len() > a.max(b) {
+        return Err(format!("done with {} places, and {a} or {b} paths", v.rows.len()));
     }
     for (i, (length, answer)) in v.rows.iter().enumerate() {
         if !is_listed(q, u64::from(*answer)) || *answer != 0 && *length != 0 {
@@ -133,14 +157,20 @@ fn in_rows(q: &Query, v: &Values) -> Result<(), String> {
     Ok(())
 }
 
-/// The numbers of an answer. A list of paths and a survey are refused exactly where a row is too short.
-fn in_range(q: &Query, v: &Values, image_length: usize) -> Result<(), String> {
-    let is_right = match q.call {
-        Call::ReadAll => v.answer == if q.items().count() > q.places[0].min(q.places[1]) { TOO_MANY } else { 0 },
-        Call::Survey => v.answer == if q.room < PLACE * (q.shelf.len() + 1) { BAD_SHELF } else { 0 },
-        _ => is_listed(q, v.answer),
-    };
-    if !is_right {
+/// The answer of a call that is refused exactly where a row is too short, or a shelf.
+fn by_the_rows(q: &Query, image_length: usize) -> Option<u64> {
+    let fits = |shelf: &[u64]| shelf.iter().try_fold(0u64, |sum, n| sum.checked_add(*n)).is_some_and(|sum| sum <= image_length as u64);
+    match q.call {
+        Call::ReadAll => Some(if q.items().count() > q.places[0].min(q.places[1]) { TOO_MANY } else { 0 }),
+        Call::Survey => Some(if !fits(&q.shelf) || q.room < PLACE * (q.shelf.len() + 1) { BAD_SHELF } else { 0 }),
+        _ => None,
+    }
+}
+
+/// The numbers of an answer. A list of paths and a survey have the answer of one of the two states.
+fn in_range(q: &Query, other: &Query, v: &Values, image_length: usize) -> Result<(), String> {
+    let by_the_rows = [q, other].map(|q| by_the_rows(q, image_length));
+    if !by_the_rows.contains(&Some(v.answer)) && (by_the_rows != [None; 2] || !is_listed(q, v.answer)) {
         return Err(format!("the answer is {}, which isn't in the table", v.answer));
     }
     if v.answer == 0 && q.call.has_room() && v.length > q.room as u64 {
@@ -168,7 +198,7 @@ fn held(q: &Query, v: &Values, lent: Lent) -> Result<(), String> {
     let (path_length, work_length, place_length) = (path.length, work.length, place.length);
     // A survey finds lengths in their row, and a list of paths puts them there.
     let places = if q.call == Call::Survey { q.shelf.len() } else { v.rows.len() };
-    let (lengths_front, answers_front) = (places * size_of::<u64>(), v.rows.len() * size_of::<u32>());
+    let (lengths_front, answers_front) = ((places * size_of::<u64>()).min(lengths.length), v.rows.len() * size_of::<u32>());
     for (name, piece, front) in [
         ("path", &path, path_length),
         ("output", &out, front),
@@ -181,7 +211,7 @@ fn held(q: &Query, v: &Values, lent: Lent) -> Result<(), String> {
             return Err(format!("answer {}, length {}: byte {at} of the {name} was written to", v.answer, v.length));
         }
     }
-    if path.bytes() != q.path {
+    if path.bytes() != &q.path[..path_length] {
         return Err("the path was written to".to_string());
     }
     if lengths.bytes().chunks_exact(8).zip(&q.shelf).any(|(bytes, n)| bytes != n.to_le_bytes()) {
@@ -202,17 +232,30 @@ fn held(q: &Query, v: &Values, lent: Lent) -> Result<(), String> {
 /// Everything that is asked of an image.
 pub fn asks(raced: &Raced, lender: &mut Lender) -> Result<Vec<Ask>, String> {
     let mut states = [raced.image.clone(), raced.image.clone()];
-    raced.flip.put(&mut states[1], 1);
+    if raced.flip.of == Of::Image {
+        raced.flip.put(&mut states[1], 1);
+    }
     let mut still = |q: &Query| -> Result<[Values; 2], String> {
-        let mut answer = |state: &[u8]| lender.ask(q, (state.as_ptr(), state.len()), 0);
-        Ok([answer(&states[0])?, answer(&states[1])?])
+        let mut answer = |q: &Query, state: &[u8]| lender.ask(q, Flipped::image(state.as_ptr(), state.len()), 0);
+        Ok([answer(q, &states[0])?, answer(&other(raced, q), &states[1])?])
     };
     let mut asks = Vec::new();
     for query in queries(raced, &mut still)? {
         let still = still(&query)?.each_ref().map(summed);
-        asks.push(Ask { words: words(raced, &query).leak(), query, still });
+        asks.push(Ask { words: words(raced, &query).leak(), other: other(raced, &query), query, still });
     }
     Ok(asks)
+}
+
+/// A query in the flip's other state.
+fn other(raced: &Raced, q: &Query) -> Query {
+    let (flip, mut q) = (raced.flip, q.clone());
+    match flip.of {
+        Of::Path if q.call.has_path() => flip.put(&mut q.path, 1),
+        Of::Lengths if q.call == Call::Survey => q.shelf[flip.at / 8] = flip.values[1],
+        _ => {}
+    }
+    q
 }
 
 /// Every call, with room and work space that are exactly enough for each of the image's two states, a little less, and more.
@@ -226,10 +269,10 @@ fn queries(raced: &Raced, still: &mut impl FnMut(&Query) -> Result<[Values; 2], 
     let roots = still(&Query::on(Call::Read, raced.volume, raced.volume.root).with(PLENTY, 0))?.map(|values| values.length as usize);
     let shows = distinct(roots.iter().flat_map(|root| works.iter().map(move |work| root + work)).chain(works.iter().copied()).collect());
     let mut queries = Vec::new();
-    for q in Call::ALL.iter().flat_map(|call| asked(raced, *call)) {
+    for q in raced.calls.iter().flat_map(|call| asked(raced, *call)) {
         let plenty = q.with(if q.call == Call::Extents { MANY_SLOTS } else { PLENTY }, PLENTY);
         let rooms = match q.call {
-            Call::Survey => vec![2 * PLACE - 1, 2 * PLACE, 2 * PLACE + 1],
+            Call::Survey => [0, 1, 2].map(|more| PLACE * (q.shelf.len() + 1) - 1 + more).to_vec(),
             call if call.has_room() => rooms(still(&plenty)?.map(|values| values.length as usize)),
             _ => vec![0],
         };
@@ -256,6 +299,13 @@ fn asked(raced: &Raced, call: Call) -> Vec<Query> {
     let v = raced.volume;
     match call {
         Call::Probe | Call::Open | Call::Label => vec![Query::of(call, v)],
+        // Rows for as many as the list has in either state, and around that.
+        Call::ReadAll if raced.flip.of == Of::Path => {
+            let q = Query::along(call, v, &raced.paths[0]);
+            let [a, b] = [&q, &other(raced, &q)].map(|q| q.items().count());
+            let (few, many) = (a.min(b), a.max(b));
+            [[few, few], [few, many], [many, few], [many, many], [few - 1, many]].map(|places| Query { places, ..q.clone() }).to_vec()
+        }
         // All of them, twice, in rows that are exact and too short.
         Call::ReadAll => {
             let q = Query::list(v, &[&raced.paths[..], &raced.paths].concat());
@@ -264,7 +314,7 @@ fn asked(raced: &Raced, call: Call) -> Vec<Query> {
         }
         // The root has files and the subject, whose entries are files in either state.
         Call::Show => [1, 2, 3, 17].map(|levels| Query::showing(v, levels)).to_vec(),
-        Call::Survey => vec![Query::survey(0, &[raced.image.len() as u64])],
+        Call::Survey => vec![Query::survey(0, &raced.shelf)],
         // It has no image, and its row is the caller's to keep still.
         Call::Total => Vec::new(),
         _ if call.has_path() => raced.paths.iter().map(|path| Query::along(call, v, path)).collect(),

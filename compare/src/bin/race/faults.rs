@@ -34,12 +34,12 @@ unsafe extern "C" {
     fn _exit(status: c_int) -> !;
 }
 
-/// The pieces that a call is lent, in this order.
-pub const NAMES: [&str; 7] = ["image", "path", "output", "work space", "lengths", "answers", "place"];
+/// The pieces that a call may be lent.
+const NAMES: [&str; 9] = ["image", "path", "output", "work space", "lengths", "answers", "place", "names", "staging area"];
 
 /// The words for what is asked, and the pieces that are lent for it: start and length of each.
 static ABOUT: (AtomicPtr<u8>, AtomicUsize) = (AtomicPtr::new(std::ptr::dangling_mut()), AtomicUsize::new(0));
-static PIECES: [(AtomicUsize, AtomicUsize); 7] = [const { (AtomicUsize::new(0), AtomicUsize::new(0)) }; 7];
+static PIECES: [(AtomicUsize, AtomicUsize); NAMES.len()] = [const { (AtomicUsize::new(0), AtomicUsize::new(0)) }; NAMES.len()];
 
 /// When the race began, and how many calls were begun since.
 static BEGAN: OnceLock<Instant> = OnceLock::new();
@@ -70,9 +70,10 @@ pub fn about(words: &'static str) {
     CALLS.fetch_add(1, Relaxed);
 }
 
-/// Says what is lent from now on.
-pub fn lend(pieces: [(usize, usize); 7]) {
-    for (to, (at, length)) in PIECES.iter().zip(pieces) {
+/// Says what is lent from now on: names of pieces, with start and length of each.
+pub fn lend(pieces: &[(&str, usize, usize)]) {
+    for (to, name) in PIECES.iter().zip(NAMES) {
+        let (_, at, length) = pieces.iter().find(|piece| piece.0 == name).copied().unwrap_or_default();
         to.0.store(at, Relaxed);
         to.1.store(length, Relaxed);
     }
@@ -103,6 +104,9 @@ fn place(line: &mut Line, address: usize) {
     let mut nearest = (usize::MAX, 0, false);
     for (i, (at, length)) in PIECES.iter().enumerate() {
         let (at, end) = (at.load(Relaxed), at.load(Relaxed) + length.load(Relaxed));
+        if at == 0 {
+            continue;
+        }
         let (far, behind) = if address < at { (at - address, false) } else { (address.saturating_sub(end), true) };
         if far < nearest.0 {
             nearest = (far, i, behind);

@@ -1,4 +1,5 @@
-//! Calls the archive while another thread writes to the image.
+//! Calls the archive while another thread writes to the image, or to what else the call finds: a list of paths, a path, a shelf's lengths, the
+//! writer's names and lengths.
 //!
 //!     race [--seconds N] [--seed S] [--flip WORDS]
 //!
@@ -16,11 +17,15 @@ mod flips;
 #[cfg(linked)]
 mod images;
 #[cfg(linked)]
+mod lists;
+#[cfg(linked)]
 mod memory;
 #[cfg(linked)]
 mod rounds;
 #[cfg(linked)]
 mod stage;
+#[cfg(linked)]
+mod writes;
 
 #[cfg(linked)]
 fn main() {

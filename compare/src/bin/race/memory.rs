@@ -98,6 +98,13 @@ impl Piece<'_> {
         place.map(|i| i as isize - self.from as isize)
     }
 
+    /// How many words of so many bytes stand in front of the first that is as it came.
+    pub fn words_written(&self, width: usize) -> usize {
+        let piece = self.from..self.from + self.length;
+        let (words, like) = (self.region[piece.clone()].chunks_exact(width), self.like[piece].chunks_exact(width));
+        words.zip(like).take_while(|(word, like)| word != like).count()
+    }
+
     /// Makes its first `front` bytes as they came.
     pub fn restore(&mut self, front: usize) {
         let to = self.from..self.from + front;

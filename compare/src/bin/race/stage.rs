@@ -1,19 +1,33 @@
 //! An image in the making, around a subject, which its root names twice, as a file and as a directory: the subject's bytes are entries of a
 //! directory, so that it can be read, listed and walked through.
 
-use crate::flips::Flip;
-use common::calls::{Icb, Volume};
+use crate::flips::{Flip, Of};
+use common::calls::{Call, Icb, Volume};
 use common::disc::{Disc, Layout};
 use common::records::*;
 
-/// An image, the place in it that is flipped, and what may be asked of it.
+/// An image, the place in it or in what else is lent that is flipped, and what may be asked of it.
 pub struct Raced {
     pub name: String,
     pub image: Vec<u8>,
     pub flip: Flip,
+    pub calls: Vec<Call>,
     pub volume: Volume,
     pub icbs: Vec<Icb>,
     pub paths: Vec<Vec<u8>>,
+    /// The lengths of a shelf's images.
+    pub shelf: Vec<u64>,
+}
+
+impl Raced {
+    /// The bytes that the flip is in, as they stand in its first state.
+    pub fn flipped(&self) -> Vec<u8> {
+        match self.flip.of {
+            Of::Image => self.image.clone(),
+            Of::Path => self.paths[0].clone(),
+            Of::Lengths => self.shelf.iter().flat_map(|n| n.to_le_bytes()).collect(),
+        }
+    }
 }
 
 /// The bytes that each entry of a directory has here.
@@ -121,10 +135,12 @@ impl Stage {
         let paths = [&b"FILE"[..], b"DIR/CUE 00005", b"dir/none"].map(|path| path.to_vec());
         Raced {
             name: name.to_string(),
-            flip: Flip::new(&self.disc.image, at, width, other),
+            flip: Flip::new(Of::Image, &self.disc.image, at, width, other),
+            calls: Call::ALL.to_vec(),
             volume: self.disc.volume,
             icbs: vec![Icb::at(subject, 0), root],
             paths: paths.to_vec(),
+            shelf: vec![self.disc.image.len() as u64],
             image: self.disc.image,
         }
     }
