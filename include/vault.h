@@ -5,9 +5,13 @@
  * contract of the call that it passes on, of crate vault, writers, drives, figures or surveys.
  *
  * Nothing here allocates, keeps or frees memory: the caller lends the image, the output and the work space for the
- * length of the call, each as a pointer and a length. Lent pieces must not overlap. A piece of length 0 needs a
- * pointer that isn't null. If the image changes during a call, the answer may be that of no image; the call still
- * ends, with a number of the table, and stays inside the memory that it was lent.
+ * length of the call, each as a pointer and a length. Lent pieces must not overlap. A piece of length 0 may have a
+ * null pointer. A piece has at most PTRDIFF_MAX bytes: no object is larger. `component_at` and `part_at` point to a
+ * number that every call writes: they are never null. If the image changes during a call, the answer may be that of
+ * no image; the call still ends, with a number of the table, and stays inside the memory that it was lent.
+ *
+ * Of the stack a call takes less than 3 KB, but for two that go down the tree: vault_show took 14,880 bytes and
+ * vault_survey 17,072 where there were 16 levels (measured on x86-64).
  *
  * Every call on an image but the probe answers with a number, which has its name below, and with a count of the
  * sectors of 2,048 bytes that it asked for. A call that is refused (any number but 0) has zeros in every value but
@@ -30,7 +34,8 @@
 extern "C" {
 #endif
 
-enum {
+/* What a call answers: that it is done, or why it is refused. */
+typedef enum vault_answer {
     VAULT_DONE = 0, /* Done. */
     VAULT_IO = 1, /* A sector asked for isn't wholly inside the image. */
     VAULT_MALFORMED = 2, /* Too few bytes, or a descriptor, a tag, a name or a length that is not what it must be. */
@@ -56,13 +61,22 @@ enum {
     /* The lengths of a shelf's images pass the bytes lent, or there are too few places for the figures of each and
      * of the shelf. */
     VAULT_BAD_SHELF = 15,
-};
+} vault_answer;
 
-enum {
+/* How a component of a path is matched with the names of a directory's entries. */
+#ifdef __cplusplus
+typedef enum vault_matching : uint32_t {
+#else
+typedef enum vault_matching {
+#endif
     VAULT_CASE_IGNORED = 0, /* ASCII case is ignored, and the first entry that matches is taken. */
     VAULT_AS_WRITTEN = 1, /* A name matches byte for byte, and the first entry that matches is taken. */
     /* ASCII case is ignored, and a component that two or more entries match is refused by VAULT_AMBIGUOUS. */
     VAULT_UNAMBIGUOUS = 2,
+} vault_matching;
+
+/* The choices on opening, a bit to a choice. A `how` is a number: the sum of those that are made. */
+typedef enum vault_how {
     /* A choice for `how`: the body of each descriptor that is parsed, on opening and in every call on the volume,
      * must have the CRC that its tag says, or the call is refused by VAULT_BAD_CRC. */
     VAULT_CHECKED = 1,
@@ -73,8 +87,11 @@ enum {
     /* A choice for `how`: of several primary volume, partition or logical volume descriptors the one with the
      * highest volume descriptor sequence number counts, the later of equals. Without it the last one does. */
     VAULT_HIGHEST = 4,
+} vault_how;
+
+enum {
     VAULT_SECTOR_SIZE = 2048, /* The bytes of a sector, and of a block. */
-    VAULT_VERSION = 10, /* Goes up whenever a struct or a call changes. */
+    VAULT_VERSION = 11, /* Goes up whenever a struct or a call changes. */
 };
 
 enum {
@@ -174,13 +191,13 @@ vault_reply vault_label(const uint8_t *image, size_t image_length, uint32_t how,
  * nor the parent: VAULT_CASE_IGNORED, VAULT_AS_WRITTEN or VAULT_UNAMBIGUOUS, and any other number counts as
  * VAULT_UNAMBIGUOUS. A component that isn't there, or that stands under a file, is VAULT_NOT_BLURAY. */
 vault_found vault_lookup(vault_volume volume, const uint8_t *image, size_t image_length, const uint8_t *path,
-                         size_t path_length, uint32_t matching, uint8_t *work, size_t work_length);
+                         size_t path_length, vault_matching matching, uint8_t *work, size_t work_length);
 
 /* The component at which that lookup is refused by VAULT_NOT_BLURAY: `length` is the component's, and its place in
  * the path goes to `*component_at`. Both are 0 where no component was refused so, as at VAULT_AMBIGUOUS. The answer
  * and the count are the lookup's. */
 vault_reply vault_failed(vault_volume volume, const uint8_t *image, size_t image_length, const uint8_t *path,
-                         size_t path_length, uint32_t matching, uint8_t *work, size_t work_length,
+                         size_t path_length, vault_matching matching, uint8_t *work, size_t work_length,
                          size_t *component_at);
 
 /* Lists a directory: a record for each entry that is neither deleted nor the parent, one behind the other, each in
@@ -239,7 +256,7 @@ vault_reply vault_runs(vault_volume volume, const uint8_t *image, size_t image_l
 
 /* Looks a path up and reads what it names to `out`; the count is that of both. */
 vault_reply vault_read_path(vault_volume volume, const uint8_t *image, size_t image_length, const uint8_t *path,
-                            size_t path_length, uint32_t matching, uint8_t *out, size_t out_length, uint8_t *work,
+                            size_t path_length, vault_matching matching, uint8_t *out, size_t out_length, uint8_t *work,
                             size_t work_length);
 
 /* Reads many files to `out`, one behind the other. `paths` has their paths with a zero byte between each two: n
@@ -249,9 +266,9 @@ vault_reply vault_read_path(vault_volume volume, const uint8_t *image, size_t im
  * where every path was refused, with the count of all and in `length` the bytes of all. More paths than places in
  * either row are VAULT_TOO_MANY, and then nothing is read or written. */
 vault_reply vault_read_all(vault_volume volume, const uint8_t *image, size_t image_length, const uint8_t *paths,
-                           size_t paths_length, uint32_t matching, uint8_t *out, size_t out_length, uint64_t *lengths,
-                           size_t lengths_places, uint32_t *answers, size_t answers_places, uint8_t *work,
-                           size_t work_length);
+                           size_t paths_length, vault_matching matching, uint8_t *out, size_t out_length,
+                           uint64_t *lengths, size_t lengths_places, uint32_t *answers, size_t answers_places,
+                           uint8_t *work, size_t work_length);
 
 /* ---- A vault written from a staging area: a complete image in memory that is lent, of up to 64 files in one
  * directory. docs/LAYOUT.md has every sector of it.
@@ -284,14 +301,20 @@ vault_write_reply vault_write(const uint8_t *names, size_t names_length, const u
  * and goes on.
  *
  * A state is passed by value and holds no pointer. While it is wanting, lend a step the 2,048 bytes of the sector
- * that it wants; a slice of any other length, 0 for one, says that the sector can't be had, which is VAULT_IO. A
+ * that it wants; any other length, as that of (NULL, 0), says that the sector can't be had, which is VAULT_IO. A
  * state that has ended has its answer, and a step of it changes nothing. Any state may be stepped, also one made by
  * hand whose bools are 0 or 1: the step stays inside what it was lent, and from every state the end is reached.
  *
  * The sectors that are wanted, the answer and the count are those of vault_open with no choice, and of vault_read,
  * save that of a read VAULT_NO_SLOT and VAULT_NO_ROOM may come before a later refusal: what was wanted is then the
  * front of that list. What is said above of `out` and of the slots after a refusal isn't so of a read by steps: what
- * had arrived stays in `out`, and the row is zeroed. The steps have the contracts of crate drives. */
+ * had arrived stays in `out`, and the row is zeroed. The steps have the contracts of crate drives.
+ *
+ * A file of any length goes through a buffer of 2,048 bytes, which is what a step brings at most. After each step
+ * take the `length` bytes that have arrived out of it, set `length` to 0, and lend the next step the same buffer.
+ * The row has no bound of its own: the extents of the file wait in it. A sector names at most 256 of them, so
+ * lengthen the row before a step that finds fewer than 256 slots behind the `scan.listed` that are in use. It may
+ * move, as by realloc, and what stands in its new slots doesn't matter. packaging/window.c does all of this. */
 
 /* What is kept of the three descriptors between sectors, each with its volume descriptor sequence number. */
 typedef struct {
@@ -314,7 +337,8 @@ typedef struct {
 
 /* An opening under way. */
 typedef struct {
-    /* 0: the anchor is wanted; 1: a sector of the sequence; 2: the file set descriptor; any other: it has ended. */
+    /* 0: the anchor is wanted; 1: a sector of the sequence; 2: the file set descriptor. Ask is_wanting, and not the
+     * phase, whether it has ended: a state that was made by hand may have ended in any. */
     uint8_t phase;
     uint64_t at; /* The sector that is wanted. */
     uint32_t left; /* The sectors of the sequence behind it. */
@@ -350,7 +374,8 @@ typedef struct {
 /* A read under way. */
 typedef struct {
     /* 0: the file entry is wanted; 1: the first sector of a continuation; 2: a further one; 3: a sector of an
-     * extent; any other: it has ended. */
+     * extent. Ask is_wanting, and not the phase, whether it has ended: a state that was made by hand may have ended
+     * in any. */
     uint8_t phase;
     uint64_t at; /* The sector that is wanted, and how many behind it belong to the same continuation or extent. */
     uint32_t left;
@@ -427,7 +452,7 @@ vault_reply vault_list_bytes(vault_volume volume, const uint8_t *bytes, size_t b
  * Where none has the name the answer is VAULT_DONE and `found` is false; two or more under VAULT_UNAMBIGUOUS are
  * VAULT_AMBIGUOUS, and one bad entry refuses the directory. The empty component is the name of an entry without one. */
 vault_named vault_match(vault_volume volume, const uint8_t *bytes, size_t bytes_length, const uint8_t *component,
-                        size_t component_length, uint32_t matching);
+                        size_t component_length, vault_matching matching);
 
 /* Where the first component of a path from `at` on stands; its length is 0 where there is none. From 0 on, and then
  * each time from the end of the one before, the components come in the order in which vault_lookup takes them. */

@@ -1,24 +1,38 @@
 #!/usr/bin/env python3
-"""Holds the headers to C, and the archive to include/vault.h.
+"""Holds the headers to C, and the archives to the headers.
 
-    tools/calls.py              needs the archives of vault_c, drives_c and surveys_c (`rt staticlib NAME`)
-    tools/calls.py --self-test  plants faults in copies of the sources of the archive, each of which must be seen
+    tools/calls.py              needs the archives of vault_c, drives_c, surveys_c and records_c (`rt staticlib NAME`)
+    tools/calls.py --self-test  plants faults in copies of vault.h, and of the sources of the archives, each of which must be seen
 
-Compiles face/c/layouts.c, which asserts every size, offset, type and number of the two headers, as C11 and as C++17; then builds face/c/calls.c,
-which makes every call of vault.h on a small show, over the archive, and runs it. Needs cc and c++.
+Compiles face/c/layouts.c, which asserts every size, offset, type and number of the two headers, as C11 and as C++17. Sees that a choice on opening isn't
+taken for one of matching. Then it builds over the archives, and runs:
+
+    face/c/calls.c      every call of vault.h on a small show
+    face/c/records.c    every call of records.h, as C11 and as C++17
+    face/c/growing.c    reads in which row and output grow at every step, on the images of crates/drive_cases and on a file of 5 MB
+    packaging/window.c  that file through a window of 2,048 bytes, which must be what vault_read gives; on x86-64, with cc's own library
+
+Needs cc and c++.
 """
+import os
 import pathlib
+import random
 import re
 import shutil
 import sys
 import tempfile
 
 sys.dont_write_bytecode = True
+import drive_images
+import udf
 from kit import ROOT, STRICT, Failed, did, linked, ran, unproved
+from show_image import identifier
+from udf import EMBEDDED, MAIN, NEXT, PARTITION, SECTOR as SIZE, SHORT, START, aed, entry, long_ad, short_ad
 
 FACE, STEPS, WRITING, SURVEYS = "vault_c/src/lib.rt", "drives_c/src/lib.rt", "vault_c/src/writing.rt", "surveys_c/src/lib.rt"
 SHOW = ROOT / "crates/first_cue/stdin"
 ARCHIVES = ("vault_c", "drives_c", "surveys_c")
+C, CPP = ("-std=c11",), ("-x", "c++", "-std=c++17")
 OUT, WORK, IMAGE, PATH, MATCHING = r"out: &mut \[u8\]", r"work: &mut \[u8\]", r"image: &\[u8\]", r"path: &\[u8\]", "matching: u32"
 SECTOR, ROW, BYTES, COMPONENT = r"sector: &\[u8\]", r"row: &mut \[\[u32; 4\]\]", r"bytes: &\[u8\]", r"component: &\[u8\]"
 
@@ -85,17 +99,129 @@ FAULTS = (
 )
 
 
-def uncalled():
-    """The calls of vault.h, and those of them that calls.c doesn't make."""
-    declared = re.findall(r"^\w+ (vault_\w+)\(", (ROOT / "include/vault.h").read_text(), re.M)
-    made = re.findall(r"\b(vault_\w+)\(", (ROOT / "face/c/calls.c").read_text())
-    return declared, [name for name in declared if name not in made]
+# The same in copies of include/vault.h: what its inlines say, which no proof covers, and the constant that stands for no call.
+HEADER_FAULTS = (
+    ("a sector of 4,096 bytes", "VAULT_SECTOR_SIZE = 2048", "VAULT_SECTOR_SIZE = 4096"),
+    ("the type by one bit", r"\(raw >> 30\)", "(raw >> 31)"),
+    ("a length of 31 bits", "raw & 0x3fffffff", "raw & 0x7fffffff"),
+    ("marks that aren't tested", r"r\[0\] != 0x44 \|\| r\[1\] != 0x45 \|\| ", ""),
+    ("one mark that isn't tested", r" \|\| r\[1\] != 0x45", ""),
+    ("a name's length in one byte", r"\(size_t\)\(r\[head - 2\] \| r\[head - 1\] << 8\)", "r[head - 2]"),
+    ("a name that isn't whole", r" \|\| length - \*at - head < name", ""),
+    ("a partition in one byte", r"\(uint16_t\)\(icb\[8\] \| icb\[9\] << 8\)", "icb[8]"),
+    ("any kind but 0 a directory", r"r\[head - 19\] == 1", "r[head - 19] != 0"),
+    ("a place behind the listing", r"\*at > length \|\| ", ""),
+    ("a text of another answer", "case VAULT_NO_WORK:", "case 8:"),
+)
+
+# A choice on opening where one of matching is wanted. C warns of it, and C++ refuses it and any number.
+SWAPPED = """#include "vault.h"
+vault_named swapped(vault_volume v, const uint8_t *bytes);
+vault_named swapped(vault_volume v, const uint8_t *bytes) { return vault_match(v, bytes, 1, bytes, 1, %s); }
+"""
+CHOICES = {"VAULT_AS_WRITTEN": (True, True), "(vault_matching)77": (True, True), "VAULT_CHECKED": (False, False), "VAULT_DONE": (False, False), "1u": (True, False)}
 
 
-def made(archives, folder):
+def uncalled(header, source):
+    """The functions of a header, and those of them that a source doesn't call."""
+    declared = re.findall(r"^(?:static inline )?(?:const )?\w+ \*?((?:vault|records)_\w+)\(", (ROOT / header).read_text(), re.M)
+    called = re.findall(r"\b((?:vault|records)_\w+)\(", (ROOT / source).read_text())
+    missing = [name for name in declared if name not in called]
+    if missing or not declared:
+        raise Failed(f"{source} doesn't call {', '.join(missing) or 'anything'}")
+    return len(declared)
+
+
+def is_taken(compiler, text, folder):
+    """Whether a compiler takes a text with no warning."""
+    path = pathlib.Path(folder) / "text.c"
+    path.write_text(text, encoding="utf-8")
+    try:
+        did(*compiler, *STRICT, "-fsyntax-only", path)
+        return True
+    except Failed:
+        return False
+
+
+def told_apart(folder):
+    """Holds each choice to what C and C++ say of it in another's place."""
+    for choice, wanted in CHOICES.items():
+        found = tuple(is_taken(compiler, SWAPPED % choice, folder) for compiler in (("cc", *C), ("c++", *CPP)))
+        if found != wanted:
+            raise Failed(f"{choice} in the place of a matching: C and C++ {'take' if found[0] else 'refuse'} and {'take' if found[1] else 'refuse'} it")
+
+
+def made(archives, folder, headers=()):
     """Makes the calls over the archives."""
-    linked(ROOT / "face/c/calls.c", archives, f"{folder}/calls")
+    linked(ROOT / "face/c/calls.c", archives, f"{folder}/calls", headers=headers)
     ran(f"{folder}/calls", SHOW.read_bytes())
+
+
+def small_records(archive, folder):
+    """Makes the calls of records.h."""
+    for language in (C, CPP):
+        linked(ROOT / "face/c/records.c", [archive], f"{folder}/records", language)
+        ran(f"{folder}/records")
+
+
+# ---- a long file
+
+LONG_FILE, PIECE, CHAIN = 5 * 2**20 + 123, 2, 3 * SIZE  # Bytes, sectors of an extent, bytes of a continuation.
+
+
+def areas(extents):
+    """The descriptors of a file's entry, and of each continuation: as many as there is room for, with one more that leads on."""
+    found, room = [], (SIZE - 176) // 8
+    while len(extents) > room:
+        found.append(extents[: room - 1])
+        extents, room = extents[room - 1 :], (CHAIN - 24) // 8
+    return [*found, extents]
+
+
+def long_disc():
+    """A volume with a file LONG of 5 MB in its root, whose extents stand on the disc from the back to the front, in a chain; the file's bytes; and its ICB."""
+    data = random.Random(1).randbytes(LONG_FILE)
+    pieces = [data[at : at + PIECE * SIZE] for at in range(0, LONG_FILE, PIECE * SIZE)]
+    first = 8 + 3 * 8
+    blocks = [first + PIECE * i for i in reversed(range(len(pieces)))]
+    rows = areas([short_ad(len(piece), block) for piece, block in zip(pieces, blocks)])
+    image = udf.Image("a long file", START + first + PIECE * len(pieces))
+    image.lay(udf.ANCHOR, udf.anchor())
+    for i, one in enumerate((udf.primary(MAIN), udf.partition(MAIN + 1, PARTITION), udf.logical(MAIN + 2, PARTITION), udf.TERMINATOR(MAIN + 3))):
+        image.lay(MAIN + i, one)
+    image.lay(START + udf.BLOCK, udf.file_set(udf.BLOCK, root=long_ad(SIZE, 3)))
+    names = identifier(3, "LONG", 4)
+    image.lay(START + 3, entry(EMBEDDED, names, len(names)))
+    for i, row in enumerate(rows):
+        area = b"".join(row) + (short_ad(CHAIN, 8 + 3 * i, NEXT) if i + 1 < len(rows) else b"")
+        image.lay(START + (8 + 3 * (i - 1) if i else 4), aed(area) if i else entry(SHORT, area, LONG_FILE))
+    for block, piece in zip(blocks, pieces):
+        image.lay(START + block, piece)
+    return bytes(image.bytes), data, long_ad(SIZE, 4)
+
+
+def grown(archives, folder):
+    """Reads whose memory grows at every step; what they say of themselves."""
+    linked(ROOT / "face/c/growing.c", archives, f"{folder}/growing")
+    image, data, icb = long_disc()
+    long = drive_images.record("a long file", image, [drive_images.query(START, PARTITION, icb, 0)])
+    said = ran(f"{folder}/growing", (ROOT / "crates/drive_cases/data/images").read_bytes(), ["100"])
+    ran(f"{folder}/growing", long, ["3"])
+    if ran(f"{folder}/growing", long, ["whole"]) != data:
+        raise Failed("vault_read gives other bytes of the long file")
+    return said.decode().strip(), image, data
+
+
+def windowed(archive, image, data, folder):
+    """The example of packaging/ on the long file."""
+    if os.uname().machine != "x86_64":
+        return "packaging/window.c: left out, the archive is x86-64 code"
+    disc, program = pathlib.Path(folder) / "long.img", f"{folder}/window"
+    disc.write_bytes(image)
+    did("cc", *C, *STRICT, ROOT / "packaging/window.c", archive, "-o", program)
+    if did(program, disc, "LONG") != data:
+        raise Failed("packaging/window.c gives other bytes than vault_read")
+    return f"{len(data)} bytes through a window of {SIZE}"
 
 
 def compiled(crates, folder):
@@ -106,21 +232,40 @@ def compiled(crates, folder):
     return archives
 
 
+def is_refused(archives, folder, headers=()):
+    try:
+        made(archives, folder, headers)
+        return False
+    except Failed:
+        return True
+
+
+def planted(text, old, new, name):
+    """A text with a fault in the one place that it has for it."""
+    changed, times = re.subn(old, new, text, flags=re.S)
+    if times != 1 or changed == text:
+        raise Failed(f"the fault has no place in {name}: {old}")
+    return changed
+
+
 def is_seen(fault, crates, folder):
     """Whether calls.c sees a fault in a copy of the sources."""
     _, name, old, new = fault
     text = (crates / name).read_text(encoding="utf-8")
-    changed, times = re.subn(old, new, text, flags=re.S)
-    if times != 1 or changed == text:
-        raise Failed(f"the fault has no place in {name}: {old}")
-    (crates / name).write_text(changed, encoding="utf-8")
+    (crates / name).write_text(planted(text, old, new, name), encoding="utf-8")
     wrong = compiled(crates, folder)
     (crates / name).write_text(text, encoding="utf-8")
-    try:
-        made(wrong, folder)
-        return False
-    except Failed:
-        return True
+    return is_refused(wrong, folder)
+
+
+def is_seen_in_header(fault, archives, folder):
+    """Whether calls.c sees a fault in a copy of vault.h. The copy is one that compiles."""
+    _, old, new = fault
+    there = folder / "include"
+    there.mkdir(exist_ok=True)
+    (there / "vault.h").write_text(planted((ROOT / "include/vault.h").read_text(encoding="utf-8"), old, new, "vault.h"), encoding="utf-8")
+    linked(ROOT / "face/c/calls.c", archives, f"{folder}/calls", headers=[there])
+    return is_refused(archives, folder, [there])
 
 
 def self_test():
@@ -129,23 +274,29 @@ def self_test():
         crates = folder / "crates"
         for source in (ROOT / "crates").glob("*/src"):
             shutil.copytree(source, crates / source.parent.name / "src")
-        made(compiled(crates, folder), folder)
-        missed = [fault[0] for fault in FAULTS if not is_seen(fault, crates, folder)]
+        archives = compiled(crates, folder)
+        made(archives, folder)
+        missed = [fault[0] for fault in HEADER_FAULTS if not is_seen_in_header(fault, archives, folder)]
+        missed += [fault[0] for fault in FAULTS if not is_seen(fault, crates, folder)]
     for what in missed:
         print(f"calls: not seen: {what}")
-    print(f"calls: {len(FAULTS)} faults planted in copies of the sources: {'FAILED' if missed else 'all seen'}")
+    print(f"calls: {len(HEADER_FAULTS)} faults planted in copies of vault.h, {len(FAULTS)} in copies of the sources: {'FAILED' if missed else 'all seen'}")
     return 1 if missed else 0
 
 
 def check():
-    declared, missing = uncalled()
-    if missing or not declared:
-        raise Failed(f"face/c/calls.c doesn't call {', '.join(missing) or 'anything'}")
-    did("cc", "-std=c11", *STRICT, "-fsyntax-only", ROOT / "face/c/layouts.c")
-    did("c++", "-std=c++17", *STRICT, "-fsyntax-only", "-x", "c++", ROOT / "face/c/layouts.c")
+    vault, records = uncalled("include/vault.h", "face/c/calls.c"), uncalled("include/records.h", "face/c/records.c")
+    did("cc", *C, *STRICT, "-fsyntax-only", ROOT / "face/c/layouts.c")
+    did("c++", *CPP, *STRICT, "-fsyntax-only", ROOT / "face/c/layouts.c")
+    archives = [ROOT / f"target/staticlib/lib{crate}.a" for crate in ARCHIVES]
     with tempfile.TemporaryDirectory() as folder:
-        made([ROOT / f"target/staticlib/lib{crate}.a" for crate in ARCHIVES], folder)
-    print(f"calls: the {len(declared)} calls of include/vault.h, made from C; the layouts of both headers, as C11 and as C++17")
+        told_apart(folder)
+        made(archives, folder)
+        small_records(ROOT / "target/staticlib/librecords_c.a", folder)
+        reads, image, data = grown(archives[:2], folder)
+        window = windowed(archives[1], image, data, folder)
+    print(f"calls: the {vault} functions of include/vault.h and the {records} of include/records.h, made from C; the layouts of both, as C11 and as C++17")
+    print(f"calls: memory that grows: {reads}; {window}")
     return 0
 
 

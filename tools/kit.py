@@ -34,21 +34,23 @@ def own():
     return kit() / "on" / os.uname().machine
 
 
-def linked(source, archives, program):
-    """Compiles a C source and links it with archives, as rt links a program. The kit has no headers: stdint.h and its like are cc's."""
+def linked(source, archives, program, language=("-std=c11",), headers=()):
+    """Compiles a C source and links it with archives, as rt links a program. The kit has no headers: stdint.h and its like are cc's. Headers of the
+    repository may be others than its own, in a folder."""
     tools, object = own() / "toolchain", f"{program}.o"
-    headers = did("cc", "-print-file-name=include").decode().strip()
-    plain = ["-std=c11", "-O1", "-fPIE", "-ffreestanding", "-nostdinc", "-isystem", headers]
-    did(tools / "bin/clang", "-target", TARGET, *plain, *STRICT, "-c", source, "-o", object)
+    system = did("cc", "-print-file-name=include").decode().strip()
+    plain = [*language, "-O1", "-fPIE", "-ffreestanding", "-nostdinc", "-isystem", system]
+    first = [word for folder in headers for word in ("-I", folder)]
+    did(tools / "bin/clang", "-target", TARGET, *plain, *first, *STRICT, "-c", source, "-o", object)
     did(own() / "bin/rattle-link", "--target", TARGET, "--toolchain", tools, "-o", program, object, *archives)
 
 
-def ran(program, input=b""):
-    """What a program writes to its standard output, given this on its standard input."""
+def ran(program, input=b"", words=()):
+    """What a program writes to its standard output, given this on its standard input, and these words."""
     tools = own() / "toolchain"
     emulator = tools / "bin/qemu-x86_64"
     front = [emulator] if emulator.exists() else []
-    return did(*front, tools / "lib/ld-linux-x86-64.so.2", "--library-path", tools / "lib", program, input=input)
+    return did(*front, tools / "lib/ld-linux-x86-64.so.2", "--library-path", tools / "lib", program, *words, input=input)
 
 
 def below(crate):

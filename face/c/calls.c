@@ -1,5 +1,6 @@
 /* calls.c: every call of vault.h, on the small show of show.h, with and without the bodies of its descriptors checked; opening through maps; the same
- * opening and reads a sector at a time, with a sector denied at each place; a vault that is written, and read back; and surveys.
+ * opening and reads a sector at a time, with a sector denied at each place; a vault that is written, and read back; surveys; records of a listing by hand; and
+ * every piece of memory as (NULL, 0).
  *
  * What is expected is read off the show's layout. No two pieces of memory that a call is lent have the same length, so that an argument in
  * another's place is seen. Ends with 0, or says what isn't so. */
@@ -83,7 +84,7 @@ static void label(void) {
     EXPECT(is_reply(vault_label(image, IMAGE, 0, out, 5), VAULT_NO_ROOM, 6, 0) && holds("", 0));
 }
 
-static vault_long_ad found(vault_volume v, const char *path, uint32_t matching, uint64_t count, uint32_t block) {
+static vault_long_ad found(vault_volume v, const char *path, vault_matching matching, uint64_t count, uint32_t block) {
     lend();
     vault_found r = vault_lookup(v, image, IMAGE, (const uint8_t *)path, strlen(path), matching, work, WORK);
     EXPECT(r.answer == VAULT_DONE && r.count == count && is_icb(r.icb, block));
@@ -91,7 +92,7 @@ static vault_long_ad found(vault_volume v, const char *path, uint32_t matching, 
     return r.icb;
 }
 
-static void refused(vault_volume v, const char *path, uint32_t matching, uint64_t answer, uint64_t count) {
+static void refused(vault_volume v, const char *path, vault_matching matching, uint64_t answer, uint64_t count) {
     lend();
     vault_found r = vault_lookup(v, image, IMAGE, (const uint8_t *)path, strlen(path), matching, work, WORK);
     EXPECT(r.answer == answer && r.count == count && r.icb.length == 0 && r.icb.location.block == 0);
@@ -105,7 +106,7 @@ static void matched(vault_volume v) {
     refused(v, "show/10.1a", VAULT_AS_WRITTEN, VAULT_NOT_BLURAY, 1);
     found(v, "show/11", VAULT_UNAMBIGUOUS, 2, 11);
     refused(v, "SHOW/10.1a", VAULT_UNAMBIGUOUS, VAULT_AMBIGUOUS, 2);
-    refused(v, "SHOW/10.1a", UINT32_MAX, VAULT_AMBIGUOUS, 2);
+    refused(v, "SHOW/10.1a", (vault_matching)UINT32_MAX, VAULT_AMBIGUOUS, 2);
 }
 
 static void failed(vault_volume v) {
@@ -140,6 +141,67 @@ static void records(size_t length, bool levels, const char *const *names, size_t
         }
     }
     EXPECT(at == length && !vault_next_record(out, length, levels, &at, &e) && at == length);
+}
+
+/* A record by hand, at the front of a listing: an ICB of this raw length with a number of its own in each field, and a name of n bytes. */
+static uint8_t listing[22 + 65535];
+
+static size_t by_hand(bool levels, uint8_t kind, uint32_t raw, size_t n) {
+    static const uint8_t rest[12] = {0xef, 0xcd, 0xab, 0x89, 0xdc, 0xfe, 1, 2, 3, 4, 5, 6};
+    uint8_t *r = listing + (levels ? 3 : 2);
+    listing[0] = 0x44;
+    listing[1] = 0x45;
+    listing[2] = 0xc8;
+    r[0] = kind;
+    for (size_t i = 0; i < 4; i++) r[1 + i] = (uint8_t)(raw >> 8 * i);
+    memcpy(r + 5, rest, 12);
+    r[17] = (uint8_t)n;
+    r[18] = (uint8_t)(n >> 8);
+    for (size_t i = 0; i < n; i++) r[19 + i] = (uint8_t)(i % 251);
+    return (levels ? 22 : 21) + n;
+}
+
+/* Whether a record of so many bytes is none, and nothing was moved or written. */
+static bool is_none(size_t length, bool levels, size_t from) {
+    vault_entry e;
+    size_t at = from;
+    memset(&e, FREE, sizeof e);
+    return !vault_next_record(listing, length, levels, &at, &e) && at == from && is_all(&e, sizeof e, FREE);
+}
+
+static void is_record(bool levels, uint8_t kind, uint32_t length, uint8_t type, size_t n) {
+    vault_entry e;
+    size_t at = 0, all = by_hand(levels, kind, length | (uint32_t)type << 30, n);
+    EXPECT(vault_next_record(listing, all, levels, &at, &e) && at == all);
+    EXPECT(e.icb.length == length && e.icb.extent_type == type && e.icb.location.block == 0x89abcdef && e.icb.location.partition_ref == 0xfedc);
+    EXPECT(!memcmp(e.icb.implementation_use, "\1\2\3\4\5\6", 6) && e.directory == (kind == 1) && e.level == (levels ? 0xc8 : 0));
+    EXPECT(e.name == listing + all - n && e.name_length == n);
+    EXPECT(is_none(all - 1, levels, 0) && is_none(all, levels, all) && is_none(all, levels, all + 1) && is_none(all, levels, SIZE_MAX));
+}
+
+/* Each type with lengths up to 30 bits, names of more than a byte's number of bytes, and each bit of the two marks. */
+static void records_by_hand(void) {
+    static const uint32_t lengths[] = {0, 1, 2048, 0x20000000, 0x3fffffff};
+    static const size_t names[] = {0, 1, 255, 256, 257, 65535};
+    for (uint32_t i = 0; i < 2 * 4 * 5 * 6; i++) is_record(i % 2, (uint8_t)(i % 3), lengths[i / 8 % 5], (uint8_t)(i / 2 % 4), names[i / 40]);
+    for (uint32_t i = 0; i < 2 * 2 * 8; i++) {
+        size_t all = by_hand(i % 2, 0, SECTOR, 5);
+        listing[i / 2 % 2] ^= (uint8_t)(1 << i / 4);
+        EXPECT(is_none(all, i % 2, 0));
+    }
+}
+
+/* What is said of an answer begins so; a number that isn't in the table is said to be none of it. */
+static void texts(void) {
+    static const char *const fronts[16] = {"Done", "A sector", "Too few", "No volume", "A form", "The answer", "A directory has", "There are more extents",
+                                           NULL, "A component", "A descriptor", "A directory stands", "There are more paths", "A name", "The files",
+                                           "The lengths"};
+    for (uint64_t n = 0; n < 20; n++) {
+        const char *front = n < 16 && fronts[n] ? fronts[n] : "A number that isn't known";
+        const char *text = vault_answer_text(n);
+        EXPECT(strlen(text) >= strlen(front) && !memcmp(text, front, strlen(front)));
+    }
+    EXPECT(!memcmp(vault_answer_text(UINT64_MAX), "A number that isn't known", 26) && strlen(vault_answer_text(VAULT_DONE)) == 4);
 }
 
 /* A record of each cue: 44 45 0, the ICB, the name's length, the name. */
@@ -249,7 +311,29 @@ static void runs(vault_volume v, vault_long_ad directory, vault_long_ad icb) {
 }
 
 /* The bytes of a sector that is wanted, or none of them. */
-static size_t lent(bool denied) { return denied ? 0 : SECTOR; }
+static size_t lent(bool denied) { return denied ? 0 : VAULT_SECTOR_SIZE; }
+
+/* A sector of VAULT_SECTOR_SIZE bytes is taken; one of a byte less or more can't be had. */
+static void sectors(void) {
+    EXPECT(VAULT_SECTOR_SIZE == 2048);
+    for (size_t n = VAULT_SECTOR_SIZE - 1; n <= VAULT_SECTOR_SIZE + 1; n++) {
+        vault_opening o = vault_opening_step(vault_opening_start(), image + 256 * SECTOR, n);
+        EXPECT(vault_opening_is_wanting(o) == (n == VAULT_SECTOR_SIZE) && o.opened.count == 1);
+        EXPECT(o.opened.answer == (n == VAULT_SECTOR_SIZE ? VAULT_DONE : VAULT_IO));
+    }
+}
+
+/* A state by hand has ended in a phase that wants a sector: its continuation has more bytes than its sectors. */
+static void ended_by_hand(vault_volume v, vault_long_ad icb) {
+    vault_reading r = vault_reading_start(v, icb, row, SLOTS);
+    r.phase = 1;
+    r.at = 300;
+    r.size = 3000;
+    r.hops = 5;
+    EXPECT(!vault_reading_is_wanting(r) && vault_reading_wants(r) == 0);
+    r.size = 2048;
+    EXPECT(vault_reading_is_wanting(r) && vault_reading_wants(r) == 300);
+}
 
 /* The sectors that an opening wants, in order, up to one that is denied: the answer is vault_open's, or VAULT_IO with those so far. */
 static void stepped_open(void) {
@@ -312,7 +396,7 @@ static bool is_named(vault_named r, uint64_t answer, uint32_t block) {
     return r.answer == answer && r.found == (block != 0) && !r.directory && (block ? is_icb(r.icb, block) : r.icb.length == 0 && r.icb.location.block == 0);
 }
 
-static vault_named matching(vault_volume v, uint32_t block, const char *name, uint32_t choice) {
+static vault_named matching(vault_volume v, uint32_t block, const char *name, vault_matching choice) {
     const uint8_t *entry = image + (START + block) * SECTOR + ENTRY;
     return vault_match(v, entry, number(entry - 4), (const uint8_t *)name, strlen(name), choice);
 }
@@ -332,7 +416,7 @@ static void at_hand(vault_volume v, vault_long_ad directory) {
     EXPECT(is_named(matching(v, 4, "10.1a", VAULT_CASE_IGNORED), VAULT_DONE, 7));
     EXPECT(is_named(matching(v, 4, "10.1a", VAULT_AS_WRITTEN), VAULT_DONE, 9));
     EXPECT(is_named(matching(v, 4, "10.1a", VAULT_UNAMBIGUOUS), VAULT_AMBIGUOUS, 0));
-    EXPECT(is_named(matching(v, 4, "10.1a", 3), VAULT_AMBIGUOUS, 0));
+    EXPECT(is_named(matching(v, 4, "10.1a", (vault_matching)3), VAULT_AMBIGUOUS, 0));
     EXPECT(is_named(matching(v, 4, "none", VAULT_CASE_IGNORED), VAULT_DONE, 0));
     vault_named show = matching(v, 3, "show", VAULT_CASE_IGNORED);
     EXPECT(show.answer == VAULT_DONE && show.found && show.directory && is_icb(show.icb, 4));
@@ -348,6 +432,39 @@ static void components(void) {
     EXPECT(stands("", 0, 0, 0) && stands("SHOW", 4, 4, 0) && stands("SHOW", 2, 2, 2) && stands("SHOW", SIZE_MAX, SIZE_MAX, 0));
 }
 
+/* Every piece of memory as (NULL, 0), in every call that takes one. */
+static void nothing_lent(vault_volume v, vault_long_ad directory, vault_long_ad icb) {
+    const uint8_t *path = (const uint8_t *)"SHOW";
+    size_t at = 99;
+    vault_entry e;
+    lend();
+    EXPECT(!vault_probe(NULL, 0) && vault_open(NULL, 0, 0).answer == VAULT_IO);
+    EXPECT(is_reply(vault_label(image, IMAGE, 0, NULL, 0), VAULT_NO_ROOM, 6, 0));
+    vault_found root = vault_lookup(v, NULL, 0, NULL, 0, VAULT_AS_WRITTEN, NULL, 0);
+    EXPECT(root.answer == VAULT_DONE && root.count == 0 && is_icb(root.icb, 3));
+    EXPECT(vault_lookup(v, image, IMAGE, path, 4, VAULT_AS_WRITTEN, NULL, 0).answer == VAULT_NO_WORK);
+    EXPECT(is_reply(vault_failed(v, NULL, 0, NULL, 0, VAULT_AS_WRITTEN, NULL, 0, &at), VAULT_DONE, 0, 0) && at == 0);
+    EXPECT(is_reply(vault_list(v, image, IMAGE, directory, NULL, 0, NULL, 0), VAULT_NO_WORK, 1, 0));
+    EXPECT(is_reply(vault_list(v, image, IMAGE, directory, NULL, 0, work, WORK), VAULT_NO_ROOM, 1, 0));
+    EXPECT(is_reply(vault_show(v, image, IMAGE, 2, NULL, 0, NULL, 0), VAULT_NO_WORK, 1, 0));
+    EXPECT(is_reply(vault_show(v, image, IMAGE, 2, NULL, 0, work, WORK), VAULT_NO_ROOM, 2, 0));
+    EXPECT(is_reply(vault_read(v, image, IMAGE, icb, NULL, 0), VAULT_NO_ROOM, 2, 0));
+    EXPECT(is_reply(vault_read(v, NULL, 0, icb, NULL, 0), VAULT_IO, 1, 0) && is_reply(vault_measure(v, NULL, 0, icb), VAULT_IO, 1, 0));
+    EXPECT(is_reply(vault_part(v, NULL, 0, icb, &at), VAULT_IO, 1, 0) && is_reply(vault_extents(v, image, IMAGE, icb, NULL, 0), VAULT_NO_SLOT, 1, 0));
+    EXPECT(is_reply(vault_runs(v, image, IMAGE, icb, NULL, 0), VAULT_NO_SLOT, 2, 0));
+    EXPECT(is_reply(vault_read_path(v, NULL, 0, NULL, 0, VAULT_AS_WRITTEN, NULL, 0, NULL, 0), VAULT_IO, 1, 0));
+    EXPECT(is_reply(vault_read_all(v, image, IMAGE, NULL, 0, VAULT_AS_WRITTEN, NULL, 0, NULL, 0, NULL, 0, NULL, 0), VAULT_TOO_MANY, 0, 0));
+    EXPECT(vault_write_total(NULL, 0, NULL, 0).answer == VAULT_DONE && vault_write(NULL, 0, NULL, 0, NULL, 0, NULL, 0).answer == VAULT_NO_ROOM);
+    EXPECT(vault_opening_step(vault_opening_start(), NULL, 0).opened.answer == VAULT_IO);
+    vault_reading r = vault_reading_start(v, icb, NULL, 0);
+    EXPECT(vault_reading_step(r, NULL, 0, NULL, 0, NULL, 0).answer == VAULT_IO);
+    EXPECT(vault_reading_step(r, image + (START + 7) * SECTOR, SECTOR, NULL, 0, NULL, 0).answer == VAULT_NO_SLOT);
+    EXPECT(vault_reading_step(vault_reading_start(v, directory, NULL, 0), image + (START + 4) * SECTOR, SECTOR, NULL, 0, NULL, 0).answer == VAULT_NO_ROOM);
+    EXPECT(is_reply(vault_list_bytes(v, NULL, 0, NULL, 0), VAULT_DONE, 0, 0) && !vault_match(v, NULL, 0, NULL, 0, VAULT_AS_WRITTEN).found);
+    EXPECT(vault_next_component(NULL, 0, 0).length == 0 && !vault_next_record(NULL, 0, true, &at, &e));
+    EXPECT(vault_survey(NULL, 0, NULL, 0, 0, NULL, 0, NULL, 0) == VAULT_BAD_SHELF && vault_survey_total(NULL, 0, 0) == VAULT_BAD_SHELF);
+}
+
 /* Every call on a volume. */
 static void asked(vault_volume v) {
     vault_long_ad directory = found(v, "SHOW", VAULT_CASE_IGNORED, 1, 4), icb = found(v, "SHOW/10.1A", VAULT_CASE_IGNORED, 2, 7);
@@ -361,7 +478,9 @@ static void asked(vault_volume v) {
     extents(v, icb);
     runs(v, directory, icb);
     stepped_read(v, directory, icb);
+    ended_by_hand(v, icb);
     at_hand(v, directory);
+    nothing_lent(v, directory, icb);
 }
 
 /* Through the maps, of which the show has none. With two it is opened by the second; the root's reference, 5, is that of no map. */
@@ -546,7 +665,10 @@ static void totaled(void) {
 int main(void) {
     unpack();
     EXPECT(vault_version() == VAULT_VERSION);
+    texts();
+    records_by_hand();
     written();
+    sectors();
     probe();
     unopened();
     label();

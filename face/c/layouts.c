@@ -1,6 +1,6 @@
-/* Holds the headers to the sources: size and alignment of every struct, offset, size and type of every field, and every number.
+/* Holds the headers to the sources: size and alignment of every struct, offset, size and type of every field, every number, and the size and sign of a choice.
  *
- * Made by tools/faces.py. Nothing here is run: it is compiled as C11 and as C++17 (face/c/run). */
+ * Made by tools/faces.py. Nothing here is run: it is compiled as C11 and as C++17 (tools/calls.py). */
 #include "vault.h"
 #include "records.h"
 
@@ -36,11 +36,12 @@ HOLDS(VAULT_BAD_SHELF == 15);
 HOLDS(VAULT_CASE_IGNORED == 0);
 HOLDS(VAULT_AS_WRITTEN == 1);
 HOLDS(VAULT_UNAMBIGUOUS == 2);
+HOLDS(sizeof(vault_matching) == 4 && (vault_matching)-1 > 0);
 HOLDS(VAULT_CHECKED == 1);
 HOLDS(VAULT_MAPS == 2);
 HOLDS(VAULT_HIGHEST == 4);
 HOLDS(VAULT_SECTOR_SIZE == 2048);
-HOLDS(VAULT_VERSION == 10);
+HOLDS(VAULT_VERSION == 11);
 HOLDS(VAULT_FIGURES == 76);
 
 HOLDS(sizeof(vault_mount) == 48 && ALIGN(vault_mount) == 4);

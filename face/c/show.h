@@ -1,18 +1,9 @@
-/* show.h: the small show of crates/first_cue, which comes packed on standard input, and what the programs here use of the C library.
+/* show.h: the small show of crates/first_cue, which comes packed on standard input.
  *
  * tools/show_image.py lays the show out: the partition starts at sector 288 and has number 5; the root is in its block 3, SHOW in 4; the cues 9,
  * 10.1A, 10.1a and 11 have their entries in 5, 7, 9 and 11 and their bytes in the block behind. */
+#include "expect.h"
 #include "vault.h"
-
-/* The toolchain has the library's code for x86-64, and no headers. */
-extern long read(int fd, void *to, size_t n);
-extern long write(int fd, const void *from, size_t n);
-extern void *memset(void *to, int byte, size_t n);
-extern void *memcpy(void *to, const void *from, size_t n);
-extern int memcmp(const void *one, const void *other, size_t n);
-extern size_t strlen(const char *text);
-extern char *strstr(const char *in, const char *text);
-extern _Noreturn void exit(int status);
 
 enum { SECTOR = 2048, START = 288, PARTITION = 5, IMAGE = (START + 16) * SECTOR, ENTRY = 176 };
 enum { OUT = 1500, WORK = 2100, SLOTS = 3, RUNS = 5, FREE = 0xa5 };
@@ -20,18 +11,6 @@ enum { OUT = 1500, WORK = 2100, SLOTS = 3, RUNS = 5, FREE = 0xa5 };
 static uint8_t image[IMAGE], out[OUT], work[WORK];
 static vault_extent row[SLOTS];
 static vault_run run[RUNS];
-
-static void say(int fd, const char *text) {
-    if (write(fd, text, strlen(text)) < 0) exit(2);
-}
-
-#define EXPECT(fact) \
-    do { \
-        if (!(fact)) { \
-            say(2, __FILE__ ": not so: " #fact "\n"); \
-            exit(1); \
-        } \
-    } while (0)
 
 static uint32_t number(const uint8_t *at) { return at[0] | (uint32_t)at[1] << 8 | (uint32_t)at[2] << 16 | (uint32_t)at[3] << 24; }
 

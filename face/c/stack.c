@@ -16,7 +16,8 @@ static vault_volume volume;
 static vault_long_ad icb;
 static const char *path;
 static size_t length, room, at;
-static uint32_t how, matching, answers[1];
+static uint32_t how, answers[1];
+static vault_matching matching;
 static uint64_t lengths[1];
 static const uint64_t sizes[1] = {OUT};
 static uint8_t vault[384 * SECTOR];
@@ -124,7 +125,7 @@ static size_t most(size_t n) {
         icb.location.block = blocks[i / 6 % 4];
         length = i / 24 % 2 ? IMAGE : START * SECTOR;
         room = i / 48 % 2 ? OUT : 0;
-        matching = (uint32_t)(i / 96);
+        matching = (vault_matching)(i / 96);
         advance(i % 7, strstr(calls[n].name, "opening") != NULL);
         size_t now = taken(n);
         if (now > top) top = now;

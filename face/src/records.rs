@@ -3,8 +3,8 @@
 //! Link target/staticlib/librecords_c.a, which `rt staticlib records_c` makes from the proved sources. Each call has
 //! the contract of the call of the crate below that it passes on.
 //!
-//! Nothing here allocates, keeps or frees memory. A piece of length 0 needs a pointer that isn't null; lent pieces must
-//! not overlap.
+//! Nothing here allocates, keeps or frees memory. Lent pieces must not overlap. A piece of length 0 may have a null
+//! pointer, and none has more than PTRDIFF_MAX bytes.
 //!
 //! A record is parsed at the front of `bytes`, and what stands behind it isn't looked at. Every call that parses or
 //! decodes answers with a number. A call that is refused has zeros in every value, and leaves `out` as it came. Fields

@@ -5,9 +5,13 @@
 //! contract of the call that it passes on, of crate vault, writers, drives, figures or surveys.
 //!
 //! Nothing here allocates, keeps or frees memory: the caller lends the image, the output and the work space for the
-//! length of the call, each as a pointer and a length. Lent pieces must not overlap. A piece of length 0 needs a
-//! pointer that isn't null. If the image changes during a call, the answer may be that of no image; the call still
-//! ends, with a number of the table, and stays inside the memory that it was lent.
+//! length of the call, each as a pointer and a length. Lent pieces must not overlap. A piece of length 0 may have a
+//! null pointer. A piece has at most PTRDIFF_MAX bytes: no object is larger. `component_at` and `part_at` point to a
+//! number that every call writes: they are never null. If the image changes during a call, the answer may be that of no
+//! image; the call still ends, with a number of the table, and stays inside the memory that it was lent.
+//!
+//! Of the stack a call takes less than 3 KB, but for two that go down the tree: vault_show took 14,880 bytes and
+//! vault_survey 17,072 where there were 16 levels (measured on x86-64).
 //!
 //! Every call on an image but the probe answers with a number, which has its name below, and with a count of the
 //! sectors of 2,048 bytes that it asked for. A call that is refused (any number but 0) has zeros in every value but the
@@ -60,6 +64,7 @@ pub const CASE_IGNORED: u32 = 0;
 pub const AS_WRITTEN: u32 = 1;
 /// ASCII case is ignored, and a component that two or more entries match is refused by VAULT_AMBIGUOUS.
 pub const UNAMBIGUOUS: u32 = 2;
+
 /// A choice for `how`: the body of each descriptor that is parsed, on opening and in every call on the volume, must
 /// have the CRC that its tag says, or the call is refused by VAULT_BAD_CRC.
 pub const CHECKED: u32 = 1;
@@ -70,10 +75,11 @@ pub const MAPS: u32 = 2;
 /// A choice for `how`: of several primary volume, partition or logical volume descriptors the one with the highest
 /// volume descriptor sequence number counts, the later of equals. Without it the last one does.
 pub const HIGHEST: u32 = 4;
+
 /// The bytes of a sector, and of a block.
 pub const SECTOR_SIZE: usize = 2048;
 /// Goes up whenever a struct or a call changes.
-pub const VERSION: u32 = 10;
+pub const VERSION: u32 = 11;
 
 /// How many numbers a place of a row of figures has.
 pub const FIGURES: usize = 76;
@@ -204,7 +210,8 @@ structs! {
 
     /// An opening under way.
     vault_opening as Opening, 264 aligned to 8 {
-        /// 0: the anchor is wanted; 1: a sector of the sequence; 2: the file set descriptor; any other: it has ended.
+        /// 0: the anchor is wanted; 1: a sector of the sequence; 2: the file set descriptor. Ask is_wanting, and not
+        /// the phase, whether it has ended: a state that was made by hand may have ended in any.
         0 phase: u8,
         /// The sector that is wanted.
         8 at: u64,
@@ -252,7 +259,8 @@ structs! {
     /// A read under way.
     vault_reading as Reading, 192 aligned to 8 {
         /// 0: the file entry is wanted; 1: the first sector of a continuation; 2: a further one; 3: a sector of an
-        /// extent; any other: it has ended.
+        /// extent. Ask is_wanting, and not the phase, whether it has ended: a state that was made by hand may have
+        /// ended in any.
         0 phase: u8,
         /// The sector that is wanted, and how many behind it belong to the same continuation or extent.
         8 at: u64,

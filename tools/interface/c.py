@@ -1,9 +1,19 @@
 """The header, and a source that asserts what is said of its structs and numbers."""
-from .model import Lent
+from .model import Lent, Number
 from .prose import WIDTH, beside, commented
 
 MADE = "Made by tools/faces.py from the comments and declarations of crates/{crate}."
 INT_MAX = 2**31 - 1
+
+
+def opened(group):
+    """The line that an enumeration begins with. One that a call takes has its type in C++, where a cast to it then gives any number; C has no such form."""
+    if not group.name:
+        return ["enum {"]
+    front = f"typedef enum {group.name}"
+    if not group.type:
+        return [*commented(group.about), front + " {"]
+    return [*commented(group.about), "#ifdef __cplusplus", f"{front} : {Number(group.type.rust).c} {{", "#else", front + " {", "#endif"]
 
 
 def constants(interface, groups):
@@ -13,10 +23,10 @@ def constants(interface, groups):
         front = interface.prefix.upper() + "_"
         small = [held for held in group if held.value <= INT_MAX]
         if small:
-            lines.append("enum {")
+            lines += opened(group)
             for held in small:
                 lines += beside(f"{front}{held.name} = {held.value},", held.about, "    ")
-            lines += ["};", ""]
+            lines += [f"}} {group.name};" if group.name else "};", ""]
         for held in group:
             if held not in small:
                 lines += [*commented(held.about), f"#define {front}{held.name} UINT64_C({held.value})", ""]
@@ -105,9 +115,9 @@ def asserted(held):
 
 
 LAYOUTS = """\
-/* Holds the headers to the sources: size and alignment of every struct, offset, size and type of every field, and every number.
+/* Holds the headers to the sources: size and alignment of every struct, offset, size and type of every field, every number, and the size and sign of a choice.
  *
- * Made by tools/faces.py. Nothing here is run: it is compiled as C11 and as C++17 (face/c/run). */
+ * Made by tools/faces.py. Nothing here is run: it is compiled as C11 and as C++17 (tools/calls.py). */
 #include "vault.h"
 #include "records.h"
 
@@ -131,7 +141,10 @@ def layouts(interfaces):
     lines = [LAYOUTS]
     for interface in interfaces:
         front = interface.prefix.upper() + "_"
-        lines += [f"HOLDS({front}{held.name} == {held.value});" for group in interface.constants for held in group]
+        for group in interface.constants:
+            lines += [f"HOLDS({front}{held.name} == {held.value});" for held in group]
+            if group.type:
+                lines.append(f"HOLDS(sizeof({group.name}) == {group.type.size} && ({group.name})-1 > 0);")
         for part in interface.sections:
             for held in part.records:
                 lines += ["", *asserted(held)]

@@ -35,6 +35,16 @@ BESIDE = {"vault_c": ["drives_c", "surveys_c"]}
 # The module that has the answer numbers.
 ANSWERS = ("disc", "answers")
 
+# Constants that are one enumeration in C, by its name: the module that has their numbers, and what is said of it. The others have no name in common.
+ENUMERATIONS = {
+    "answer": ("disc::answers", "What a call answers: that it is done, or why it is refused."),
+    "matching": ("listings::matchings", "How a component of a path is matched with the names of a directory's entries."),
+    "how": ("volumes::choices", "The choices on opening, a bit to a choice. A `how` is a number: the sum of those that are made."),
+}
+
+# Parameters whose type in C is the enumeration of their name. `how` is a number: its bits are added up.
+CHOSEN = {"matching": "u32"}
+
 
 @dataclass
 class Number:
@@ -43,6 +53,18 @@ class Number:
     def __post_init__(self):
         self.c, self.size = NUMBERS[self.rust]
         self.align, self.behind = self.size, ""
+
+
+@dataclass
+class Chosen:
+    """One of an enumeration of C, and a number to the archive and to Rust."""
+
+    c: str
+    rust: str
+
+    def __post_init__(self):
+        self.size = self.align = Number(self.rust).size
+        self.behind = ""
 
 
 @dataclass
@@ -113,6 +135,19 @@ class Named:
 
 
 @dataclass
+class Group:
+    """Constants that stand together; those of an enumeration have its name, and where a call takes one, its type."""
+
+    held: list
+    name: str = ""
+    about: list = field(default_factory=list)
+    type: object = None
+
+    def __iter__(self):
+        return iter(self.held)
+
+
+@dataclass
 class Section:
     about: list
     records: list = field(default_factory=list)
@@ -123,7 +158,7 @@ class Section:
 class Interface:
     prefix: str
     about: list
-    constants: list  # of lists, those of one source together
+    constants: list  # of groups, the answer numbers first
     sections: list
 
 
@@ -269,12 +304,20 @@ class Maker:
             raise Unread(f"{record.c} has other fields than the {text} that it stands for")
         return record
 
+    def chosen(self, name, text):
+        """A parameter that is one of an enumeration."""
+        if text != CHOSEN[name]:
+            raise Unread(f"{name} is a {text}, and {CHOSEN[name]} in the enumeration of that name")
+        return Chosen(f"{self.prefix}_{name}", text)
+
     def taken(self, source, name, text):
         """What a parameter is."""
         lent = re.fullmatch(r"&(mut )?(.+)", text)
         if not lent:
             if text.startswith("["):
                 raise Unread(f"an array can't cross to C by value: {name}: {text}")
+            if name in CHOSEN:
+                return self.chosen(name, text)
             return self.type(source, text)
         written, inner = bool(lent[1]), lent[2]
         row = re.fullmatch(r"\[(.+)\]", inner)
@@ -313,10 +356,24 @@ class Maker:
         for name in names:
             if name not in answers.constants:
                 raise Unread(f"{front}{name} is given and no answer number")
-        found = [[self.constant(answers, answers.constants[name]) for name in names]]
+        groups = [self.group("answer", [self.constant(answers, answers.constants[name]) for name in names])]
         for source in self.sources:
-            found.append([self.constant(source, held) for held in source.constants.values() if held.public])
-        return [group for group in found if group]
+            public = [held for held in source.constants.values() if held.public]
+            kinds = dict.fromkeys(self.enumeration(source, held) for held in public)
+            for kind in sorted(kinds, key=lambda kind: kind == ""):
+                groups.append(self.group(kind, [self.constant(source, held) for held in public if self.enumeration(source, held) == kind]))
+        return [group for group in groups if group.held]
+
+    def enumeration(self, source, held):
+        """The enumeration to which a constant belongs: its number is that of a constant in the enumeration's module."""
+        module = source.uses.get(held.value, "").rpartition("::")[0]
+        return next((kind for kind, (there, _) in ENUMERATIONS.items() if there == module), "")
+
+    def group(self, kind, held):
+        if not kind:
+            return Group(held)
+        type = Chosen(f"{self.prefix}_{kind}", CHOSEN[kind]) if kind in CHOSEN else None
+        return Group(held, f"{self.prefix}_{kind}", [ENUMERATIONS[kind][1]], type)
 
     def section(self, source, seen):
         """The calls of a source, and the structs that no section before has; in front of it the sections whose structs it needs."""

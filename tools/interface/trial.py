@@ -36,9 +36,13 @@ FAULTS = (
     ("another answer", VAULT, r"(fn vault_open\(image: &\[u8\], how: u32\)) -> Opened", r"\1 -> Reply"),
     ("a type that can't cross", VAULT, r"part_at: &mut usize", "part_at: (usize, usize)"),
     ("a comment that says something else", VAULT, r"Opening doesn't depend on it", "Opening depends on it"),
+    ("a matching of another width", VAULT, r"(fn vault_lookup\([^)]*?matching: )u32", r"\1u64"),
+    ("a choice on opening among those of matching", VAULT, r"(VAULT_CHECKED: u32 = )CHECKED", r"\1AS_WRITTEN"),
+    ("a choice of matching that has no enumeration", VAULT, r"(VAULT_UNAMBIGUOUS: u32 = )UNAMBIGUOUS", r"\g<1>2"),
     ("a slot of other fields", "crates/layouts/src/lists.rt", r"pub extent_type: u32", "pub extent_type: u16"),
     ("a call on bytes that is gone", "crates/records_c/src/headers.rt", r"pub extern \"C\" fn records_tag_body", "pub fn records_tag_body"),
     ("a number of the header", "include/vault.h", r"VAULT_NO_ROOM = 5", "VAULT_NO_ROOM = 6"),
+    ("a matching of the header that is a number", "include/vault.h", r"(vault_named vault_match\([^)]*?)vault_matching", r"\1uint32_t"),
     ("two parameters of the header", "include/vault.h", r"(bool vault_probe\()(const uint8_t \*image), (size_t image_length)", r"\1\3, \2"),
     ("a field of the header", "include/records.h", r"uint16_t crc_length", "uint32_t crc_length"),
     ("a line more in the header", "include/records.h", r"#endif\n\Z", "#endif\n\n"),
@@ -74,7 +78,7 @@ IN_THE_MOUNT = """    pub checked: u32,
 EXPECTED = (
     "VAULT_APART = 2, /* Areas are told apart. */",
     "#define VAULT_FAR UINT64_C(2199023255552)",
-    "void vault_ask_many(vault_volume volume, const uint8_t *paths, size_t paths_length, uint32_t matching, uint64_t wide, uint16_t narrow, "
+    "void vault_ask_many(vault_volume volume, const uint8_t *paths, size_t paths_length, vault_matching matching, uint64_t wide, uint16_t narrow, "
     "uint64_t *lengths, size_t lengths_places, uint32_t *answers, size_t answers_places, uint32_t *at, const uint16_t *only, size_t only_places, "
     "uint64_t (*triples)[3], size_t triples_places);",
     "uint32_t checked; uint16_t kinds[4]; /* The areas. */ uint32_t sizes[4];",

@@ -44,7 +44,8 @@ const MOST_SECTORS: u64 = 0x1000_0000_0000;
 // An opening under way.
 #[repr(C)]
 pub struct Opening {
-    // 0: the anchor is wanted; 1: a sector of the sequence; 2: the file set descriptor; any other: it has ended.
+    // 0: the anchor is wanted; 1: a sector of the sequence; 2: the file set descriptor. Ask is_wanting, and not the phase, whether it has ended: a state that was
+    // made by hand may have ended in any.
     pub phase: u8,
     // The sector that is wanted.
     pub at: u64,

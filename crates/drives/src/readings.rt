@@ -56,7 +56,8 @@ pub struct Body {
 // A read under way.
 #[repr(C)]
 pub struct Reading {
-    // 0: the file entry is wanted; 1: the first sector of a continuation; 2: a further one; 3: a sector of an extent; any other: it has ended.
+    // 0: the file entry is wanted; 1: the first sector of a continuation; 2: a further one; 3: a sector of an extent. Ask is_wanting, and not the phase, whether it has
+    // ended: a state that was made by hand may have ended in any.
     pub phase: u8,
     // The sector that is wanted, and how many behind it belong to the same continuation or extent.
     pub at: u64,

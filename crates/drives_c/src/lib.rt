@@ -1,12 +1,17 @@
 // Straight from a drive, with no image in memory: a state names the sector that it wants, is lent its bytes, and goes on.
 //
-// A state is passed by value and holds no pointer. While it is wanting, lend a step the 2,048 bytes of the sector that it wants; a slice of any other length,
-// 0 for one, says that the sector can't be had, which is VAULT_IO. A state that has ended has its answer, and a step of it changes nothing. Any state may be
+// A state is passed by value and holds no pointer. While it is wanting, lend a step the 2,048 bytes of the sector that it wants; any other
+// length, as that of (NULL, 0), says that the sector can't be had, which is VAULT_IO. A state that has ended has its answer, and a step of it changes nothing. Any state may be
 // stepped, also one made by hand whose bools are 0 or 1: the step stays inside what it was lent, and from every state the end is reached.
 //
 // The sectors that are wanted, the answer and the count are those of vault_open with no choice, and of vault_read, save that of a read VAULT_NO_SLOT and
 // VAULT_NO_ROOM may come before a later refusal: what was wanted is then the front of that list. What is said above of `out` and of the slots after a
 // refusal isn't so of a read by steps: what had arrived stays in `out`, and the row is zeroed. The steps have the contracts of crate drives.
+//
+// A file of any length goes through a buffer of 2,048 bytes, which is what a step brings at most. After each step take the `length` bytes that have arrived
+// out of it, set `length` to 0, and lend the next step the same buffer. The row has no bound of its own: the extents of the file wait in it. A sector names
+// at most 256 of them, so lengthen the row before a step that finds fewer than 256 slots behind the `scan.listed` that are in use. It may move, as by
+// realloc, and what stands in its new slots doesn't matter. packaging/window.c does all of this.
 ghost use mathlib.Core.Path.{_≡_};
 ghost use Rattle.volumes.specs.Openings.{usual, opening};
 ghost use Rattle.listings.specs.Listings.{matchingOf};

@@ -5,8 +5,12 @@
 // surveys.
 //
 // Nothing here allocates, keeps or frees memory: the caller lends the image, the output and the work space for the length of the call, each as a
-// pointer and a length. Lent pieces must not overlap. A piece of length 0 needs a pointer that isn't null. If the image changes during a call,
+// pointer and a length. Lent pieces must not overlap. A piece of length 0 may have a null pointer. A piece has at most PTRDIFF_MAX bytes: no object is
+// larger. `component_at` and `part_at` point to a number that every call writes: they are never null. If the image changes during a call,
 // the answer may be that of no image; the call still ends, with a number of the table, and stays inside the memory that it was lent.
+//
+// Of the stack a call takes less than 3 KB, but for two that go down the tree: vault_show took 14,880 bytes and vault_survey 17,072 where there were 16
+// levels (measured on x86-64).
 //
 // Every call on an image but the probe answers with a number, which has its name below, and with a count of the sectors of 2,048 bytes that it
 // asked for. A call that is refused (any number but 0) has zeros in every value but the count, where vault_failed has the component at
@@ -67,12 +71,12 @@ pub const VAULT_HIGHEST: u32 = HIGHEST;
 pub const VAULT_SECTOR_SIZE: usize = 2048;
 
 // Goes up whenever a struct or a call changes.
-pub const VAULT_VERSION: u32 = 10;
+pub const VAULT_VERSION: u32 = 11;
 
 // The VAULT_VERSION of the archive, which is to be that of the header.
 #[no_mangle]
 pub extern "C" fn vault_version() -> u32
-    ensures { λ r. ⌜ r ≡ 10 ⌝ }
+    ensures { λ r. ⌜ r ≡ 11 ⌝ }
 {
     VAULT_VERSION
 }
