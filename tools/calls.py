@@ -88,6 +88,10 @@ FAULTS = (
     ("a total that is no multiple of 32", "writers/src/lib.rt", r"\(384 \+ blocks_of\(lengths\)\) / 32 \* 32", "353 + blocks_of(lengths)"),
     ("a sector of room too few", "writers/src/lib.rt", r"image\.len\(\) / 2048\) as u64\) < reply", "image.len() / 2048 + 1) as u64) < reply"),
     ("two refusals the other way round", "writers/src/lib.rt", r"Refusal::BadName(.*)Refusal::BadFiles\);\n    }\n    WriteReply", r"Refusal::BadFiles\1Refusal::BadName);\n    }\n    WriteReply"),
+    ("no more bytes missing than there is room for", "drives/src/located.rt", r"of_entry\(r, e\.kind, e\.information_length, listed\)",
+     "of_entry(r, e.kind, lesser(e.information_length, out.len() as u64 + 1), listed)"),
+    ("a full row that has no end", "drives/src/scans.rt", r"r\.listed = i \+ 1;", "r.listed = i + 1; if r.listed == row.len() { r.listed = 0xffff_ffff_ffff_ffff; }"),
+    ("an extent read by the row's length", "drives/src/turns.rt", r"let n = least\(r\.scan\.listed, row\.len\(\)\);", "let n = row.len();"),
     turned("vault_survey", r"shelf: &\[u8\]", WORK, SURVEYS),
     turned("vault_survey", r"lengths: &\[u64\]", r"figures: &mut \[u64\]", SURVEYS),
     turned("vault_survey", "how: u32", r"figures: &mut \[u64\]", SURVEYS),
@@ -200,20 +204,19 @@ def long_disc():
     return bytes(image.bytes), data, long_ad(SIZE, 4)
 
 
-def grown(archives, folder):
-    """Reads whose memory grows at every step; what they say of themselves."""
+def grown(archives, folder, times):
+    """Reads on the stored images whose memory grows at every step, so many in each way; what is said of them."""
     linked(ROOT / "face/c/growing.c", archives, f"{folder}/growing")
+    return ran(f"{folder}/growing", (ROOT / "crates/drive_cases/data/images").read_bytes(), [times]).decode().strip()
+
+
+def windowed(archive, folder):
+    """The same on the long file, whose bytes are those that vault_read gives; and the example of packaging/ on it."""
     image, data, icb = long_disc()
-    long = drive_images.record("a long file", image, [drive_images.query(START, PARTITION, icb, 0)])
-    said = ran(f"{folder}/growing", (ROOT / "crates/drive_cases/data/images").read_bytes(), ["100"])
-    ran(f"{folder}/growing", long, ["3"])
-    if ran(f"{folder}/growing", long, ["whole"]) != data:
+    record = drive_images.record("a long file", image, [drive_images.query(START, PARTITION, icb, 0)])
+    ran(f"{folder}/growing", record, [3])
+    if ran(f"{folder}/growing", record, ["whole"]) != data:
         raise Failed("vault_read gives other bytes of the long file")
-    return said.decode().strip(), image, data
-
-
-def windowed(archive, image, data, folder):
-    """The example of packaging/ on the long file."""
     if os.uname().machine != "x86_64":
         return "packaging/window.c: left out, the archive is x86-64 code"
     disc, program = pathlib.Path(folder) / "long.img", f"{folder}/window"
@@ -233,8 +236,10 @@ def compiled(crates, folder):
 
 
 def is_refused(archives, folder, headers=()):
+    """Whether one of the programs that a fault may show in ends with another status than 0."""
     try:
         made(archives, folder, headers)
+        grown(archives[:2], folder, 1)
         return False
     except Failed:
         return True
@@ -293,8 +298,8 @@ def check():
         told_apart(folder)
         made(archives, folder)
         small_records(ROOT / "target/staticlib/librecords_c.a", folder)
-        reads, image, data = grown(archives[:2], folder)
-        window = windowed(archives[1], image, data, folder)
+        reads = grown(archives[:2], folder, 100)
+        window = windowed(archives[1], folder)
     print(f"calls: the {vault} functions of include/vault.h and the {records} of include/records.h, made from C; the layouts of both, as C11 and as C++17")
     print(f"calls: memory that grows: {reads}; {window}")
     return 0
