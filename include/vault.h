@@ -10,8 +10,8 @@
  * number that every call writes: they are never null. If the image changes during a call, the answer may be that of
  * no image; the call still ends, with a number of the table, and stays inside the memory that it was lent.
  *
- * Of the stack a call takes less than 3 KB, but for two that go down the tree: vault_show took 14,880 bytes and
- * vault_survey 17,072 where there were 16 levels (measured on x86-64).
+ * Stack, as measured on x86-64: vault_show takes 14,880 bytes and vault_survey 17,072 on a tree of 16 levels, the
+ * most that they go down. Any other call takes less than 3 KB.
  *
  * Every call on an image but the probe answers with a number, which has its name below, and with a count of the
  * sectors of 2,048 bytes that it asked for. A call that is refused (any number but 0) has zeros in every value but
@@ -312,9 +312,9 @@ vault_write_reply vault_write(const uint8_t *names, size_t names_length, const u
  *
  * A file of any length goes through a buffer of 2,048 bytes, which is what a step brings at most. After each step
  * take the `length` bytes that have arrived out of it, set `length` to 0, and lend the next step the same buffer.
- * The row has no bound of its own: the extents of the file wait in it. A sector names at most 256 of them, so
- * lengthen the row before a step that finds fewer than 256 slots behind the `scan.listed` that are in use. It may
- * move, as by realloc, and what stands in its new slots doesn't matter. packaging/window.c does all of this. */
+ * The file's extents all wait in the row, however many they are. A sector names at most 256, and the first
+ * `scan.listed` slots are in use: lengthen the row before a step where fewer than 256 are left. It may move, as by
+ * realloc, and what stands in its new slots doesn't matter. packaging/window.c does all of this. */
 
 /* What is kept of the three descriptors between sectors, each with its volume descriptor sequence number. */
 typedef struct {

@@ -136,7 +136,7 @@ static void ended(const vault_reading *r, size_t i, size_t free_room, bool lost)
     EXPECT(is_zero() && r->count == i + 1);
     if (free_room < once.brought[i]) {
         EXPECT(r->answer == VAULT_NO_ROOM && r->length == room);
-    } else if (lost && !(last && r->answer == once.answer)) {
+    } else if (lost && !(last && once.answer != VAULT_DONE && r->answer == once.answer)) {
         EXPECT(r->answer == VAULT_NO_SLOT && (last || once.goes_on[i]));
     } else {
         EXPECT(last && r->answer == once.answer);

@@ -9,9 +9,9 @@
 // refusal isn't so of a read by steps: what had arrived stays in `out`, and the row is zeroed. The steps have the contracts of crate drives.
 //
 // A file of any length goes through a buffer of 2,048 bytes, which is what a step brings at most. After each step take the `length` bytes that have arrived
-// out of it, set `length` to 0, and lend the next step the same buffer. The row has no bound of its own: the extents of the file wait in it. A sector names
-// at most 256 of them, so lengthen the row before a step that finds fewer than 256 slots behind the `scan.listed` that are in use. It may move, as by
-// realloc, and what stands in its new slots doesn't matter. packaging/window.c does all of this.
+// out of it, set `length` to 0, and lend the next step the same buffer. The file's extents all wait in the row, however many they are. A sector names at
+// most 256, and the first `scan.listed` slots are in use: lengthen the row before a step where fewer than 256 are left. It may move, as by realloc, and
+// what stands in its new slots doesn't matter. packaging/window.c does all of this.
 ghost use mathlib.Core.Path.{_≡_};
 ghost use Rattle.volumes.specs.Openings.{usual, opening};
 ghost use Rattle.listings.specs.Listings.{matchingOf};
