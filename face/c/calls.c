@@ -179,7 +179,7 @@ static void is_record(bool levels, uint8_t kind, uint32_t length, uint8_t type, 
     EXPECT(is_none(all - 1, levels, 0) && is_none(all, levels, all) && is_none(all, levels, all + 1) && is_none(all, levels, SIZE_MAX));
 }
 
-/* Each type with lengths up to 30 bits, names of more than a byte's number of bytes, and each bit of the two marks. */
+/* Each type with lengths up to 30 bits, names of more than a byte's number of bytes, each bit of the two marks, and a whole record behind the listing's end. */
 static void records_by_hand(void) {
     static const uint32_t lengths[] = {0, 1, 2048, 0x20000000, 0x3fffffff};
     static const size_t names[] = {0, 1, 255, 256, 257, 65535};
@@ -188,6 +188,10 @@ static void records_by_hand(void) {
         size_t all = by_hand(i % 2, 0, SECTOR, 5);
         listing[i / 2 % 2] ^= (uint8_t)(1 << i / 4);
         EXPECT(is_none(all, i % 2, 0));
+    }
+    for (uint32_t i = 0; i < 2; i++) {
+        memmove(listing + 1, listing, by_hand(i, 0, SECTOR, 5));
+        EXPECT(is_none(0, i, 1));
     }
 }
 
