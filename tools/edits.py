@@ -1,6 +1,6 @@
 #!/usr/bin/env python3
-"""Tries the wrong programs of crates/NAME/edits/*.edit, each of which the prover must refuse, in seconds each: `rattle check --incremental` over a folder
-that was filled, in the same run, by a check of the crate as it is.
+"""Tries the wrong programs of crates/NAME/edits/*.edit, each of which the prover must refuse, in seconds each: by `rattle check --incremental` over what
+was checked of the crate as it is.
 
     tools/edits.py                  every crate that has such edits, RT_JOBS crates at a time (two where nothing is said)
     tools/edits.py NAME [LABEL]     those of one crate, or one of them
@@ -8,10 +8,11 @@ that was filled, in the same run, by a check of the crate as it is.
 
 An edit has the form of those under must-fail/, which `rt ci` tries by a whole check of the crate. It is refused where rt would say so, with status 1 and
 `logic=not-proved`, and where an error stands in a file of the crate. Whatever else happens to it fails the run: it doesn't apply, it is still proved, it is
-no Rattle, the prover can't tell. What the crate stands on is taken from target/ as `rt check` left it, so that has to have run. docs/COMPARING.md says why
-what was saved can't make an edit pass that should fail. target/edits/NAME/LABEL.log has what was said of each.
+no Rattle, the prover can't tell. What the crate stands on, and what was checked of it, are taken from target/ as `rt check` left them, so that has to have
+run. docs/COMPARING.md says why nothing else rests on what was saved. target/edits/NAME/LABEL.log has what was said of each.
 """
 import concurrent.futures
+import functools
 import os
 import pathlib
 import re
@@ -19,10 +20,11 @@ import resource
 import shutil
 import subprocess
 import sys
+import tempfile
 import time
 
 sys.dont_write_bytecode = True
-from kit import ROOT, Failed, kit, own
+from kit import ROOT, Failed, did, kit, own
 
 PARTS = ("src", "specs", "proofs")
 # Below a crate's folder in WORK: the copy that is checked, what the crate as it is saved, and the copy of that which an edit is checked over.
@@ -90,23 +92,36 @@ def libraries(name):
             raise Wrong(f"{one}, which it stands on, isn't proved: `rt check {name}` comes first")
 
 
-def words(name, folder, saved):
-    """The command that checks a copy of a crate: rt's own for it, over what was saved."""
+def command(name, folder, found, saved):
+    """The command that checks a crate over what was saved: rt's own for it, but for the last two words."""
     file = next((path for path in (folder / "src/main.rt", folder / "src/lib.rt") if path.is_file()), None)
     if not file:
         raise Wrong("it has neither src/lib.rt nor src/main.rt")
-    found = [own() / "bin/rattle", "check", "--crate-name", name, file]
-    for one, library in libraries(name):
-        found += ["--extern", f"{one}={library}"]
-    found += ["-L", f"dependency={ROOT / 'target/rlib'}", "-L", f"dependency={own() / 'rlib'}"]
-    return [*found, "--antt-project", kit() / "logic/antt-project.json", "--logic-built", own() / "logic-built", "--incremental", saved]
+    words = [own() / "bin/rattle", "check", "--crate-name", name, file]
+    for one, library in found:
+        words += ["--extern", f"{one}={library}"]
+    words += ["-L", f"dependency={ROOT / 'target/rlib'}", "-L", f"dependency={own() / 'rlib'}"]
+    words += ["--antt-project", kit() / "logic/antt-project.json", "--logic-built", own() / "logic-built", "--incremental", saved]
+    return [str(word) for word in words]
 
 
 def checked(name, folder, saved, log):
     """The status and the words of a check. The log keeps the words."""
-    done = subprocess.run([str(word) for word in words(name, folder, saved)], stdout=subprocess.PIPE, stderr=subprocess.STDOUT)
+    done = subprocess.run(command(name, folder, libraries(name), saved), stdout=subprocess.PIPE, stderr=subprocess.STDOUT)
     log.write_bytes(done.stdout)
     return done.returncode, done.stdout.decode(errors="replace")
+
+
+@functools.cache
+def build():
+    """The name of the folder in which this build of rattle saves: the one that the check of an empty crate makes."""
+    with tempfile.TemporaryDirectory() as room:
+        folder, saved = pathlib.Path(room, "crate"), pathlib.Path(room, "saved")
+        (folder / "src").mkdir(parents=True)
+        (folder / "src/lib.rt").touch()
+        saved.mkdir()
+        did(*command("empty", folder, [("std", own() / "rlib/std.rlib")], saved))
+        return next(saved.iterdir()).name
 
 
 def place(said, folder):
@@ -156,11 +171,14 @@ def tried(name, label, text):
 
 
 def fill(name, change=None):
-    """Checks a crate as it is, from nothing, and saves what was checked. It must be proved: else every edit would seem to be refused. The self-test
-    changes the crate before."""
+    """Saves what rt checked of a crate, which its library carries, and checks the crate as it is over that, which saves what the library lacks. It must be
+    proved: else every edit would seem to be refused. The self-test changes the crate before."""
     shutil.rmtree(WORK / name, ignore_errors=True)
     folder, filled, _ = (WORK / name / part for part in KEPT)
     filled.mkdir(parents=True)
+    carried = ROOT / f"target/rlib/{name}.rlib/toolchain/checked"
+    if carried.is_dir():
+        shutil.copytree(carried, filled / build())
     copied(name, folder)
     if change:
         apply(change, folder)
