@@ -7,8 +7,8 @@ was checked of the crate as it is.
     tools/edits.py --self-test      shows that it can fail: edits that must be told otherwise than as refused
 
 An edit has the form of those under must-fail/, which `rt ci` tries by a whole check of the crate. It is refused where rt would say so, with status 1 and
-`logic=not-proved`, and where an error stands in a file of the crate. Whatever else happens to it fails the run: it doesn't apply, it is still proved, it is
-no Rattle, the prover can't tell. What the crate stands on, and what was checked of it, are taken from target/ as `rt check` left them, so that has to have
+`logic=not-proved`, and where the prover names a place in the crate besides. Whatever else happens to it fails the run: it doesn't apply, it is still proved,
+it is no Rattle, the prover can't tell. What the crate stands on, and what was checked of it, are taken from target/ as `rt check` left them, so that has to have
 run. docs/COMPARING.md says why nothing else rests on what was saved. target/edits/NAME/LABEL.log has what was said of each.
 """
 import concurrent.futures
@@ -217,7 +217,7 @@ def edits_of(name, label=None):
 def weight(name):
     """What the edits of a crate may cost, to begin with those that take longest."""
     files = (path for part in PARTS for path in (ROOT / "crates" / name / part).rglob("*") if path.is_file())
-    return (len(edits_of(name)) + 3) * sum(path.stat().st_size for path in files)
+    return (len(edits_of(name)) + 1) * sum(path.stat().st_size for path in files)
 
 
 def spent():
@@ -262,7 +262,10 @@ PLANTED = (
 
 
 def self_test():
-    """Whether each planted edit is told as what it is, and a crate with no edits, or that isn't proved as it is, fails."""
+    """Whether each planted edit is told as what it is, and a crate with no edits, or that isn't proved as it is, fails. It has a folder of its own, since
+    the crate's edits may be tried at the same time."""
+    global WORK
+    WORK = WORK / ".self-test"
     edits = [(f"planted_{i}", text) for i, (text, _) in enumerate(PLANTED)]
     lines, refused = crate("crcs", edits)
     told = [line.startswith(f"edits: crcs/{label}: {must}") for line, (label, _), (_, must) in zip(lines, edits, PLANTED)]
