@@ -5,7 +5,7 @@ use mathlib.Core.List.{List, [], _∷_, _++_}
 use mathlib.Core.Logic.{_⊎_, inl, inr, ⊎-elim}
 use mathlib.Core.Option.{Option, none, some}
 use Prim.Native.Nat.{ℕ, zero, suc, _+_, _-_, _*_, _/_, _≤_, _<_, min, max}
-use native.Mathlib.Nat.{zero-add}
+use native.Mathlib.Nat.{zero-add, add-zero}
 use native.Mathlib.Omega.{arith}
 use lib.ListN.{length, take}
 use lib.Dec.{eqb, leb, ltb}
@@ -70,19 +70,40 @@ unfolding run anyMissing
 run-there image zero at h = refl
 run-there image (suc n) at h = rw (le-ltb (length image) (2048 * (at + 1)) (omega arith)) (run-there image n (at + 1) (omega arith))
 
--- of a longer one the first that is missing is known by a division
-run-from : (image : List ℕ) (h n at : ℕ) (list : List ℕ) → h < n → ((i : ℕ) → i < h → 2048 * (at + i + 1) ≤ length image) → length image < 2048 * (at + h + 1) → Waits image (run n at ++ list) (h + 1)
+-- a run in two parts
+run-join : (h k at : ℕ) (list : List ℕ) → run (h + k) at ++ list ≡ run h at ++ (run k (at + h) ++ list)
 unfolding run
-run-from image h zero at list k there gone = absurd (omega arith)
-run-from image zero (suc n) at list k there gone = waits-first image at (run n (at + 1) ++ list) (omega arith)
-run-from image (suc h) (suc n) at list k there gone =
-    rw (more h) (waits-next image at (run n (at + 1) ++ list) (h + 1) (omega (arith, there 0 (omega arith))) (run-from image h n (at + 1) list (omega arith) (λ i j. omega (arith, there (suc i) (omega arith))) (omega arith)))
+run-join zero k at list = rw (zero-add, add-zero)
+run-join (suc h) k at list = rw (more h k, onward at h) (ap (λ l. at ∷ l) (run-join h k (at + 1) list))
   where
-    more : (h : ℕ) → suc h + 1 ≡ suc (h + 1)
-    more h = omega arith
+    more : (h k : ℕ) → suc h + k ≡ suc (h + k)
+    more h k = omega arith
+
+    onward : (at h : ℕ) → at + suc h ≡ at + 1 + h
+    onward at h = omega arith
+
+-- of a longer one the first that is missing is known by a division: all before it are there, and the rest of the run begins with it
+run-first : (image : List ℕ) (n at : ℕ) (list : List ℕ) → length image < 2048 * (at + 1) → Waits image (run (suc n) at ++ list) 1
+unfolding run
+run-first image n at list h = waits-first image at (run n (at + 1) ++ list) h
+
+run-from : (image : List ℕ) (h n at : ℕ) (list : List ℕ) → h ≤ heldFrom image at → length image < 2048 * (at + h + 1) → Waits image (run (h + suc n) at ++ list) (h + 1)
+run-from image h n at list k gone =
+    rw (run-join h (suc n) at list) (rw (run-long h at) at (waits-behind image (run h at) (run (suc n) (at + h) ++ list) 1 (run-there image h at k) (run-first image n (at + h) list gone)))
 
 run-waits : (image : List ℕ) (n at : ℕ) (list : List ℕ) → heldFrom image at < n → Waits image (run n at ++ list) (heldFrom image at + 1)
-run-waits image n at list h = run-from image (heldFrom image at) n at list h (λ i j. omega arith) (omega arith)
+run-waits image n at list h =
+    let z : n ≡ heldFrom image at + suc (n - heldFrom image at - 1) = cut (heldFrom image at) n h in
+    rw z (run-from image (heldFrom image at) (n - heldFrom image at - 1) at list (self (heldFrom image at)) (past (length image) at))
+  where
+    cut : (h n : ℕ) → h < n → n ≡ h + suc (n - h - 1)
+    cut h n k = omega arith
+
+    self : (h : ℕ) → h ≤ h
+    self h = omega arith
+
+    past : (size at : ℕ) → size < 2048 * (at + (size / 2048 - at) + 1)
+    past size at = omega arith
 
 -- ---- an extent is refused by 4, missing or held
 
