@@ -2,7 +2,7 @@
 -- Assumes nothing.
 use mathlib.Core.Path.{_≡_, refl, ap, sym, _∙_}
 use mathlib.Core.Bool.{Bool, true, false, _||_}
-use mathlib.Core.List.{List, [], _++_, append-nil}
+use mathlib.Core.List.{List, [], _∷_, _++_, append-nil}
 use mathlib.Core.Logic.{⊎-elim}
 use Prim.Native.Nat.{ℕ, _+_, _-_, _*_, _≤_, _<_}
 use native.Mathlib.Omega.{arith}
@@ -141,6 +141,12 @@ pub record Walked (d : Disc) (r : Reading) (row : List (List ℕ)) (out : List �
   pub output : List ℕ
   pub walk : Still d wanted r row out state places output
 
+-- a step in front of a walk, over any of both: their parts are never written out
+walk-on : {d : Disc} {r : Reading} {s : List ℕ} {row : List (List ℕ)} {out : List ℕ} → isWanting r ≡ true → lent s ≡ d (wantedSector r) → (x : Step r s row out)
+    → Walked d (x .state) (x .places) (x .output) → Walked d r row out
+walk-on {r = r} {s = s} w l x y =
+    record { wanted = wantedSector r ∷ y .wanted; state = y .state; places = y .places; output = y .output; walk = steps s w l (x .fed) (y .walk) }
+
 walk-by : (d : Disc) → ((n : ℕ) → Lends d n) → ((r : Reading) (s : List ℕ) (row : List (List ℕ)) (out : List ℕ) → Step r s row out)
     → {r : Reading} {row : List (List ℕ)} (out : List ℕ) → Over r row → Walked d r row out
 walk-by d lend step out (now w) = record { wanted = []; state = _; places = _; output = _; walk = ends w }
@@ -148,8 +154,7 @@ walk-by d lend step out (later {r} {row} w h) =
     let l = lend (wantedSector r) in
     let x = step r (l .slice) row out in
     let f : Fed r (l .slice) (row ++ []) out (x .state) (x .places) (x .output) = rw (append-nil row) (x .fed) in
-    let y = walk-by d lend step (x .output) (h [] (r .length) (l .slice) out (x .state) (x .places) (x .output) (same refl) f) in
-    record { wanted = _; state = y .state; places = y .places; output = y .output; walk = steps (l .slice) w (l .is) (x .fed) (y .walk) }
+    walk-on w (l .is) x (walk-by d lend step (x .output) (h [] (r .length) (l .slice) out (x .state) (x .places) (x .output) (same refl) f))
 
 pub read-walks : (d : Disc) → ((n : ℕ) → Lends d n) → ((r : Reading) (s : List ℕ) (row : List (List ℕ)) (out : List ℕ) → Step r s row out)
     → (r : Reading) (row : List (List ℕ)) (out : List ℕ) → Walked d r row out

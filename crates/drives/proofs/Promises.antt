@@ -99,12 +99,15 @@ came-step d m o r q ns s t w h p c =
     counted : openedBy (reported (m + 1 + length ns)) (given (d (wantedSector o)) (λ b. outcome d (behindWanted o b)) (refused Io)) ≡ openedBy (reported (m + suc (length ns))) (given (d (wantedSector o)) (λ b. outcome d (behindWanted o b)) (refused Io))
     counted = let z : m + 1 + length ns ≡ m + suc (length ns) = omega arith in rw z
 
+next-count : (n m : ℕ) → n ≡ reported m → reported (n + 1) ≡ reported (m + 1)
+next-count n m e = omega arith
+
 -- walked to its end over a disc, the opening has wanted the sectors of its list in order, and says the answer, the count and the volume of the call
 pub walk-comes : {d : Disc} {ns : List ℕ} {o q : Opening} → Walk d ns o q → (m : ℕ) (t : Ask VolumeRecord) → Stands t (reported m) o → Came d t ns m q
 walk-comes {d} (ends {o} e) m t p = came-ended d m o e t p
 walk-comes {d} (steps {o} {r} {q} {ns} s w h f rest) m t p =
     let c : o .opened .count ≡ reported m = ap (λ (x : Opened). x .count) (p .says) ∙ said-count (reported m) t in
-    let z : reported (o .opened .count + 1) ≡ reported (m + 1) = omega arith in
+    let z : reported (o .opened .count + 1) ≡ reported (m + 1) = next-count (o .opened .count) m c in
     came-step d m o r q ns s t w h p (walk-comes rest (m + 1) (branch (lent s) (treeOf o)) (rw z at (f .takes w)))
 
 -- from the start: the sectors wanted are the opening's list in order, and what is said at the end is what the opening of that disc says
