@@ -1,34 +1,79 @@
 //! Finds the archives of the proved crates and links them.
 //!
-//! They are libvault_c.a, libdrives_c.a, libsurveys_c.a and librecords_c.a in the folder `VAULT_ARCHIVE`, by default target/staticlib of the repository. The last is linked
-//! where it is there: who calls nothing of include/records.h needs none. They are x86-64 code for Linux, and on another target nothing is
-//! linked: there the declarations are of use to nobody, and the rest of the crate is. A dependent's build script is told the folder
-//! (`DEP_STRANDLODGE_FOLDER`).
+//! They are libvault_c.a, libdrives_c.a, libsurveys_c.a and librecords_c.a in the folder `VAULT_ARCHIVE`, and where that isn't set, in the repository: in
+//! target/staticlib, where proved ones alone are, or else in target/unproved, where ./vault compiles them with no proof checked. There none may be older than a
+//! source. The last is linked where it is there: who calls nothing of include/records.h needs none. They are x86-64 code for Linux, and on another target nothing
+//! is linked: there the declarations are of use to nobody, and the rest of the crate is. A dependent's build script is told the folder (`DEP_STRANDLODGE_FOLDER`)
+//! and of its archives' proofs whether they were checked (`DEP_STRANDLODGE_PROOFS`): `checked`, `unchecked`, or `unknown` of another folder.
 
-use std::env;
-use std::path::PathBuf;
+use std::path::{Path, PathBuf};
+use std::time::SystemTime;
+use std::{env, fs};
+
+/// The crates whose archives are linked, and whether there is no way without.
+const CRATES: [(&str, bool); 4] = [("vault_c", true), ("drives_c", true), ("surveys_c", true), ("records_c", false)];
 
 fn main() {
     println!("cargo::rerun-if-env-changed=VAULT_ARCHIVE");
-    let folder = env::var_os("VAULT_ARCHIVE").map_or_else(beside, PathBuf::from);
+    let (folder, proofs) =
+        env::var_os("VAULT_ARCHIVE").filter(|given| !given.is_empty()).map_or_else(beside, |given| (given.into(), "unknown"));
     println!("cargo::metadata=folder={}", folder.display());
+    println!("cargo::metadata=proofs={proofs}");
     let target = |what: &str| env::var(format!("CARGO_CFG_TARGET_{what}")).unwrap_or_default();
     if (target("ARCH").as_str(), target("OS").as_str()) != ("x86_64", "linux") {
         return;
     }
     println!("cargo::rustc-link-search=native={}", folder.display());
-    for (name, needed) in [("vault_c", true), ("drives_c", true), ("surveys_c", true), ("records_c", false)] {
-        let archive = folder.join(format!("lib{name}.a"));
+    for (name, needed) in CRATES {
+        let archive = archive(&folder, name);
         println!("cargo::rerun-if-changed={}", archive.display());
         if archive.exists() {
             println!("cargo::rustc-link-lib=static={name}");
         } else if needed {
-            println!("cargo::error={} is missing: make it with `rt staticlib {name}` in the repository's root", archive.display());
+            println!(
+                "cargo::error={} is missing, or older than a source: ./vault --build makes it, and ./vault --prove a proved one",
+                archive.display()
+            );
         }
     }
 }
 
-/// Where `rt staticlib` writes: the repository's root is the folder above this crate.
-fn beside() -> PathBuf {
-    PathBuf::from(env::var_os("CARGO_MANIFEST_DIR").unwrap_or_default()).join("../target/staticlib")
+fn archive(folder: &Path, name: &str) -> PathBuf {
+    folder.join(format!("lib{name}.a"))
+}
+
+/// The archives of the repository, whose root is the folder above this crate: proved ones, or else others.
+fn beside() -> (PathBuf, &'static str) {
+    let root = PathBuf::from(env::var_os("CARGO_MANIFEST_DIR").unwrap_or_default()).join("..");
+    println!("cargo::rerun-if-changed={}", root.join("crates").display());
+    let newest = newest(&root.join("crates"));
+    let proved = root.join("target/staticlib");
+    println!("cargo::rerun-if-changed={}", proved.display());
+    let unproved = root.join("target/unproved");
+    match (is_fresh(&proved, newest), is_fresh(&unproved, newest)) {
+        (true, _) => (proved, "checked"),
+        (false, true) => (unproved, "unchecked"),
+        // Where there is no archive, this is said of a folder without any.
+        (false, false) => (root.join("target/none"), "unknown"),
+    }
+}
+
+/// Whether the archives that are needed are in a folder, and none there is older than this.
+fn is_fresh(folder: &Path, newest: Option<SystemTime>) -> bool {
+    CRATES.iter().all(|(name, needed)| changed(&archive(folder, name)).map_or(!needed, |made| Some(made) >= newest))
+}
+
+fn changed(file: &Path) -> Option<SystemTime> {
+    fs::metadata(file).ok()?.modified().ok()
+}
+
+/// When the newest source in a folder was changed.
+fn newest(folder: &Path) -> Option<SystemTime> {
+    let entries = fs::read_dir(folder).into_iter().flatten().flatten().map(|entry| entry.path());
+    let times = entries.filter_map(|path| match path.extension().and_then(|end| end.to_str()) {
+        Some("rt" | "antt") => changed(&path),
+        _ if path.is_dir() => newest(&path),
+        _ => None,
+    });
+    times.max()
 }

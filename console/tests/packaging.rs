@@ -23,6 +23,16 @@ fn said(command: &mut Command) -> Said {
     Said::of(command.output().unwrap())
 }
 
+/// Whether this was built over proved archives. Others aren't installed: then what needs that is left out, and said to be.
+fn is_proved(test: &str) -> bool {
+    let version = said(Command::new(env!("CARGO_BIN_EXE_vault")).arg("--version"));
+    let is = version.out.contains("Its proofs were checked");
+    if !is {
+        let _ = writeln!(io::stderr(), "left out: {test}, since the proofs were not checked");
+    }
+    is
+}
+
 /// Installs what is built into the folder `at`.
 fn installed(folder: &Folder) -> PathBuf {
     let mut command = Command::new(root().join("install"));
@@ -34,6 +44,9 @@ fn installed(folder: &Folder) -> PathBuf {
 
 #[test]
 fn everything_is_installed_and_taken_away() {
+    if !is_proved("installing") {
+        return;
+    }
     let folder = Folder::new();
     let at = installed(&folder);
     let mut files = vec![
@@ -60,6 +73,29 @@ fn everything_is_installed_and_taken_away() {
     assert_eq!(said(Command::new(root().join("install")).arg("relative")).status, 64);
 }
 
+/// What isn't proved, or isn't known to be, isn't installed.
+#[test]
+fn proved_archives_alone_are_installed() {
+    let folder = Folder::new();
+    fs::create_dir_all(folder.at("archives")).unwrap();
+    let tried = |says: &str| {
+        folder.write("vault", format!("#!/bin/sh\necho '{says}'\n").as_bytes());
+        fs::set_permissions(folder.at("vault"), Permissions::from_mode(0o755)).unwrap();
+        let mut command = Command::new(root().join("install"));
+        said(command.env("DESTDIR", folder.at("at")).env("BUILT", folder.at("vault")).env("ARCHIVES", folder.at("archives")))
+    };
+    for says in ["vault 0.2.0", "Its proofs were not checked where it was built", "whether their proofs were checked is not known"] {
+        let run = tried(says);
+        assert!(run.status == 65 && run.error.contains("not known to be proved") && !folder.at("at").exists(), "{says} {run:?}");
+    }
+    folder.write("archives/NOT-PROVED", b"");
+    assert_eq!(tried("Its proofs were checked where it was built.").status, 65);
+    // With all as it should be, it fails for the archives that aren't there.
+    fs::remove_file(folder.at("archives/NOT-PROVED")).unwrap();
+    let run = tried("Its proofs were checked where it was built.");
+    assert!(run.status == 1 && folder.at("at/usr/local/bin/vault").exists(), "{run:?}");
+}
+
 /// The lines for the compiler that README.md has under the example, as they stand.
 fn link_lines(readme: &str) -> Vec<&str> {
     readme.lines().filter_map(|line| line.strip_prefix("    ")).filter(|line| line.starts_with("cc cue.c ")).collect()
@@ -74,6 +110,9 @@ fn the_example_in_c_runs() {
     let Some(cc) = tool("cc") else {
         return left_out("the example in C", "cc");
     };
+    if !is_proved("the example in C") {
+        return;
+    }
     let folder = Folder::new();
     let at = installed(&folder);
     folder.write("show.img", &show());
@@ -139,7 +178,15 @@ fn options_are_told_of() {
 /// A tree in which all is built: the script, and a command that only says that it ran.
 fn built() -> Folder {
     let folder = Folder::new();
-    for name in ["crates/first_cue", "target/staticlib", "console/src", "console/target/release", "face/src", "empty"] {
+    for name in [
+        "crates/first_cue",
+        "target/staticlib",
+        "target/unproved",
+        "console/src",
+        "target/command/proved",
+        "target/command/unproved",
+        "face/src",
+    ] {
         fs::create_dir_all(folder.at(name)).unwrap();
     }
     for name in [
@@ -147,8 +194,9 @@ fn built() -> Folder {
         "crates/first_cue/stdin",
         "console/src/a.rs",
         "console/Cargo.toml",
-        "console/Cargo.lock",
         "console/build.rs",
+        "Cargo.toml",
+        "Cargo.lock",
         "face/src/a.rs",
         "face/Cargo.toml",
         "face/build.rs",
@@ -156,19 +204,15 @@ fn built() -> Folder {
         folder.write(name, b"");
     }
     fs::copy(root().join("vault"), folder.at("vault")).unwrap();
-    for name in [
-        "target/staticlib/libvault_c.a",
-        "target/staticlib/libdrives_c.a",
-        "target/staticlib/libsurveys_c.a",
-        "target/staticlib/librecords_c.a",
-        "console/target/release/vault",
-    ] {
-        folder.write(name, b"#!/bin/sh\necho ran \"$@\"\n");
+    for (archives, kind) in [("staticlib", "proved"), ("unproved", "unproved")] {
+        for crate_name in ["vault_c", "drives_c", "surveys_c", "records_c"] {
+            folder.write(&format!("target/{archives}/lib{crate_name}.a"), b"");
+        }
+        let command = format!("target/command/{kind}/vault");
+        folder.write(&command, format!("#!/bin/sh\necho {kind} ran \"$@\"\n").as_bytes());
+        fs::set_permissions(folder.at(&command), Permissions::from_mode(0o755)).unwrap();
+        age(&folder, &command, "now + 10 seconds");
     }
-    fs::set_permissions(folder.at("console/target/release/vault"), Permissions::from_mode(0o755)).unwrap();
-    let archives = folder.0.canonicalize().unwrap().join("target/staticlib");
-    folder.write("console/target/release/vault.archives", archives.as_os_str().as_encoded_bytes());
-    age(&folder, "console/target/release/vault", "now + 10 seconds");
     folder
 }
 
@@ -195,7 +239,7 @@ fn alone_with(folder: &Folder, words: &[&str]) -> Command {
 fn what_is_built_is_not_built_again() {
     let folder = built();
     let run = alone(&folder, &["ls", "a b"]);
-    assert_eq!((run.status, run.out.as_str(), run.error.as_str()), (0, "ran ls a b\n", ""));
+    assert_eq!((run.status, run.out.as_str(), run.error.as_str()), (0, "proved ran ls a b\n", ""));
     assert_eq!(alone(&folder, &["--build"]).out, "");
     for newer in [
         "console/src/a.rs",
@@ -213,15 +257,45 @@ fn what_is_built_is_not_built_again() {
     // Built with the archives of another folder, however old these are.
     let run = said(alone_with(&folder, &["ls"]).env("VAULT_ARCHIVE", folder.at("console")));
     assert!(run.status == 69 && run.error.contains("cargo is missing"), "{run:?}");
-    age(&folder, "target/staticlib/libvault_c.a", "now");
+}
+
+/// Proved archives that are missing, or older than a source, are not taken for such; nor are those that aren't proved taken for proved.
+#[test]
+fn archives_of_the_one_kind_are_not_taken_for_the_other() {
+    let folder = built();
+    assert_eq!(alone(&folder, &["--prove"]).out, "vault: the command stands on archives whose proofs were checked on this machine\n");
+    let needs_rt = |words: &[&str]| {
+        let run = alone(&folder, words);
+        assert!(run.status == 69 && run.error.contains("rt is missing"), "{run:?}");
+    };
+    age(&folder, "target/staticlib/libdrives_c.a", "2001-01-01");
+    assert_eq!(alone(&folder, &["ls"]).out, "unproved ran ls\n");
+    needs_rt(&["--prove"]);
+    fs::remove_file(folder.at("target/staticlib/libdrives_c.a")).unwrap();
+    assert_eq!(alone(&folder, &["ls"]).out, "unproved ran ls\n");
     age(&folder, "crates/a.rt", "now + 20 seconds");
+    needs_rt(&["ls"]);
+    let run = said(alone_with(&folder, &["--prove"]).env("VAULT_ARCHIVE", folder.at("target/staticlib")));
+    assert_eq!(run.status, 64, "{run:?}");
+}
+
+/// A checkout is moved with what is built in it.
+#[test]
+fn a_moved_checkout_is_not_built_again() {
+    let mut folder = built();
+    let elsewhere = Folder::new();
+    fs::rename(&folder.0, elsewhere.at("moved")).unwrap();
+    folder.0 = elsewhere.at("moved");
     let run = alone(&folder, &["ls"]);
-    assert!(run.status == 69 && run.error.contains("rt is missing"), "{run:?}");
+    assert_eq!((run.status, run.out.as_str(), run.error.as_str()), (0, "proved ran ls\n", ""));
 }
 
 /// The whole way of someone who has just come to it: packaging/first-hour has its steps.
 #[test]
 fn a_stranger_s_first_hour() {
+    if !is_proved("the first hour") {
+        return;
+    }
     let mut script = Command::new(root().join("packaging/first-hour"));
     script.env("BUILT", env!("CARGO_BIN_EXE_vault")).env("ARCHIVES", archives().canonicalize().unwrap());
     let done = said(script.env_remove("DESTDIR"));

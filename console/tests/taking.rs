@@ -484,7 +484,9 @@ fn each_command_has_its_help() {
     }
     refuses(&folder.vault(&["lable", "--help"]), 64, "there is no command lable");
     let said = folder.vault(&["--version"]);
-    answers(&said, &format!("vault {} (include/vault.h {})\n", env!("CARGO_PKG_VERSION"), strandlodge_sys::vault::VERSION));
+    let first = format!("vault {} (include/vault.h {})", env!("CARGO_PKG_VERSION"), strandlodge_sys::vault::VERSION);
+    let lines: Vec<&str> = said.out.lines().collect();
+    assert!(said.status == 0 && lines.len() == 2 && lines[0] == first && lines[1].contains("proofs were "), "{said:?}");
 }
 
 /// What was planted in the folder beforehand: links to files and folders, a pipe, a folder where a file goes, a file where a folder goes.

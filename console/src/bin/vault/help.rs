@@ -145,8 +145,15 @@ pub fn print(command: Option<&str>, out: &mut impl Write) -> Result<(), Failure>
     out.write_all(text.as_bytes()).map_err(Failure::output)
 }
 
+/// What the build script was told of the archives' proofs. The script ./vault and ./install go by these words.
+const PROOFS: &str = match env!("VAULT_PROOFS").as_bytes() {
+    b"checked" => "Its proofs were checked where it was built.",
+    b"unchecked" => "Its proofs were not checked where it was built: ./vault --prove checks them there.",
+    _ => "It was built over archives from elsewhere: whether their proofs were checked is not known.",
+};
+
 pub fn version(out: &mut impl Write) -> Result<(), Failure> {
-    let text = format!("vault {} (include/vault.h {})\n", env!("CARGO_PKG_VERSION"), vault::VERSION);
+    let text = format!("vault {} (include/vault.h {})\n{PROOFS}\n", env!("CARGO_PKG_VERSION"), vault::VERSION);
     out.write_all(text.as_bytes()).map_err(Failure::output)
 }
 
