@@ -238,7 +238,7 @@ def run(asked):
             if not edits or good != len(edits):
                 failed.append(name)
     number = sum(len(edits) for _, edits in asked)
-    print(f"edits: {number} tried, {refused} refused, {len(asked)} crates ({time.monotonic() - began:.0f} s; {spent()})")
+    print(f"edits: {number} edits of {len(asked)} crates, {refused} refused ({time.monotonic() - began:.0f} s; {spent()})")
     if failed or not number:
         print(f"edits: FAILED: {' '.join(failed) or 'there is no edit'}")
         return 1
