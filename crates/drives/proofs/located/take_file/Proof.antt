@@ -17,6 +17,7 @@ take-file-spec =
     (λ c. search files)
     (λ c. search files)
     (λ c. search files)
+    -- a part of the sector is the area
     (λ c. search files)
     (λ c. search files)
     (λ c. search files)
