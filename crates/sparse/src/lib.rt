@@ -39,7 +39,8 @@ fn lay(run: &[u8], at: u32, image: &mut [u8])
     copy(run, &mut image[from..]);
 }
 
-fn lay_runs(packed: &[u8], image: &mut [u8])
+// Lays the runs of a packed image over another image.
+pub fn lay_runs(packed: &[u8], image: &mut [u8])
     ensures { λ _. ⌜ now (image .exit) ≡ laidRuns (u32at (now (packed .entry)) 4) (now (packed .entry)) 8 (now (image .entry)) ⌝ }
 {
     let n = le32(packed, 4);

@@ -1,0 +1,139 @@
+// A line that is put together in lent memory, so that it can be compared with the one before it. Each function puts its text at `at` and returns where
+// the next one goes; what has no room is left out.
+use disc::moves::copy;
+use disc::moves::least;
+use programs::lent::is_zero;
+use programs::lent::part;
+use programs::lent::sum;
+use programs::lent::wide;
+
+pub(crate) fn put(line: &mut [u8], at: usize, text: &[u8]) -> usize {
+    let from = least(at, line.len());
+    let room = line.len() - from;
+    copy(text, &mut line[from..]);
+    from + least(text.len(), room)
+}
+
+// A word, and a number right behind it.
+pub(crate) fn put_named(line: &mut [u8], at: usize, word: &[u8], n: u64) -> usize {
+    let behind = put(line, at, word);
+    let mut digits = [0u8; 20];
+    let k = io::decimal(n, &mut digits);
+    put(line, behind, &digits[..k])
+}
+
+// A word, and four numbers behind it.
+pub(crate) fn put_row(line: &mut [u8], at: usize, word: &[u8], row: [u64; 4]) -> usize {
+    let a = put_named(line, at, word, row[0]);
+    let b = put_named(line, a, b" ", row[1]);
+    let c = put_named(line, b, b" ", row[2]);
+    put_named(line, c, b" ", row[3])
+}
+
+pub(crate) fn wide_row(row: [u32; 4]) -> [u64; 4] {
+    [row[0] as u64, row[1] as u64, row[2] as u64, row[3] as u64]
+}
+
+pub(crate) fn wide_row16(row: [u16; 4]) -> [u64; 4] {
+    [row[0] as u64, row[1] as u64, row[2] as u64, row[3] as u64]
+}
+
+// A byte that is no printable character is \ and two hex digits.
+fn put_character(line: &mut [u8], at: usize, b: u8) -> usize {
+    if (b < 0x20) | (b > 0x7e) | (b == b'\\') {
+        let behind = put(line, at, b"\\");
+        let mut digits = [0u8; 16];
+        let k = io::hex(wide(b), 2, &mut digits);
+        return put(line, behind, &digits[..k]);
+    }
+    let one = [b];
+    put(line, at, &one)
+}
+
+// A word, and a text behind it.
+pub(crate) fn put_text(line: &mut [u8], at: usize, word: &[u8], text: &[u8]) -> usize {
+    let mut end = put(line, at, word);
+    let mut i = 0;
+    while i < text.len() {
+        end = put_character(line, end, text[i]);
+        i += 1;
+    }
+    end
+}
+
+// A number that isn't 0.
+pub(crate) fn put_set(line: &mut [u8], at: usize, word: &[u8], n: u32) -> usize {
+    if n == 0 {
+        return at;
+    }
+    put_named(line, at, word, n as u64)
+}
+
+// How much of an image is there, where that isn't all of it.
+pub(crate) fn put_there(line: &mut [u8], at: usize, there: u32, length: usize) -> usize {
+    if there as usize == length {
+        return at;
+    }
+    put_named(line, at, b" there ", there as u64)
+}
+
+// A text of which a byte isn't 0.
+pub(crate) fn put_held(line: &mut [u8], at: usize, word: &[u8], text: &[u8]) -> usize {
+    if is_zero(text) {
+        return at;
+    }
+    put_text(line, at, word, text)
+}
+
+// A call's name with a space behind it, and what every call answers.
+pub(crate) fn put_answer(line: &mut [u8], call: &[u8], answer: u64, count: u64) -> usize {
+    let at = put_named(line, 0, call, answer);
+    put_named(line, at, b" count ", count)
+}
+
+pub(crate) fn put_kept(line: &mut [u8], at: usize, is_kept: bool) -> usize {
+    if is_kept {
+        return put(line, at, b" kept");
+    }
+    put(line, at, b" changed")
+}
+
+// Whether every byte is as it was lent.
+fn is_filled(b: &[u8]) -> bool {
+    let mut i = 0;
+    while i < b.len() {
+        if b[i] != 0xa5 {
+            return false;
+        }
+        i += 1;
+    }
+    true
+}
+
+// The sum of the first n bytes of an output, and whether those behind are as they were lent.
+pub(crate) fn put_written(line: &mut [u8], at: usize, out: &[u8], n: usize) -> usize {
+    let behind = put_named(line, at, b" sum ", sum(part(out, 0, n)));
+    put_kept(line, behind, is_filled(part(out, n, out.len())))
+}
+
+// Whether the work space came back all zero.
+pub(crate) fn put_zero(line: &mut [u8], at: usize, work: &[u8]) -> usize {
+    if is_zero(work) {
+        return put(line, at, b" zero");
+    }
+    put(line, at, b" dirty")
+}
+
+pub(crate) fn is_same(a: &[u8], b: &[u8]) -> bool {
+    if a.len() != b.len() {
+        return false;
+    }
+    let mut i = 0;
+    while i < a.len() {
+        if a[i] != b[i] {
+            return false;
+        }
+        i += 1;
+    }
+    true
+}
