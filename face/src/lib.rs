@@ -4,11 +4,15 @@
 //!
 //! The archives are x86-64 code for Linux, and are linked there alone. Consoles use the crate `strandlodge`, which wraps these calls.
 //!
-//! [`sparse`] is for the programs and tests of the repository, whose images are kept so.
+//! [`sparse`], [`asked`], [`said`] and [`replay`] are for the programs and tests of the repository: its images are kept sparse, and what is asked of them is
+//! stored with what must be said.
 
 #[macro_use]
 mod layout;
 
+pub mod asked;
 pub mod records;
+pub mod replay;
+pub mod said;
 pub mod sparse;
 pub mod vault;

@@ -6,9 +6,14 @@ const GAP: usize = 16;
 
 /// The image that a packed one stands for; none if it isn't packed so.
 pub fn expand(packed: &[u8]) -> Option<Vec<u8>> {
+    expand_over(packed, Vec::new())
+}
+
+/// The same where every other byte is as in another image, and 0 behind its end.
+pub fn expand_over(packed: &[u8], mut image: Vec<u8>) -> Option<Vec<u8>> {
     let (length, rest) = number(packed)?;
     let (runs, mut rest) = number(rest)?;
-    let mut image = vec![0; length];
+    image.resize(length, 0);
     for _ in 0..runs {
         let (offset, behind) = number(rest)?;
         let (length, behind) = number(behind)?;
@@ -16,7 +21,7 @@ pub fn expand(packed: &[u8]) -> Option<Vec<u8>> {
         image.get_mut(offset..)?.get_mut(..length)?.copy_from_slice(run);
         rest = behind;
     }
-    Some(image)
+    rest.is_empty().then_some(image)
 }
 
 fn number(bytes: &[u8]) -> Option<(usize, &[u8])> {
@@ -73,12 +78,20 @@ mod tests {
     }
 
     #[test]
+    fn runs_are_laid_over_another_image() {
+        let run = |length: u32| [&length.to_le_bytes()[..], &1u32.to_le_bytes(), &1u32.to_le_bytes(), &1u32.to_le_bytes(), &[9]].concat();
+        assert_eq!(expand_over(&run(3), vec![1, 2, 3, 4]).unwrap(), [1, 9, 3]);
+        assert_eq!(expand_over(&run(6), vec![1, 2, 3, 4]).unwrap(), [1, 9, 3, 4, 0, 0]);
+    }
+
+    #[test]
     fn what_is_not_packed_so_is_refused() {
         let packed = pack(&[7; 100]);
         (0..packed.len()).for_each(|n| assert_eq!(expand(&packed[..n]), None));
         let run =
             |offset: u32| [&100u32.to_le_bytes()[..], &1u32.to_le_bytes(), &offset.to_le_bytes(), &2u32.to_le_bytes(), &[1, 1]].concat();
         assert_eq!(expand(&run(98)).unwrap()[98..], [1, 1]);
+        assert_eq!(expand(&[&run(98)[..], &[0]].concat()), None);
         assert_eq!(expand(&run(99)), None);
         assert_eq!(expand(&run(u32::MAX)), None);
     }

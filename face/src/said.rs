@@ -1,0 +1,122 @@
+//! What a call said, and its line in the output of the program `asker`.
+
+use crate::asked::{Call, NO_VOLUME, Query, recorded};
+use crate::vault::Volume;
+
+/// What lent memory comes full of.
+pub const CAME: u8 = 0xa5;
+
+/// What a call said, and how it left the memory that it was lent. A call has zeros, or nothing, in what it doesn't give.
+#[derive(Debug, Clone, PartialEq, Eq)]
+pub struct Said {
+    /// The answer number; of the probe 1 for yes.
+    pub answer: u64,
+    /// How many sectors were asked for.
+    pub count: u64,
+    /// How many bytes or slots the answer has.
+    pub length: u64,
+    /// Where the component stands in the path, or the part in the image.
+    pub at: u64,
+    /// What opening gave.
+    pub volume: Volume,
+    /// What the lookup found, as recorded.
+    pub icb: [u8; 16],
+    /// The written front of the output, the component, or the part.
+    pub bytes: Vec<u8>,
+    /// The numbers of each written slot.
+    pub slots: Vec<Vec<u64>>,
+    /// Both rows of a list, whole.
+    pub lengths: Vec<u64>,
+    /// The same of the answers.
+    pub answers: Vec<u64>,
+    /// What stands behind the front is as it came.
+    pub is_kept: bool,
+    /// The work space came back all zero.
+    pub is_zero: bool,
+}
+
+impl Said {
+    /// An answer without a value, that left the memory as it must.
+    pub fn of(answer: u64, count: u64) -> Said {
+        let (icb, bytes, slots, lengths, answers) = ([0; 16], Vec::new(), Vec::new(), Vec::new(), Vec::new());
+        Said { answer, count, length: 0, at: 0, volume: NO_VOLUME, icb, bytes, slots, lengths, answers, is_kept: true, is_zero: true }
+    }
+
+    /// The same with bytes.
+    pub fn with(self, bytes: Vec<u8>) -> Said {
+        Said { length: bytes.len() as u64, bytes, ..self }
+    }
+
+    /// The same with slots.
+    pub fn with_slots(self, slots: Vec<Vec<u64>>) -> Said {
+        Said { length: slots.len() as u64, slots, ..self }
+    }
+
+    /// The same with what each path of a list has in the two rows that a query lends. The places behind are as they came.
+    pub fn with_rows(self, items: &[(u64, u64)], query: &Query) -> Said {
+        let row = |of: fn(&(u64, u64)) -> u64, places: u32, came: u64| {
+            items.iter().map(of).chain(std::iter::repeat(came)).take(places as usize).collect()
+        };
+        let lengths = row(|item| item.0, query.slots, u64::from_le_bytes([CAME; 8]));
+        let answers = row(|item| item.1, query.answers, u32::from_le_bytes([CAME; 4]).into());
+        Said { lengths, answers, ..self }
+    }
+
+    /// The line of a call that said it.
+    pub fn line(&self, call: Call) -> String {
+        let head = format!("{} {} count {}", call.name(), self.answer, self.count);
+        let length = format!("{head} length {}", self.length);
+        let sum = format!("{length} sum {}", sum(&self.bytes));
+        let (kept, zero) = (if self.is_kept { "kept" } else { "changed" }, if self.is_zero { "zero" } else { "dirty" });
+        match call {
+            Call::Probe => format!("probe {}", if self.answer == 1 { "yes" } else { "no" }),
+            Call::Open => head + &volume(&self.volume),
+            Call::Label => format!("{sum} {kept} text {}", text(&self.bytes)),
+            Call::Lookup => format!("{head} icb {} {zero}", text(&self.icb)),
+            Call::Failed => format!("{length} component {} {zero}", text(&self.bytes)),
+            Call::List | Call::ReadPath | Call::Show => format!("{sum} {kept} {zero}"),
+            Call::Read => format!("{sum} {kept}"),
+            Call::Part => sum,
+            Call::Extents | Call::Runs => {
+                let slots: String = self.slots.iter().map(|slot| format!(" ({})", row(slot.iter().copied()).trim_start())).collect();
+                format!("{length}{slots} {kept}")
+            }
+            Call::ReadAll => {
+                let (lengths, answers) = (row(self.lengths.iter().copied()), row(self.answers.iter().copied()));
+                format!("{sum} {kept} lengths{lengths} answers{answers} {zero}")
+            }
+            Call::Measure => length,
+            Call::FailedAt => format!("{length} at {} {zero}", self.at),
+            Call::PartAt => format!("{length} at {}", self.at),
+        }
+    }
+}
+
+/// A sum that tells where each byte stands.
+fn sum(bytes: &[u8]) -> u64 {
+    bytes.iter().fold(0, |sum, byte| (sum * 31 + u64::from(*byte)) % (1 << 32))
+}
+
+/// Printable bytes as they are, and every other as \ and two digits.
+fn text(bytes: &[u8]) -> String {
+    let byte = |b: &u8| if (0x20..0x7f).contains(b) && *b != b'\\' { (*b as char).to_string() } else { format!("\\{b:02x}") };
+    bytes.iter().map(byte).collect()
+}
+
+/// Numbers, each behind a space.
+fn row(numbers: impl IntoIterator<Item = impl Into<u64>>) -> String {
+    numbers.into_iter().map(|n| format!(" {}", n.into())).collect()
+}
+
+fn volume(Volume { mount, root, label }: &Volume) -> String {
+    let says = format!(" start {} partition {} checked {} maps {}", mount.start, mount.partition, mount.checked, mount.maps);
+    let rows = format!(" volumes{} numbers{} starts{}", row(mount.volumes), row(mount.numbers), row(mount.starts));
+    format!("{says}{rows} root {} label {}", text(&recorded(root)), text(label))
+}
+
+/// The line in front of those of a query's calls.
+pub fn asking(q: &Query) -> String {
+    let choices = format!("volume {} there {} matching {} levels {}", q.volume, q.there, q.matching, q.levels);
+    let lent = format!("room {} work {} slots {} answers {}", q.room, q.work, q.slots, q.answers);
+    format!("query {choices} {lent} icb {} text {}", text(&q.icb), text(&q.text))
+}
