@@ -1,6 +1,7 @@
 //! The calls of include/vault.h: what is asked, and what was answered.
 
-use strandlodge_sys::vault::{AS_WRITTEN, CASE_IGNORED, CHECKED, FIGURES, MAPS};
+use strandlodge_sys::asked::{long_ad, recorded};
+use strandlodge_sys::vault::{self as face, AS_WRITTEN, CASE_IGNORED, CHECKED, FIGURES, MAPS};
 
 #[derive(Clone, Copy, PartialEq, Eq, Debug, PartialOrd, Ord)]
 #[repr(u8)]
@@ -109,24 +110,26 @@ impl Icb {
 
     /// From its recorded form.
     pub fn of(b: [u8; 16]) -> Icb {
-        let raw = u32::from_le_bytes([b[0], b[1], b[2], b[3]]);
-        Icb {
-            length: raw & 0x3fff_ffff,
-            extent_type: (raw >> 30) as u8,
-            block: u32::from_le_bytes([b[4], b[5], b[6], b[7]]),
-            partition: u16::from_le_bytes([b[8], b[9]]),
-            implementation_use: [b[10], b[11], b[12], b[13], b[14], b[15]],
-        }
+        long_ad(&b).into()
     }
 
     pub fn recorded(&self) -> [u8; 16] {
-        let mut b = [0; 16];
-        let raw = self.length & 0x3fff_ffff | (self.extent_type as u32) << 30;
-        b[0..4].copy_from_slice(&raw.to_le_bytes());
-        b[4..8].copy_from_slice(&self.block.to_le_bytes());
-        b[8..10].copy_from_slice(&self.partition.to_le_bytes());
-        b[10..16].copy_from_slice(&self.implementation_use);
-        b
+        recorded(&(*self).into())
+    }
+}
+
+impl From<face::LongAd> for Icb {
+    fn from(l: face::LongAd) -> Icb {
+        let face::LongAd { length, extent_type, location, implementation_use } = l;
+        Icb { length, extent_type, block: location.block, partition: location.partition_ref, implementation_use }
+    }
+}
+
+/// As it is lent.
+impl From<Icb> for face::LongAd {
+    fn from(i: Icb) -> face::LongAd {
+        let Icb { length, extent_type, block, partition, implementation_use } = i;
+        face::LongAd { length, extent_type, location: face::LbAddr { block, partition_ref: partition }, implementation_use }
     }
 }
 
@@ -143,6 +146,22 @@ pub struct Volume {
     pub starts: [u32; 4],
     pub root: Icb,
     pub label: [u8; 32],
+}
+
+impl From<face::Volume> for Volume {
+    fn from(v: face::Volume) -> Volume {
+        let face::Volume { mount, root, label } = v;
+        let face::Mount { start, partition, checked, maps, volumes, numbers, starts } = mount;
+        Volume { start, partition, checked, maps, volumes, numbers, starts, root: root.into(), label }
+    }
+}
+
+/// As it is lent.
+impl From<Volume> for face::Volume {
+    fn from(v: Volume) -> face::Volume {
+        let Volume { start, partition, checked, maps, volumes, numbers, starts, root, label } = v;
+        face::Volume { mount: face::Mount { start, partition, checked, maps, volumes, numbers, starts }, root: root.into(), label }
+    }
 }
 
 /// The choices of matching.

@@ -1,39 +1,7 @@
 //! The archive linked in: the calls of include/vault.h.
 
-use crate::calls::{Call, Icb, PLACE, Query, Values, Volume};
-use strandlodge_sys::vault as face;
+use crate::calls::{Call, PLACE, Query, Values};
 use strandlodge_sys::vault::*;
-
-pub fn lent(i: Icb) -> LongAd {
-    LongAd {
-        length: i.length,
-        extent_type: i.extent_type,
-        location: LbAddr { block: i.block, partition_ref: i.partition },
-        implementation_use: i.implementation_use,
-    }
-}
-
-pub fn given(l: LongAd) -> Icb {
-    Icb {
-        length: l.length,
-        extent_type: l.extent_type,
-        block: l.location.block,
-        partition: l.location.partition_ref,
-        implementation_use: l.implementation_use,
-    }
-}
-
-/// A volume as it is lent.
-pub fn volume(v: Volume) -> face::Volume {
-    let Volume { start, partition, checked, maps, volumes, numbers, starts, root, label } = v;
-    face::Volume { mount: Mount { start, partition, checked, maps, volumes, numbers, starts }, root: lent(root), label }
-}
-
-/// A volume as it is given.
-pub fn opened(v: face::Volume) -> Volume {
-    let face::Volume { mount: Mount { start, partition, checked, maps, volumes, numbers, starts }, root, label } = v;
-    Volume { start, partition, checked, maps, volumes, numbers, starts, root: given(root), label }
-}
 
 /// What is lent for a call; the query says how long the path, the output, the rows and the work space are. The row of an extent list is the
 /// output, aligned to four bytes, and that of figures, aligned to eight. A survey finds the lengths of its images in the row of lengths.
@@ -61,23 +29,23 @@ fn surveyed(answer: u64, images: usize) -> Reply {
 ///
 /// The header's word: lent pieces are as long as said, and don't overlap.
 pub unsafe fn make(q: &Query, lends: Lends) -> Values {
-    let v = volume(q.volume);
+    let v = q.volume.into();
     let Lends { image: d, image_length: n, path: p, out, work, lengths, answers, place } = lends;
     let [l, a] = q.places;
-    let (icb, m, matching, mut values) = (lent(q.icb), q.path.len(), q.matching, Values::default());
+    let (icb, m, matching, mut values) = (q.icb.into(), q.path.len(), q.matching, Values::default());
     // SAFETY: the caller's word; and a place is a number that was lent.
     let reply = unsafe {
         match q.call {
             Call::Probe => Reply { answer: vault_probe(d, n) as u64, count: 0, length: 0 },
             Call::Open => {
                 let o = vault_open(d, n, q.how);
-                values.volume = opened(o.volume);
+                values.volume = o.volume.into();
                 Reply { answer: o.answer, count: o.count, length: 0 }
             }
             Call::Label => vault_label(d, n, q.how, out, q.room),
             Call::Lookup => {
                 let f = vault_lookup(v, d, n, p, m, matching, work, q.work);
-                values.icb = given(f.icb);
+                values.icb = f.icb.into();
                 Reply { answer: f.answer, count: f.count, length: 0 }
             }
             Call::Failed => vault_failed(v, d, n, p, m, matching, work, q.work, place),

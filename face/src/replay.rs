@@ -112,7 +112,7 @@ impl<A: FnMut(&Asked) -> Option<Said>> Replay<'_, A> {
         self.counts.images += 1;
         let mut opened = [None; BY_HAND as usize];
         for query in &image.queries {
-            self.stored.expect(&asking(query))?;
+            self.stored.expect(&asking(query, image.bytes.len()))?;
             self.counts.queries += 1;
             let volume = match query.volume.checked_sub(BY_HAND) {
                 Some(place) => image.by_hand[place as usize],
@@ -185,32 +185,24 @@ mod tests {
     use super::*;
     use crate::asked::put;
 
-    /// An image of two sectors that is measured whole and watched, and read by a volume that is opened.
+    /// An image of two sectors that is probed and measured, and measured once more while it is watched.
     fn file() -> Vec<u8> {
-        let query = Query { there: 4096, ..Query::default() };
-        let watched = Query { calls: Call::Measure.bit(), there: WATCHED, ..query.clone() };
-        let queries = vec![Query { calls: Call::Probe.bit() | Call::Measure.bit(), ..query }, watched];
+        let whole = Query { calls: Call::Probe.bit() | Call::Measure.bit(), there: 4096, text: b"a".to_vec(), ..Query::default() };
+        let watched = Query { calls: Call::Measure.bit(), there: WATCHED, ..Query::default() };
         let mut file = Vec::new();
-        put(&mut file, &Image { name: "two".into(), bytes: vec![1; 4096], by_hand: Vec::new(), queries });
+        put(&mut file, &Image { name: "two".into(), bytes: vec![1; 4096], by_hand: Vec::new(), queries: vec![whole, watched] });
         file
     }
 
-    const ASKED: &str = "matching 0 levels 0 room 0 work 0 slots 0 answers 0 icb";
-
-    fn stored() -> String {
-        let zeros = r"\00".repeat(16);
-        let lines = [
-            "image two".to_string(),
-            format!("query volume 0 there 4096 {ASKED} {zeros} text "),
-            "probe yes".to_string(),
-            "measure 0 count 2 length 2".to_string(),
-            format!("query volume 0 there 4294967295 {ASKED} {zeros} text "),
-            "at 2047 measure 0 count 0 length 0".to_string(),
-            "at 2048 measure 0 count 1 length 1".to_string(),
-            "at 4096 measure 0 count 2 length 2".to_string(),
-        ];
-        lines.map(|line| line + "\n").concat()
-    }
+    const STORED: &str = "image two
+query text a
+probe yes
+measure 0 count 2 length 2
+query there 4294967295
+at 2047 measure 0 count 0 length 0
+at 2048 measure 0 count 1 length 1
+at 4096 measure 0 count 2 length 2
+";
 
     /// It measures sectors, and has no probe.
     fn asker(asked: &Asked) -> Option<Said> {
@@ -220,26 +212,26 @@ mod tests {
 
     #[test]
     fn lines_are_compared_or_passed_over() {
-        let counts = replay(&file(), &stored(), asker).unwrap();
+        let counts = replay(&file(), STORED, asker).unwrap();
         assert_eq!((counts.images, counts.queries, counts.of(Call::Measure), counts.of(Call::Probe)), (1, 2, 4, 0));
         assert_eq!(counts.passed, BTreeMap::from([(Call::Probe, 1)]));
     }
 
     #[test]
     fn a_difference_is_told() {
-        for line in stored().lines() {
-            let wrong = |other: &str| replay(&file(), &stored().replacen(&format!("{line}\n"), other, 1), asker).unwrap_err();
+        for line in STORED.lines() {
+            let wrong = |other: &str| replay(&file(), &STORED.replacen(&format!("{line}\n"), other, 1), asker).unwrap_err();
             wrong("");
             wrong(&format!("{line}\n{line}\n"));
             if line != "probe yes" {
                 wrong(&format!("{line} \n"));
             }
         }
-        assert!(replay(&file(), &(stored() + "image three\n"), asker).is_err());
-        assert!(replay(&file()[..100], &stored(), asker).unwrap_err().starts_with("byte "));
-        assert!(replay(&[], &stored(), asker).is_err());
+        assert!(replay(&file(), &(STORED.to_string() + "image three\n"), asker).is_err());
+        assert!(replay(&file()[..100], STORED, asker).unwrap_err().starts_with("byte "));
+        assert!(replay(&[], STORED, asker).is_err());
         let late = |asked: &Asked| asker(asked).map(|said| Said { count: asked.image.len() as u64 / 2047, ..said });
-        assert!(replay(&file(), &stored(), late).is_err());
+        assert!(replay(&file(), STORED, late).is_err());
     }
 
     #[test]

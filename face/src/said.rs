@@ -114,9 +114,14 @@ fn volume(Volume { mount, root, label }: &Volume) -> String {
     format!("{says}{rows} root {} label {}", text(&recorded(root)), text(label))
 }
 
-/// The line in front of those of a query's calls.
-pub fn asking(q: &Query) -> String {
-    let choices = format!("volume {} there {} matching {} levels {}", q.volume, q.there, q.matching, q.levels);
-    let lent = format!("room {} work {} slots {} answers {}", q.room, q.work, q.slots, q.answers);
-    format!("query {choices} {lent} icb {} text {}", text(&q.icb), text(&q.text))
+/// The line in front of those of a query's calls, on an image of so many bytes: what is asked, without what is 0 or empty, and without how much is there
+/// where that is all.
+pub fn asking(q: &Query, length: usize) -> String {
+    let there = if q.there as usize == length { String::new() } else { format!(" there {}", q.there) };
+    let set = |word: &str, number: u32| if number == 0 { String::new() } else { format!(" {word} {number}") };
+    let held =
+        |word: &str, bytes: &[u8]| if bytes.iter().all(|byte| *byte == 0) { String::new() } else { format!(" {word} {}", text(bytes)) };
+    let choices = [set("volume", q.volume), there, set("matching", q.matching), set("levels", q.levels)].concat();
+    let lent = [set("room", q.room), set("work", q.work), set("slots", q.slots), set("answers", q.answers)].concat();
+    format!("query{choices}{lent}{}{}", held("icb", &q.icb), held("text", &q.text))
 }

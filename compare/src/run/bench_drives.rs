@@ -2,7 +2,6 @@
 
 use super::bench::{MIB, ROUNDS, Row, entries, extents, original, spread};
 use super::calls::Call;
-use super::linked;
 use super::original::long;
 use crate::udf::{UdfDisc, within};
 use std::fs::File;
@@ -42,7 +41,7 @@ fn steps(r: &Row, row: &mut [Extent], out: &mut [u8]) -> u64 {
     let (image, q) = (&r.disc.image, &r.query);
     // SAFETY: what is lent is as long as said, and apart from each other; where nothing is lent there is nothing to be seen to.
     unsafe {
-        let mut state = vault_reading_start(linked::volume(q.volume), linked::lent(q.icb), row.as_mut_ptr(), row.len());
+        let mut state = vault_reading_start(q.volume.into(), q.icb.into(), row.as_mut_ptr(), row.len());
         while vault_reading_is_wanting(state) {
             let at = vault_reading_wants(state) as usize * 2048;
             let sector = image.get(at..at + 2048).unwrap_or_default();
@@ -57,8 +56,7 @@ fn steps(r: &Row, row: &mut [Extent], out: &mut [u8]) -> u64 {
 fn call(r: &Row, out: &mut [u8]) -> u64 {
     let (image, q) = (&r.disc.image, &r.query);
     // SAFETY: as above.
-    let reply =
-        unsafe { vault_read(linked::volume(q.volume), image.as_ptr(), image.len(), linked::lent(q.icb), out.as_mut_ptr(), out.len()) };
+    let reply = unsafe { vault_read(q.volume.into(), image.as_ptr(), image.len(), q.icb.into(), out.as_mut_ptr(), out.len()) };
     assert_eq!((reply.answer, reply.length), (DONE, out.len() as u64), "{}", r.name);
     reply.count
 }

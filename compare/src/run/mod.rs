@@ -126,9 +126,7 @@ pub fn main() {
     }
     if let Some(folder) = o.stored {
         return match stored::held(Path::new(&folder)).expect("the files are there, and whole") {
-            Ok(queries) => {
-                println!("compare: {queries} queries stored in {folder}, each answered as by what the original reads")
-            }
+            Ok(what) => println!("compare: {folder}: {what}"),
             Err(what) => {
                 eprintln!("compare: {folder}: {what}");
                 exit(1);

@@ -2,7 +2,6 @@
 
 use super::calls::{Call, Values};
 use super::lending::{GUARD, Lending};
-use super::linked;
 use super::steps::{StepAsk, StepGiven};
 use strandlodge_sys::vault::*;
 
@@ -32,7 +31,7 @@ fn opening(image: &[u8], ask: &StepAsk) -> StepGiven {
     }
     let behind = [&image[..2048.min(image.len())], &[]].map(|bytes| step(state, bytes));
     let Opened { answer, count, volume } = state.opened;
-    all.values = Values { answer, count, volume: linked::opened(volume), ..Values::default() };
+    all.values = Values { answer, count, volume: volume.into(), ..Values::default() };
     all.held = 15 | u8::from(behind == [state, state]) << 4;
     all
 }
@@ -44,7 +43,7 @@ fn reading(image: &[u8], ask: &StepAsk) -> StepGiven {
     // SAFETY: what is lent is as long as said, and apart from each other.
     let step = |state, sector: &[u8]| unsafe { vault_reading_step(state, sector.as_ptr(), sector.len(), places, ask.slots, to, q.room) };
     // SAFETY: as above.
-    let mut state = unsafe { vault_reading_start(linked::volume(q.volume), linked::lent(q.icb), places, ask.slots) };
+    let mut state = unsafe { vault_reading_start(q.volume.into(), q.icb.into(), places, ask.slots) };
     // SAFETY: nothing is lent.
     while unsafe { vault_reading_is_wanting(state) } && all.wanted.len() < ask.most {
         // SAFETY: nothing is lent.

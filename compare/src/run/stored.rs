@@ -1,171 +1,130 @@
-//! The stored outputs of the programs `matching_cases`, `checked_cases`, `tree_cases` and `survey_cases`, which models in another language compute, held
-//! to the walk over the original's listings and reads, and to the original with the body check behind its parser of tags. The source of each
-//! program says what stands in its files.
+//! The stored outputs of the programs `asker` and `survey_cases`, which models in another language compute, held to the original: to its own calls, to the walk
+//! over its listings and reads where a call or a choice isn't its own, and to the original with the body check behind its parser of tags.
 
-use super::calls::{Call, Icb, PLACE, Query, Values, Volume};
+use super::calls::{Call, Icb, PLACE, PLENTY, Query, Values, Volume};
 use super::expect::expected;
-use super::original;
+use super::original::Original;
 use super::{sparse, wire};
 use std::fs;
 use std::io::Result;
 use std::path::Path;
-use strandlodge_sys::vault::CHECKED;
+use strandlodge_sys::asked::{self, FILES};
+use strandlodge_sys::replay::{Asked, Counts, replay, sections};
+use strandlodge_sys::said::Said;
+use strandlodge_sys::vault::NO_SLOT;
 
-/// Printable bytes as they are, and every other as \ and two digits.
-fn shown(bytes: &[u8]) -> String {
-    let byte = |b: &u8| if (0x20..0x7f).contains(b) && *b != b'\\' { (*b as char).to_string() } else { format!("\\{b:02x}") };
-    bytes.iter().map(byte).collect()
+// ---- asker
+
+/// A stored query as a call is asked here.
+fn query(asked: &Asked, call: Call) -> Query {
+    let q = asked.query;
+    Query {
+        icb: Icb::of(q.icb),
+        path: q.text.clone(),
+        matching: q.matching,
+        room: if call == Call::Extents { q.slots } else { q.room } as usize,
+        work: q.work as usize,
+        places: [q.slots as usize, q.answers as usize],
+        how: q.volume,
+        levels: q.levels,
+        ..Query::of(call, asked.volume.into())
+    }
 }
 
-/// The sum of the lent output: the answer, and A5 behind it.
-fn sum(v: &Values, room: usize) -> u64 {
-    let behind = std::iter::repeat_n(&0xa5, room - v.written.len());
-    v.written.iter().chain(behind).fold(0, |s, b| (s * 31 + *b as u64) % (1 << 32))
+/// What the original says; nothing of a show that has more paths than are walked.
+fn said(asked: &Asked) -> Option<Said> {
+    let call = match asked.call {
+        asked::Call::Runs => return Some(runs(asked)),
+        asked::Call::FailedAt => Call::Failed,
+        asked::Call::PartAt => Call::Part,
+        call => Call::ALL[call as usize],
+    };
+    let e = expected(asked.image, &query(asked, call));
+    let Values { answer, count, length, place, volume, icb, written, rows } = e.values;
+    let part = |whole: &[u8]| whole[place as usize..][..length as usize].to_vec();
+    let bytes = match call {
+        Call::Failed => part(&asked.query.text),
+        Call::Part => part(asked.image),
+        _ => written,
+    };
+    let number = |b: &[u8]| u64::from(u32::from_le_bytes(b.try_into().unwrap()));
+    let slots =
+        if call == Call::Extents { bytes.chunks(16).map(|slot| slot.chunks(4).map(number).collect()).collect() } else { Vec::new() };
+    let items: Vec<(u64, u64)> = rows.into_iter().map(|(length, answer)| (length, answer.into())).collect();
+    let said = Said { length, at: place, volume: volume.into(), icb: icb.recorded(), bytes, slots, ..Said::of(answer, count) };
+    (!e.beyond).then(|| said.with_rows(&items, asked.query))
 }
 
-/// What is printed of a query: what is asked, the lookup, the component that failed and its place, the read by path.
-fn lines(image: &[u8], volume: Volume, q: &Query) -> Vec<String> {
-    let answer = |call| expected(image, &Query { call, volume, ..q.clone() }).values;
-    let head = |word: &str, v: &Values| format!("{word} {} count {}", v.answer, v.count);
-    let (found, failed, read) = (answer(Call::Lookup), answer(Call::Failed), answer(Call::ReadPath));
-    let icb = if found.answer == 0 { found.icb.recorded() } else { [0; 16] };
-    let component = &q.path[failed.place as usize..][..failed.length as usize];
-    vec![
-        format!("matching {} path {} room {} work {}", q.matching, shown(&q.path), q.room, q.work),
-        format!("{} icb {} zero", head("lookup", &found), shown(&icb)),
-        format!("{} component {} zero", head("failed", &failed), shown(component)),
-        format!("{} length {} at {} zero", head("failed_at", &failed), failed.length, failed.place),
-        format!("{} length {} sum {} zero", head("read_path", &read), read.length, sum(&read, q.room)),
-    ]
+/// Where an embedded file stands, or each extent of another, by the original's entry.
+fn stands(image: &[u8], v: Volume, icb: Icb) -> Vec<(u64, u64)> {
+    let came = Original::new(image, v).entry(icb);
+    let entry = came.value.expect("a file that is read has an entry");
+    if let Some((at, length)) = Original::embedded(&entry) {
+        return vec![(came.asked[0] * 2048 + at as u64, length as u64)];
+    }
+    let mapped = |reference: u16| v.starts.get(usize::from(reference)).copied().unwrap_or_default();
+    let start = |reference: Option<u16>| if v.maps == 0 { v.start } else { mapped(reference.unwrap_or(icb.partition)) };
+    let extents = Original::extents(&entry);
+    extents.iter().map(|x| ((u64::from(start(x.partition_ref)) + u64::from(x.block)) * 2048, x.length.into())).collect()
 }
+
+/// The runs of a file, which the original has no call for: its extents, as far as it reads them. Joined they must be what it reads.
+fn runs(asked: &Asked) -> Said {
+    let q = Query { room: PLENTY, ..query(asked, Call::Read) };
+    let read = expected(asked.image, &q).values;
+    if read.answer != 0 {
+        return Said::of(read.answer, read.count);
+    }
+    let (mut runs, mut left) = (Vec::new(), read.length);
+    for (at, length) in stands(asked.image, q.volume, q.icb) {
+        let length = length.min(left);
+        left -= length;
+        if length > 0 {
+            runs.push(vec![at, length]);
+        }
+    }
+    let joined: Vec<&[u8]> = runs.iter().map(|run| &asked.image[run[0] as usize..][..run[1] as usize]).collect();
+    assert!(joined.concat() == read.written, "the original's extents aren't what it reads");
+    if runs.len() > asked.query.slots as usize {
+        return Said::of(NO_SLOT, read.count);
+    }
+    Said::of(0, read.count).with_slots(runs)
+}
+
+/// The lines of each call that were compared, and passed over.
+fn table(counts: &Counts) -> String {
+    let passed = |call| counts.passed.get(&call).copied().unwrap_or_default();
+    asked::Call::ALL
+        .iter()
+        .map(|call| format!("\n{:10}{:>7} lines, {} passed over", call.name(), counts.of(*call), passed(*call)))
+        .collect()
+}
+
+/// Every file of `asker`. A call of which no line is compared is a fault.
+fn of_asker(folder: &Path, stored: &str) -> Result<std::result::Result<String, String>> {
+    let (sections, mut all) = (sections(stored), Counts::default());
+    if !sections.iter().map(|(name, _)| name).eq(&FILES) {
+        return Ok(Err(format!("not the files {FILES:?}")));
+    }
+    for (name, lines) in sections {
+        match replay(&fs::read(folder.join("data").join(name))?, lines, said) {
+            Ok(counts) => all.add(&counts),
+            Err(what) => return Ok(Err(format!("{name}: {what}"))),
+        }
+    }
+    let unasked: Vec<&str> = asked::Call::ALL.into_iter().filter(|call| all.of(*call) == 0).map(asked::Call::name).collect();
+    Ok(match unasked.is_empty() {
+        true => Ok(format!("{} images, {} queries, answered as by what the original reads{}", all.images, all.queries, table(&all))),
+        false => Err(format!("no line is compared of {}", unasked.join(", "))),
+    })
+}
+
+// ---- survey_cases
 
 /// The next bytes behind their length, which has so many bytes.
 fn sized(from: &mut &[u8], bytes: usize) -> Result<Vec<u8>> {
     let n = wire::number(from, bytes)? as usize;
     wire::bytes(from, n)
-}
-
-fn query(from: &mut &[u8]) -> Result<Query> {
-    let matching = wire::number(from, 4)? as u32;
-    let (room, work) = (wire::number(from, 4)? as usize, wire::number(from, 4)? as usize);
-    Ok(Query { path: sized(from, 2)?, ..Query::of(Call::Lookup, Volume::default()).matched(matching).with(room, work) })
-}
-
-/// The next query of `tree_cases`: what is asked, and the show.
-fn tree(image: &[u8], opened: Volume, from: &mut &[u8]) -> Result<Vec<String>> {
-    let [levels, room, work, checked] = [0; 4].map(|_| wire::number(from, 4));
-    let (levels, room, work, checked) = (levels? as u32, room? as usize, work? as usize, checked? as u32);
-    let v = expected(image, &Query::showing(Volume { checked, ..opened }, levels).with(room, work)).values;
-    Ok(vec![
-        format!("levels {levels} room {room} work {work} checked {checked}"),
-        format!("show {} count {} length {} sum {} zero", v.answer, v.count, v.length, sum(&v, room)),
-    ])
-}
-
-fn matching(image: &[u8], opened: Volume, from: &mut &[u8]) -> Result<Vec<String>> {
-    Ok(lines(image, opened, &query(from)?))
-}
-
-/// What is printed of the query at the front, on the volume of an image.
-type Printed = fn(&[u8], Volume, &mut &[u8]) -> Result<Vec<String>>;
-
-/// The lines of `matching_cases` or of `tree_cases`, and how many queries they are of.
-fn of_volumes(mut from: &[u8], printed: Printed) -> Result<(Vec<String>, usize)> {
-    let (mut wanted, mut queries) = (Vec::new(), 0);
-    while !from.is_empty() {
-        wanted.push(format!("image {}", String::from_utf8_lossy(&sized(&mut from, 2)?)));
-        let image = sparse::expand(&sized(&mut from, 4)?).expect("a packed image");
-        let opened = original::open(&image);
-        wanted.push(format!("open {} count {}", opened.value.as_ref().err().unwrap_or(&0), opened.asked.len()));
-        let volume = opened.value.map_or(Volume::default(), |(volume, _)| volume);
-        let all = sized(&mut from, 4)?;
-        let mut all = &all[..];
-        while !all.is_empty() {
-            wanted.extend(printed(&image, volume, &mut all)?);
-            queries += 1;
-        }
-    }
-    Ok((wanted, queries))
-}
-
-/// What `checked_cases` prints of opening and the label by a choice.
-fn opening(image: &[u8], how: u32) -> [String; 2] {
-    let answer = |call| expected(image, &Query { how, ..Query::of(call, Volume::default()).with(32, 0) }).values;
-    let (opened, label) = (answer(Call::Open), answer(Call::Label));
-    let Volume { start, partition, checked, root, .. } = opened.volume;
-    let says = format!("start {start} partition {partition} checked {checked} root {}", shown(&root.recorded()));
-    [
-        format!("open {} count {} {says}", opened.answer, opened.count),
-        format!("label {} count {} length {}", label.answer, label.count, label.length),
-    ]
-}
-
-/// What it prints of a query: what is asked, each call along the path, and each on the ICB.
-fn checked(image: &[u8], q: &Query) -> Vec<String> {
-    let answer = |call| expected(image, &Query { call, ..q.clone() }).values;
-    let head = |word: &str, v: &Values| format!("{word} {} count {}", v.answer, v.count);
-    let written = |word: &str, call| {
-        let v = answer(call);
-        format!("{} length {} sum {}", head(word, &v), v.length, sum(&v, q.room))
-    };
-    let (found, failed, part) = (answer(Call::Lookup), answer(Call::Failed), answer(Call::Part));
-    let extents = expected(image, &Query { call: Call::Extents, room: 8, ..q.clone() }).values;
-    let number = |b: &[u8]| u32::from_le_bytes(b.try_into().unwrap()).to_string();
-    let slot = |s: &[u8]| format!(" ({})", s.chunks(4).map(number).collect::<Vec<_>>().join(" "));
-    let component = &q.path[failed.place as usize..][..failed.length as usize];
-    vec![
-        format!("checked {} path {} block {} room {} work {}", q.volume.checked, shown(&q.path), q.icb.block, q.room, q.work),
-        format!("{} icb {} zero", head("lookup", &found), shown(&found.icb.recorded())),
-        format!("{} component {} zero", head("failed", &failed), shown(component)),
-        written("read_path", Call::ReadPath) + " zero",
-        written("list", Call::List) + " zero",
-        written("read", Call::Read),
-        format!("{} length {} at {}", head("part", &part), part.length, part.place),
-        format!("{} length {}{}", head("extents", &extents), extents.length, extents.written.chunks(16).map(slot).collect::<String>()),
-    ]
-}
-
-/// The good disc with some bytes put over it.
-fn patched(good: &[u8], mut patches: &[u8]) -> Result<Vec<u8>> {
-    let mut image = good.to_vec();
-    while !patches.is_empty() {
-        let at = wire::number(&mut patches, 4)? as usize;
-        let bytes = sized(&mut patches, 2)?;
-        image[at..at + bytes.len()].copy_from_slice(&bytes);
-    }
-    Ok(image)
-}
-
-/// The queries of `checked_cases`, on no volume yet but for the number that says whether it is checked.
-fn checked_queries(mut from: &[u8]) -> Result<Vec<Query>> {
-    let mut all = Vec::new();
-    while !from.is_empty() {
-        let [says, room, work, block] = [0; 4].map(|_| wire::number(&mut from, 4));
-        let volume = Volume { checked: says? as u32, ..Volume::default() };
-        let icb = Icb::at(block? as u32, 0);
-        all.push(Query { icb, path: sized(&mut from, 2)?, ..Query::of(Call::Lookup, volume).with(room? as usize, work? as usize) });
-    }
-    Ok(all)
-}
-
-/// The lines of `checked_cases`, and how many queries they are of.
-fn of_checked(mut from: &[u8]) -> Result<(Vec<String>, usize)> {
-    let good = sparse::expand(&sized(&mut from, 4)?).expect("a packed image");
-    let queries = checked_queries(&sized(&mut from, 4)?)?;
-    let (mut wanted, mut asked) = (Vec::new(), 0);
-    while !from.is_empty() {
-        wanted.push(format!("case {}", String::from_utf8_lossy(&sized(&mut from, 2)?)));
-        let bits = wire::number(&mut from, 2)?;
-        let image = patched(&good, &sized(&mut from, 2)?)?;
-        wanted.extend([0, CHECKED].into_iter().flat_map(|how| opening(&image, how)));
-        let opened = original::open(&image).value.map_or(Volume::default(), |(volume, _)| volume);
-        for (_, q) in queries.iter().enumerate().filter(|(i, _)| bits >> i & 1 == 1) {
-            let volume = Volume { checked: q.volume.checked, ..opened };
-            wanted.extend(checked(&image, &Query { volume, ..q.clone() }));
-            asked += 1;
-        }
-    }
-    Ok((wanted, asked))
 }
 
 /// The places of a row of figures, each with its figures that aren't 0, and their marks.
@@ -219,22 +178,23 @@ fn of_shelves(mut from: &[u8]) -> Result<(Vec<String>, usize)> {
     Ok((wanted, queries))
 }
 
-/// Holds the output stored in a program's folder. Says how many queries it has, or what its first wrong line is.
-pub fn held(folder: &Path) -> Result<std::result::Result<usize, String>> {
-    let stored = fs::read_to_string(folder.join("stdout"))?;
-    let program = folder.file_name().and_then(|name| name.to_str());
-    let images = fs::read(folder.join(if program == Some("survey_cases") { "data/shelves" } else { "data/images" }))?;
-    let (wanted, queries) = match program {
-        Some("survey_cases") => of_shelves(&images)?,
-        Some("checked_cases") => of_checked(&images)?,
-        Some("tree_cases") => of_volumes(&images, tree)?,
-        _ => of_volumes(&images, matching)?,
-    };
+/// Every shelf.
+fn of_surveys(folder: &Path, stored: &str) -> Result<std::result::Result<String, String>> {
+    let (wanted, queries) = of_shelves(&fs::read(folder.join("data/shelves"))?)?;
     let mut stored = stored.lines();
     let wrong = wanted.iter().find(|line| stored.next() != Some(line));
     Ok(match (wrong, stored.next()) {
-        (None, None) => Ok(queries),
+        (None, None) => Ok(format!("{queries} queries, answered as by what the original reads")),
         (Some(line), _) => Err(format!("not as stored: {line}")),
         (None, Some(line)) => Err(format!("stored behind the end: {line}")),
     })
+}
+
+/// Holds the output stored in a program's folder. Says what was compared, or what its first wrong line is.
+pub fn held(folder: &Path) -> Result<std::result::Result<String, String>> {
+    let stored = fs::read_to_string(folder.join("stdout"))?;
+    match folder.file_name().and_then(|name| name.to_str()) {
+        Some("survey_cases") => of_surveys(folder, &stored),
+        _ => of_asker(folder, &stored),
+    }
 }
