@@ -2,8 +2,8 @@
 //!
 //!     compare [--seconds N] [--seed S] [--first] [--port | --port=PROGRAM]
 //!     compare --bench [--port]        how long the calls take; --rows WORDS: only those with these words in their names
-//!     compare --list FOLDER           the list that crates/replay is held to
-//!     compare --stored FOLDER         the stored output of matching_cases, checked_cases, tree_cases or survey_cases, held to the original
+//!     compare --list FOLDER           data/replayed, a list of queries for crates/asker
+//!     compare --stored FOLDER         the stored output of asker or survey_cases, held to the original
 //!     compare --image FILE            an image that is given, held to the original: all that it lists
 //!
 //! Ends with 0 if all was the same, 1 at a mismatch, 2 if it was called wrongly, 3 where the original isn't there.

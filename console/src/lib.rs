@@ -133,10 +133,10 @@ mod vault;
 mod writer;
 
 #[cfg(test)]
-#[path = "../tests/common/input.rs"]
-mod input;
-#[cfg(test)]
 mod replays;
+#[cfg(test)]
+#[path = "../tests/common/asked.rs"]
+mod stored;
 
 pub use answer::{Answer, Answered, Refusal, Refused, Result};
 pub use cause::Cause;

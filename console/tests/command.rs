@@ -2,14 +2,14 @@
 
 mod common;
 
+use common::asked::images;
 use common::command::{Folder, Said, left_out, tool};
-use common::input::Input;
 use common::{Disc, SECTOR, identifier, named, noise, reclosed, show};
 use std::ffi::OsStr;
 use std::os::unix::ffi::OsStrExt;
 use std::process::{Command, Stdio};
 use strandlodge::{Counted, ShowEntry};
-use strandlodge_sys::sparse::expand;
+use strandlodge_sys::asked::Image;
 
 const BLACKOUT: &str = "cue 11\nblackout\n";
 
@@ -173,13 +173,9 @@ fn a_tree_names_what_it_cannot_read() {
 #[test]
 fn paths_are_those_of_a_show() {
     let folder = Folder::new();
-    let mut all = Input(include_bytes!("../../crates/tree_cases/data/images"));
     let mut compared = 0;
-    while !all.0.is_empty() {
-        let name = String::from_utf8_lossy(all.sized(2)).into_owned();
-        folder.write("a.img", &expand(all.sized(4)).unwrap());
-        all.sized(4);
-        let image = std::fs::read(folder.at("a.img")).unwrap();
+    for Image { name, bytes: image, .. } in images("trees") {
+        folder.write("a.img", &image);
         let vault = Counted::open(&image).unwrap();
         let said = folder.vault(&["ls", "-R", "-0", "a.img"]);
         match vault.show(16) {

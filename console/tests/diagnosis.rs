@@ -2,8 +2,8 @@
 
 mod common;
 
+use common::asked::images;
 use common::command::Folder;
-use common::input::Input;
 use common::{Disc, SECTOR, VOLUME_BODY, continuation, continued, named, reclosed, seal, short_ad, show};
 use std::cell::Cell;
 use std::io::{self, Cursor, Read, Seek, SeekFrom};
@@ -11,7 +11,7 @@ use std::rc::Rc;
 use strandlodge::udf::{ExtAd, TagId};
 use strandlodge::{Asked, Cause, Counted, CountedDrive, Diagnosis, Drive, How, Kind, LbAddr, LongAd, Matching, Refusal, Refused};
 use strandlodge::{Sought, Standing, Vault, diagnose};
-use strandlodge_sys::sparse::expand;
+use strandlodge_sys::asked::{Call, Image};
 
 /// A reader that notes the last sector that it was asked for, from a single-sector buffer on.
 struct Watched {
@@ -40,10 +40,6 @@ impl Seek for Watched {
     }
 }
 
-fn long_ad(recorded: &[u8]) -> LongAd {
-    LongAd::parse(recorded).unwrap()
-}
-
 /// What a diagnosis must have whatever was refused: a place that says what stands there, and of 4 a cause.
 fn sound(why: &Diagnosis, image: &[u8], about: &str) {
     if let Some(place) = why.place {
@@ -62,10 +58,8 @@ fn sound(why: &Diagnosis, image: &[u8], about: &str) {
 
 #[test]
 fn stored_volumes_that_are_not_opened() {
-    let (mut all, mut refusals) = (Input(include_bytes!("../../crates/volume_cases/data/images")), [0; 15]);
-    while !all.0.is_empty() {
-        let name = String::from_utf8_lossy(all.sized(2));
-        let image = expand(all.sized(4)).unwrap();
+    let mut refusals = [0; 15];
+    for Image { name, bytes: image, .. } in images("volumes") {
         let (reader, last) = Watched::of(&image);
         let Err(mut unopened) = CountedDrive::open(reader) else { continue };
         let last = last.get();
@@ -92,11 +86,8 @@ type Again<'a> = &'a dyn Fn(&mut CountedDrive<Watched>) -> Option<Refused>;
 
 #[test]
 fn stored_volumes_whose_files_are_not_read() {
-    let (mut all, mut refusals) = (Input(include_bytes!("../../crates/vault_cases/data/images")), [0; 15]);
-    while !all.0.is_empty() {
-        let name = String::from_utf8_lossy(all.sized(2)).into_owned();
-        let image = expand(all.sized(4)).unwrap();
-        let mut queries = Input(all.sized(4));
+    let mut refusals = [0; 15];
+    for Image { name, bytes: image, queries, .. } in images("directories") {
         let Ok(vault) = Counted::open(&image) else { continue };
         let (reader, last) = Watched::of(&image);
         let mut drive = CountedDrive::open(reader).unwrap().value;
@@ -110,22 +101,18 @@ fn stored_volumes_whose_files_are_not_read() {
             sound(&why, &image, &name);
             refusals[refused.number() as usize] += 1;
         };
-        while !queries.0.is_empty() {
-            let (what, _room, _work) = (queries.number(2), queries.number(4), queries.number(4));
-            match (what, queries.sized(2)) {
-                (0, _) => {}
-                (1, path) => {
-                    let by = Matching::Unambiguous;
-                    hold(Asked::Lookup(path, by), vault.lookup_as(path, by).err(), &|d| d.lookup_as(path, by).err());
-                    hold(Asked::ReadPath(path, by), vault.read_path_as(path, by).err(), &|d| d.read_path_as(path, by).err());
-                }
-                (_, icb) => {
-                    let icb = long_ad(icb);
-                    hold(Asked::ReadFile(icb), vault.read_file(icb).err(), &|d| d.read_file(icb).err());
-                    hold(Asked::ReadDirectory(icb), vault.read_directory(icb).err(), &|d| d.read_directory(icb).err());
-                    if let (Err(refused), Err(read)) = (vault.extents(icb), vault.read_file(icb)) {
-                        assert_eq!(vault.diagnose(Asked::ReadFile(icb), &refused).place, vault.diagnose(Asked::ReadFile(icb), &read).place);
-                    }
+        for q in queries {
+            if q.has(Call::Lookup) {
+                let (path, by) = (&q.text[..], Matching::Unambiguous);
+                hold(Asked::Lookup(path, by), vault.lookup_as(path, by).err(), &|d| d.lookup_as(path, by).err());
+                hold(Asked::ReadPath(path, by), vault.read_path_as(path, by).err(), &|d| d.read_path_as(path, by).err());
+            }
+            if q.has(Call::Read) {
+                let icb = LongAd::parse(&q.icb).unwrap();
+                hold(Asked::ReadFile(icb), vault.read_file(icb).err(), &|d| d.read_file(icb).err());
+                hold(Asked::ReadDirectory(icb), vault.read_directory(icb).err(), &|d| d.read_directory(icb).err());
+                if let (Err(refused), Err(read)) = (vault.extents(icb), vault.read_file(icb)) {
+                    assert_eq!(vault.diagnose(Asked::ReadFile(icb), &refused).place, vault.diagnose(Asked::ReadFile(icb), &read).place);
                 }
             }
         }

@@ -2,13 +2,13 @@
 
 mod common;
 
+use common::asked::images;
 use common::command::{Folder, Said, left_out, tool};
-use common::input::Input;
 use common::{Disc, SECTOR, continuation, continued, named, noise, short_ad, show};
 use std::io::{self, Cursor, Read, Seek, SeekFrom, Write};
 use std::process::Command;
 use strandlodge::{Counted, CountedDrive, LbAddr, LongAd, Matching, Refusal, Uncopied};
-use strandlodge_sys::sparse::expand;
+use strandlodge_sys::asked::{Call, Image};
 
 /// A reader of an image that notes what it gave.
 #[derive(Default)]
@@ -102,13 +102,6 @@ fn same_icb(drive: &mut CountedDrive<Cursor<&[u8]>>, vault: &Counted, icb: LongA
     }
 }
 
-fn long_ad(recorded: &[u8]) -> LongAd {
-    let mut all = Input(recorded);
-    let raw = all.number(4) as u32;
-    let location = LbAddr { block: all.number(4) as u32, partition_ref: all.number(2) as u16 };
-    LongAd { length: raw & 0x3fff_ffff, extent_type: (raw >> 30) as u8, location, implementation_use: all.take(6).try_into().unwrap() }
-}
-
 #[test]
 fn every_call_on_the_show() {
     let image = show();
@@ -132,11 +125,8 @@ fn every_call_on_the_show() {
 
 #[test]
 fn stored_volumes_open_as_from_memory() {
-    let mut all = Input(include_bytes!("../../crates/volume_cases/data/images"));
     let mut opened = 0;
-    while !all.0.is_empty() {
-        let name = String::from_utf8_lossy(all.sized(2));
-        let image = expand(all.sized(4)).unwrap();
+    for Image { name, bytes: image, .. } in images("volumes") {
         let vault = Counted::open(&image);
         match CountedDrive::open(Watched::of(&image)) {
             Ok(drive) => {
@@ -159,22 +149,23 @@ fn stored_volumes_open_as_from_memory() {
 
 #[test]
 fn stored_volumes_answer_as_from_memory() {
-    let mut all = Input(include_bytes!("../../crates/vault_cases/data/images"));
     let mut asked = 0;
-    while !all.0.is_empty() {
-        all.sized(2);
-        let image = expand(all.sized(4)).unwrap();
-        let mut queries = Input(all.sized(4));
+    for Image { bytes: image, queries, .. } in images("directories") {
         let Ok(vault) = Counted::open(&image) else { continue };
         let mut drive = drive(&image);
-        while !queries.0.is_empty() {
-            let (what, _room, _work) = (queries.number(2), queries.number(4), queries.number(4));
-            match (what, queries.sized(2)) {
-                (0, _) => assert_eq!(drive.label().map(|label| label.value), vault.label().map(|label| label.value)),
-                (1, path) => same_path(&mut drive, &vault, path),
-                (_, icb) => same_icb(&mut drive, &vault, long_ad(icb)),
+        for q in queries {
+            if q.has(Call::Label) {
+                assert_eq!(drive.label().map(|label| label.value), vault.label().map(|label| label.value));
+                asked += 1;
             }
-            asked += 1;
+            if q.has(Call::Lookup) {
+                same_path(&mut drive, &vault, &q.text);
+                asked += 1;
+            }
+            if q.has(Call::Read) {
+                same_icb(&mut drive, &vault, LongAd::parse(&q.icb).unwrap());
+                asked += 1;
+            }
         }
     }
     assert!(asked > 900, "{asked}");

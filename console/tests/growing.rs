@@ -2,44 +2,18 @@
 
 mod common;
 
+use common::asked::images;
 use common::command::{Folder, Said};
-use common::input::Input;
 use common::{Disc, SECTOR, named, noise, short_ad};
 use std::fs::{File, OpenOptions};
 use std::io::Write;
 use std::path::Path;
 use std::process::{Child, Stdio};
 use std::time::{Duration, Instant};
-use strandlodge::{Counted, How, LbAddr, LongAd};
-use strandlodge_sys::sparse;
+use strandlodge::{Counted, How, LongAd};
+use strandlodge_sys::asked::Image;
 
-// ---- the crate, on the images of `growing_cases`
-
-/// How an image is opened, and an ICB.
-type Query = (How, LongAd);
-
-/// Each image with its queries.
-fn stored() -> Vec<(Vec<u8>, Vec<Query>)> {
-    let mut input = Input(include_bytes!("../../crates/growing_cases/data/images"));
-    let mut images = Vec::new();
-    while !input.0.is_empty() {
-        input.sized(2);
-        let image = sparse::expand(input.sized(4)).unwrap();
-        let (mut asked, mut queries) = (Input(input.sized(4)), Vec::new());
-        while !asked.0.is_empty() {
-            let how = asked.number(4);
-            asked.take(16);
-            let (raw, block, partition_ref) = (asked.number(4), asked.number(4) as u32, asked.number(2) as u16);
-            let implementation_use = asked.take(6).try_into().unwrap();
-            asked.sized(2);
-            let how = How { checked: how & 1 != 0, maps: how & 2 != 0, highest: how & 4 != 0 };
-            let location = LbAddr { block, partition_ref };
-            queries.push((how, LongAd { length: raw as u32 & 0x3fff_ffff, extent_type: (raw >> 30) as u8, location, implementation_use }));
-        }
-        images.push((image, queries));
-    }
-    images
-}
+// ---- the crate, on the stored images that are watched as they grow
 
 /// The first so many sectors of an image, and some bytes of the next.
 fn cut(image: &[u8], sectors: u64) -> &[u8] {
@@ -49,8 +23,10 @@ fn cut(image: &[u8], sectors: u64) -> &[u8] {
 #[test]
 fn a_read_passes_from_1_to_its_answer_once_and_names_what_it_waits_for() {
     let (mut named, mut unnamed, mut ended) = (0, 0, 0);
-    for (image, queries) in stored() {
-        for (how, icb) in queries {
+    for Image { bytes: image, queries, .. } in images("growing") {
+        for q in queries {
+            let how = How { checked: q.volume & 1 != 0, maps: q.volume & 2 != 0, highest: q.volume & 4 != 0 };
+            let icb = LongAd::parse(&q.icb).unwrap();
             let whole = Counted::open_as(&image, how).unwrap();
             let last = whole.read_file(icb);
             for sectors in 0..=(image.len() / SECTOR) as u64 {

@@ -3,6 +3,7 @@
 
 mod common;
 
+use common::asked::images;
 use common::command::{Folder, Said, left_out, tool};
 use common::input::Input;
 use common::{Disc, SECTOR, named, show};
@@ -10,87 +11,30 @@ use std::process::Command;
 use strandlodge::udf::{AllocationExtentDescriptor, FileEntry};
 use strandlodge::{Counted, Figure, Figures, How, LbAddr, LongAd, Refusal, Survey};
 use strandlodge::{survey, survey_image, survey_shelf, survey_total};
+use strandlodge_sys::asked::FILES;
 use strandlodge_sys::sparse::expand;
 
 fn how(number: usize) -> How {
     How { checked: number & 1 != 0, maps: number & 2 != 0, highest: number & 4 != 0 }
 }
 
-/// What stands behind an image of a stored list, up to the next.
-enum Behind {
-    Nothing,
-    /// Queries behind their length in bytes, and so many bytes in front of that.
-    Queries(usize),
-    /// Queries of so many bytes, behind their number.
-    Rows(usize),
-}
-
-/// The images of the stored lists whose records have a name and an image.
-fn listed(list: &[u8], behind: Behind, images: &mut Vec<Vec<u8>>) {
-    let mut all = Input(list);
+/// The images of `drive_cases`, whose records have a name, an image, and behind their number queries of 50 bytes.
+fn of_drives() -> Vec<Vec<u8>> {
+    let (mut all, mut images) = (Input(include_bytes!("../../crates/drive_cases/data/images")), Vec::new());
     while !all.0.is_empty() {
         all.sized(2);
         images.push(expand(all.sized(4)).unwrap());
-        match behind {
-            Behind::Nothing => {}
-            Behind::Queries(front) => {
-                all.take(front);
-                all.sized(4);
-            }
-            Behind::Rows(bytes) => {
-                let rows = all.number(2);
-                all.take(rows * bytes);
-            }
-        }
-    }
-}
-
-/// An image with bytes put over it.
-fn patched(good: &[u8], patches: &[u8]) -> Vec<u8> {
-    let (mut image, mut patches) = (good.to_vec(), Input(patches));
-    while !patches.0.is_empty() {
-        let at = patches.number(4);
-        let bytes = patches.sized(2);
-        image[at..at + bytes.len()].copy_from_slice(bytes);
-    }
-    image
-}
-
-/// The cases of a disc: a name, so many bytes that say what is asked, and the patches.
-fn cases(good: &[u8], mut cases: Input, asked: usize, images: &mut Vec<Vec<u8>>) {
-    images.push(good.to_vec());
-    while !cases.0.is_empty() {
-        cases.sized(2);
-        cases.take(asked);
-        images.push(patched(good, cases.sized(2)));
-    }
-}
-
-/// Every image that is stored for the gate's programs, but for the shelves.
-fn stored() -> Vec<Vec<u8>> {
-    let written = expand(include_bytes!("../../crates/writer_cases/data/written")).unwrap();
-    let mut images = vec![show(), written, Vec::new()];
-    listed(include_bytes!("../../crates/volume_cases/data/images"), Behind::Nothing, &mut images);
-    listed(include_bytes!("../../crates/vault_cases/data/images"), Behind::Queries(0), &mut images);
-    listed(include_bytes!("../../crates/tree_cases/data/images"), Behind::Queries(0), &mut images);
-    listed(include_bytes!("../../crates/stack_cases/data/images"), Behind::Queries(0), &mut images);
-    listed(include_bytes!("../../crates/matching_cases/data/images"), Behind::Queries(0), &mut images);
-    listed(include_bytes!("../../crates/growing_cases/data/images"), Behind::Queries(0), &mut images);
-    // A mount and a root stand in front of the queries.
-    listed(include_bytes!("../../crates/replay/data/images"), Behind::Queries(22), &mut images);
-    listed(include_bytes!("../../crates/file_cases/data/images"), Behind::Rows(28), &mut images);
-    listed(include_bytes!("../../crates/drive_cases/data/images"), Behind::Rows(50), &mut images);
-    let mut checked = Input(include_bytes!("../../crates/checked_cases/data/images"));
-    let good = expand(checked.sized(4)).unwrap();
-    checked.sized(4);
-    cases(&good, checked, 2, &mut images);
-    let mut mapped = Input(include_bytes!("../../crates/mapped_cases/data/images"));
-    while !mapped.0.is_empty() {
-        let good = expand(mapped.sized(4)).unwrap();
-        mapped.sized(4);
-        cases(&good, Input(mapped.sized(4)), 6, &mut images);
+        let queries = all.number(2);
+        all.take(queries * 50);
     }
     images
+}
+
+/// Every image that is stored for the gate's programs, but for the shelves; those of one file at a time.
+fn stored() -> impl Iterator<Item = Vec<u8>> {
+    let written = expand(include_bytes!("../../crates/writer_cases/data/written")).unwrap();
+    let asked = FILES.into_iter().flat_map(images).map(|image| image.bytes);
+    [show(), written, Vec::new()].into_iter().chain(asked).chain(of_drives())
 }
 
 /// A shelf of `survey_cases`, and its surveys: how the images are opened, the work space, and their lengths.
@@ -191,16 +135,17 @@ fn walked(image: &[u8], how: How) -> Figures {
 
 #[test]
 fn every_stored_image_is_surveyed_as_it_is_walked() {
-    let (mut files, mut images, stored) = (0, 0, stored());
-    for image in &stored {
+    let (mut files, mut images, mut surveyed) = (0, 0, 0);
+    for image in stored() {
+        surveyed += 1;
         for how in (0..8).map(how) {
-            let figures = survey_image(image, how);
-            assert_eq!(figures, walked(image, how));
+            let figures = survey_image(&image, how);
+            assert_eq!(figures, walked(&image, how));
             files += figures.files.number;
             images += figures.images_by_answer[0].number;
         }
     }
-    assert!(stored.len() > 1_500 && files > 20_000 && images > 3_000, "{} {files} {images}", stored.len());
+    assert!(surveyed > 1_500 && files > 20_000 && images > 3_000, "{surveyed} {files} {images}");
 }
 
 /// The images of a shelf are surveyed together as they are one by one, and as they are walked; and a file of each refusal is counted.

@@ -1,6 +1,7 @@
 //! What the tests share: the sample show, and larger discs made from it.
 #![allow(dead_code)]
 
+pub mod asked;
 pub mod command;
 pub mod input;
 
