@@ -1,6 +1,6 @@
 //! The calls of include/vault.h: what is asked, and what was answered.
 
-use strandlodge_sys::asked::{long_ad, recorded};
+use strandlodge_sys::asked::{self, long_ad, recorded};
 use strandlodge_sys::vault::{self as face, AS_WRITTEN, CASE_IGNORED, CHECKED, FIGURES, MAPS};
 
 #[derive(Clone, Copy, PartialEq, Eq, Debug, PartialOrd, Ord)]
@@ -23,43 +23,19 @@ pub enum Call {
     Total,
 }
 
+use Call::*;
+
 impl Call {
-    pub const ALL: [Call; 15] = [
-        Call::Probe,
-        Call::Open,
-        Call::Label,
-        Call::Lookup,
-        Call::Failed,
-        Call::List,
-        Call::Read,
-        Call::Part,
-        Call::Extents,
-        Call::ReadPath,
-        Call::ReadAll,
-        Call::Show,
-        Call::Measure,
-        Call::Survey,
-        Call::Total,
-    ];
+    pub const ALL: [Call; 15] =
+        [Probe, Open, Label, Lookup, Failed, List, Read, Part, Extents, ReadPath, ReadAll, Show, Measure, Survey, Total];
 
     pub fn name(self) -> &'static str {
-        [
-            "probe",
-            "open",
-            "label",
-            "lookup",
-            "failed",
-            "list",
-            "read",
-            "part",
-            "extents",
-            "read_path",
-            "read_all",
-            "show",
-            "measure",
-            "survey",
-            "survey_total",
-        ][self as usize]
+        match self {
+            Survey => "survey",
+            Total => "survey_total",
+            // Up to these the stored queries have the same calls.
+            call => asked::Call::ALL[call as usize].name(),
+        }
     }
 
     pub fn has_work(self) -> bool {
@@ -67,7 +43,6 @@ impl Call {
     }
 
     pub fn has_room(self) -> bool {
-        use Call::*;
         matches!(self, Label | List | Read | Extents | ReadPath | ReadAll | Show | Survey | Total)
     }
 

@@ -1,6 +1,6 @@
-//! The stored queries of the program `asker`: by the raw calls, with memory of exactly the size that each query lends, so that refusals for want of it
-//! are among the answers; and by [`Counted`], which lends what is needed, so that it is never refused so. What is expected are the stored lines, which a
-//! model of the rules computes and `compare` holds to the original.
+//! The stored queries of the program `asker`: by the raw calls, with memory of exactly the size that each query lends, so that refusals for
+//! want of it are among the answers; and by [`Counted`], which lends what is needed, so that it is never refused so. What is expected are the
+//! stored lines, which a model of the rules computes and `compare` holds to the original.
 #![allow(unsafe_code)] // to look at lent memory behind what a call has written
 
 use crate::answer::{Answer, Answered, Refusal, Refused};
@@ -156,8 +156,8 @@ fn hold_short(asked: &Asked, given: &Said, lent: u32) {
     assert_eq!(bytes.sectors, given.count);
 }
 
-/// The runs of a file, with memory as it is needed: joined they are the read, with its refusal and its count. Then with as many slots as there are runs,
-/// with one too few and with none: 7 comes last, with the same count.
+/// The runs of a file, with memory as it is needed: joined they are the read, with its refusal and its count. Then with as many slots as there
+/// are runs, with one too few and with none: 7 comes last, with the same count.
 fn hold_runs(volume: Volume, image: &[u8], icb: LongAd) {
     let vault = Counted::over(image, volume, How::default());
     let (runs, read) = match (vault.runs(icb), vault.read_file(icb)) {
@@ -272,10 +272,11 @@ fn list(vault: &Counted, q: &Query) -> Said {
     let given = vault.read_all_as(&paths, m).unwrap();
     let alone: Vec<Said> = paths.iter().map(|path| said(vault.read_path_as(path, m), |said, bytes| said.with(bytes))).collect();
     assert_eq!(given.sectors, alone.iter().map(|one| one.count).sum::<u64>());
-    let bytes = given.iter().flatten().flatten().copied().collect();
+    let bytes: Vec<u8> = given.iter().flatten().flatten().copied().collect();
     let item = |item: &crate::Item| item.as_ref().map_or_else(|why| (0, why.number()), |bytes| (bytes.len() as u64, 0));
     let items: Vec<(u64, u64)> = given.iter().map(item).collect();
     assert_eq!(items, alone.iter().map(|one| (one.length, one.answer)).collect::<Vec<_>>());
+    assert!(alone.iter().flat_map(|one| &one.bytes).eq(&bytes));
     Said::of(0, given.sectors).with(bytes).with_rows(&items, q)
 }
 

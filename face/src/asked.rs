@@ -175,7 +175,8 @@ impl fmt::Display for Wrong {
     }
 }
 
-type Result<T> = std::result::Result<T, Wrong>;
+/// What is read, or why it is refused.
+pub type Result<T> = std::result::Result<T, Wrong>;
 
 /// The bytes of a file up to the end of what is read, and where it goes on.
 struct Input<'a> {
@@ -264,33 +265,19 @@ impl<'a> Input<'a> {
         let text = self.take(size as usize, "a text ends behind its record")?.to_vec();
         Ok(Query { calls, volume, there, matching, levels, room, work, slots, answers, icb, text })
     }
-}
 
-/// The images of a file, one after another; behind the first that is refused there is none.
-pub struct Images<'a> {
-    input: Input<'a>,
-    /// The last image that stood alone.
-    base: Option<Vec<u8>>,
-}
-
-/// Reads a file.
-pub fn images(file: &[u8]) -> Images<'_> {
-    Images { input: Input { bytes: file, at: 0 }, base: None }
-}
-
-impl Images<'_> {
-    fn record(&mut self) -> Result<Image> {
-        let input = &mut self.input;
-        let (name, at) = (input.name()?, input.at);
-        let bytes = match (input.chunk()?, &self.base) {
-            ([0], _) => self.base.insert(input.image(&[])?).clone(),
-            ([1], Some(base)) => input.image(base)?,
+    /// An image with what is asked of it. The base is the last image that stood alone.
+    fn record(&mut self, base: &mut Option<Vec<u8>>) -> Result<Image> {
+        let (name, at) = (self.name()?, self.at);
+        let bytes = match (self.chunk()?, &base) {
+            ([0], _) => base.insert(self.image(&[])?).clone(),
+            ([1], Some(base)) => self.image(base)?,
             _ => return Err(Wrong { at, what: "a base that isn't there" }),
         };
-        let volumes = input.u16()?;
-        let by_hand = (0..volumes).map(|_| input.volume()).collect::<Result<Vec<Volume>>>()?;
-        let n = input.u32()?;
-        let mut asked = input.part(n as usize, "the queries end behind the file")?;
+        let volumes = self.u16()?;
+        let by_hand = (0..volumes).map(|_| self.volume()).collect::<Result<Vec<Volume>>>()?;
+        let n = self.u32()?;
+        let mut asked = self.part(n as usize, "the queries end behind the file")?;
         let mut queries = Vec::new();
         while !asked.is_empty() {
             queries.push(asked.query(bytes.len(), by_hand.len())?);
@@ -299,19 +286,19 @@ impl Images<'_> {
     }
 }
 
-impl Iterator for Images<'_> {
-    type Item = Result<Image>;
-
-    fn next(&mut self) -> Option<Result<Image>> {
-        if self.input.is_empty() {
+/// The images of a file, one after another; behind the first that is refused there is none.
+pub fn images(file: &[u8]) -> impl Iterator<Item = Result<Image>> {
+    let (mut input, mut base) = (Input { bytes: file, at: 0 }, None);
+    std::iter::from_fn(move || {
+        if input.is_empty() {
             return None;
         }
-        let record = self.record();
-        if record.is_err() {
-            self.input.at = self.input.bytes.len();
+        let image = input.record(&mut base);
+        if image.is_err() {
+            input.at = file.len();
         }
-        Some(record)
-    }
+        Some(image)
+    })
 }
 
 // ---- writing

@@ -64,7 +64,7 @@ pub fn replay(file: &[u8], stored: &str, asker: impl FnMut(&Asked) -> Option<Sai
     replay.stored.advance();
     for image in images(file) {
         let image = image.map_err(|wrong| wrong.to_string())?;
-        replay.image(&image).map_err(|what| format!("image {}, line {}: {what}", image.name, replay.stored.number))?;
+        replay.image(&image).map_err(|what| format!("image {}, line {}:{what}", image.name, replay.stored.number))?;
     }
     match replay.stored.next {
         None => Ok(replay.counts),
@@ -97,7 +97,7 @@ impl Stored<'_> {
 }
 
 fn differs(said: &str, stored: Option<&str>) -> String {
-    format!("said {said:?}, and stored is {:?}", stored.unwrap_or_default())
+    format!("\nsaid   {said}\nstored {}", stored.unwrap_or("nothing"))
 }
 
 struct Replay<'s, A> {

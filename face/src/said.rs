@@ -114,8 +114,8 @@ fn volume(Volume { mount, root, label }: &Volume) -> String {
     format!("{says}{rows} root {} label {}", text(&recorded(root)), text(label))
 }
 
-/// The line in front of those of a query's calls, on an image of so many bytes: what is asked, without what is 0 or empty, and without how much is there
-/// where that is all.
+/// The line in front of those of a query's calls, on an image of so many bytes: what is asked, without what is 0 or empty, and without how
+/// much is there where that is all.
 pub fn asking(q: &Query, length: usize) -> String {
     let there = if q.there as usize == length { String::new() } else { format!(" there {}", q.there) };
     let set = |word: &str, number: u32| if number == 0 { String::new() } else { format!(" {word} {number}") };

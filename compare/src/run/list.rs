@@ -1,5 +1,5 @@
-//! The list that the program `asker` replays with no Rust at hand: images of the comparison, and queries of the original's own kind, each on a volume made by
-//! hand. The lines that are stored of it are held to the original with those of the other files.
+//! The list that the program `asker` replays with no Rust at hand: images of the comparison, and queries of the original's own kind, on a
+//! volume made by hand. The lines that are stored of it are held to the original with those of the other files.
 
 use super::calls::{Call, Query};
 use super::compare::shapes;

@@ -1,5 +1,6 @@
-//! The stored outputs of the programs `asker` and `survey_cases`, which models in another language compute, held to the original: to its own calls, to the walk
-//! over its listings and reads where a call or a choice isn't its own, and to the original with the body check behind its parser of tags.
+//! The stored outputs of the programs `asker` and `survey_cases`, which models in another language compute, held to the original: to its own
+//! calls, to the walk over its listings and reads where a call or a choice isn't its own, and to the original with the body check behind its
+//! parser of tags.
 
 use super::calls::{Call, Icb, PLACE, PLENTY, Query, Values, Volume};
 use super::expect::expected;
