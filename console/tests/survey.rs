@@ -5,7 +5,6 @@ mod common;
 
 use common::asked::images;
 use common::command::{Folder, Said, left_out, tool};
-use common::input::Input;
 use common::{Disc, SECTOR, named, show};
 use std::process::Command;
 use strandlodge::udf::{AllocationExtentDescriptor, FileEntry};
@@ -13,6 +12,28 @@ use strandlodge::{Counted, Figure, Figures, How, LbAddr, LongAd, Refusal, Survey
 use strandlodge::{survey, survey_image, survey_shelf, survey_total};
 use strandlodge_sys::asked::FILES;
 use strandlodge_sys::sparse::expand;
+
+/// The bytes of a stored list, taken from the front, with numbers little-endian.
+struct Input<'a>(&'a [u8]);
+
+impl<'a> Input<'a> {
+    fn take(&mut self, n: usize) -> &'a [u8] {
+        let (front, rest) = self.0.split_at(n);
+        self.0 = rest;
+        front
+    }
+
+    /// A number of so many bytes.
+    fn number(&mut self, bytes: usize) -> usize {
+        self.take(bytes).iter().rev().fold(0, |n, byte| n << 8 | usize::from(*byte))
+    }
+
+    /// Bytes behind their length, which has so many bytes.
+    fn sized(&mut self, bytes: usize) -> &'a [u8] {
+        let n = self.number(bytes);
+        self.take(n)
+    }
+}
 
 fn how(number: usize) -> How {
     How { checked: number & 1 != 0, maps: number & 2 != 0, highest: number & 4 != 0 }

@@ -67,6 +67,7 @@ pub fn replay(file: &[u8], stored: &str, asker: impl FnMut(&Asked) -> Option<Sai
         replay.image(&image).map_err(|what| format!("image {}, line {}:{what}", image.name, replay.stored.number))?;
     }
     match replay.stored.next {
+        None if replay.counts.images == 0 => Err("there is no image".into()),
         None => Ok(replay.counts),
         Some(line) => Err(format!("stored behind the end: {line}")),
     }
@@ -229,7 +230,7 @@ at 4096 measure 0 count 2 length 2
         }
         assert!(replay(&file(), &(STORED.to_string() + "image three\n"), asker).is_err());
         assert!(replay(&file()[..100], STORED, asker).unwrap_err().starts_with("byte "));
-        assert!(replay(&[], STORED, asker).is_err());
+        assert!(replay(&[], STORED, asker).is_err() && replay(&[], "", asker).is_err());
         let late = |asked: &Asked| asker(asked).map(|said| Said { count: asked.image.len() as u64 / 2047, ..said });
         assert!(replay(&file(), STORED, late).is_err());
     }

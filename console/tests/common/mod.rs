@@ -3,7 +3,6 @@
 
 pub mod asked;
 pub mod command;
-pub mod input;
 
 use strandlodge_sys::sparse;
 
