@@ -51,25 +51,8 @@ impl Call {
 
     /// The word that its line begins with.
     pub fn name(self) -> &'static str {
-        const NAMES: [&str; 16] = [
-            "probe",
-            "open",
-            "label",
-            "lookup",
-            "failed",
-            "list",
-            "read",
-            "part",
-            "extents",
-            "read_path",
-            "read_all",
-            "show",
-            "measure",
-            "runs",
-            "failed_at",
-            "part_at",
-        ];
-        NAMES[self as usize]
+        const NAMES: &str = "probe open label lookup failed list read part extents read_path read_all show measure runs failed_at part_at";
+        NAMES.split(' ').nth(self as usize).unwrap_or_default()
     }
 
     /// Its bit among those of a query.

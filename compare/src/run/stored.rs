@@ -32,8 +32,16 @@ fn query(asked: &Asked, call: Call) -> Query {
     }
 }
 
+/// The calls of which the original was not asked as it stands: a d-string with id 254 or 255 was reached, or an information length was absurd
+/// and was lowered.
+#[derive(Default)]
+struct Beside {
+    by_the_rule: usize,
+    lowered: usize,
+}
+
 /// What the original says; nothing of a show that has more paths than are walked.
-fn said(asked: &Asked) -> Option<Said> {
+fn said(asked: &Asked, beside: &mut Beside) -> Option<Said> {
     let call = match asked.call {
         asked::Call::Runs => return Some(runs(asked)),
         asked::Call::FailedAt => Call::Failed,
@@ -41,6 +49,8 @@ fn said(asked: &Asked) -> Option<Said> {
         call => Call::ALL[call as usize],
     };
     let e = expected(asked.image, &query(asked, call));
+    beside.by_the_rule += usize::from(e.by_the_rule);
+    beside.lowered += usize::from(e.absurd);
     let Values { answer, count, length, place, volume, icb, written, rows } = e.values;
     let part = |whole: &[u8]| whole[place as usize..][..length as usize].to_vec();
     let bytes = match call {
@@ -103,21 +113,23 @@ fn table(counts: &Counts) -> String {
 
 /// Every file of `asker`. A call of which no line is compared is a fault.
 fn of_asker(folder: &Path, stored: &str) -> Result<std::result::Result<String, String>> {
-    let (sections, mut all) = (sections(stored), Counts::default());
+    let (sections, mut all, mut beside) = (sections(stored), Counts::default(), Beside::default());
     if !sections.iter().map(|(name, _)| name).eq(&FILES) {
         return Ok(Err(format!("not the files {FILES:?}")));
     }
     for (name, lines) in sections {
-        match replay(&fs::read(folder.join("data").join(name))?, lines, said) {
+        match replay(&fs::read(folder.join("data").join(name))?, lines, |asked| said(asked, &mut beside)) {
             Ok(counts) => all.add(&counts),
             Err(what) => return Ok(Err(format!("{name}: {what}"))),
         }
     }
     let unasked: Vec<&str> = asked::Call::ALL.into_iter().filter(|call| all.of(*call) == 0).map(asked::Call::name).collect();
-    Ok(match unasked.is_empty() {
-        true => Ok(format!("{} images, {} queries, answered as by what the original reads{}", all.images, all.queries, table(&all))),
-        false => Err(format!("no line is compared of {}", unasked.join(", "))),
-    })
+    if !unasked.is_empty() {
+        return Ok(Err(format!("no line is compared of {}", unasked.join(", "))));
+    }
+    let asked = format!("{} images, {} queries, answered as by what the original reads", all.images, all.queries);
+    let beside = format!("{} calls by the rule on ids 254 and 255, {} with an absurd length lowered", beside.by_the_rule, beside.lowered);
+    Ok(Ok(format!("{asked}; {beside}{}", table(&all))))
 }
 
 // ---- survey_cases
