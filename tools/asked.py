@@ -104,9 +104,9 @@ class Cursor:
         return Cursor(self.data, at, self.at)
 
 
-def unpacked(packed, base=b""):
+def unpacked(packed, base=b"", longest=LONGEST_IMAGE):
     """An image that is kept sparse, over another: docs/COMPARING.md."""
-    length, many = packed.number(4, "the image's length", LONGEST_IMAGE), packed.number(4, "how many runs")
+    length, many = packed.number(4, "the image's length", longest), packed.number(4, "how many runs")
     image = bytearray(base[:length].ljust(length, b"\0"))
     for _ in range(many):
         where = packed.number(4, "where a run is", length)

@@ -1,27 +1,20 @@
 #!/usr/bin/env python3
 """Says what the program `drive_cases` is to print: a model of opening and reading a sector at a time (docs/RULES.md, 14), written from the rules apart from the
-library and from the script that writes the images. It reads the images themselves. What the one call comes to is what tools/mapped_model.py and
-tools/volume_model.py make of it; with slots and room enough, and no sector denied, the fed read must come to the same.
+library and from the script that writes the images. It reads the images themselves. What the one call comes to is what tools/rules.py makes of it; with
+slots and room enough, and no sector denied, the fed read must come to the same.
 
     tools/drive_model.py             writes crates/drive_cases/stdout
     tools/drive_model.py --check     fails where that file isn't what the model says
 """
-import functools
 import struct
 import sys
 
 sys.dont_write_bytecode = True
-import checked_model
-import matching_model
-import volume_model
-from checked_model import fitted, number
-from mapped_model import NO_PARTITION, compared, content, descriptors, headed, of_icb, sectors
-from model import BAD, GONE, OTHER, ROOM, SIZE, Refused, front, stored
+import rules
+from asked import CRATES, Cursor, named, stored, total, unpacked
+from rules import BAD, GONE, MOST_CONTINUATIONS, OTHER, ROOM, SIZE, SLOT, Disc, Refused
 
-NO_SLOT, SLOTS, NOWHERE, LONGEST, CONTINUATIONS = 7, 1024, -1, 2**20, 32
-
-total = functools.cache(matching_model.total)
-checked_model.remainder = functools.cache(checked_model.remainder)
+SLOTS, NOWHERE = 1024, -1
 
 
 def mixed(sum, *numbers):
@@ -30,29 +23,19 @@ def mixed(sum, *numbers):
     return sum
 
 
-class Drive:
+class Drive(Disc):
     """Lends the sectors of an image, and denies the one at a place of the list of those that are wanted."""
 
     def __init__(self, image, denied=NOWHERE):
-        self.image, self.denied, self.wanted = image, denied, []
+        super().__init__(image)
+        self.denied, self.wanted = denied, []
 
     def sector(self, at):
         self.wanted.append(at)
-        found = self.image[at * SIZE : (at + 1) * SIZE]
-        if len(found) < SIZE or len(self.wanted) == self.denied + 1:
+        found = super().sector(at)
+        if self.count == self.denied + 1:
             raise Refused(GONE)
         return found
-
-    @property
-    def count(self):
-        return len(self.wanted)
-
-    def ends(self, call):
-        """The answer number and the value of a call."""
-        try:
-            return 0, call(self)
-        except Refused as why:
-            return why.number, None
 
 
 # ---- a read
@@ -68,7 +51,7 @@ class Read:
     def hold(self, extents):
         """14.6: an area has come whole and is good."""
         if len(extents) > self.slots:
-            raise Refused(NO_SLOT)
+            raise Refused(SLOT)
         self.held = len(extents)
 
     def put(self, data):
@@ -78,51 +61,26 @@ class Read:
         if len(data) > left:
             raise Refused(ROOM)
 
-    def start(self, own, reference):
-        return own if reference == NO_PARTITION else compared(self.volume, reference)
-
-    def continuation(self, drive, kind, own, length, block, reference):
-        """The descriptors of a continuation's area: all of its sectors are wanted before its header is judged."""
-        at = self.start(own, reference) + block
-        if length < 24:
-            raise Refused(BAD)
-        if length > LONGEST:
-            raise Refused(OTHER)
-        data = sectors(drive, at, length)
-        headed(data, (258,), 24, self.volume["checked"])
-        size = number(data, 20, 4)
-        if 24 + size > length:
-            raise Refused(BAD)
-        return list(descriptors(data[24 : 24 + size], kind))
-
-    def chain(self, drive, kind, own, area):
-        extents = list(descriptors(area, kind))
-        for n in range(CONTINUATIONS + 1):
-            following = extents.pop() if extents and extents[-1][1] == 3 else None
+    def chain(self, drive, file):
+        extents, following = rules.descriptors(file.area, file.kind)
+        for n in range(MOST_CONTINUATIONS + 1):
             self.hold(extents)
             if not following:
                 return extents
-            if n == CONTINUATIONS:
+            if n == MOST_CONTINUATIONS:
                 raise Refused(BAD)
-            length, _, block, reference = following
-            extents = extents + self.continuation(drive, kind, own, length, block, reference)
+            more, following = rules.continued(drive, self.volume, file, following)
+            extents = extents + more
 
     def run(self, drive):
-        if number(self.icb, 0, 4) % 2**30 == 0:
-            raise Refused(BAD)
-        own = of_icb(self.volume, self.icb)
-        data = drive.sector(own + number(self.icb, 4, 4))
-        head = 216 if headed(data, (261, 266), 176, self.volume["checked"]) == 266 else 176
-        kind, attributes, size = data[34] & 7, number(data, head - 8, 4), number(data, head - 4, 4)
-        if kind > 3 or head + attributes + size > SIZE:
-            raise Refused(BAD)
-        missing, area = number(data, 56, 8), data[head + attributes : head + attributes + size]
-        if kind == 3:
-            return self.put(area[:missing])
-        for length, what, block, reference in self.chain(drive, kind, own, area):
+        file = rules.entry_of(drive, self.volume, self.icb)
+        missing = file.information
+        if file.kind == rules.EMBEDDED:
+            return self.put(file.area[:missing])
+        for length, what, block, reference in self.chain(drive, file):
             if what:
                 raise Refused(OTHER)
-            at = self.start(own, reference) + block
+            at = rules.start_of(self.volume, file.own, reference) + block
             for n in range((length + SIZE - 1) // SIZE):
                 here = drive.sector(at + n)[: length - n * SIZE][:missing]
                 self.put(here)
@@ -136,7 +94,7 @@ class Read:
 def read(image, volume, icb, slots, room, denied=NOWHERE):
     """What a fed read says, and how many extents it held at the most."""
     drive, one = Drive(image, denied), Read(volume, icb, slots, room)
-    answer, _ = drive.ends(one.run)
+    answer, _ = rules.asked(drive, one.run)
     return (answer, drive.count, len(one.out), total(one.out), mixed(0, *drive.wanted)), one.held
 
 
@@ -150,12 +108,12 @@ def said(slots, room, what, more=""):
 
 def reading(image, volume, icb, room):
     drive = Drive(image)
-    answer, data = drive.ends(lambda disc: fitted(content(disc, volume, icb), room))
+    answer, data = rules.asked(drive, lambda disc: rules.read(disc, volume, icb, room))
     data = data or b""
     call = answer, drive.count, len(data), total(data)
     yield f"call {answer} count {drive.count} length {len(data)} sum {call[3]}"
     one, needed = read(image, volume, icb, SLOTS, room)
-    if one[0] not in (ROOM, NO_SLOT) and answer not in (ROOM, NO_SLOT):
+    if one[0] not in (ROOM, SLOT) and answer not in (ROOM, SLOT):
         assert one[:2] == call[:2] and one[4] == mixed(0, *drive.wanted) and (answer or one[:4] == call)
     yield said(SLOTS, room, one, " same" if one[:4] == call else "")
     yield f"needs {needed}"
@@ -177,11 +135,9 @@ def reading(image, volume, icb, room):
 def opening(image):
     def ran(denied):
         drive = Drive(image, denied)
-        answer, found = drive.ends(lambda disc: volume_model.opened(disc, False))
-        v = found or volume_model.NOTHING
-        root = v["root"]
-        recorded = struct.pack("<IIH6s", root["length"] | root["type"] << 30, root["block"], root["partition"], root["use"])
-        return (answer, drive.count, v["start"], v["partition"], total(recorded), total(v["label"])), mixed(0, *drive.wanted)
+        answer, found = rules.asked(drive, lambda disc: rules.opened(disc, 0))
+        v = found or rules.NOTHING
+        return (answer, drive.count, v.start, v.partition, total(v.root), total(v.label)), mixed(0, *drive.wanted)
 
     one, list = ran(NOWHERE)
     words = "%d count %d start %d partition %d root %d label %d" % one
@@ -196,24 +152,25 @@ def opening(image):
 
 
 def query(image, words):
-    start, partition, checked, maps, a, b, c, d, icb, room = struct.unpack("<IHII4I16sI", words)
-    volume = {"start": start, "partition": partition, "checked": checked, "maps": maps, "starts": [a, b, c, d]}
+    start, partition, checked, maps, *starts, icb, room = struct.unpack("<IHII4I16sI", words)
+    volume = rules.NOTHING._replace(start=start, partition=partition, checked=checked, maps=maps, starts=starts)
     raw, block, reference = struct.unpack_from("<IIH", icb)
     yield f"icb {raw % 2**30} {raw >> 30} {block} {reference} start {start} partition {partition} checked {checked} maps {maps} room {room}"
     yield from reading(image, volume, icb, room)
 
 
 def lines(data):
-    while data:
-        name, image, data = front(data)
-        n = number(data, 0, 2)
-        queries, data = data[2 : 2 + 50 * n], data[2 + 50 * n :]
+    records = Cursor(data)
+    while records.left():
+        name = named(records)
+        image = unpacked(records.inner(records.number(4, "the packed image's length"), "the packed image"))
+        queries = [records.take(50, "a query") for _ in range(records.number(2, "how many queries"))]
         yield "image " + name
-        if not n:
+        if not queries:
             yield from opening(image)
-        for i in range(n):
-            yield from query(image, queries[50 * i : 50 * i + 50])
+        for one in queries:
+            yield from query(image, one)
 
 
 if __name__ == "__main__":
-    sys.exit(stored("drive_cases", lines, sys.argv[1:]))
+    sys.exit(stored("drive_cases", lines((CRATES / "drive_cases/data/images").read_bytes()), sys.argv[1:]))

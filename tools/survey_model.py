@@ -1,7 +1,7 @@
 #!/usr/bin/env python3
 """Says what the program `survey_cases` is to print: a model of the survey of a shelf (docs/RULES.md, 16), written apart from the library and from the
-script that writes the shelves. What a volume, a directory and a file hold is what tools/mapped_model.py and tools/tree_model.py make of it. Figures are
-true numbers here, and are held at 2^64 - 1 only as they are put into a row.
+script that writes the shelves. What a volume, a directory and a file hold is what tools/rules.py makes of it. Figures are true numbers here, and are held
+at 2^64 - 1 only as they are put into a row.
 
     tools/survey_model.py             writes crates/survey_cases/stdout
     tools/survey_model.py --check     fails where that file isn't what the model says
@@ -10,7 +10,6 @@ true numbers here, and are held at 2^64 - 1 only as they are put into a row.
                                       else. Needs cc and target/staticlib/libsurveys_c.a (`rt staticlib surveys_c`), or another archive
 """
 
-import functools
 import pathlib
 import random
 import struct
@@ -18,13 +17,11 @@ import sys
 import tempfile
 
 sys.dont_write_bytecode = True
-import checked_model
 import kit
+import rules
 import udf
-from checked_model import asked, number
-from mapped_model import content, opened, resolved
-from model import CRATES, OTHER, Refused, front, stored
-from tree_model import MOST_LEVELS, below
+from asked import CRATES, Cursor, named, stored, unpacked
+from rules import MOST_LEVELS, OTHER, Disc, Refused, number
 
 BAD_SHELF = 15
 MOST = 2**64 - 1
@@ -34,8 +31,8 @@ PLACE = 2 * FIGURES
 FREE = 0xA5A5A5A5A5A5A5A5
 CHOICES = 8
 SURVEY = 0
-
-checked_model.remainder = functools.cache(checked_model.remainder)
+LONGEST_SHELF = 3 * 2**20
+SHELVES = CRATES / "survey_cases/data/shelves"
 
 
 # ---- figures: 16.1 to 16.3
@@ -63,24 +60,25 @@ def put(row):
 
 
 def of_file(image, volume, icb):
-    answer, count, data = asked(image, lambda disc: content(disc, volume, icb))
-    one = [(FILES, 1), (BY_FILES + answer, 1), (SECTORS, min(count, MOST))]
+    disc = Disc(image)
+    answer, length = rules.asked(disc, lambda disc: rules.measure(disc, volume, icb))
+    one = [(FILES, 1), (BY_FILES + answer, 1), (SECTORS, min(disc.count, MOST))]
     if answer:
         return figures(*one)
-    _, _, (_, _, _, _, extents, _, followed) = asked(image, lambda disc: resolved(disc, volume, icb))
-    return figures(*one, (BYTES, len(data)), (EXTENTS, len(extents)), (CHAIN, followed))
+    extents, followed = rules.chained(disc, volume, rules.entry_of(disc, volume, icb))
+    return figures(*one, (BYTES, length), (EXTENTS, len(extents)), (CHAIN, followed))
 
 
 def nodes(disc, how, work):
     """The volume, and of each node of its tree whether it is a directory, and its ICB."""
     if how >= CHOICES:
         raise Refused(OTHER)
-    volume = opened(disc, how)
-    return volume, [(record[3], record[4:20]) for record in below(disc, volume, volume["root"], 1, MOST_LEVELS, work)]
+    volume = rules.opened(disc, how)
+    return volume, [(one.is_directory, one.icb) for _, one in rules.nodes(disc, volume, volume.root, 1, MOST_LEVELS, work)]
 
 
 def of_image(image, how, work):
-    answer, _, found = asked(image, lambda disc: nodes(disc, how, work))
+    answer, found = rules.asked(Disc(image), lambda disc: nodes(disc, how, work))
     one = figures((BY_IMAGES + answer, 1))
     if answer:
         return one
@@ -139,16 +137,24 @@ def said(what, how, numbers, work, shelf, given):
     yield from of_places(row[:whole])
 
 
+def shelves(data):
+    """The name, the bytes and the queries of each shelf of a file."""
+    records = Cursor(data)
+    while records.left():
+        name = named(records)
+        shelf = unpacked(records.inner(records.number(4, "the packed shelf's length"), "the packed shelf"), longest=LONGEST_SHELF)
+        asked, queries = records.inner(records.number(4, "the queries' length"), "the queries"), []
+        while asked.left():
+            numbers = [asked.number(4, "a query") for _ in range(5)]
+            queries.append((*numbers[:4], [asked.number(8, "a query's number") for _ in range(numbers[4])]))
+        yield name, shelf, queries
+
+
 def lines(data):
     """What is printed of a file of shelves."""
-    while data:
-        name, shelf, data = front(data)
-        n = number(data, 0, 4)
-        queries, data = data[4 : 4 + n], data[4 + n :]
+    for name, shelf, queries in shelves(data):
         yield "shelf " + name
-        while queries:
-            what, how, numbers, work, n = struct.unpack_from("<5I", queries)
-            given, queries = list(struct.unpack_from(f"<{n}Q", queries, 20)), queries[20 + 8 * n :]
+        for what, how, numbers, work, given in queries:
             yield from said(what, how, numbers, work, shelf, given)
 
 
@@ -157,15 +163,12 @@ def lines(data):
 
 def stored_images():
     """The images of the stored shelves, as the first survey of each has them."""
-    data, found = (CRATES / "survey_cases/data/shelves").read_bytes(), []
-    while data:
-        _, shelf, data = front(data)
-        n, many = number(data, 0, 4), number(data, 20, 4)
-        lengths = struct.unpack_from(f"<{many}Q", data, 24) if number(data, 4, 4) == SURVEY else ()
-        for size in lengths:
+    found = []
+    for _, shelf, queries in shelves(SHELVES.read_bytes()):
+        what, *_, lengths = queries[0]
+        for size in lengths if what == SURVEY else ():
             found.append(shelf[:size])
             shelf = shelf[size:]
-        data = data[4 + n :]
     return found
 
 
@@ -237,7 +240,7 @@ def at_random(many, seed, archive):
     with tempfile.TemporaryDirectory() as folder:
         program = pathlib.Path(folder) / "survey"
         kit.linked(kit.ROOT / "tools/survey/survey.c", [archive], program)
-        batches = [(CRATES / "survey_cases/data/shelves").read_bytes()]
+        batches = [SHELVES.read_bytes()]
         for n in range(many + 1):
             data = batches.pop()
             if why := differing(program, data):
@@ -250,7 +253,7 @@ def at_random(many, seed, archive):
 
 def main(words):
     if words[:1] != ["--random"]:
-        return stored("survey_cases", lines, words, "shelves")
+        return stored("survey_cases", lines(SHELVES.read_bytes()), words)
     archive = words[3] if len(words) > 3 else kit.ROOT / "target/staticlib/libsurveys_c.a"
     try:
         return at_random(int(words[1]), int(words[2]), archive)

@@ -10,7 +10,8 @@ import struct
 import sys
 
 sys.dont_write_bytecode = True
-from model import CRATES, ROOM, SIZE, stored
+from asked import CRATES, stored
+from rules import ROOM, SIZE
 
 BAD_NAME, BAD_FILES = 13, 14
 MOST_FILES, MOST_NAME, MOST_BYTES = 64, 127, 1073739776
@@ -315,7 +316,7 @@ def main(words):
     elif file.read_bytes() != wanted:
         print("crates/writer_cases/data/written isn't what the model says", file=sys.stderr)
         return 1
-    return stored("writer_cases", lines, words, "cases")
+    return stored("writer_cases", lines((CRATES / "writer_cases/data/cases").read_bytes()), words)
 
 
 if __name__ == "__main__":
