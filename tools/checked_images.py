@@ -1,48 +1,15 @@
-#!/usr/bin/env python3
-"""Writes crates/checked_cases/data/images: a good disc, what is asked of it, and the ways in which one of its descriptors is ruined.
+"""A good disc, what is asked of it, and the ways in which one of its descriptors is ruined: each is an image over the good disc."""
 
-The file has, with little-endian numbers,
-
-    u32 length of the packed image, the packed image, u32 bytes of the queries, the queries, and then a row of cases
-
-tools/udf.py says what a packed image is, and the layout of a volume. A query is
-
-    u32 the number that the volume's mount has as `checked`, u32 room of the output, u32 size of the work space, u32 block of an ICB, u16 length of
-    a path, the path
-
-and a case is the good disc with bytes put over it:
-
-    u16 length of the name, the name, u16 a bit for each query that is made, u16 bytes of the patches, and each patch: u32 offset, u16 length, that
-    many bytes
-
-Usage: tools/checked_images.py. Needs Python's standard library alone, prints nothing, and writes the same bytes each time. tools/checked_model.py
-says what is expected.
-"""
-
-import os
 import struct
-import sys
 
-sys.dont_write_bytecode = True
-import udf
-from directory_images import DELETED, DIRECTORY, identifier, parent
-from udf import ANCHOR, BLOCK, EMBEDDED, EXTENDED_FILE_ENTRY, LONG, MAIN, NEXT, SECTOR, SHORT, START
-from udf import aed, anchor, entry, file_set, logical, long_ad, other, partition, primary, short_ad
+from discs import CHECKED, DELETED, DIRECTORY, Asked, identifier, parent
+from udf import ANCHOR, BLOCK, EMBEDDED, EXTENDED_FILE_ENTRY, LONG, MAIN, NEXT, PARTITION, SECTOR, SHORT, START, TERMINATOR
+from udf import aed, anchor, crc, entry, file_set, logical, long_ad, other, partition, primary, short_ad
 
 # Blocks of the partition: entries, the bytes of directories and files, and continuations.
 ROOT, ROOT_BYTES, SHOW, SHOW_BYTES, DEEP, SMALL, CUE, CHAIN, CUE_BYTES = 5, 6, 8, 9, 10, 12, 13, 14, 20
 FIRST, LONGER, SECOND, LONGER_BYTES, LAST = 21, 22, 25, 24, 26
 SECTORS = START + 32
-
-
-def crc(data):
-    """ECMA-167 3/7.2.6, a bit at a time."""
-    register = 0
-    for byte in data:
-        register ^= byte << 8
-        for _ in range(8):
-            register = (register << 1 ^ 0x1021) & 0xFFFF if register & 0x8000 else register << 1
-    return register
 
 
 def tagged(data, number, length, identifier=None, wrong=0):
@@ -69,7 +36,7 @@ def embedded(data, **how):
 # ---- the good disc: a descriptor of each kind, at each depth
 
 
-class Good(udf.Image):
+class Good(Asked):
     def __init__(self):
         super().__init__("the good disc", SECTORS)
         self.descriptors = {}
@@ -101,10 +68,10 @@ def volume(disc):
     disc.put("primary", MAIN, summed(primary(MAIN), 512))
     # Neither of these is parsed, nor is the terminating descriptor: their bodies aren't looked at.
     disc.put("skipped", MAIN + 1, tagged(other(4)(MAIN + 1), 0xBEEF, 100))
-    disc.put("partition", MAIN + 2, summed(partition(MAIN + 2, number=udf.PARTITION), 512))
+    disc.put("partition", MAIN + 2, summed(partition(MAIN + 2, number=PARTITION), 512))
     disc.put("unlisted", MAIN + 3, tagged(other(77)(MAIN + 3), 0xBEEF, 100))
-    disc.put("logical", MAIN + 4, summed(logical(MAIN + 4, number=udf.PARTITION)))
-    disc.put("terminating", MAIN + 5, tagged(udf.TERMINATOR(MAIN + 5), 0xBEEF, 65535))
+    disc.put("logical", MAIN + 4, summed(logical(MAIN + 4, number=PARTITION)))
+    disc.put("terminating", MAIN + 5, tagged(TERMINATOR(MAIN + 5), 0xBEEF, 65535))
     disc.put("file set", START + BLOCK, summed(file_set(START + BLOCK, root=icb(ROOT))))
 
 
@@ -191,63 +158,62 @@ def cases(disc):
     yield "first continuation: the second of its sectors, length to the end", at, flipped(tagged(good, crc(good[16:]), hand - 16), 3000)
 
 
-def patches(good, at, data):
-    """Where the bytes differ, from the first to the last of them."""
-    places = [i for i, byte in enumerate(data) if byte != good[at + i]]
-    if not places:
-        return b""
-    first, last = places[0], places[-1] + 1
-    return struct.pack("<IH", at + first, last - first) + data[first:last]
-
-
 # ---- what is asked
 
-UNCHECKED, BY_ROOT, BY_SHOW, BY_DEEP, BY_SMALL, BY_CUE, BY_CHAIN = (1 << n for n in range(7))
-ALL = 127
-
-
-def query(checked, block=ROOT, path=b"", room=1024, work=1024):
-    return struct.pack("<IIIIH", checked, room, work, block, len(path)) + path
-
-
-def queries():
-    yield query(0, CHAIN, b"show/chain")
-    yield query(1, ROOT, b"show/chain")
-    yield query(1, SHOW, b"show/deep/cue")
-    yield query(2**31, DEEP, b"SMALL")
-    yield query(256, SMALL, b"nothing")
-    yield query(1, CUE, b"small/x")
-    yield query(1, CHAIN, b"last", room=99, work=300)
+BY_PATH, BY_ICB = ("lookup", "failed", "read_path"), ("list", "read", "extents", "part_at")
+UNCHECKED, BY_ROOT, BY_SHOW, BY_DEEP, BY_SMALL, BY_CUE, BY_CHAIN = ALL = range(7)
+# Of each query what the volume has as `checked`, the ICB's block, the path, the room and the work space.
+QUERIES = {
+    UNCHECKED: (0, CHAIN, "show/chain", 1024, 1024),
+    BY_ROOT: (1, ROOT, "show/chain", 1024, 1024),
+    BY_SHOW: (1, SHOW, "show/deep/cue", 1024, 1024),
+    BY_DEEP: (2**31, DEEP, "SMALL", 1024, 1024),
+    BY_SMALL: (256, SMALL, "nothing", 1024, 1024),
+    BY_CUE: (1, CUE, "small/x", 1024, 1024),
+    BY_CHAIN: (1, CHAIN, "last", 99, 300),
+}
 
 
 def reaching(name):
     """The queries that come to a descriptor, or by it; a volume's is met on opening alone."""
     if name.startswith("root"):
-        return UNCHECKED | BY_ROOT | BY_SMALL
+        return (UNCHECKED, BY_ROOT, BY_SMALL)
     if name.startswith("show"):
-        return UNCHECKED | BY_SHOW
+        return (UNCHECKED, BY_SHOW)
     if name.startswith("deep"):
-        return BY_SHOW | BY_DEEP
-    return {"small": BY_DEEP | BY_SMALL, "cue": BY_SHOW | BY_CUE, "nothing": ALL}.get(
-        name, UNCHECKED | BY_ROOT | BY_CHAIN if name in ("chain", "first continuation", "second continuation") else 0
-    )
+        return (BY_SHOW, BY_DEEP)
+    if name in ("chain", "first continuation", "second continuation"):
+        return (UNCHECKED, BY_ROOT, BY_CHAIN)
+    return {"small": (BY_DEEP, BY_SMALL), "cue": (BY_SHOW, BY_CUE), "nothing": ALL}.get(name, ())
 
 
-def main():
+def ask(image, number):
+    checked, block, path, room, work = QUERIES[number]
+    volume = image.by_hand(start=START, partition=PARTITION, checked=checked, root=icb(ROOT))
+    place = long_ad(SECTOR, block, partition=0, use=b"")
+    image.query(*BY_PATH, *BY_ICB, volume=volume, icb=place, text=path, room=room, work=work, slots=8)
+
+
+def good_disc():
     disc = Good()
     volume(disc)
     directories(disc)
     files(disc)
-    packed, asked = udf.packed(bytes(disc.bytes)), b"".join(queries())
-    parts = [struct.pack("<I", len(packed)), packed, struct.pack("<I", len(asked)), asked]
+    disc.query("open")
+    return disc
+
+
+def ruined():
+    disc = good_disc()
+    yield disc
     for name, at, data in cases(disc):
-        text, patch = name.encode("ascii"), patches(disc.bytes, at, data)
-        asks = reaching(name.partition(":")[0])
-        parts.append(struct.pack("<H", len(text)) + text + struct.pack("<HH", asks, len(patch)) + patch)
-    here = os.path.join(os.path.dirname(os.path.abspath(__file__)), "..", "crates", "checked_cases", "data")
-    os.makedirs(here, exist_ok=True)
-    udf.write_records(os.path.join(here, "images"), parts)
+        image = Asked(name, SECTORS, base=disc)
+        image.bytes[at : at + len(data)] = data
+        for how in (0, CHECKED):
+            image.query("open", "label", volume=how, room=32)
+        for number in reaching(name.partition(":")[0]):
+            ask(image, number)
+        yield image
 
 
-if __name__ == "__main__":
-    main()
+CASES = [ruined]

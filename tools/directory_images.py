@@ -1,155 +1,33 @@
-#!/usr/bin/env python3
-"""Writes crates/vault_cases/data/images: volumes with good, odd and damaged directories, and what is asked of each.
+"""Volumes with good, odd and damaged directories, and what is asked of each by a path or by an ICB. tools/udf.py has the layout of a volume."""
 
-The file is a row of records, with little-endian numbers:
-
-    u16 length of the name, the name, u32 length of the packed image, the packed image, u32 bytes of the queries, the queries
-
-tools/udf.py says what a packed image is, and the layout of a volume. A query is
-
-    u16 what is asked (0 the label, 1 by a path, 2 by an ICB), u32 room of the output, u32 size of the work space, u16 length of a text,
-    the text: the path, or the 16 bytes of the ICB
-
-Usage: tools/directory_images.py. Needs Python's standard library alone, prints nothing, and writes the same bytes each time.
-"""
-
-import os
 import struct
-import sys
 
-sys.dont_write_bytecode = True
-import udf
-from udf import ALLOCATED, ANCHOR, BLOCK, DESCRIPTOR, EMBEDDED, EXT, EXTENDED_FILE_ENTRY, FILE_ENTRY, FILE_IDENTIFIER
-from udf import LONG, MAIN, NEXT, PARTITION, RECORDED, SECTOR, SHORT, START, UNALLOCATED
-from udf import aed, entry, ext_ad, long_ad, short_ad, tag
+import discs
+from discs import DELETED, DIRECTORY, HIDDEN, OTHER, PARENT, ROOT, dstring, identifier, parent, wide
+from udf import ALLOCATED, BLOCK, EMBEDDED, EXT, EXTENDED_FILE_ENTRY, FILE_ENTRY
+from udf import LONG, NEXT, RECORDED, SECTOR, SHORT, UNALLOCATED
+from udf import aed, entry, ext_ad, long_ad, short_ad
 
-OTHER = 6  # Another partition's number.
-ROOT = BLOCK + 1  # The block of the root directory's entry.
-HIDDEN, DIRECTORY, DELETED, PARENT = 1, 2, 4, 8  # File characteristics (ECMA-167 4/14.4.3).
-LABEL, PATH, ICB = 0, 1, 2  # What is asked.
 ROOM, WORK = 2048, 4096  # The output's room and the work space's, where a query says nothing else.
 KINDS = [(SHORT, "short"), (LONG, "long"), (EXT, "ext"), (EMBEDDED, "embedded")]
-
-
-# ---- entries of directories
-
-
-def dstring(name):
-    """A name in 8 bits a character where that is enough, else in 16 (OSTA UDF 2.1.1). Bytes are taken as they are."""
-    if isinstance(name, bytes):
-        return name
-    if all(ord(c) < 256 for c in name):
-        return b"\x08" + name.encode("latin-1")
-    return wide(name)
-
-
-def wide(name):
-    """A name in 16 bits a character; surrogates are kept."""
-    return b"\x10" + name.encode("utf-16-be", "surrogatepass")
-
-
-def identifier(name, icb, marks=0, use=b"", padded=True, name_length=None, use_length=None, **tagged):
-    """A file identifier descriptor (ECMA-167 4/14.4); the lengths are those of what is given, unless they are given too."""
-    text = dstring(name)
-    name_length = len(text) if name_length is None else name_length
-    use_length = len(use) if use_length is None else use_length
-    head = tag(tagged.pop("identifier", FILE_IDENTIFIER), **tagged) + struct.pack("<HBB16sH", 1, marks, name_length, icb, use_length)
-    whole = head + use + text
-    return whole + bytes(-len(whole) % 4) if padded else whole
-
-
-def parent(use=b""):
-    """The entry that each directory begins with: it has no name (4/8.6)."""
-    return identifier(b"", long_ad(SECTOR, ROOT), DIRECTORY | PARENT, use)
 
 
 def joined(path):
     return "/".join(path)
 
 
-class Volume(udf.Image):
-    """An image with a volume on it, whose files are put into its blocks one behind the other."""
-
-    def __init__(self, name, blocks=64, label=b"\x08VAULT", root=long_ad(SECTOR, ROOT), block_size=SECTOR, more=0):
-        super().__init__(name, START + blocks, more)
-        self.root = root
-        self.free = ROOT + 1
-        self.sizes = {}
-        self.lay(ANCHOR, udf.anchor())
-        self.lay(MAIN, udf.primary(MAIN, label))
-        self.lay(MAIN + 1, udf.partition(MAIN + 1, PARTITION))
-        self.lay(MAIN + 2, udf.logical(MAIN + 2, PARTITION, size=block_size))
-        self.lay(MAIN + 3, udf.TERMINATOR(MAIN + 3))
-        self.lay(START + BLOCK, udf.file_set(START + BLOCK, root=root))
-
-    # -- what stands on it
-
-    def put(self, block, what):
-        self.lay(START + block, what)
-
-    def take(self, n=1):
-        """The first of n blocks that nothing else has."""
-        self.free += n
-        return self.free - n
-
-    def extents(self, kind, data, cuts):
-        """The data in extents, cut at the places given; a descriptor for each."""
-        ads = []
-        for a, e in zip([0] + cuts, cuts + [len(data)]):
-            at = self.take(max(1, -(-(e - a) // SECTOR)))
-            self.put(at, data[a:e])
-            ads.append(DESCRIPTOR[kind](e - a, at))
-        return ads
-
-    def chain(self, kind, ads):
-        """Continuations with one of the descriptors in each; the descriptor of the first."""
-        rest = b""
-        for ad in reversed(ads):
-            at = self.take()
-            self.put(at, aed(ad + rest))
-            rest = DESCRIPTOR[kind](SECTOR, at, NEXT)
-        return rest
-
-    def file(self, data, kind=EMBEDDED, cuts=(), chained=False, block=None, information=None, **how):
-        """A file of these bytes; its ICB. A chained one has each extent but the first in a continuation of its own."""
-        block = self.take() if block is None else block
-        information = len(data) if information is None else information
-        if kind == EMBEDDED:
-            self.put(block, entry(kind, data, information, **how))
-        else:
-            first, *others = self.extents(kind, data, list(cuts))
-            rest = self.chain(kind, others) if chained else b"".join(others)
-            self.put(block, entry(kind, first + rest, information, **how))
-        icb = long_ad(SECTOR, block)
-        self.sizes[icb] = min(len(data), information)
-        return icb
-
-    def directory(self, entries, **how):
-        return self.file(b"".join(entries), **how)
-
-    def root_is(self, entries, **how):
-        return self.directory(entries, block=ROOT, **how)
-
-    # -- what is asked of it
-
-    def ask(self, what, text, room, work):
-        self.queries.append(struct.pack("<HIIH", what, room, work, len(text)) + text)
-
+class Volume(discs.Volume):
     def label(self, *rooms):
         for room in rooms:
-            self.ask(LABEL, b"", room, 0)
+            self.query("label", room=room)
 
     def path(self, *paths, room=ROOM, work=WORK):
         for path in paths:
-            self.ask(PATH, path if isinstance(path, bytes) else path.encode("utf-8"), room, work)
+            self.query("lookup", "failed", "read_path", text=path, room=room, work=work)
 
     def icb(self, *icbs, room=ROOM, work=WORK):
         for icb in icbs:
-            self.ask(ICB, icb, room, work)
-
-    def record(self):
-        queries = b"".join(self.queries)
-        return udf.record(self.name, self.bytes) + struct.pack("<I", len(queries)) + queries
+            self.query("list", "read", "part", icb=icb, room=room, work=work)
 
 
 # ---- cases
@@ -765,14 +643,3 @@ CASES = [
     tangles,
     deleted_names,
 ]
-
-
-def main():
-    root = os.path.dirname(os.path.dirname(os.path.abspath(__file__)))
-    folder = os.path.join(root, "crates", "vault_cases", "data")
-    os.makedirs(folder, exist_ok=True)
-    udf.write_records(os.path.join(folder, "images"), (volume.record() for case in CASES for volume in case()))
-
-
-if __name__ == "__main__":
-    main()

@@ -1,6 +1,5 @@
-#!/usr/bin/env python3
-"""Writes crates/drive_cases/data/images: the discs of `file_cases` and `volume_cases`, and some more for a reader that is lent a sector at a time, with what is
-asked of each.
+"""The discs of tools/file_images.py and tools/volume_images.py, and some more for a reader that is lent a sector at a time, with what is asked of each:
+crates/drive_cases/data/images.
 
 The file is a row of records, with little-endian numbers:
 
@@ -10,18 +9,14 @@ tools/udf.py says what a packed image is. An image without queries is opened. A 
 
     u32 the partition's start, u16 its number, u32 whether bodies are checked, u32 the number of maps, u32 the starts of four of them,
     16 bytes the ICB (a long_ad), u32 room of the output
-
-Usage: tools/drive_images.py. Needs Python's standard library alone, prints nothing, and writes the same bytes each time.
 """
 
-import os
 import struct
-import sys
 
-sys.dont_write_bytecode = True
 import file_images
 import udf
 import volume_images
+from asked import WAYS
 from file_images import OTHER, ROOM, START, marks
 from udf import ALLOCATED, DESCRIPTOR, EMBEDDED, EXT, LONG, NEXT, PARTITION, SECTOR, SHORT, aed, entry, ext_ad, long_ad, sealed, short_ad
 
@@ -179,32 +174,23 @@ def mapped():
     yield i
 
 
-CASES = [each_offset, other_descriptors, cut_descriptors, checked_bodies, mapped]
+def copied(image, queries=()):
+    """An image of another writer, asked by a reader that is lent sectors."""
+    one = Image(image.name, more=len(image.bytes))
+    one.bytes[:], one.queries = image.bytes, list(queries)
+    return one
 
 
 def of_files():
-    """The images and the files of file_cases."""
     for case in file_images.CASES:
         for image in case():
-            asked = [struct.unpack("<IH16sIH", one) for one in image.queries]
-            yield record(image.name, image.bytes, [query(start, partition, icb, room) for start, partition, icb, room, _ in asked])
+            volumes = [image.hands[q.volume - WAYS] for q in image.queries]
+            yield copied(image, [query(v.start, v.partition, q.icb, q.room) for v, q in zip(volumes, image.queries)])
 
 
-def records():
-    yield from of_files()
-    for name, one in volume_images.CASES.items():
-        yield record(name, volume_images.flat(*one), [])
-    for case in CASES:
-        for image in case():
-            yield image.record()
+def of_volumes():
+    for image in volume_images.images():
+        yield copied(image)
 
 
-def main():
-    root = os.path.dirname(os.path.dirname(os.path.abspath(__file__)))
-    folder = os.path.join(root, "crates", "drive_cases", "data")
-    os.makedirs(folder, exist_ok=True)
-    udf.write_records(os.path.join(folder, "images"), records())
-
-
-if __name__ == "__main__":
-    main()
+CASES = [of_files, of_volumes, each_offset, other_descriptors, cut_descriptors, checked_bodies, mapped]

@@ -1,23 +1,6 @@
-#!/usr/bin/env python3
-"""Writes crates/file_cases/data/images: small discs with odd, good and damaged files, and what is asked of each.
+"""Small discs with odd, good and damaged files, and what is asked of each by an ICB, on volumes made by hand."""
 
-The file is a row of records, with little-endian numbers:
-
-    u16 length of the name, the name, u32 length of the packed image, the packed image, u16 number of queries, the queries
-
-tools/udf.py says what a packed image is. A query has 28 bytes:
-
-    u32 the partition's start, u16 the volume's partition number, 16 bytes the ICB (a long_ad), u32 room of the output, u16 slots of the row
-
-Usage: tools/file_images.py. Needs Python's standard library alone, prints nothing, and writes the same bytes each time.
-"""
-
-import os
-import struct
-import sys
-
-sys.dont_write_bytecode = True
-import udf
+from discs import Asked
 from udf import ALLOCATED, DESCRIPTOR, EMBEDDED, EXT, EXTENDED_FILE_ENTRY, FILE_ENTRY, LONG, NEXT, PARTITION, RECORDED, SECTOR, SHORT, UNALLOCATED
 from udf import aed, entry, ext_ad, long_ad, short_ad
 
@@ -44,7 +27,7 @@ def full(block):
     return bytes((block * 5 + i * 7 + i // 251) % 255 + 1 for i in range(SECTOR))
 
 
-class Image(udf.Image):
+class Image(Asked):
     """An image, its partition from START on, and files asked for."""
 
     def put(self, block, what, start=START):
@@ -56,15 +39,12 @@ class Image(udf.Image):
 
     def ask(self, block, room=ROOM, slots=SLOTS, start=START, partition=PARTITION, icb=None):
         icb = long_ad(SECTOR, block) if icb is None else icb
-        self.queries.append(struct.pack("<IH16sIH", start, partition, icb, room, slots))
+        self.query("read", "part", "extents", icb=icb, volume=self.by_hand(start=start, partition=partition), room=room, slots=slots)
 
     def file(self, block, what, **how):
         """Puts a file's entry at a block, and asks for the file."""
         self.put(block, what)
         self.ask(block, **how)
-
-    def record(self):
-        return udf.record(self.name, self.bytes) + struct.pack("<H", len(self.queries)) + b"".join(self.queries)
 
 
 # ---- cases
@@ -578,14 +558,3 @@ CASES = [
     icbs,
     entries,
 ]
-
-
-def main():
-    root = os.path.dirname(os.path.dirname(os.path.abspath(__file__)))
-    folder = os.path.join(root, "crates", "file_cases", "data")
-    os.makedirs(folder, exist_ok=True)
-    udf.write_records(os.path.join(folder, "images"), (image.record() for case in CASES for image in case()))
-
-
-if __name__ == "__main__":
-    main()

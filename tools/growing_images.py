@@ -1,54 +1,28 @@
-#!/usr/bin/env python3
-"""Writes crates/growing_cases/data/images: discs that are asked while they are copied, and what is asked of each.
+"""Discs that are asked while they are copied, and what is asked of each."""
 
-The file is a row of records, with little-endian numbers:
-
-    u16 length of the name, the name, u32 length of the packed image, the packed image, u32 bytes of the queries, the queries
-
-tools/udf.py says what a packed image is, and the layout of a volume. A query is
-
-    u32 how the volume is opened (1 bodies checked, 2 through the maps, 4 by the highest numbers), u32 number of the choice of matching, u32 a bit for
-    each call that is made (CALLS), u32 room of the output, u32 size of the work space, 16 bytes of an ICB, u16 length of a text, the text: a path, or
-    where the list of paths is asked for, the list
-
-Usage: tools/growing_images.py. Needs Python's standard library alone, prints nothing, and writes the same bytes each time. tools/growing_model.py says
-what is expected.
-"""
-
-import os
-import struct
-import sys
-
-sys.dont_write_bytecode = True
-import directory_images
+import discs
 import udf
-from directory_images import DIRECTORY, ROOT, identifier, parent
-from mapped_images import PLACES, Disc, Shape
+from asked import WATCHED
+from discs import AS_WRITTEN, CASE_IGNORED, CHECKED, DIRECTORY, MAPS, ROOT, UNAMBIGUOUS, Asked, identifier, parent
+from mapped_images import Disc, Shape, icb_of
 from stack_images import text
-from udf import ALLOCATED, ANCHOR, BLOCK, EXT, LONG, NEXT, PARTITION, SECTOR, SHORT, aed, entry, ext_ad, long_ad, short_ad
+from udf import ALLOCATED, ANCHOR, EXT, LONG, NEXT, PARTITION, SECTOR, SHORT, aed, entry, ext_ad, long_ad, short_ad
 
-CALLS = ("open", "label", "lookup", "failed", "read_path", "read_all", "list", "read", "part", "extents")
-OPENING, BY_PATH, BY_ICB = ("open", "label"), ("lookup", "failed", "read_path"), ("read", "part", "extents")
-CHECKED, MAPS = 1, 2
-CASE_IGNORED, AS_WRITTEN, UNAMBIGUOUS = 0, 1, 2
-ROOM, WORK = 8192, 4096
+OPENING, BY_PATH, BY_ICB = ("open", "label"), ("lookup", "failed_at", "read_path"), ("read", "part_at", "extents")
+ROOM, WORK, LENT = 8192, 4096, 4
 
 
-def query(calls, icb=bytes(16), path=b"", how=0, matching=CASE_IGNORED, room=ROOM, work=WORK):
-    bits = sum(1 << CALLS.index(call) for call in calls)
-    return struct.pack("<5I16sH", how, matching, bits, room, work, icb, len(path)) + path
-
-
-def record(name, image, queries):
-    asked = b"".join(queries)
-    return udf.record(name, bytes(image)) + struct.pack("<I", len(asked)) + asked
+def watch(image, *calls, how=0, room=ROOM, work=WORK, **more):
+    image.query(*calls, volume=how, there=WATCHED, room=room, work=work, slots=LENT, answers=LENT, **more)
 
 
 # ---- files of every form, in blocks that are chosen
 
 
-class Volume(directory_images.Volume):
+class Volume(discs.Volume):
     """A volume on which each thing has a block of its own choice."""
+
+    is_opened = False
 
     def lay_file(self, block, kind, area, information, **how):
         self.put(block, entry(kind, area, information, **how))
@@ -68,9 +42,8 @@ class Volume(directory_images.Volume):
 SCATTERED, SIZES = text(3, 7000), ((3000, 38), (1500, 20), (2500, 30))  # A later extent is there before an earlier one.
 
 
-def forms():
-    """A file of each form and a file or a directory for each refusal, in the order of the copy: entries first, then what they lead to."""
-    v = Volume("files of every form", 44)
+def lay_good(v):
+    """Files of each form, by their names."""
     files = {}
     files["embedded"] = v.lay_file(4, udf.EMBEDDED, text(1, 60), 60)
     files["empty"] = v.lay_file(5, SHORT, b"", 0)
@@ -87,6 +60,12 @@ def forms():
     ads = v.lay_extents(text(5, 500), tuple((100, block) for block in (28, 29, 17, 36, 16)), ext_ad)
     files["wide"] = v.lay_file(10, EXT, b"".join(ads[:4]) + ext_ad(SECTOR + 24, 34, NEXT), 500)
     v.put(34, aed(ads[4] + bytes(20) + bytes(SECTOR - 40)))
+    return files
+
+
+def lay_refused(v):
+    """Files for each refusal, by their names."""
+    files = {}
     # Behind one extent that is there in the end: one that isn't recorded (4), one of another partition (4), a bad continuation (2), and none (1).
     files["unrecorded"] = v.lay_file(11, SHORT, short_ad(SECTOR, 32) + short_ad(10, 32, ALLOCATED), 3000)
     files["foreign"] = v.lay_file(12, LONG, long_ad(SECTOR, 32) + long_ad(10, 32, partition=PARTITION + 1), 3000)
@@ -94,6 +73,14 @@ def forms():
     v.put(35, aed(short_ad(100, 33), wrong=1))
     files["gone"] = v.lay_file(14, SHORT, short_ad(SECTOR, 32) + short_ad(SECTOR, 44), 4096)
     files["bad"] = v.lay_file(15, SHORT, b"", 0, wrong=1)
+    return files
+
+
+def every_form(name):
+    """A volume with a file of each form and a file or a directory for each refusal, in the order of the copy: entries first, then what they lead to. The ICBs
+    of these by their names, and how many bytes the directories have."""
+    v = Volume(name, 44)
+    files = {**lay_good(v), **lay_refused(v)}
     # What is behind the file's length isn't asked for.
     files["cut"] = v.lay_file(21, SHORT, short_ad(5000, 22) + short_ad(SECTOR, 44), 5000)
     # A directory in two extents, the second of which is there first, and one with names of the same letters.
@@ -106,28 +93,30 @@ def forms():
     data = b"".join(root)
     v.put(26, data)
     v.put(ROOT, entry(SHORT, short_ad(len(data), 26), len(data)))
-    return record(v.name, v.bytes, list(forms_asked(files, len(data), len(show))))
+    return v, files, len(data), len(show)
 
 
-def forms_asked(files, root, show):
-    yield query(OPENING)
+def forms():
+    v, files, root, show = every_form("files of every form")
+    watch(v, *OPENING)
     for name, icb in files.items():
-        yield query((*BY_ICB, "read_path"), icb, name.encode("ascii"))
+        watch(v, *BY_ICB, "read_path", icb=icb, text=name)
     # By path: through the directory in two extents, under each choice, and what isn't there.
-    for matching, path in ((CASE_IGNORED, b"show/cue"), (AS_WRITTEN, b"show/ten"), (UNAMBIGUOUS, b"show/ten"), (CASE_IGNORED, b"SHOW/none/x")):
-        yield query((*BY_PATH, "list"), files["show"], path, matching=matching)
+    for matching, path in ((CASE_IGNORED, "show/cue"), (AS_WRITTEN, "show/ten"), (UNAMBIGUOUS, "show/ten"), (CASE_IGNORED, "SHOW/none/x")):
+        watch(v, *BY_PATH, "list", icb=files["show"], text=path, matching=matching)
     # With too little room (5), and with too little work space (6) for the root or for the directory behind it.
     assert root > show
-    yield query(("read", "read_path"), files["scattered"], b"scattered", room=6999)
-    yield query(("list", *BY_PATH), files["show"], b"show/cue", room=60, work=root)
-    yield query(("list", *BY_PATH), files["show"], b"show/cue", work=root - 1)
-    yield query(("list",), files["show"], work=show - 1)
+    watch(v, "read", "read_path", icb=files["scattered"], text="scattered", room=6999)
+    watch(v, "list", *BY_PATH, icb=files["show"], text="show/cue", room=60, work=root)
+    watch(v, "list", *BY_PATH, icb=files["show"], text="show/cue", work=root - 1)
+    watch(v, "list", icb=files["show"], work=show - 1)
     # Lists: of files that come in another order than they are asked for; of two of which the second is there first, and has no room left once the
     # first is there too; of refusals; and of an item too many.
-    yield query(("read_all",), path=b"\0".join((b"scattered", b"one", b"embedded", b"show/cue")), room=ROOM + 4000)
-    yield query(("read_all",), path=b"\0".join((b"scattered", b"one")), room=11000)
-    yield query(("read_all",), path=b"\0".join((b"gone", b"nothing", b"unrecorded", b"chain")))
-    yield query(("read_all",), path=b"\0".join((b"one", b"one", b"one", b"one", b"one")))
+    watch(v, "read_all", text="scattered\0one\0embedded\0show/cue", room=ROOM + 4000)
+    watch(v, "read_all", text="scattered\0one", room=11000)
+    watch(v, "read_all", text="gone\0nothing\0unrecorded\0chain")
+    watch(v, "read_all", text="\0".join(["one"] * 5))
+    yield v
 
 
 # ---- two partitions, found through the maps, with bodies checked and without
@@ -135,26 +124,26 @@ def forms_asked(files, root, show):
 TWO = Shape("two", [1, 0], [290, 262], [0, 1])  # The first map leads to the partition that is copied last.
 
 
+def two_partitions(name, **how):
+    """The disc of tools/mapped_images.py with two partitions, closer together."""
+    image = Asked(name, TWO.sectors)
+    image.bytes[:] = Disc(TWO, **how).bytes
+    return image
+
+
 def mapped():
-    """The disc of `mapped_cases` with two partitions, closer together; a continuation and a directory's identifiers have wrong bodies."""
-    disc = Disc(TWO, bad=("second", "show's bytes"))
-
-    def icb(name):
-        block, at = PLACES[name]
-        return long_ad(SECTOR, block, partition=at % 2)
-
-    def asked():
-        for how in (0, MAPS, MAPS | CHECKED):
-            yield query(OPENING, how=how)
-        for name in ("small", "lines", "mixed", "chain", "wide"):
-            yield query((*BY_ICB, "read_path"), icb(name), name.encode("ascii"), how=MAPS)
-        for name in ("chain", "lines"):
-            yield query((*BY_ICB, "read_path"), icb(name), name.encode("ascii"), how=MAPS | CHECKED)
-        for how in (MAPS, MAPS | CHECKED):
-            yield query((*BY_PATH, "list"), icb("show"), b"show/deep/cue", how=how)
-        yield query(BY_ICB, long_ad(SECTOR, PLACES["small"][0], partition=2), how=MAPS)
-
-    return record("two partitions", disc.bytes, list(asked()))
+    """A continuation and a directory's identifiers have wrong bodies."""
+    image = two_partitions("two partitions", bad=("second", "show's bytes"))
+    for how in (0, MAPS, MAPS | CHECKED):
+        watch(image, *OPENING, how=how)
+    for name in ("small", "lines", "mixed", "chain", "wide"):
+        watch(image, *BY_ICB, "read_path", icb=icb_of(TWO, name), text=name, how=MAPS)
+    for name in ("chain", "lines"):
+        watch(image, *BY_ICB, "read_path", icb=icb_of(TWO, name), text=name, how=MAPS | CHECKED)
+    for how in (MAPS, MAPS | CHECKED):
+        watch(image, *BY_PATH, "list", icb=icb_of(TWO, "show"), text="show/deep/cue", how=how)
+    watch(image, *BY_ICB, icb=icb_of(TWO, "small", reference=2), how=MAPS)
+    yield image
 
 
 # ---- a partition in front of the volume's descriptors
@@ -163,7 +152,7 @@ def mapped():
 def behind():
     """The partition is there before the volume can be opened; the sequence stands behind the anchor, and the file set descriptor behind both."""
     start, first, block = 40, ANCHOR + 2, 222
-    image = udf.Image("the volume's descriptors last", 266)
+    image = Asked("the volume's descriptors last", 266)
     sequence = [
         udf.primary(first, b"\x08LAST"),
         udf.partition(first + 1, PARTITION, start),
@@ -180,14 +169,9 @@ def behind():
     image.lay(start + 4, entry(SHORT, short_ad(3000, 6) + short_ad(90, 5), 3050))
     image.lay(start + 6, text(7, 3000))
     image.lay(start + 5, text(8, 90))
-    return record(image.name, image.bytes, [query(OPENING), query((*BY_PATH, *BY_ICB), icb, b"cue")])
+    watch(image, *OPENING)
+    watch(image, *BY_PATH, *BY_ICB, icb=icb, text="cue")
+    yield image
 
 
-def main():
-    here = os.path.join(os.path.dirname(os.path.abspath(__file__)), "..", "crates", "growing_cases", "data")
-    os.makedirs(here, exist_ok=True)
-    udf.write_records(os.path.join(here, "images"), [forms(), mapped(), behind()])
-
-
-if __name__ == "__main__":
-    main()
+CASES = [forms, mapped, behind]

@@ -1,36 +1,15 @@
-#!/usr/bin/env python3
-"""Writes crates/mapped_cases/data/images: discs with partition maps, what is asked of each, and cases, each a disc with bytes put over it.
+"""Discs with partition maps, what is asked of each, and cases, each a disc with other bytes put over it."""
 
-The file is a row of discs, with little-endian numbers:
-
-    u32 length of the packed image, the packed image, u32 bytes of the queries, the queries, u32 bytes of the cases, the cases
-
-tools/udf.py says what a packed image is. A query is
-
-    u32 how the volume is opened (1 bodies checked, 2 through the maps, 4 by the highest numbers), and 8 where the next number is put into its mount,
-    u32 a number for the mount's `maps`, u32 room of the output, u32 size of the work space, 16 bytes of an ICB, u16 length of a path, the path
-
-and a case is
-
-    u16 length of the name, the name, u16 a bit for each way of opening that is printed (those of a query), u32 a bit for each query that is made,
-    u16 bytes of the patches, and each patch: u32 offset, u16 length, that many bytes
-
-Usage: tools/mapped_images.py. Needs Python's standard library alone, prints nothing, and writes the same bytes each time. tools/mapped_model.py says
-what is expected.
-"""
-
-import os
 import struct
-import sys
+from typing import NamedTuple
 
-sys.dont_write_bytecode = True
 import udf
-from directory_images import DELETED, DIRECTORY, identifier, parent
+from discs import CHECKED, DELETED, DIRECTORY, EVERY_WAY, HIGHEST, MAPS, Asked, identifier, parent
 from udf import ALLOCATED, ANCHOR, BLOCK, EMBEDDED, EXT, EXTENDED_FILE_ENTRY, LONG, MAIN, NEXT, RECORDED, SECTOR, SHORT
 from udf import aed, anchor, entry, ext_ad, file_set, logical, long_ad, partition, primary, sealed, short_ad
 
 LAST = 2**32 - 1
-CHECKED, MAPS, HIGHEST, BY_HAND = 1, 2, 4, 8
+CALLS = ("lookup", "list", "read", "extents", "read_path", "part_at")
 STRAY = 288  # A partition that no good map leads to, with a file set descriptor of its own.
 
 # Where a thing stands: its block, and its partition by its place among four maps. With fewer maps the places are counted round.
@@ -246,9 +225,15 @@ class Disc:
 # ---- what is asked
 
 
-def query(how, icb, path=b"", maps=None, room=4096, work=1024):
-    number = 0 if maps is None else maps
-    return struct.pack("<IIII16sH", how | (BY_HAND if maps is not None else 0), number, room, work, icb, len(path)) + path
+class Query(NamedTuple):
+    """How the volume is opened, an ICB and a path; and a number for the volume's maps, where it is made by hand."""
+
+    how: int
+    icb: bytes
+    path: bytes = b""
+    maps: int | None = None
+    room: int = 4096
+    work: int = 1024
 
 
 def icb_of(shape, name, length=SECTOR, reference=None):
@@ -274,85 +259,86 @@ READING = {
 def queries(shape):
     """Each under its name."""
     n = len(shape.numbers)
-    asked = {name: query(how, icb_of(shape, thing), path) for name, (how, thing, path) in READING.items()}
+    asked = {name: Query(how, icb_of(shape, thing), path) for name, (how, thing, path) in READING.items()}
     if n == 1:
         # All of it can be read without maps too.
-        asked.update({f"old {name}": query(how - MAPS, icb_of(shape, thing), path) for name, (how, thing, path) in READING.items()})
+        asked.update({f"old {name}": Query(how - MAPS, icb_of(shape, thing), path) for name, (how, thing, path) in READING.items()})
     else:
-        asked["old chain"] = query(CHECKED, icb_of(shape, "chain", reference=9), b"small")
-        asked["old mixed"] = query(HIGHEST, icb_of(shape, "mixed"), b"mixed")
+        asked["old chain"] = Query(CHECKED, icb_of(shape, "chain", reference=9), b"small")
+        asked["old mixed"] = Query(HIGHEST, icb_of(shape, "mixed"), b"mixed")
     asked |= {
-        "old both": query(0, icb_of(shape, "both"), b"both"),
-        "empty at the maps": query(MAPS, icb_of(shape, "small", 0, n)),
-        "at the maps": query(MAPS, icb_of(shape, "small", reference=n)),
-        "far beyond the maps": query(MAPS | CHECKED, icb_of(shape, "small", reference=65535)),
-        "below the maps": query(MAPS, icb_of(shape, "cue", reference=n - 1), b"show/deep/cue"),
-        "old at the maps": query(0, icb_of(shape, "small", reference=n)),
-        "old and empty": query(0, icb_of(shape, "small", 0, n)),
-        "by hand 0": query(MAPS, icb_of(shape, "both"), b"show/both", maps=0),
+        "old both": Query(0, icb_of(shape, "both"), b"both"),
+        "empty at the maps": Query(MAPS, icb_of(shape, "small", 0, n)),
+        "at the maps": Query(MAPS, icb_of(shape, "small", reference=n)),
+        "far beyond the maps": Query(MAPS | CHECKED, icb_of(shape, "small", reference=65535)),
+        "below the maps": Query(MAPS, icb_of(shape, "cue", reference=n - 1), b"show/deep/cue"),
+        "old at the maps": Query(0, icb_of(shape, "small", reference=n)),
+        "old and empty": Query(0, icb_of(shape, "small", 0, n)),
+        "by hand 0": Query(MAPS, icb_of(shape, "both"), b"show/both", maps=0),
     }
     if n > 1:
         asked |= {
-            "by hand 1": query(MAPS, icb_of(shape, "mixed", reference=0), b"mixed", maps=1),
-            "by hand 3": query(MAPS, icb_of(shape, "mixed"), b"mixed", maps=3),
-            "by hand 4": query(MAPS, icb_of(shape, "cue", reference=3), b"chain", maps=4),
-            "by hand 5": query(MAPS, icb_of(shape, "cue", reference=4), b"chain", maps=5),
-            "by hand, most": query(MAPS, icb_of(shape, "cue", reference=65535), b"show/deep/cue", maps=LAST),
-            "by hand over none": query(0, icb_of(shape, "both"), b"both", maps=4),
-            "little room": query(MAPS, icb_of(shape, "mixed"), b"mixed", room=100),
-            "little work": query(MAPS, icb_of(shape, "show"), b"show/both", room=30, work=150),
+            "by hand 1": Query(MAPS, icb_of(shape, "mixed", reference=0), b"mixed", maps=1),
+            "by hand 3": Query(MAPS, icb_of(shape, "mixed"), b"mixed", maps=3),
+            "by hand 4": Query(MAPS, icb_of(shape, "cue", reference=3), b"chain", maps=4),
+            "by hand 5": Query(MAPS, icb_of(shape, "cue", reference=4), b"chain", maps=5),
+            "by hand, most": Query(MAPS, icb_of(shape, "cue", reference=65535), b"show/deep/cue", maps=LAST),
+            "by hand over none": Query(0, icb_of(shape, "both"), b"both", maps=4),
+            "little room": Query(MAPS, icb_of(shape, "mixed"), b"mixed", room=100),
+            "little work": Query(MAPS, icb_of(shape, "show"), b"show/both", room=30, work=150),
         }
     if shape.links:
-        asked["links"] = query(MAPS, icb_of(shape, "links"), b"links")
+        asked["links"] = Query(MAPS, icb_of(shape, "links"), b"links")
     return asked
 
 
 # ---- the cases
 
-ALL = range(8)
+ALL = EVERY_WAY
 SOME = (0, MAPS, MAPS | CHECKED, MAPS | HIGHEST)
 BOTH = (0, MAPS)
 MAPPED = (MAPS,)
 READS = ("mixed", "chain", "lines", "wide", "root", "show", "deep", "old both")
 
 
+def by_hand(shape, how):
+    """The volume that the good disc opens to: through the maps, or as the last partition descriptor has it."""
+    if not how & MAPS:
+        last = shape.numbers.index(shape.order[-1])
+        return {"start": shape.starts[last], "partition": shape.order[-1], "root": icb_of(shape, "old root")}
+    own, none = PLACES["file set"][1] % len(shape.numbers), [0] * (4 - len(shape.numbers))
+    rows = {"volumes": [11 + i for i in range(len(shape.numbers))], "numbers": shape.numbers, "starts": shape.starts}
+    rows = {name: tuple([*row, *none]) for name, row in rows.items()}
+    return {"start": shape.starts[own], "partition": shape.numbers[own], "root": icb_of(shape, "root"), **rows}
+
+
 class Cases:
-    def __init__(self, shape):
-        self.shape, self.good, self.asked, self.parts = shape, bytes(Disc(shape).bytes), queries(shape), []
+    """The good disc of a shape, and images over it."""
+
+    def __init__(self, shape, number):
+        self.shape, self.asked = shape, queries(shape)
+        self.good = Asked(f"disc {number}", shape.sectors)
+        self.good.bytes[:] = Disc(shape).bytes
+        self.good.query("open")
+        self.images = [self.good]
 
     def add(self, name, opens=SOME, asks=(), image=None, **how):
-        image = bytes((image or Disc(self.shape, **how)).bytes)
-        patch = patches(self.good, image)
+        one = Asked(f"{self.shape.name}: {name}", self.shape.sectors, base=self.good)
+        one.bytes[:] = (image or Disc(self.shape, **how)).bytes
+        for way in opens:
+            one.query("open", "label", volume=way, room=32)
         if "old root" in self.asked:
             asks = set(asks) | {f"old {what}" for what in asks if what in READING}
-        bits = sum(1 << i for i, what in enumerate(self.asked) if what in asks)
-        assert bits.bit_count() == len(asks), (name, asks)
-        text = f"{self.shape.name}: {name}".encode("ascii")
-        self.parts.append(struct.pack("<H", len(text)) + text + struct.pack("<HIH", sum(1 << how for how in opens), bits, len(patch)) + patch)
+        assert set(asks) <= set(self.asked), (name, asks)
+        for what, q in self.asked.items():
+            if what in asks:
+                volume = q.how if q.maps is None else one.by_hand(maps=q.maps, **by_hand(self.shape, q.how))
+                one.query(*CALLS, volume=volume, icb=q.icb, text=q.path, room=q.room, work=q.work, slots=8)
+        self.images.append(one)
 
     def table(self, name, opens=SOME, asks=(), **how):
         """With another logical volume descriptor."""
         self.add(name, opens, asks, sequence=usual(self.shape, lvd(self.shape, **how)))
-
-    def record(self):
-        packed, asked, cases = udf.packed(self.good), b"".join(self.asked.values()), b"".join(self.parts)
-        return b"".join(struct.pack("<I", len(one)) + one for one in (packed, asked, cases))
-
-
-def patches(good, image):
-    """Where the bytes differ; places that are near each other are one patch."""
-    assert len(good) == len(image)
-    runs = []
-    for sector in range(0, len(good), SECTOR):
-        if good[sector : sector + SECTOR] == image[sector : sector + SECTOR]:
-            continue
-        for i in range(sector, min(sector + SECTOR, len(good))):
-            if good[i] != image[i]:
-                if runs and i - runs[-1][1] < 8:
-                    runs[-1][1] = i + 1
-                else:
-                    runs.append([i, i + 1])
-    return b"".join(struct.pack("<IH", a, e - a) + image[a:e] for a, e in runs)
 
 
 def replaced(maps, at, one):
@@ -575,7 +561,7 @@ def chains(c):
 
 
 def four():
-    c = Cases(FOUR)
+    c = Cases(FOUR, 1)
     c.add("nothing", ALL, tuple(c.asked))
     counts_and_lengths(c)
     forms(c)
@@ -586,11 +572,11 @@ def four():
     readings(c)
     orders(c)
     bodies(c)
-    return c
+    return c.images
 
 
 def two():
-    c = Cases(TWO)
+    c = Cases(TWO, 2)
     c.add("nothing", ALL, tuple(c.asked))
     references(c)
     readings(c)
@@ -598,11 +584,11 @@ def two():
     for count in (0, 1, 3, 4):
         maps = (maps_of(TWO) * 2)[:count]
         c.table(f"{count} maps", maps=maps, asks=("mixed",) if count > 1 else ())
-    return c
+    return c.images
 
 
 def one():
-    c = Cases(ONE)
+    c = Cases(ONE, 3)
     c.add("nothing", ALL, tuple(c.asked))
     c.table("0 maps", maps=[], opens=ALL)
     c.table("file set reference 1", reference=1, opens=ALL)
@@ -610,14 +596,7 @@ def one():
     readings(c)
     orders(c)
     bodies(c)
-    return c
+    return c.images
 
 
-def main():
-    here = os.path.join(os.path.dirname(os.path.abspath(__file__)), "..", "crates", "mapped_cases", "data")
-    os.makedirs(here, exist_ok=True)
-    udf.write_records(os.path.join(here, "images"), [made().record() for made in (four, two, one)])
-
-
-if __name__ == "__main__":
-    main()
+CASES = [four, two, one]

@@ -1,47 +1,20 @@
-#!/usr/bin/env python3
-"""Writes crates/matching_cases/data/images: volumes whose directories have several entries of one name, and the paths that are asked for.
+"""Volumes whose directories have several entries of one name, and the paths that are asked for, under each choice of matching."""
 
-The file is a row of records, with little-endian numbers:
-
-    u16 length of the name, the name, u32 length of the packed image, the packed image, u32 bytes of the queries, the queries
-
-tools/udf.py says what a packed image is, and the layout of a volume. A query is
-
-    u32 number of the choice of matching, u32 room of the output, u32 size of the work space, u16 length of the path, the path
-
-Usage: tools/matching_images.py. Needs Python's standard library alone, prints nothing, and writes the same bytes each time.
-tools/matching_model.py says what is expected.
-"""
-
-import os
-import struct
-import sys
-
-sys.dont_write_bytecode = True
-import directory_images
+import discs
 import udf
-from directory_images import DELETED, DIRECTORY, HIDDEN, PARENT, identifier, parent, wide
+from discs import DELETED, DIRECTORY, HIDDEN, MATCHINGS, PARENT, identifier, parent, wide
 from udf import SECTOR, SHORT, long_ad, short_ad
 
-CHOICES = (0, 1, 2)  # ASCII case ignored; as written; unambiguous.
 ROOM, WORK = 64, 4096
 LAST = "f"  # The file at the end of a long path.
 
 
-class Volume(directory_images.Volume):
-    def path(self, *paths, choices=CHOICES, room=ROOM, work=WORK):
+class Volume(discs.Volume):
+    def path(self, *paths, choices=MATCHINGS, room=ROOM, work=WORK):
         """Asks for each path under each choice."""
         for path in paths:
-            text = path if isinstance(path, bytes) else path.encode("utf-8")
             for choice in choices:
-                self.queries.append(struct.pack("<IIIH", choice, room, work, len(text)) + text)
-
-    def cue(self, name, marks=0):
-        """An entry, and behind it a file that says which it is."""
-        return identifier(name, self.file(b"cue %d" % self.free), marks)
-
-    def folder(self, name, entries, marks=0, **how):
-        return identifier(name, self.directory(entries, **how), DIRECTORY | marks)
+                self.query("lookup", "failed", "read_path", "failed_at", text=path, matching=choice, room=room, work=work)
 
 
 def letters():
@@ -183,14 +156,3 @@ def rooms():
 
 
 CASES = [letters, equal_names, outside_ascii, skipped, bad_entries, depths, unread, rooms]
-
-
-def main():
-    root = os.path.dirname(os.path.dirname(os.path.abspath(__file__)))
-    folder = os.path.join(root, "crates", "matching_cases", "data")
-    os.makedirs(folder, exist_ok=True)
-    udf.write_records(os.path.join(folder, "images"), (volume.record() for case in CASES for volume in case()))
-
-
-if __name__ == "__main__":
-    main()

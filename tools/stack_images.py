@@ -1,44 +1,21 @@
-#!/usr/bin/env python3
-"""Writes crates/stack_cases/data/images: volumes, and the lists of paths that are read from them in one call.
+"""Volumes, and the lists of paths that are read from them in one call."""
 
-The file is a row of records, with little-endian numbers:
-
-    u16 length of the name, the name, u32 length of the packed image, the packed image, u32 bytes of the queries, the queries
-
-tools/udf.py says what a packed image is, and the layout of a volume. A query is
-
-    u32 number of the choice of matching, u32 room of the output, u32 size of the work space, u32 places of the row of lengths, u32 places of the
-    row of answers, u32 bytes of the paths, the paths
-
-Usage: tools/stack_images.py. Needs Python's standard library alone, prints nothing, and writes the same bytes each time.
-tools/stack_model.py says what is expected.
-"""
-
-import os
-import struct
-import sys
-
-sys.dont_write_bytecode = True
-import directory_images
+import discs
 import udf
-from directory_images import DIRECTORY, identifier, parent
+from discs import MATCHINGS, encoded, identifier, parent
 from udf import ALLOCATED, SECTOR, SHORT, long_ad, short_ad
 
-CHOICES = (0, 1, 2)  # ASCII case ignored; as written; unambiguous.
 ROOM, WORK = 4096, 4096
 
 
-class Volume(directory_images.Volume):
+class Volume(discs.Volume):
     def stack(self, items, choices=(0,), room=ROOM, work=WORK, lengths=None, answers=None):
         """Asks for a list of items under each choice; each row has a place for each item, unless it is given."""
-        paths = b"\0".join(item if isinstance(item, bytes) else item.encode("utf-8") for item in items)
-        lengths = len(items) if lengths is None else lengths
+        paths = b"\0".join(map(encoded, items))
+        slots = len(items) if lengths is None else lengths
         answers = len(items) if answers is None else answers
         for choice in choices:
-            self.queries.append(struct.pack("<6I", choice, room, work, lengths, answers, len(paths)) + paths)
-
-    def folder(self, name, entries, **how):
-        return identifier(name, self.directory(entries, **how), DIRECTORY)
+            self.query("read_all", text=paths, matching=choice, room=room, work=work, slots=slots, answers=answers)
 
 
 def text(n, size):
@@ -81,7 +58,7 @@ def counts():
         rows = [(n, n), (n + 1, n), (n, n + 3), (n + 5, n + 5), (n - 1, n), (n, n - 1), (n - 1, n - 1), (0, n), (n, 0), (0, 0)]
         for lengths, answers in dict.fromkeys(rows):
             v.stack(items, room=40000, lengths=lengths, answers=answers)
-    v.stack(thousand, choices=CHOICES, room=65536)
+    v.stack(thousand, choices=MATCHINGS, room=65536)
     v.stack(thousand, room=65536, lengths=1003, answers=1001)
     v.stack(thousand, room=65536, lengths=999)
     v.stack(thousand, room=65536, answers=999)
@@ -92,7 +69,7 @@ def counts():
 def empties():
     """Empty items read the root's bytes: alone, first, last, two together, and nothing else."""
     v = show("empty items")
-    v.stack([""], choices=CHOICES)
+    v.stack([""], choices=MATCHINGS)
     for items in (["", "cue0"], ["cue0", ""], ["", "cue0", ""], ["cue0", "", "", "cue1"], ["", ""], ["", "", "", "", ""], ["/", "//", ""]):
         v.stack(items, room=16384)
     v.stack([""], lengths=0)
@@ -120,9 +97,9 @@ def refusals():
     for work in (4096, 1024, 700, 600, 100, 0):
         v.stack(["cue0", "many/n00", "cue1", "deep/down/cue", "", "many"], room=16384, work=work)
     # 9, under the third choice alone.
-    v.stack(["cue0", "twins/ten", "twins/Ten", "TWINS/ONE", "twins/TEN", "twins/one", "CUE1"], choices=(*CHOICES, 3, 2**32 - 1))
+    v.stack(["cue0", "twins/ten", "twins/Ten", "TWINS/ONE", "twins/TEN", "twins/one", "CUE1"], choices=(*MATCHINGS, 3, 2**32 - 1))
     # All seven in one list.
-    v.stack(["cue0", "gone", "bad", "nothing", "unrecorded", "cue5", "many/n00", "twins/ten", "cue2"], choices=CHOICES, room=1000, work=1100)
+    v.stack(["cue0", "gone", "bad", "nothing", "unrecorded", "cue5", "many/n00", "twins/ten", "cue2"], choices=MATCHINGS, room=1000, work=1100)
     yield v
 
 
@@ -151,8 +128,8 @@ def rooms():
 def paths():
     """Paths as they are read alone: slashes, cases, names that aren't UTF-8; and a list that ends with a zero, which has an empty item behind it."""
     v = show("paths of every form")
-    v.stack(["/cue0", "cue0/", "//deep//down//cue//", "CUE0", "Cue0", "deep/down", "deep/down/cue/x", b"\xff", b"cue0\xc3"], choices=CHOICES, room=16384)
-    v.stack(["deep/down/cue"], choices=CHOICES)
+    v.stack(["/cue0", "cue0/", "//deep//down//cue//", "CUE0", "Cue0", "deep/down", "deep/down/cue/x", b"\xff", b"cue0\xc3"], choices=MATCHINGS, room=16384)
+    v.stack(["deep/down/cue"], choices=MATCHINGS)
     v.stack(["cue0", "cue1", ""], room=16384)
     yield v
 
@@ -166,14 +143,3 @@ def unopened():
 
 
 CASES = [counts, empties, refusals, rooms, paths, unopened]
-
-
-def main():
-    root = os.path.dirname(os.path.dirname(os.path.abspath(__file__)))
-    folder = os.path.join(root, "crates", "stack_cases", "data")
-    os.makedirs(folder, exist_ok=True)
-    udf.write_records(os.path.join(folder, "images"), (volume.record() for case in CASES for volume in case()))
-
-
-if __name__ == "__main__":
-    main()

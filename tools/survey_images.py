@@ -1,5 +1,4 @@
-#!/usr/bin/env python3
-"""Writes crates/survey_cases/data/shelves: shelves of images, one behind another, and the surveys that are asked of them; and rows by hand, that are totalled.
+"""Shelves of images, one behind another, and the surveys that are asked of them; and rows by hand, that are totalled: crates/survey_cases/data/shelves.
 
 The file is a row of records, with little-endian numbers:
 
@@ -9,20 +8,14 @@ tools/udf.py says what is packed. A query is
 
     u32 what is asked (0 a survey, 1 a total), u32 how the images are opened, u32 how many numbers the row has, u32 size of the work space,
     u32 how many numbers follow, and those, u64 each: the lengths of the images; or how many places are totalled, and what the row has at its front
-
-Usage: tools/survey_images.py. Needs Python's standard library alone, prints nothing, and writes the same bytes each time.
-tools/survey_model.py says what is expected.
 """
 
-import os
 import struct
-import sys
 
-sys.dont_write_bytecode = True
 import mapped_images
 import tree_images
 import udf
-from directory_images import DELETED, DIRECTORY, HIDDEN, OTHER, PARENT, ROOT, identifier
+from discs import CHECKED, DELETED, DIRECTORY, HIDDEN, HIGHEST, MAPS, OTHER, PARENT, ROOT, identifier
 from tree_images import Chance, Item, grown, nested
 from udf import ALLOCATED, ANCHOR, BLOCK, EMBEDDED, EXT, EXTENDED_FILE_ENTRY, LONG, MAIN, NEXT, PARTITION, SECTOR, SHORT, TERMINATOR, UNALLOCATED
 from udf import aed, entry, ext_ad, file_set, logical, long_ad, partition, primary, short_ad
@@ -34,7 +27,7 @@ GONE = 4000  # A block past every image.
 WORK = 8192  # The work space, where a query says nothing else.
 PLACE = 76  # How many numbers a place has.
 MOST = 2**64 - 1
-CHECKED, MAPS, HIGHEST, NONE_SUCH = 1, 2, 4, 8
+NONE_SUCH = 8  # No way of opening.
 SURVEY, TOTAL = 0, 1
 HEADS = (b"\x02\x01", b"\x05\x01", b"\x0a\x01")  # How an allocation extent and the two file entries begin.
 USUAL = [primary, made(partition, number=PARTITION, start=START), made(logical, number=PARTITION), TERMINATOR]
@@ -53,12 +46,6 @@ class Volume(tree_images.Volume):
 
     def put(self, block, what):
         self.lay(START + block, udf.sealed(what) if what[:2] in HEADS else what)
-
-    def stored(self, what):
-        """A file entry, or what stands in its place, in a block of its own: its ICB."""
-        at = self.take()
-        self.put(at, what)
-        return long_ad(SECTOR, at)
 
     def data(self, n=1):
         """Blocks that hold something."""
@@ -513,14 +500,3 @@ def by_hand():
 
 
 CASES = [nothing, rows, cuts, openings, trees, files, paths, chains, beyond, choices, at_random, by_hand]
-
-
-def main():
-    root = os.path.dirname(os.path.dirname(os.path.abspath(__file__)))
-    folder = os.path.join(root, "crates", "survey_cases", "data")
-    os.makedirs(folder, exist_ok=True)
-    udf.write_records(os.path.join(folder, "shelves"), (shelf.record() for case in CASES for shelf in case()))
-
-
-if __name__ == "__main__":
-    main()

@@ -1,28 +1,11 @@
-#!/usr/bin/env python3
-"""Writes crates/tree_cases/data/images: volumes with trees of directories, and the shows that are asked of them.
+"""Volumes with trees of directories, and the shows that are asked of them."""
 
-The file is a row of records, with little-endian numbers:
-
-    u16 length of the name, the name, u32 length of the packed image, the packed image, u32 bytes of the queries, the queries
-
-tools/udf.py says what a packed image is, and the layout of a volume. A query is
-
-    u32 number of levels, u32 room of the output, u32 size of the work space, u32 the number that the volume's mount has as `checked`
-
-Usage: tools/tree_images.py. Needs Python's standard library alone, prints nothing, and writes the same bytes each time.
-tools/tree_model.py says what is expected.
-"""
-
-import os
 import random
-import struct
-import sys
 
-sys.dont_write_bytecode = True
-import directory_images
+import discs
 import udf
-from directory_images import DELETED, DIRECTORY, HIDDEN, OTHER, PARENT, ROOT, identifier, parent, wide
-from udf import ALLOCATED, EMBEDDED, EXT, EXTENDED_FILE_ENTRY, LONG, SECTOR, SHORT, long_ad, short_ad
+from discs import DELETED, DIRECTORY, HIDDEN, OTHER, PARENT, ROOT, identifier, parent, wide
+from udf import ALLOCATED, EMBEDDED, EXT, EXTENDED_FILE_ENTRY, LONG, PARTITION, SECTOR, SHORT, START, long_ad, short_ad
 
 ROOM, WORK = 4096, 8192  # The output's room and the work space's, where a query says nothing else.
 LARGE = 65536  # As much as the program has to lend.
@@ -37,7 +20,7 @@ class Item:
         self.bytes, self.room, self.work = data, room, work
 
 
-class Volume(directory_images.Volume):
+class Volume(discs.Volume):
     def __init__(self, name, blocks=64, sealed=False, **how):
         super().__init__(name, blocks, **how)
         self.is_sealed = sealed
@@ -82,8 +65,9 @@ class Volume(directory_images.Volume):
     # -- what is asked of it
 
     def show(self, *levels, room=ROOM, work=WORK, checked=0):
+        volume = self.by_hand(start=START, partition=PARTITION, checked=checked, root=self.root) if checked else 0
         for n in levels:
-            self.queries.append(struct.pack("<4I", n, room, work, checked))
+            self.query("show", volume=volume, levels=n, room=room, work=work)
 
     def edges(self, levels=MOST):
         """Room and work space exactly enough, a byte short, a byte more, and none."""
@@ -147,7 +131,7 @@ def roots():
     for name, icb in [
         ("of length 0", long_ad(0, ROOT)),
         ("past the image", long_ad(SECTOR, 100)),
-        ("where no entry stands", long_ad(SECTOR, directory_images.BLOCK)),
+        ("where no entry stands", long_ad(SECTOR, udf.BLOCK)),
         ("of type 3 in another partition", long_ad(1, ROOT, udf.NEXT, OTHER)),
     ]:
         v = Volume("a root %s" % name, 16, root=icb)
@@ -410,7 +394,7 @@ def checked():
             yield v
         v = Volume("a wrong body of the directory at level %d" % (depth + 1), 60, sealed=True)
         one = v.folder("wrong", [v.cue("a")])
-        at = (udf.START + v.free - 1) * SECTOR
+        at = (START + v.free - 1) * SECTOR
         v.bytes[at + 8] ^= 1
         v.bytes[at + 4] = (sum(v.bytes[at : at + 16]) - v.bytes[at + 4]) % 256
         v.is_root(nested(v, depth, [v.cue("a"), one, v.folder("b", [v.cue("c")])]))
@@ -476,14 +460,3 @@ def at_random():
 
 
 CASES = [depths, numbers, roots, loops, doubles, empties, bad, unread, spaces, skips, names, checked, at_random]
-
-
-def main():
-    root = os.path.dirname(os.path.dirname(os.path.abspath(__file__)))
-    folder = os.path.join(root, "crates", "tree_cases", "data")
-    os.makedirs(folder, exist_ok=True)
-    udf.write_records(os.path.join(folder, "images"), (volume.record() for case in CASES for volume in case()))
-
-
-if __name__ == "__main__":
-    main()

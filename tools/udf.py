@@ -160,9 +160,14 @@ def aed(area, area_length=None, identifier=ALLOCATION_EXTENT, reserved=0, wrong=
 # ---- images
 
 
-def packed(image):
-    """The runs of an image. Zeros between two runs are kept where they cost no more than a run's head."""
-    runs = [(m.start(), m.group()) for m in re.finditer(rb"[^\0]+(?:\0{1,8}[^\0]+)*", image)]
+def packed(image, base=b""):
+    """The runs of an image: where its bytes are others than those of a base, or without one aren't 0. What lies between two runs is kept where it costs no
+    more than a run's head."""
+    others = image
+    if base:
+        assert len(image) == len(base)
+        others = (int.from_bytes(image, "little") ^ int.from_bytes(base, "little")).to_bytes(len(image), "little")
+    runs = [(m.start(), image[m.start() : m.end()]) for m in re.finditer(rb"[^\0]+(?:\0{1,8}[^\0]+)*", others)]
     body = b"".join(struct.pack("<II", at, len(run)) + run for at, run in runs)
     return struct.pack("<II", len(image), len(runs)) + body
 
@@ -174,12 +179,11 @@ def record(name, image):
 
 
 class Image:
-    """An image under the name of its case, with sectors put into it, and what is asked of it."""
+    """An image under the name of its case, with sectors put into it."""
 
     def __init__(self, name, sectors, more=0):
         self.name = name
         self.bytes = bytearray(sectors * SECTOR + more)
-        self.queries = []
 
     def lay(self, sector, what):
         """Puts bytes at a sector where nothing stands yet; what has no room in the image is left out."""
@@ -187,10 +191,3 @@ class Image:
         what = what[: max(len(self.bytes) - at, 0)]
         assert not any(self.bytes[at : at + len(what)]), self.name
         self.bytes[at : at + len(what)] = what
-
-
-def write_records(path, records):
-    """Writes a file of records."""
-    with open(path, "wb") as out:
-        for one in records:
-            out.write(one)

@@ -1,17 +1,14 @@
-#!/usr/bin/env python3
-"""Writes the images that the program `volume_cases` opens, into crates/volume_cases/data/images. Run it from the root of the repository.
+"""Images that are opened: good and damaged descriptors of a volume, and recognition sequences.
 
-The file has one record after the other: u16 name length, name, u32 packed length, packed image. tools/udf.py says what a packed image is,
-and the layout of a volume. Where a case says nothing else, the recognition sequence is in 16 to 18, the main sequence has a primary, a
+tools/udf.py has the layout of a volume. Where a case says nothing else, the recognition sequence is in 16 to 18, the main sequence has a primary, a
 partition, a logical volume and a terminating descriptor, and the image has 320 sectors.
 """
 
-import sys
-
-sys.dont_write_bytecode = True
-import udf
+from discs import HIGHEST, Asked
+from rules import Disc, asked, label
 from udf import ANCHOR, BLOCK, MAIN, SECTOR, START, TERMINATOR, anchor, file_set, filled, logical, long_ad, other, partition, primary
 
+ROOM = 64
 SECTORS = 320
 
 
@@ -33,13 +30,12 @@ def image(sequence=GOOD, recognition=RECOGNITION, kind=0, anchored=None, main=MA
     return held, length
 
 
-def flat(held, length):
-    """The image's bytes; what has no room in it is left out."""
-    whole = bytearray(length)
-    for sector, text in held.items():
-        room = max(0, length - sector * SECTOR)
-        whole[sector * SECTOR : sector * SECTOR + len(text)] = text[:room]
-    return whole
+def laid(name, held, length):
+    """The image of a case."""
+    image = Asked(name, more=length)
+    for sector, what in held.items():
+        image.lay(sector, what)
+    return image
 
 
 def without(*left_out):
@@ -81,7 +77,7 @@ def placed(sequence):
     return held, length
 
 
-CASES = {
+HELD = {
     "good": image(),
     # each refusal in turn
     "no_bytes": ({}, 0),
@@ -214,9 +210,20 @@ CASES = {
 }
 
 
-def main():
-    udf.write_records("crates/volume_cases/data/images", (udf.record(name, flat(*one)) for name, one in CASES.items()))
+
+def images():
+    for name, (held, length) in HELD.items():
+        yield laid(name, held, length)
 
 
-if __name__ == "__main__":
-    main()
+def opened():
+    """Each is probed and opened; its label has room, and is a byte short of it."""
+    for image in images():
+        image.query("probe", "open", "label", room=ROOM)
+        name = asked(Disc(bytes(image.bytes)), lambda disc: label(disc, 0, ROOM))[1]
+        image.query("label", room=max(len(name or b"") - 1, 0))
+        image.query("open", "label", volume=HIGHEST, room=ROOM)
+        yield image
+
+
+CASES = [opened]
