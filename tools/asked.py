@@ -264,14 +264,21 @@ def watched(name, image, volume, query):
         there, before = (disc.missing + 1) * SIZE, line
 
 
+def query_line(q, size):
+    """What is asked; what is 0 or empty is left out, and so is the whole length of the image."""
+    numbers = {"volume": q.volume, "there": 0 if q.there == size else q.there, "matching": q.matching, "levels": q.levels}
+    lent = {"room": q.room, "work": q.work, "slots": q.slots, "answers": q.answers}
+    words = [f" {name} {n}" for name, n in {**numbers, **lent}.items() if n]
+    return "query" + "".join(words) + "".join(f" {name} {shown(data)}" for name, data in (("icb", q.icb), ("text", q.text)) if any(data))
+
+
 def lines_of(image):
     """What is printed of an image."""
     yield f"image {image.name}"
     whole = functools.cache(lambda how: rules.asked(Disc(image.bytes), lambda disc: rules.opened(disc, how))[1] or rules.NOTHING)
     for q in image.queries:
         volume = whole(q.volume) if q.volume < WAYS else image.by_hand[q.volume - WAYS]
-        lent = f"matching {q.matching} levels {q.levels} room {q.room} work {q.work} slots {q.slots} answers {q.answers}"
-        yield f"query volume {q.volume} there {q.there} {lent} icb {shown(q.icb)} text {shown(q.text)}"
+        yield query_line(q, len(image.bytes))
         for name in CALLS:
             if q.calls & BIT[name]:
                 yield from watched(name, image.bytes, volume, q) if q.there == WATCHED else [said(name, Disc(image.bytes, q.there), volume, q)]
