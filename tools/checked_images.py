@@ -4,7 +4,7 @@ import struct
 
 from discs import CHECKED, DELETED, DIRECTORY, Asked, identifier, parent
 from udf import ANCHOR, BLOCK, EMBEDDED, EXTENDED_FILE_ENTRY, LONG, MAIN, NEXT, PARTITION, SECTOR, SHORT, START, TERMINATOR
-from udf import aed, anchor, crc, entry, file_set, logical, long_ad, other, partition, primary, short_ad
+from udf import aed, anchor, crc, entry, file_set, logical, long_ad, other, partition, primary, sealed, short_ad
 
 # Blocks of the partition: entries, the bytes of directories and files, and continuations.
 ROOT, ROOT_BYTES, SHOW, SHOW_BYTES, DEEP, SMALL, CUE, CHAIN, CUE_BYTES = 5, 6, 8, 9, 10, 12, 13, 14, 20
@@ -21,12 +21,6 @@ def tagged(data, number, length, identifier=None, wrong=0):
     t[4] = 0
     t[4] = (sum(t) + wrong) % 256
     return bytes(t) + data[16:]
-
-
-def summed(data, size=None):
-    """A descriptor whose CRC is that of its bytes behind the tag: of all, or of those up to a size."""
-    size = size or len(data)
-    return tagged(data, crc(data[16:size]), size - 16)
 
 
 def embedded(data, **how):
@@ -60,52 +54,53 @@ def icb(block):
 
 
 def named(name, block, marks=0):
-    return summed(identifier(name, icb(block), marks))
+    return sealed(identifier(name, icb(block), marks))
 
 
 def volume(disc):
-    disc.put("anchor", ANCHOR, summed(anchor(), 512))
-    disc.put("primary", MAIN, summed(primary(MAIN), 512))
+    disc.put("anchor", ANCHOR, sealed(anchor(), 496))
+    disc.put("primary", MAIN, sealed(primary(MAIN), 496))
     # Neither of these is parsed, nor is the terminating descriptor: their bodies aren't looked at.
     disc.put("skipped", MAIN + 1, tagged(other(4)(MAIN + 1), 0xBEEF, 100))
-    disc.put("partition", MAIN + 2, summed(partition(MAIN + 2, number=PARTITION), 512))
+    disc.put("partition", MAIN + 2, sealed(partition(MAIN + 2, number=PARTITION), 496))
     disc.put("unlisted", MAIN + 3, tagged(other(77)(MAIN + 3), 0xBEEF, 100))
-    disc.put("logical", MAIN + 4, summed(logical(MAIN + 4, number=PARTITION)))
+    disc.put("logical", MAIN + 4, sealed(logical(MAIN + 4, number=PARTITION)))
     disc.put("terminating", MAIN + 5, tagged(TERMINATOR(MAIN + 5), 0xBEEF, 65535))
-    disc.put("file set", START + BLOCK, summed(file_set(START + BLOCK, root=icb(ROOT))))
+    disc.put("file set", START + BLOCK, sealed(file_set(START + BLOCK, root=icb(ROOT))))
 
 
-def directories(disc):
+def directories(disc, also):
     root = [
-        ("root's parent", summed(parent())),
+        ("root's parent", sealed(parent())),
         ("root's deleted", named("old", SMALL, DELETED)),
         ("root's show", named("show", SHOW, DIRECTORY)),
         ("root's small", named("small", SMALL)),
         ("root's last", named("last", CUE)),
+        *also,
     ]
     n = sum(len(data) for _, data in root)
-    disc.put("root", START + ROOT, summed(entry(SHORT, short_ad(n, ROOT_BYTES), n)))
+    disc.put("root", START + ROOT, sealed(entry(SHORT, short_ad(n, ROOT_BYTES), n)))
     disc.directory(START + ROOT_BYTES, 0, root)
-    show = [("show's parent", summed(parent())), ("show's chain", named("chain", CHAIN)), ("show's deep", named("deep", DEEP, DIRECTORY))]
+    show = [("show's parent", sealed(parent())), ("show's chain", named("chain", CHAIN)), ("show's deep", named("deep", DEEP, DIRECTORY))]
     n = sum(len(data) for _, data in show)
-    disc.put("show", START + SHOW, summed(entry(LONG, long_ad(n, SHOW_BYTES), n, EXTENDED_FILE_ENTRY, attributes=b"attr")))
+    disc.put("show", START + SHOW, sealed(entry(LONG, long_ad(n, SHOW_BYTES), n, EXTENDED_FILE_ENTRY, attributes=b"attr")))
     disc.directory(START + SHOW_BYTES, 0, show)
     # A directory that stands in its own entry, whose CRC is of what stands before it.
-    deep = [("deep's parent", summed(parent())), ("deep's cue", named("cue", CUE))]
+    deep = [("deep's parent", sealed(parent())), ("deep's cue", named("cue", CUE))]
     data = embedded(b"".join(data for _, data in deep))
-    disc.put("deep", START + DEEP, summed(data, 176))
+    disc.put("deep", START + DEEP, sealed(data, 160))
     disc.directory(START + DEEP, 176, deep)
 
 
 def files(disc):
-    disc.put("small", START + SMALL, summed(embedded(b"a small file")))
-    disc.put("cue", START + CUE, summed(entry(SHORT, short_ad(700, CUE_BYTES), 700)))
+    disc.put("small", START + SMALL, sealed(embedded(b"a small file")))
+    disc.put("cue", START + CUE, sealed(entry(SHORT, short_ad(700, CUE_BYTES), 700)))
     area = long_ad(100, FIRST) + long_ad(2100, LONGER, NEXT)
-    disc.put("chain", START + CHAIN, summed(entry(LONG, area, 200)))
+    disc.put("chain", START + CHAIN, sealed(entry(LONG, area, 200)))
     # The first continuation has 2,100 bytes in two sectors, all of which are at hand.
     area = long_ad(50, LONGER_BYTES) + long_ad(200, SECOND, NEXT)
-    disc.put("first continuation", START + LONGER, summed(aed(area)), 2 * SECTOR)
-    disc.put("second continuation", START + SECOND, summed(aed(long_ad(50, LAST))))
+    disc.put("first continuation", START + LONGER, sealed(aed(area)), 2 * SECTOR)
+    disc.put("second continuation", START + SECOND, sealed(aed(long_ad(50, LAST))))
     for block, size, byte in ((CUE_BYTES, 700, b"c"), (FIRST, 100, b"1"), (LONGER_BYTES, 50, b"2"), (LAST, 50, b"3")):
         disc.bytes[(START + block) * SECTOR : (START + block) * SECTOR + size] = byte * size
 
@@ -194,21 +189,28 @@ def ask(image, number):
     image.query(*BY_PATH, *BY_ICB, volume=volume, icb=place, text=path, room=room, work=work, slots=8)
 
 
-def good_disc():
+def good_disc(also=()):
+    """The disc, whose root may have more entries."""
     disc = Good()
     volume(disc)
-    directories(disc)
+    directories(disc, also)
     files(disc)
-    disc.query("open")
     return disc
 
 
-def ruined():
+def ruined(disc, name, at, data):
+    """The disc with other bytes at a place."""
+    image = Asked(name, base=disc)
+    image.bytes[at : at + len(data)] = data
+    return image
+
+
+def all_ruined():
     disc = good_disc()
+    disc.query("open")
     yield disc
     for name, at, data in cases(disc):
-        image = Asked(name, SECTORS, base=disc)
-        image.bytes[at : at + len(data)] = data
+        image = ruined(disc, name, at, data)
         for how in (0, CHECKED):
             image.query("open", "label", volume=how, room=32)
         for number in reaching(name.partition(":")[0]):
@@ -216,4 +218,4 @@ def ruined():
         yield image
 
 
-CASES = [ruined]
+CASES = [all_ruined]

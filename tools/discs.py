@@ -21,13 +21,13 @@ CASE_IGNORED, AS_WRITTEN, UNAMBIGUOUS = MATCHINGS = 0, 1, 2
 
 
 class Asked(udf.Image):
-    """An image and what is asked of it. Over a base, it has the bytes of that one where nothing else is put."""
+    """An image and what is asked of it. Its bytes may be given, or be those of a base, over which it is kept."""
 
-    def __init__(self, name, sectors=0, more=0, base=None):
+    def __init__(self, name, sectors=0, more=0, data=None, base=None):
         super().__init__(name, sectors, more)
         self.base, self.hands, self.queries = base, [], []
-        if base:
-            self.bytes[:] = base.bytes
+        if data or base:
+            self.bytes = bytearray(data or base.bytes)
 
     def query(self, *calls, text=b"", icb=bytes(16), volume=0, there=None, matching=0, levels=0, room=0, work=0, slots=0, answers=0):
         """Asks for calls, of all the image unless less is there."""

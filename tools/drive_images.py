@@ -176,8 +176,8 @@ def mapped():
 
 def copied(image, queries=()):
     """An image of another writer, asked by a reader that is lent sectors."""
-    one = Image(image.name, more=len(image.bytes))
-    one.bytes[:], one.queries = image.bytes, list(queries)
+    one = Image(image.name, data=image.bytes)
+    one.queries += queries
     return one
 
 

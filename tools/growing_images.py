@@ -126,9 +126,7 @@ TWO = Shape("two", [1, 0], [290, 262], [0, 1])  # The first map leads to the par
 
 def two_partitions(name, **how):
     """The disc of tools/mapped_images.py with two partitions, closer together."""
-    image = Asked(name, TWO.sectors)
-    image.bytes[:] = Disc(TWO, **how).bytes
-    return image
+    return Asked(name, data=Disc(TWO, **how).bytes)
 
 
 def mapped():

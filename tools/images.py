@@ -11,6 +11,7 @@ import sys
 
 sys.dont_write_bytecode = True
 import checked_images
+import combined_images
 import directory_images
 import drive_images
 import file_images
@@ -33,6 +34,7 @@ WRITERS = {
     "growing": growing_images,
     "stacks": stack_images,
     "trees": tree_images,
+    "combinations": combined_images,
     "drives": drive_images,
     "shelves": survey_images,
 }

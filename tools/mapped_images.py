@@ -49,9 +49,9 @@ ROOT_BYTES, LINES_NEXT, DATA, LINKS = 6, 21, (24, 25, 26), 32
 class Shape:
     """The partitions of a disc: of each map the partition's number and start, and the order of the partition descriptors."""
 
-    def __init__(self, name, numbers, starts, order, links=False):
+    def __init__(self, name, numbers, starts, order, links=False, sectors=None):
         self.name, self.numbers, self.starts, self.order, self.links = name, numbers, starts, order, links
-        self.sectors = max(starts) + (64 if links else 28)
+        self.sectors = sectors or max(starts) + (64 if links else 28)
 
 
 # Numbers are places too, but never their own, so that a number taken for a place leads elsewhere; the last descriptor is of the number that the
@@ -82,7 +82,7 @@ def maps_of(shape):
     return [one_map(number, 11 + i) for i, number in enumerate(shape.numbers)]
 
 
-def lvd(shape, maps=None, count=None, length=None, reference=None, size=SECTOR, sequence=3):
+def lvd(shape, maps=None, count=None, length=None, reference=None, size=SECTOR, sequence=3, block=BLOCK):
     """A logical volume descriptor: the count and the table's length are those of the maps, unless they are given."""
     maps = maps_of(shape) if maps is None else maps
     table = b"".join(maps)
@@ -91,7 +91,7 @@ def lvd(shape, maps=None, count=None, length=None, reference=None, size=SECTOR, 
     reference = PLACES["file set"][1] % len(shape.numbers) if reference is None else reference
 
     def made(sector):
-        whole = bytearray(logical(sector, reference, size=size, sequence=sequence))
+        whole = bytearray(logical(sector, reference, block, size, sequence=sequence))
         struct.pack_into("<II", whole, 264, length, count)
         whole[440 : 440 + len(table)] = table
         return sealed(bytes(whole), 496)
@@ -122,10 +122,10 @@ def usual(shape, logical_volume=None):
 
 class Disc:
     """A disc of a shape. `moved` has things that stand in another partition, `named` what descriptors say other than where the thing stands, `bad`
-    descriptors with a spoilt body."""
+    descriptors with a spoilt body, `also` more names in the root, each with the thing that it leads to."""
 
-    def __init__(self, shape, sequence=None, moved=None, named=None, bad=(), information=None):
-        self.shape, self.moved, self.named, self.bad = shape, moved or {}, named or {}, bad
+    def __init__(self, shape, sequence=None, moved=None, named=None, bad=(), information=None, also=()):
+        self.shape, self.moved, self.named, self.bad, self.also = shape, moved or {}, named or {}, bad, also
         self.information = information or {}
         self.bytes = bytearray(shape.sectors * SECTOR)
         self.volume(sequence or usual(shape))
@@ -173,7 +173,8 @@ class Disc:
         # The parent and the deleted entry name partitions beyond every map.
         gone = sealed(identifier("gone", long_ad(SECTOR, 5, partition=9), DELETED))
         names = ["small", "lines", "mixed", "chain", "wide"] + ["links"] * self.shape.links
-        root = sealed(parent()) + gone + self.identifier("show", "show", DIRECTORY) + b"".join(self.identifier(name, name) for name in names)
+        named = [(name, name) for name in names] + list(self.also)
+        root = sealed(parent()) + gone + self.identifier("show", "show", DIRECTORY) + b"".join(self.identifier(*one) for one in named)
         self.put("root", sealed(entry(SHORT, short_ad(len(root), ROOT_BYTES), len(root))))
         self.put("root", root, ROOT_BYTES - PLACES["root"][0])
         show = sealed(parent()) + self.identifier("deep", "deep", DIRECTORY) + self.identifier("both", "both")
@@ -317,14 +318,12 @@ class Cases:
 
     def __init__(self, shape, number):
         self.shape, self.asked = shape, queries(shape)
-        self.good = Asked(f"disc {number}", shape.sectors)
-        self.good.bytes[:] = Disc(shape).bytes
+        self.good = Asked(f"disc {number}", data=Disc(shape).bytes)
         self.good.query("open")
         self.images = [self.good]
 
     def add(self, name, opens=SOME, asks=(), image=None, **how):
-        one = Asked(f"{self.shape.name}: {name}", self.shape.sectors, base=self.good)
-        one.bytes[:] = (image or Disc(self.shape, **how)).bytes
+        one = Asked(f"{self.shape.name}: {name}", data=(image or Disc(self.shape, **how)).bytes, base=self.good)
         for way in opens:
             one.query("open", "label", volume=way, room=32)
         if "old root" in self.asked:
@@ -479,8 +478,7 @@ def volumes(c):
 def same_partition(c):
     """Two maps of one partition, and of one number alone."""
     shape = c.shape
-    twin = Shape(shape.name, [1, 3, 0, 3], [344, 260, 372, 260], [3, 0, 1])
-    twin.sectors = shape.sectors
+    twin = Shape(shape.name, [1, 3, 0, 3], [344, 260, 372, 260], [3, 0, 1], sectors=shape.sectors)
     c.add("two maps of one partition", SOME, READS, image=Disc(twin))
     c.add("four maps of one partition", BOTH, ("root", "old both"), sequence=usual(shape, lvd(shape, maps=[one_map(1, 1)] * 4)))
     rest = {number: pd(shape, number, start=260) for number in (3, 0, 2, 1)}

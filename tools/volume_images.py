@@ -20,9 +20,14 @@ GOOD = [primary, partition, logical, TERMINATOR]
 RECOGNITION = [b"BEA01", b"NSR03", b"TEA01"]
 
 
+def recognised(name, kind=0):
+    """A sector of the recognition sequence."""
+    return filled(SECTOR, (0, bytes([kind])), (6 - len(name), name), (6, b"\x01"))
+
+
 def image(sequence=GOOD, recognition=RECOGNITION, kind=0, anchored=None, main=MAIN, fsd=file_set, fsd_at=START + BLOCK, length=SECTORS * SECTOR):
     """The sectors that hold something, each with its bytes, and the image's length."""
-    held = {16 + i: filled(SECTOR, (0, bytes([kind])), (6 - len(name), name), (6, b"\x01")) for i, name in enumerate(recognition)}
+    held = {16 + i: recognised(name, kind) for i, name in enumerate(recognition)}
     held.update({main + i: make(main + i) for i, make in enumerate(sequence)})
     held[ANCHOR] = (anchored or anchor)(ANCHOR)
     if fsd:
