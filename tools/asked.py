@@ -304,14 +304,14 @@ def lines():
 
 def differing(wanted, found):
     """Where a stored output is first another than it is to be, in words; "" where it nowhere is."""
-    around = {}
+    around, heads = [], ("file", "image", "query")
     for number, line in enumerate(wanted, 1):
         kind = line.split(" ", 1)[0]
-        if kind in ("file", "image", "query"):
-            around[kind] = line
+        if kind in heads:
+            around = [*around[: heads.index(kind)], line]
         stored = next(found, "(the end)")
         if stored != line:
-            return "\n    ".join([f"line {number}:", *around.values(), f"stored:    {stored}", f"the rules: {line}"])
+            return "\n    ".join([f"line {number}:", *around, f"stored:    {stored}", f"the rules: {line}"])
     return "" if next(found, None) is None else f"line {number + 1} is one too many"
 
 

@@ -35,12 +35,15 @@ def ask_lists(image, volume, items, matchings=MATCHINGS, **lent):
 
 
 def ask_edges(image, volume, items, sizes):
-    """The room for all items, a byte less, and none; a place too few in each row."""
+    """A list with the room for all items, a byte less, and none; with little work space; a place too few in each row. A show likewise, and to one level."""
     n = len(items)
     for room in (sum(sizes), sum(sizes) - 1, sizes[0], 0):
         ask_lists(image, volume, items, MATCHINGS[:1], room=room)
+    ask_lists(image, volume, items, work=100)
     for places in ({"slots": n - 1}, {"answers": n - 1}, {"slots": n + 1, "answers": n + 2}):
         ask_lists(image, volume, items, MATCHINGS[1:2], **places)
+    for levels, room, work in ((LEVELS, 100, 2048), (LEVELS, 8192, 300), (1, 8192, 2048)):
+        image.query("show", volume=volume, levels=levels, room=room, work=work)
 
 
 def ask_files(image, volume, icbs):
