@@ -1,10 +1,10 @@
 /* rows.c: the extents of files by each form that there is, for tools/rows.py: the row of records of `Volume::extents` and of `file_rows`
  * (lib.rattle), and the row of numbers (vault.h).
  *
- * Standard input has one image after the other as file_cases keeps them: the length of a name (2 bytes), the name, the length of a packed image (4), the
- * image; how many queries (2), and each query: start (4), partition (2), ICB (16), 4 bytes that aren't looked at, slots (2). For each query a line:
- * `same` or `OTHER`, whether the three agree in their replies and in every slot, two behind those lent too; answer, count and length; the answered
- * slots; `kept` or `changed`, whether those behind are as they came. */
+ * Standard input has one image after the other: the length of a packed image (4 bytes), the image; how many queries (2), and each query: start (4),
+ * partition (2), checked (4), maps (4), volumes (4 x 2), numbers (4 x 2), starts (4 x 4), ICB (16), slots (2). For each query a line: `same` or `OTHER`,
+ * whether the three agree in their replies and in every slot, two behind those lent too; answer, count and length; the answered slots; `kept` or
+ * `changed`, whether those behind are as they came. */
 #include "vault.h"
 
 vault_reply rows_extents(vault_volume volume, const uint8_t *image, size_t image_length, vault_long_ad icb, vault_extent *row, size_t row_slots);
@@ -18,7 +18,7 @@ extern void *memcpy(void *to, const void *from, size_t n);
 extern int memcmp(const void *one, const void *other, size_t n);
 extern _Noreturn void exit(int status);
 
-enum { SLOTS = 256, BEHIND = 2, FREE = 0xa5, QUERY = 28 };
+enum { SLOTS = 256, BEHIND = 2, FREE = 0xa5, QUERY = 64 };
 
 static uint8_t all[4 << 20], image[4 << 20], said[4 << 20];
 static size_t length, at, said_length;
@@ -70,13 +70,23 @@ static vault_long_ad icb_of(const uint8_t *recorded) {
     return icb;
 }
 
+static vault_mount mount_of(const uint8_t *query) {
+    vault_mount mount = {.start = number(query, 4), .partition = (uint16_t)number(query + 4, 2), .checked = number(query + 6, 4), .maps = number(query + 10, 4)};
+    for (size_t i = 0; i < 4; i++) {
+        mount.volumes[i] = (uint16_t)number(query + 14 + 2 * i, 2);
+        mount.numbers[i] = (uint16_t)number(query + 22 + 2 * i, 2);
+        mount.starts[i] = number(query + 30 + 4 * i, 4);
+    }
+    return mount;
+}
+
 static bool is_same(vault_reply a, vault_reply b) { return a.answer == b.answer && a.count == b.count && a.length == b.length; }
 
 static void ask(const uint8_t *query, size_t n) {
-    vault_mount mount = {.start = number(query, 4), .partition = (uint16_t)number(query + 4, 2)};
-    vault_long_ad icb = icb_of(query + 6);
+    vault_mount mount = mount_of(query);
+    vault_long_ad icb = icb_of(query + 46);
     vault_volume volume = {mount, icb, {0}};
-    size_t slots = number(query + 26, 2);
+    size_t slots = number(query + 62, 2);
     if (slots > SLOTS) slots = SLOTS;
     memset(records, FREE, sizeof records);
     memset(rows, FREE, sizeof rows);
@@ -103,7 +113,6 @@ static void ask(const uint8_t *query, size_t n) {
 int main(void) {
     for (long got; length < sizeof all && (got = read(0, all + length, sizeof all - length)) > 0;) length += (size_t)got;
     while (at < length) {
-        take(take_number(2));
         const uint8_t *packed = take(take_number(4));
         lay(packed, false);
         for (uint32_t queries = take_number(2); queries; queries--) ask(take(QUERY), number(packed, 4));
