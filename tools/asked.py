@@ -228,8 +228,12 @@ CALLS = {
     "read": Call(lambda d, v, q: rules.read(d, v, q.icb, q.room), b"", lambda data, q: f"{summed(data)} kept"),
     "part": Call(lambda d, v, q: rules.part(d, v, q.icb), (b"", 0), lambda one, q: summed(one[0])),
     "extents": Call(lambda d, v, q: rules.extents(d, v, q.icb, q.slots), [], slots_words),
-    "read_path": Call(lambda d, v, q: rules.read_path(d, v, q.text, q.matching, q.room, q.work), b"", lambda data, q: f"{summed(data)} kept zero"),
-    "read_all": Call(lambda d, v, q: rules.read_all(d, v, q.text, q.matching, q.room, q.work, q.slots, q.answers), (b"", [], []), all_words),
+    "read_path": Call(
+        lambda d, v, q: rules.read_path(d, v, q.text, q.matching, q.room, q.work), b"", lambda data, q: f"{summed(data)} kept zero"
+    ),
+    "read_all": Call(
+        lambda d, v, q: rules.read_all(d, v, q.text, q.matching, q.room, q.work, q.slots, q.answers), (b"", [], []), all_words
+    ),
     "show": Call(lambda d, v, q: rules.show(d, v, q.levels, q.room, q.work), b"", lambda data, q: f"{summed(data)} kept zero"),
     "measure": Call(lambda d, v, q: rules.measure(d, v, q.icb), 0, lambda length, q: f"length {length}"),
     "runs": Call(lambda d, v, q: rules.runs(d, v, q.icb, q.slots), [], slots_words),
@@ -331,13 +335,13 @@ def stored(program, lines, words):
 
 
 def sample():
-    """A file with two images and what each of its fields is: where it starts, and its name."""
+    """A file with one image, and where each of its fields starts."""
     image = struct.pack("<IIII4s", 4096, 1, 5, 4, b"some")
     query = Query(BIT["read"], WAYS, 4096, 0, 1, 10, 10, 1, 1, bytes(16), b"path")
     one = recorded("one", 0, image, [rules.NOTHING], [query, query._replace(text=b"")])
-    sizes = {"name length": 2, "name": 3, "base": 1, "packed length": 4, "packed": len(image), "hands": 2, "by hand": BY_HAND.size, "queries length": 4}
+    sizes = {"name length": 2, "name": 3, "base": 1, "packed length": 4, "packed": len(image), "hands": 2, "by hand": BY_HAND.size}
     places, at = {}, 0
-    for name, size in sizes.items():
+    for name, size in {**sizes, "queries length": 4}.items():
         places[name], at = at, at + size
     return one, {**places, "queries": at}
 
@@ -346,13 +350,14 @@ def cuts(one, places):
     """Each file that is cut, with the byte where that is to be found: the start of the field that isn't whole."""
     for size in range(1, len(one)):
         yield f"cut to {size} bytes", one[:size], max(at for at in places.values() if at <= size)
-    for name, width, inner in (("packed length", 4, 4), ("packed length", 4, 9), ("packed length", 4, 18), ("queries length", 4, 30), ("queries length", 4, 58)):
-        at = places[name]
-        starts = {"packed length": (0, 4, 8, 12, 16), "queries length": (0, QUERY.size)}[name]
-        where = at + width + max(start for start in starts if start <= inner)
-        size = int.from_bytes(one[at : at + width], "little")
-        rest = one[at + width + size :]
-        yield f"{name} {inner}", one[:at] + struct.pack("<I", inner) + one[at + width : at + width + inner] + rest, where
+    # Where what stands under a length is cut, and the length says so.
+    for name, starts, lengths in (("packed length", (0, 4, 8, 12, 16), range(20)), ("queries length", (0, QUERY.size), range(1, 60))):
+        at = places[name] + 4
+        rest = one[at + int.from_bytes(one[at - 4 : at], "little") :]
+        for size in lengths:
+            if size != QUERY.size:
+                where = at + max(start for start in starts if start <= size)
+                yield f"{name} {size}", one[: at - 4] + struct.pack("<I", size) + one[at : at + size] + rest, where
 
 
 def meaningless(one, places):

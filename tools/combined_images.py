@@ -1,7 +1,7 @@
 """Calls, choices and volumes in combinations that the other writers leave out, on discs of theirs:
 
-- lists of paths, measures, runs and shows on volumes whose bodies are checked, that are found through the maps, by the highest numbers or made by hand,
-  under every matching;
+- lists of paths, measures, runs and shows on volumes whose bodies are checked, that are found through the maps, by the highest numbers or made by
+  hand, under every matching;
 - every call on discs that grow, opened in every way, under every matching;
 - the runs and the measure of every file of tools/file_images.py.
 """
@@ -22,6 +22,7 @@ ON_VOLUME = EVERY_CALL[3:]  # All but the probe, opening and the label.
 OF_FILE = ("measure", "runs")
 LENT = {"room": 8192, "work": 2048, "slots": 8, "answers": 8}
 LEVELS = 4
+TWO_LABELS = [pvd(label=b"\x08HIGH", sequence=9), pvd(label=b"\x08LAST")]
 
 
 # ---- what is asked of a volume
@@ -35,7 +36,8 @@ def ask_lists(image, volume, items, matchings=MATCHINGS, **lent):
 
 
 def ask_edges(image, volume, items, sizes):
-    """A list with the room for all items, a byte less, and none; with little work space; a place too few in each row. A show likewise, and to one level."""
+    """A list with the room for all items, a byte less, and none; with little work space; a place too few in each row. A show likewise, and to one
+    level."""
     n = len(items)
     for room in (sum(sizes), sum(sizes) - 1, sizes[0], 0):
         ask_lists(image, volume, items, MATCHINGS[:1], room=room)
@@ -101,7 +103,7 @@ def two_of_one_number():
     """The partition descriptor that is last leads elsewhere than the one with the highest number."""
     number = FOUR.numbers[1]
     others = [pd(FOUR, n) for n in FOUR.order if n != number]
-    return [pvd(label=b"\x08HIGH", sequence=9), pvd(label=b"\x08LAST"), pd(FOUR, number, sequence=9), *others, lvd(FOUR), pd(FOUR, number, STRAY), TERMINATOR]
+    return [*TWO_LABELS, pd(FOUR, number, sequence=9), *others, lvd(FOUR), pd(FOUR, number, STRAY), TERMINATOR]
 
 
 def mapped_discs():
@@ -133,7 +135,7 @@ def mapped():
 
 
 def volumes_by_hand():
-    """Volumes for the disc with four maps: with fewer and with more of them, with bodies checked by odd numbers, and with fields that lead nowhere."""
+    """Volumes for the disc with four maps: with fewer and with more of them, with bodies checked by odd numbers, with fields that lead nowhere."""
     good, old = mapped_images.by_hand(FOUR, MAPS), mapped_images.by_hand(FOUR, 0)
     for maps in (0, 1, 3, 4, 5, 2**32 - 1):
         yield {**good, "maps": maps}
@@ -165,7 +167,7 @@ SECOND_SET = BLOCK + 1  # The block of another file set descriptor.
 
 def every_way_disc(name):
     """A disc that opens in every way: by the highest numbers to the root, else to the old one; a continuation and a directory have wrong bodies."""
-    sequence = [pvd(label=b"\x08HIGH", sequence=9), pvd(label=b"\x08LAST"), pd(NEAR, 0), lvd(NEAR, sequence=9), lvd(NEAR, block=SECOND_SET), TERMINATOR]
+    sequence = [*TWO_LABELS, pd(NEAR, 0), lvd(NEAR, sequence=9), lvd(NEAR, block=SECOND_SET), TERMINATOR]
     disc = Disc(NEAR, sequence, also=TWINS, bad=("second", "deep"))
     at = NEAR.starts[0] + SECOND_SET
     disc.lay(at, sealed(file_set(at, root=disc.ad("old root")), 416))

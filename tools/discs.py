@@ -1,5 +1,5 @@
-"""What the writers of images share: an image with what is asked of it (tools/asked.py), and a volume whose files and directories are put into its blocks
-one behind another (tools/udf.py has the layout).
+"""What the writers of images share: an image with what is asked of it (tools/asked.py), and a volume whose files and directories are put into its
+blocks one behind another (tools/udf.py has the layout).
 
 A writer is a module with CASES, a row of functions that yield images. tools/images.py runs them.
 """

@@ -1,7 +1,7 @@
 #!/usr/bin/env python3
-"""Says what the program `drive_cases` is to print: a model of opening and reading a sector at a time (docs/RULES.md, 14), written from the rules apart from the
-library and from the script that writes the images. It reads the images themselves. What the one call comes to is what tools/rules.py makes of it; with
-slots and room enough, and no sector denied, the fed read must come to the same.
+"""Says what the program `drive_cases` is to print: a model of opening and reading a sector at a time (docs/RULES.md, 14), written from the rules
+apart from the library and from the script that writes the images. It reads the images themselves. What the one call comes to is what tools/rules.py
+makes of it; with slots and room enough, and no sector denied, the fed read must come to the same.
 
     tools/drive_model.py             writes crates/drive_cases/stdout
     tools/drive_model.py --check     fails where that file isn't what the model says

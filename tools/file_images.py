@@ -378,7 +378,10 @@ def missing_sectors():
     i.file(2, entry(SHORT, short_ad(1, 16), 1))
     i.ask(16)
     yield i
-    # Places past the end of what 32 bits count.
+
+
+def far_places():
+    """Places past the end of what 32 bits count, and images of no and of one sector."""
     i = Image("places far past the image", 20)
     i.file(0, entry(SHORT, short_ad(10, 2**32 - 1), 10))
     i.file(1, entry(SHORT, short_ad(2**30 - 1, 10), 2**64 - 1), room=0)
@@ -552,6 +555,7 @@ CASES = [
     slots,
     full_area,
     missing_sectors,
+    far_places,
     ext_lengths,
     zero_lengths,
     trailing_bytes,

@@ -77,8 +77,8 @@ def lay_refused(v):
 
 
 def every_form(name):
-    """A volume with a file of each form and a file or a directory for each refusal, in the order of the copy: entries first, then what they lead to. The ICBs
-    of these by their names, and how many bytes the directories have."""
+    """A volume with a file of each form and a file or a directory for each refusal, in the order of the copy: entries first, then what they lead to.
+    The ICBs of these by their names, and how many bytes the directories have."""
     v = Volume(name, 44)
     files = {**lay_good(v), **lay_refused(v)}
     # What is behind the file's length isn't asked for.

@@ -1,8 +1,8 @@
 #!/usr/bin/env python3
 """Writes the images that programs are run on, and what is asked of them.
 
-    tools/images.py [NAME ..]      crates/asker/data/NAME, or by drives and shelves crates/drive_cases/data/images and crates/survey_cases/data/shelves;
-                                   all, where none is named
+    tools/images.py [NAME ..]      crates/asker/data/NAME, or by drives and shelves crates/drive_cases/data/images and
+                                   crates/survey_cases/data/shelves; all, where none is named
 
 Needs Python's standard library alone, prints nothing, and writes the same bytes each time.
 """

@@ -3,11 +3,11 @@
 
     tools/rows.py
 
-The C program tools/rows/rows.c asks for the extents by every ICB of crates/asker/data, on the volume that it is asked on there, and of the root of every
-volume that is opened there: in both rows of records and in the row of numbers of target/staticlib/libvault_c.a, which must be the same. Each must be what
-the rules say (tools/rules.py), to which the stored answers are held too. The two functions cross to C by way of tools/rows/lib.rattle, which needs a
-proof by hand of the crossing and has none: so it is in no crate, and is compiled by the program of the toolchain that `rt try` runs, which asks for no
-proof. The crates below it are those that are proved. Needs cc.
+The C program tools/rows/rows.c asks for the extents by every ICB of crates/asker/data, on the volume that it is asked on there, and of the root of
+every volume that is opened there: in both rows of records and in the row of numbers of target/staticlib/libvault_c.a, which must be the same. Each
+must be what the rules say (tools/rules.py), to which the stored answers are held too. The two functions cross to C by way of tools/rows/lib.rattle,
+which needs a proof by hand of the crossing and has none: so it is in no crate, and is compiled by the program of the toolchain that `rt try` runs,
+which asks for no proof. The crates below it are those that are proved. Needs cc.
 """
 import pathlib
 import struct

@@ -1,5 +1,5 @@
-"""The one reader of the rules: every call of docs/RULES.md on an image, written from the rules apart from the library and from the scripts that write the
-images. It reads the images themselves, and nothing of it is fast or lent: a call gives a value of Python, or is refused.
+"""The one reader of the rules: every call of docs/RULES.md on an image, written from the rules apart from the library and from the scripts that write
+the images. It reads the images themselves, and nothing of it is fast or lent: a call gives a value of Python, or is refused.
 
 A call asks a disc for sectors, which counts them. Each function names the rules that it is written from.
 """
@@ -397,8 +397,8 @@ class Entry(NamedTuple):
 
 @functools.cache
 def parsed(data, checked):
-    """The entries of a directory's bytes that are neither deleted nor the parent's, of which all are read: 8.2 to 8.8; and the number that they are refused
-    by."""
+    """The entries of a directory's bytes that are neither deleted nor the parent's, of which all are read: 8.2 to 8.8; and the number that they are
+    refused by."""
     found = []
     try:
         while len(data) >= 38:

@@ -1,7 +1,7 @@
 #!/usr/bin/env python3
 """Says what the program `survey_cases` is to print: a model of the survey of a shelf (docs/RULES.md, 16), written apart from the library and from the
-script that writes the shelves. What a volume, a directory and a file hold is what tools/rules.py makes of it. Figures are true numbers here, and are held
-at 2^64 - 1 only as they are put into a row.
+script that writes the shelves. What a volume, a directory and a file hold is what tools/rules.py makes of it. Figures are true numbers here, and are
+held at 2^64 - 1 only as they are put into a row.
 
     tools/survey_model.py             writes crates/survey_cases/stdout
     tools/survey_model.py --check     fails where that file isn't what the model says
