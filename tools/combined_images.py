@@ -6,6 +6,8 @@
 - the runs and the measure of every file of tools/file_images.py.
 """
 
+import struct
+
 import checked_images
 import file_images
 import growing_images
@@ -14,7 +16,7 @@ import rules
 from asked import CALLS, MOST_PLACES, WATCHED, WAYS
 from discs import CHECKED, EVERY_WAY, HIGHEST, MAPS, MATCHINGS, Asked
 from mapped_images import FOUR, STRAY, Disc, Shape, icb_of, lvd, pd, pvd
-from udf import BLOCK, PARTITION, SECTOR, START, TERMINATOR, file_set, long_ad, sealed
+from udf import BLOCK, PARTITION, SECTOR, SHORT, START, TERMINATOR, entry, file_set, long_ad, sealed, short_ad
 from volume_images import recognised
 
 EVERY_CALL = tuple(CALLS)
@@ -90,6 +92,20 @@ def checked():
                 ask_lists(image, volume, CHECKED_ITEMS)
                 ask_files(image, volume, icbs)
             yield image
+
+
+def listed_ids():
+    """Ids at both ends of the lists, with a right body and with a wrong one: one that isn't listed is refused before its body."""
+    image = file_images.Image("ids of entries, checked", 40)
+    image.marked(30)
+    for n, identifier in enumerate((0, 1, 9, 10, 255, 256, 260, 261, 262, 266, 267, 65535)):
+        whole = sealed(entry(SHORT, short_ad(5, 30), 5, identifier))
+        for is_wrong in (False, True):
+            block = 2 * n + is_wrong
+            image.put(block, whole[:40] + bytes([whole[40] ^ is_wrong]) + whole[41:])
+            volume = image.by_hand(start=file_images.START, partition=PARTITION, checked=1)
+            image.query("measure", volume=volume, icb=long_ad(SECTOR, block))
+    yield image
 
 
 # ---- through the maps
@@ -185,9 +201,36 @@ def growing():
     yield image
     # The same with a front of it there, by itself.
     image = every_way_disc("every way of opening, cut")
-    for there in (1, 18 * SECTOR, 257 * SECTOR - 1, 257 * SECTOR, 270 * SECTOR, 280 * SECTOR - 1, 288 * SECTOR + 1):
+    for there in (18 * SECTOR, 257 * SECTOR - 1, 257 * SECTOR, 270 * SECTOR, 280 * SECTOR - 1, 288 * SECTOR + 1):
         for how in EVERY_WAY:
             image.query(*EVERY_CALL, volume=how, there=there, icb=icb_of(NEAR, "mixed"), text="SMALL", levels=LEVELS, **LENT)
+    yield image
+
+
+# Of descriptors, by their ids, bytes that no rule looks at: from here up to there.
+UNREAD = {
+    1: ((20, 24), (56, 512)),
+    2: ((32, 512),),
+    5: ((20, 22), (24, 188), (192, 512)),
+    6: ((20, 84), (216, 248), (258, 264), (272, 440), (446, 512)),
+    256: ((16, 400), (416, 512)),
+    258: ((16, 20),),
+    261: ((16, 34), (36, 56), (64, 168)),
+    266: ((16, 34), (36, 56), (64, 208)),
+}
+
+
+def unread():
+    """The disc that opens in every way, with something in every byte of a descriptor that no rule looks at: nothing else is said of it."""
+    image = every_way_disc("every way of opening, with bytes that aren't looked at")
+    for at in range(0, len(image.bytes), SECTOR):
+        sector = image.bytes[at : at + SECTOR]
+        kind, length = struct.unpack_from("<H8xH", sector)
+        for first, last in UNREAD.get(kind, ()):
+            sector[first:last] = b"\xa7" * (last - first)
+        image.bytes[at : at + SECTOR] = sealed(bytes(sector), length) if kind in UNREAD else sector
+    for how in EVERY_WAY:
+        image.query(*EVERY_CALL, volume=how, icb=icb_of(NEAR, "mixed"), text="small", levels=LEVELS, **LENT)
     yield image
 
 
@@ -227,4 +270,4 @@ def files():
             yield one
 
 
-CASES = [checked, mapped, by_hand, growing, growing_forms, files]
+CASES = [checked, listed_ids, mapped, by_hand, growing, unread, growing_forms, files]

@@ -7,6 +7,7 @@ Where a script says nothing else, the main volume descriptor sequence of a volum
 partition starts at 288, and the file set descriptor is its block 2.
 """
 
+import functools
 import re
 import struct
 
@@ -36,6 +37,7 @@ def tag(identifier, location=0, reserved=0, wrong=0):
     return bytes(t)
 
 
+@functools.cache
 def crc(body):
     """The CRC of a descriptor's body (ECMA-167 3/7.2.6), a bit at a time."""
     register = 0
