@@ -181,10 +181,10 @@ NEAR = Shape("one", [0], [262], [0], sectors=292)  # One partition, whose number
 SECOND_SET = BLOCK + 1  # The block of another file set descriptor.
 
 
-def every_way_disc(name):
+def every_way_disc(name, **how):
     """A disc that opens in every way: by the highest numbers to the root, else to the old one; a continuation and a directory have wrong bodies."""
     sequence = [*TWO_LABELS, pd(NEAR, 0), lvd(NEAR, sequence=9), lvd(NEAR, block=SECOND_SET), TERMINATOR]
-    disc = Disc(NEAR, sequence, also=TWINS, bad=("second", "deep"))
+    disc = Disc(NEAR, sequence, also=TWINS, bad=("second", "deep"), **how)
     at = NEAR.starts[0] + SECOND_SET
     disc.lay(at, sealed(file_set(at, root=disc.ad("old root")), 416))
     for i, one in enumerate((b"BEA01", b"NSR03", b"TEA01")):
@@ -222,7 +222,7 @@ UNREAD = {
 
 def unread():
     """The disc that opens in every way, with something in every byte of a descriptor that no rule looks at: nothing else is said of it."""
-    image = every_way_disc("every way of opening, with bytes that aren't looked at")
+    image = every_way_disc("every way of opening, with bytes that aren't looked at", information={"mixed": 2000})
     for at in range(0, len(image.bytes), SECTOR):
         sector = image.bytes[at : at + SECTOR]
         kind, length = struct.unpack_from("<H8xH", sector)
