@@ -66,11 +66,11 @@ RUINED = (
     "root: crc",
     "root's show: body",
     "show's chain: last byte of the body",
+    "deep's cue: crc",
     "small: length one less",
     "cue: length past the end",
     "chain: length 0, crc 1",
     "first continuation: body",
-    "deep's cue: crc",
 )
 
 
@@ -83,15 +83,14 @@ def checked():
     for volume in (0, CHECKED):
         ask_edges(disc, volume, ("small", "show/chain", "last"), (12, 200, 700))
     yield disc
-    wanted = dict.fromkeys(RUINED)
-    for name, at, data in checked_images.cases(disc):
-        if name in wanted:
-            image = checked_images.ruined(disc, f"checked, {name}", at, data)
-            by_hand = image.by_hand(start=START, partition=PARTITION, checked=256, root=root)
-            for volume in (0, CHECKED, CHECKED | HIGHEST, by_hand):
-                ask_lists(image, volume, CHECKED_ITEMS)
-                ask_files(image, volume, icbs)
-            yield image
+    ruins = {name: ruin for name, *ruin in checked_images.cases(disc)}
+    for name in RUINED:
+        image = checked_images.ruined(disc, f"checked, {name}", *ruins[name])
+        by_hand = image.by_hand(start=START, partition=PARTITION, checked=256, root=root)
+        for volume in (0, CHECKED, CHECKED | HIGHEST, by_hand):
+            ask_lists(image, volume, CHECKED_ITEMS)
+            ask_files(image, volume, icbs)
+        yield image
 
 
 def listed_ids():
