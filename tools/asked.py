@@ -5,28 +5,33 @@ docs/COMPARING.md has the format.
     tools/asked.py                     writes crates/asker/stdout
     tools/asked.py --check             fails where that file isn't what the rules say, and says which query's line is the first
     tools/asked.py --show FILE IMAGE   prints what is said of one image
-    tools/asked.py --self-test         a file that is cut, and one with a number that means nothing, must be refused at the right byte
+    tools/asked.py --self-test         a file that is cut, and one with a number that means nothing, must be refused at the right byte, and by
+                                       the proved program too, where that is built
 """
 
 import functools
 import pathlib
 import struct
 import sys
+import tempfile
 from typing import Callable, NamedTuple
 
 sys.dont_write_bytecode = True
+import kit
 import rules
 from rules import SIZE, Disc, Volume
 
-CRATES = pathlib.Path(__file__).resolve().parents[1] / "crates"
+CRATES = kit.ROOT / "crates"
 HERE = CRATES / "asker"
-FILES = ("volumes", "files", "directories", "matchings", "checks", "maps", "growing", "stacks", "trees", "replayed", "combinations")
+FILES = (HERE / "args").read_text(encoding="ascii").split()
+PROGRAM = kit.ROOT / "target/bin/asker"
 LONGEST_IMAGE, MOST_BYTES, MOST_PLACES = 2**21, 65536, 1024
 WAYS = 8  # Of opening; behind them come the volumes made by hand.
 WATCHED = 2**32 - 1
 FREE_LENGTH, FREE_ANSWER = 0xA5A5A5A5A5A5A5A5, 0xA5A5A5A5
 BY_HAND = struct.Struct("<IHII4H4H4I16s")
 QUERY = struct.Struct("<9I16sI")
+OTHER_BYTES = "a name of other bytes"
 
 
 # ---- the records
@@ -270,9 +275,9 @@ def watched(name, image, volume, query):
 
 def query_line(q, size):
     """What is asked; what is 0 or empty is left out, and so is the whole length of the image."""
-    numbers = {"volume": q.volume, "there": 0 if q.there == size else q.there, "matching": q.matching, "levels": q.levels}
-    lent = {"room": q.room, "work": q.work, "slots": q.slots, "answers": q.answers}
-    words = [f" {name} {n}" for name, n in {**numbers, **lent}.items() if n]
+    there = [("there", q.there)] * (q.there != size)
+    numbers = [("matching", q.matching), ("levels", q.levels), ("room", q.room), ("work", q.work), ("slots", q.slots), ("answers", q.answers)]
+    words = [f" {name} {n}" for name, n in [("volume", q.volume), *there, *numbers] if n or name == "there"]
     return "query" + "".join(words) + "".join(f" {name} {shown(data)}" for name, data in (("icb", q.icb), ("text", q.text)) if any(data))
 
 
@@ -383,7 +388,18 @@ def meaningless(one, places):
         yield "opening by hand", one[:query] + struct.pack("<I", what) + one[query + 4 :], query + 4
     yield "a text that ends behind the queries", one[: query + 52] + struct.pack("<I", 61) + one[query + 56 :], query + QUERY.size
     yield "a run fewer", one[: packed + 4] + struct.pack("<I", 0) + one[packed + 8 :], packed + 8
-    yield "a name of other bytes", b"\2\0\xc3\xa9" + one[5:], 0
+    yield OTHER_BYTES, b"\2\0\xc3\xa9" + one[5:], 0
+
+
+def taken(tried):
+    """The files that the proved program takes, by its words on each: it is run on all of them at once. A name may have any bytes there."""
+    with tempfile.TemporaryDirectory() as folder:
+        for i, (_, data, _) in enumerate(tried):
+            (pathlib.Path(folder) / str(i)).write_bytes(data)
+        said = kit.ran(PROGRAM, words=range(len(tried)), cwd=folder).decode("ascii", "replace")
+    last = [section.splitlines()[-1] for section in said.split("file ")[1:]]
+    assert len(last) == len(tried), "the program said nothing of some files"
+    return [what for (what, _, _), line in zip(tried, last) if not line.startswith("refused at byte ") and what != OTHER_BYTES]
 
 
 def self_test():
@@ -399,9 +415,11 @@ def self_test():
             except Unread as why:
                 if why.at != len(before) + place:
                     wrong.append(f"{what}: {why}, and not byte {len(before) + place}")
+    by = "the model" if not PROGRAM.exists() else "the model and the program"
+    wrong += [f"{what}: not refused by the program" for what in taken(tried)] if PROGRAM.exists() else []
     for why in wrong:
         print(f"asked: {why}")
-    print(f"asked: {len(tried)} files that are cut or mean nothing: {'FAILED' if wrong else 'each is refused at its byte'}")
+    print(f"asked: {len(tried)} files that are cut or mean nothing: {'FAILED' if wrong else 'each is refused, by ' + by}")
     return 1 if wrong else 0
 
 

@@ -45,12 +45,12 @@ def linked(source, archives, program, language=("-std=c11",), headers=()):
     did(own() / "bin/rattle-link", "--target", TARGET, "--toolchain", tools, "-o", program, object, *archives)
 
 
-def ran(program, input=b"", words=()):
+def ran(program, input=b"", words=(), **more):
     """What a program writes to its standard output, given this on its standard input, and these words."""
     tools = own() / "toolchain"
     emulator = tools / "bin/qemu-x86_64"
     front = [emulator] if emulator.exists() else []
-    return did(*front, tools / "lib/ld-linux-x86-64.so.2", "--library-path", tools / "lib", program, *words, input=input)
+    return did(*front, tools / "lib/ld-linux-x86-64.so.2", "--library-path", tools / "lib", program, *words, input=input, **more)
 
 
 def below(crate):
