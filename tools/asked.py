@@ -251,6 +251,38 @@ BIT = {name: 1 << n for n, name in enumerate(CALLS)}
 OPENING = BIT["open"] | BIT["label"]
 
 
+# The numbers that each call may answer (docs/RULES.md, 1.1): its row in the proof, of which every one is met by a stored query.
+OF_FILE, ALONG = {0, 1, 2, 4, 10}, {0, 1, 2, 3, 4, 6, 9, 10}
+ROWS = {
+    "open": OF_FILE | {3},
+    "label": OF_FILE | {3, 5},
+    "lookup": ALONG,
+    "failed": ALONG,
+    "list": OF_FILE | {5, 6},
+    "read": OF_FILE | {5},
+    "part": OF_FILE,
+    "extents": OF_FILE | {7},
+    "read_path": ALONG | {5},
+    "read_all": {0, 12},
+    "show": OF_FILE | {5, 6, 11},
+    "measure": OF_FILE,
+    "runs": OF_FILE | {7},
+    "failed_at": ALONG,
+    "part_at": OF_FILE,
+}
+
+
+def rows_met(lines):
+    """What is wrong with the numbers that stored lines have, a text for each call: one that isn't in its row, or one of its row that no line has."""
+    met = {name: set() for name in ROWS}
+    for line in lines:
+        words = line.split(" ", 5)
+        words = words[2:] if words[0] == "at" else words
+        if words[0] in met and words[2] == "count":
+            met[words[0]].add(int(words[1]))
+    return [f"{name}: the numbers are {sorted(met[name])}, and not {sorted(ROWS[name])}" for name in ROWS if met[name] != ROWS[name]]
+
+
 def said(name, disc, volume, query):
     """The line of a call."""
     call = CALLS[name]
@@ -433,7 +465,10 @@ def main(words):
     if words not in ([], ["--check"]):
         print(__doc__, file=sys.stderr)
         return 2
-    return stored("asker", lines(), words)
+    wrong = rows_met((HERE / "stdout").read_text(encoding="ascii").splitlines()) if words else []
+    for why in wrong:
+        print(f"asked: {why}", file=sys.stderr)
+    return stored("asker", lines(), words) or int(bool(wrong))
 
 
 if __name__ == "__main__":
