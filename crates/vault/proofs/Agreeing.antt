@@ -18,7 +18,7 @@ use Rattle.disc.specs.Images.{disc}
 use Rattle.disc.specs.Ran.{Ran, ran}
 use Rattle.disc.specs.Replies.{answerOf}
 use Rattle.disc.specs.declared.refusals.Refusal.{Refusal}
-use Rattle.disc.specs.declared.refusals.Refusal.the-variants.{Io, Malformed, NotBluray, Unsupported, NoRoom, NoWork, NoSlot, Ambiguous, BadCrc, TooDeep, TooMany, BadName, BadFiles, BadShelf}
+use Rattle.disc.specs.declared.refusals.Refusal.the-variants.{Ambiguous}
 use Rattle.disc.proofs.OnlyLaws.{Within, refuses-within}
 use Rattle.disc.proofs.RanLaws.{ran-then}
 use Rattle.disc.proofs.RefusalLaws.{refusal-numbered}
@@ -33,45 +33,16 @@ use Rattle.directories.specs.Lookups.Sought.{reached, lost}
 use Rattle.directories.proofs.LookupLaws.{look-is}
 use Rattle.directories.proofs.MatchingLaws.{only-agrees, written-agrees-only, ApartOn, IsLost, apart-only, apart-written-agrees, Doubles, doubles-refused, refused-doubles}
 use Rattle.volumes.specs.declared.openings.VolumeRecord.{VolumeRecord}
-use Rattle.vault.specs.Calls.{reading, seeking as seekingOf, finding, pathReading, cleared, worked, readsPath, looked, finds, lost as lostBy, fails, lostPlace, failsAt}
-use Rattle.vault.proofs.Orders.{roomed, pathAnswer, read-path-order}
-use Rattle.vault.proofs.Refusing.{bytes-only, directory-only}
-use Rattle.vault.proofs.Soundness.{failed-sound}
-
--- ---- which refusal has number 9
-
-nine-is : (why : Refusal) → number why ≡ 9 → why ≡ Ambiguous
-nine-is Io e = absurd (omega arith)
-nine-is Malformed e = absurd (omega arith)
-nine-is NotBluray e = absurd (omega arith)
-nine-is Unsupported e = absurd (omega arith)
-nine-is NoRoom e = absurd (omega arith)
-nine-is NoWork e = absurd (omega arith)
-nine-is NoSlot e = absurd (omega arith)
-nine-is Ambiguous e = refl
-nine-is BadCrc e = absurd (omega arith)
-nine-is TooDeep e = absurd (omega arith)
-nine-is TooMany e = absurd (omega arith)
-nine-is BadName e = absurd (omega arith)
-nine-is BadFiles e = absurd (omega arith)
-nine-is BadShelf e = absurd (omega arith)
-
--- every refusal but 9
-abbrev ButNine : Refusal → Type 0
-ButNine why = number why ≡ 9 → ⊥
-
-nine-walk : (o : Outcome Sought) → answerOf (andThen o icbOf) ≡ 9 → o ≡ refused Ambiguous
-nine-walk (answered (reached icb)) e = absurd (omega arith)
-nine-walk (answered (lost c)) e = absurd (omega arith)
-nine-walk (refused why) e = ap refused (nine-is why e)
+use Rattle.vault.specs.Calls.{reading, seeking as seekingOf, finding, pathReading, worked, looked, finds, lost as lostBy, lostPlace}
+use Rattle.vault.proofs.Refusing.{directory-only}
+use Rattle.vault.specs.Public.{way, leaves, answerOn}
+use Rattle.vault.proofs.Along.{Walker, along, walk-refused, refused-walk}
+use Rattle.vault.proofs.Along.Walker.{finder, failer, placer, reader}
 
 -- ---- calls whose walks are the same
 
-pub record Same (image : List ℕ) (v : VolumeRecord) (path : List ℕ) (matching matching′ : Matching) (work : List ℕ) : Type 0 where
-  pub lookup : finds image v path matching work ≡ finds image v path matching′ work
-  pub failed : fails image v path matching work ≡ fails image v path matching′ work
-  pub failed-at : failsAt image v path matching work ≡ failsAt image v path matching′ work
-  pub read-path : (out : List ℕ) → readsPath image v path matching out work ≡ readsPath image v path matching′ out work
+pub record Same (image : List ℕ) (v : VolumeRecord) (path : List ℕ) (matching matching′ : Matching) (work : List ℕ) : Type 1 where
+  pub calls : {A R : Type 0} (w : Walker A R) → leaves (along w v path matching work) image ≡ leaves (along w v path matching′ work) image
 
 module _ (image : List ℕ) (v : VolumeRecord) (path work : List ℕ) where
   abbrev W : Matching → Ran Sought
@@ -91,13 +62,13 @@ module _ (image : List ℕ) (v : VolumeRecord) (path work : List ℕ) where
       ∙ sym (ran-then (disc image) (finding v (length work) path matching′) (λ icb. reading v icb))
 
   same : (matching matching′ : Matching) → W matching ≡ W matching′ → Same image v path matching matching′ work
-  same matching matching′ h =
-      record {
-        lookup = ap (looked work) (looked-same matching matching′ h);
-        failed = ap (lostBy work) h;
-        failed-at = ap (lostPlace work) h;
-        read-path = λ out. ap (worked out work) (read-same matching matching′ h);
-      }
+  same matching matching′ h = record { calls = by }
+    where
+      by : {A R : Type 0} (w : Walker A R) → leaves (along w v path matching work) image ≡ leaves (along w v path matching′ work) image
+      by finder = ap (looked work) (looked-same matching matching′ h)
+      by failer = ap (lostBy work) h
+      by placer = ap (lostPlace work) h
+      by (reader out) = ap (worked out work) (read-same matching matching′ h)
 
   -- ---- the third choice and the first
 
@@ -154,70 +125,29 @@ module _ (image : List ℕ) (v : VolumeRecord) (path work : List ℕ) where
   abbrev pub SeveralOn : Type 0
   SeveralOn = Doubles (disc image) (v .mount) (length work) (components path) (v .root)
 
+  abbrev ButNine : Refusal → Type 0
+  ButNine why = number why ≡ 9 → ⊥
+
   never-nine : (icb : LongAd) → ran (disc image) (directoryBytes (v .mount) (length work) icb) .outcome ≡ refused Ambiguous → ⊥
   unfolding ran Within
   never-nine icb h =
       by (outcome (disc image) (directoryBytes (v .mount) (length work) icb)) h
       (refuses-within ButNine (λ e. omega arith) (disc image)
-      (directory-only ButNine (λ e. omega arith) (λ e. omega arith) (λ e. omega arith) (λ e. omega arith) (v .mount) (λ c e. omega arith) (length work) icb))
+      (directory-only ButNine (λ e. omega arith) (λ e. omega arith) (λ e. omega arith) (v .mount) (λ c e. omega arith) (length work) icb))
     where
       by : (o : Outcome (List ℕ)) → o ≡ refused Ambiguous → Within ButNine o → ⊥
       by (answered b) h w = let z : _≡_ {A = ℕ} 0 1 = cc in omega arith
       by (refused why) h w = let z : why ≡ Ambiguous = cc in w (ap number z)
 
-  pub lookup-9 : finds image v path Unambiguous work .found .answer ≡ 9 → SeveralOn
+  pub along-9 : {A R : Type 0} (w : Walker A R) → answerOn (along w v path Unambiguous work) image ≡ 9 → SeveralOn
   unfolding seekPath
-  lookup-9 h =
-      refused-doubles (disc image) (v .mount) (length work) never-nine (components path) (v .root)
-      (nine-walk _ (sym (ap (λ (r : Ran LongAd). answerOf (r .outcome)) (looks Unambiguous)) ∙ h))
-
-  pub failed-9 : fails image v path Unambiguous work .answer ≡ 9 → SeveralOn
-  failed-9 h = lookup-9 (sym (failed-sound image v path Unambiguous work .0) ∙ h)
-
-  pub failed-at-9 : failsAt image v path Unambiguous work .reply .answer ≡ 9 → SeveralOn
-  failed-at-9 h = failed-9 h
-
-  pub read-path-9 : (out : List ℕ) → readsPath image v path Unambiguous out work .reply .answer ≡ 9 → SeveralOn
-  unfolding ran Within
-  read-path-9 out h =
-      lookup-9 (by (outcome (disc image) (finding v (length work) path Unambiguous)) (sym (read-path-order image v path Unambiguous out work) ∙ h))
-    where
-      room : (o : Outcome (List ℕ)) → Within ButNine o → roomed (length out) o ≡ 9 → ⊥
-      room (refused why) w k = w k
-      room (answered b) w k = fits (leb (length b) (length out)) k
-        where
-          fits : (t : Bool) → _≡_ {A = ℕ} (pick t 0 5) 9 → ⊥
-          fits true k = omega arith
-          fits false k = omega arith
-
-      by : (o : Outcome LongAd) → pathAnswer (length out) o (λ icb. outcome (disc image) (reading v icb)) ≡ 9 → answerOf o ≡ 9
-      by (refused why) k = k
-      by (answered icb) k = absurd (room (outcome (disc image) (reading v icb)) (refuses-within ButNine (λ e. omega arith) (disc image) (bytes-only ButNine (λ e. omega arith) (λ e. omega arith) (v .mount) (λ c e. omega arith) icb)) k)
+  along-9 w e = refused-doubles (disc image) (v .mount) (length work) never-nine (components path) (v .root) (refused-walk image v path Unambiguous work Ambiguous (inr refl) w e)
 
   -- and always then, after the sectors of the way to the directory and of its read; the component that failed is empty, and all else is as a refusal has it
   module _ (o : SeveralOn) where
     abbrev pub sectorsOf : ℕ
     sectorsOf = ran (disc image) (seeking Unambiguous (v .mount) (length work) (o .before) (v .root) true) .count + ran (disc image) (directoryBytes (v .mount) (length work) (o .directory)) .count
 
-    walked : W Unambiguous ≡ record { outcome = refused Ambiguous; count = sectorsOf }
+    pub several-along : {A R : Type 0} (w : Walker A R) → leaves (along w v path Unambiguous work) image ≡ way (along w v path Unambiguous work) .bare 9 (reported sectorsOf)
     unfolding seekPath
-    walked = doubles-refused (disc image) (v .mount) (length work) (components path) (v .root) o
-
-    looked-up : ran (disc image) (finding v (length work) path Unambiguous) ≡ record { outcome = refused Ambiguous; count = sectorsOf }
-    looked-up = looks Unambiguous ∙ rw walked
-
-    pub several-lookup : finds image v path Unambiguous work ≡ record { found = record { answer = 9; count = reported sectorsOf; icb = noLong }; work = cleared work }
-    several-lookup = ap (looked work) looked-up
-
-    pub several-failed : fails image v path Unambiguous work ≡ record { component = []; answer = 9; count = reported sectorsOf; work = cleared work }
-    several-failed = ap (lostBy work) walked
-
-    pub several-failed-at : failsAt image v path Unambiguous work ≡ record { reply = record { answer = 9; count = reported sectorsOf; length = 0 }; at = 0; work = cleared work }
-    several-failed-at = ap (lostPlace work) walked
-
-    pub several-read-path : (out : List ℕ) → readsPath image v path Unambiguous out work ≡ record { reply = record { answer = 9; count = reported sectorsOf; length = 0 }; out = out; work = cleared work }
-    unfolding readPathOf
-    several-read-path out =
-        let g : ran (disc image) (pathReading v (length work) path Unambiguous) ≡ record { outcome = refused Ambiguous; count = sectorsOf } =
-        ran-then (disc image) (finding v (length work) path Unambiguous) (λ icb. reading v icb) ∙ rw looked-up in
-        ap (worked out work) g
+    several-along w = walk-refused image v path Unambiguous work Ambiguous sectorsOf (doubles-refused (disc image) (v .mount) (length work) (components path) (v .root) o) w

@@ -1,5 +1,10 @@
 -- What the calls leave, from the contracts of the crates below, and the promises.
 pub mod CallLaws
+pub mod RunGuards
+pub mod Promises
+pub mod Along
+pub mod AtHand
+pub mod Instances
 pub mod Sectors
 pub mod Orders
 pub mod Refusing
@@ -7,7 +12,6 @@ pub mod Exactly
 pub mod Soundness
 pub mod Measuring
 pub mod Running
-pub mod Missing
 pub mod Overflowing
 pub mod Matching
 pub mod Cues

@@ -4,7 +4,7 @@ use mathlib.Core.Path.{_≡_, refl, sym, subst, _∙_}
 use mathlib.Core.Bool.{Bool, true, false}
 use mathlib.Core.List.{List, [], _∷_}
 use mathlib.Core.Option.{Option, none, some}
-use Prim.Native.Nat.{ℕ, zero, suc, _+_, _-_}
+use Prim.Native.Nat.{ℕ, zero, suc, _+_, _-_, _*_}
 use native.Mathlib.Omega.{arith}
 use lib.ListN.{length, take}
 use lib.Dec.{eqb, ltb, leb}
@@ -57,6 +57,8 @@ use Rattle.volumes.specs.Labels.{labelOf, labelling}
 use Rattle.chains.specs.Chains.{areaIn, nextArea, continued, areaFrom}
 use Rattle.files.specs.Reads.{joining, extentBytes, extentsBytes}
 use Rattle.files.specs.Files.{Located, located, entryAt, entryMount, isEmbedded, chainOf, fileBytes, filePart, fileExtents, File, resolved, fileAt, contentOf}
+use Rattle.layouts.specs.Runs.{running, extentsRuns, runsOf, fileRuns}
+use Rattle.layouts.specs.declared.runs.Run.{Run}
 use Rattle.listings.specs.Entries.{Entry, entries}
 use Rattle.listings.specs.Listings.{records, listing, foldIn, allNamed, chosen, findIn}
 use Rattle.listings.specs.declared.matchings.Matching.{Matching}
@@ -133,7 +135,7 @@ module _ (P : Refusal → Type 0) (malformed : P Malformed) (unsupported : P Uns
   joining-only : (want : ℕ) (b : List ℕ) {more : Ask (List ℕ)} → Refuses P Any more → Refuses P Any (joining want b more)
   joining-only want b p = pick-only (leb want (length b)) (done-only tt) (then-only p (λ rest q. done-only tt))
 
-  extent-only : (n at size want : ℕ) → Refuses P Any (extentBytes n at size want)
+  pub extent-only : (n at size want : ℕ) → Refuses P Any (extentBytes n at size want)
   unfolding extentBytes
   extent-only zero at size want = done-only tt
   extent-only (suc n) at size want = ask-only (λ b. joining-only want (take size b) (extent-only n (at + 1) (size - 2048) (want - length (take size b))))
@@ -183,6 +185,28 @@ module _ (P : Refusal → Type 0) (malformed : P Malformed) (unsupported : P Uns
   pub list-only : (m : Mount) → (isChecked m ≡ true → P BadCrc) → (icb : LongAd) → Refuses P Any (fileExtents m icb)
   unfolding fileExtents
   list-only m crc icb = then-only (file-only m crc icb) (λ f q. done-only tt)
+
+  -- its runs
+  running-only : (want at n : ℕ) {more : Ask (List Run)} → Refuses P Any more → Refuses P Any (running want at n more)
+  running-only want at n p = pick-only (leb want n) (done-only tt) (then-only p (λ rest q. done-only tt))
+
+  extents-runs-only : (m : Mount) (es : List AllocExtent) (want : ℕ) → Refuses P Any (extentsRuns m es want)
+  unfolding extentsRuns
+  extents-runs-only m [] want = done-only tt
+  extents-runs-only m (e ∷ es) want =
+      pick-only (eqb (e .«extent_type») 0)
+      (standing-only (placed m (e .«partition_ref») (e .block .0)) (λ at.
+      then-only (extent-only (sectorsFor (e .length)) at (e .length) want) (λ b q.
+      running-only want (2048 * at) (length b) (extents-runs-only m es (want - length b)))))
+      (refuse-only unsupported)
+
+  pub runs-only : (m : Mount) → (isChecked m ≡ true → P BadCrc) → (icb : LongAd) → Refuses P Any (fileRuns m icb)
+  unfolding fileRuns
+  runs-only m crc icb = then-only (file-only m crc icb) (λ f q. by f)
+    where
+      by : (f : File) → Refuses P Any (runsOf (entryMount m icb) f)
+      by (embedded x) = done-only tt
+      by (chained x es) = extents-runs-only (entryMount m icb) es (x .entry .«information_length»)
 
 -- ---- opening, for any P that has 2, 3 and 4, and 10 where bodies are checked
 
@@ -264,9 +288,37 @@ module _ (P : Refusal → Type 0) (malformed : P Malformed) (missing : P NotBlur
       by v (answered name) e = done-only tt
       by v (refused r) e = refuse-only (subst P (sym (field-refused (v .label) e)) malformed)
 
--- ---- directories, for any P that has 6 too
+-- ---- a directory's bytes at hand, for any P that has 2, and 10 where bodies are checked
 
-module _ (P : Refusal → Type 0) (malformed : P Malformed) (missing : P NotBluray) (unsupported : P Unsupported) (full : P NoWork) where
+module _ (P : Refusal → Type 0) (malformed : P Malformed) (check : Bool) (crc : check ≡ true → P BadCrc) where
+  pub listed-only : (b : List ℕ) → Refuses P Any (ended (listing check b))
+  unfolding listing
+  listed-only b = by (entries check b) refl
+    where
+      by : (o : Outcome (List Entry)) → entries check b ≡ o → Refuses P Any (ended (andThen o (λ es. answered (records es))))
+      by (answered es) e = done-only tt
+      by (refused why) e = refuse-only (entries-refused check b P malformed crc e)
+
+  -- and 9 under the third choice of matching
+  module _ (matching : Matching) (ambiguous : matching ≡ Unambiguous → P Ambiguous) where
+    chosen-only : (xs : List Entry) → Refuses P Any (ended (chosen matching xs))
+    chosen-only xs = by (chosen matching xs) refl
+      where
+        by : (o : Outcome (Option Entry)) → chosen matching xs ≡ o → Refuses P Any (ended o)
+        by (answered o) e = done-only tt
+        by (refused why) e = let r = chosen-refused matching xs e in refuse-only (subst P (sym (r .1)) (ambiguous (r .0)))
+
+    pub named-only : (component b : List ℕ) → Refuses P Any (ended (findIn check matching component b))
+    unfolding findIn
+    named-only component b = by (entries check b) refl
+      where
+        by : (o : Outcome (List Entry)) → entries check b ≡ o → Refuses P Any (ended (andThen o (λ es. chosen matching (allNamed (foldIn matching) component es))))
+        by (answered es) e = chosen-only (allNamed (foldIn matching) component es)
+        by (refused why) e = refuse-only (entries-refused check b P malformed crc e)
+
+-- ---- directories, for any P that has 2, 4 and 6, and 10 where bodies are checked
+
+module _ (P : Refusal → Type 0) (malformed : P Malformed) (unsupported : P Unsupported) (full : P NoWork) where
   pub directory-only : (m : Mount) → (isChecked m ≡ true → P BadCrc) → (work : ℕ) (icb : LongAd) → Refuses P Any (directoryBytes m work icb)
   unfolding directoryBytes within
   directory-only m crc work icb = then-only (bytes-only P malformed unsupported m crc icb) (λ b q. by b (leb (length b) work))
@@ -276,29 +328,14 @@ module _ (P : Refusal → Type 0) (malformed : P Malformed) (missing : P NotBlur
       by b false = refuse-only full
 
   pub listing-only : (m : Mount) → (isChecked m ≡ true → P BadCrc) → (work : ℕ) (icb : LongAd) → Refuses P Any (listingAt m work icb)
-  unfolding listingAt listing
-  listing-only m crc work icb = then-only (directory-only m crc work icb) (λ b q. by b (entries (isChecked m) b) refl)
-    where
-      by : (b : List ℕ) (o : Outcome (List Entry)) → entries (isChecked m) b ≡ o → Refuses P Any (ended (andThen o (λ es. answered (records es))))
-      by b (answered es) e = done-only tt
-      by b (refused why) e = refuse-only (entries-refused (isChecked m) b P malformed crc e)
+  unfolding listingAt
+  listing-only m crc work icb = then-only (directory-only m crc work icb) (λ b q. listed-only P malformed (isChecked m) crc b)
 
   -- paths, for any P that has 9 too under the third choice of matching
   module _ (matching : Matching) (ambiguous : matching ≡ Unambiguous → P Ambiguous) (m : Mount) (crc : isChecked m ≡ true → P BadCrc) (work : ℕ) where
-    chosen-only : (xs : List Entry) → Refuses P Any (ended (chosen matching xs))
-    chosen-only xs = by (chosen matching xs) refl
-      where
-        by : (o : Outcome (Option Entry)) → chosen matching xs ≡ o → Refuses P Any (ended o)
-        by (answered o) e = done-only tt
-        by (refused why) e = let r = chosen-refused matching xs e in refuse-only (subst P (sym (r .1)) (ambiguous (r .0)))
-
     entering-only : (icb : LongAd) (component : List ℕ) → Refuses P Any (entering matching m work icb component)
-    unfolding entering findIn
-    entering-only icb component = then-only (directory-only m crc work icb) (λ b q. by b (entries (isChecked m) b) refl)
-      where
-        by : (b : List ℕ) (o : Outcome (List Entry)) → entries (isChecked m) b ≡ o → Refuses P Any (ended (andThen o (λ es. chosen matching (allNamed (foldIn matching) component es))))
-        by b (answered es) e = chosen-only (allNamed (foldIn matching) component es)
-        by b (refused why) e = refuse-only (entries-refused (isChecked m) b P malformed crc e)
+    unfolding entering
+    entering-only icb component = then-only (directory-only m crc work icb) (λ b q. named-only P malformed (isChecked m) crc matching ambiguous component b)
 
     seeking-only : (cs : List Component) (icb : LongAd) (directory : Bool) → Refuses P Any (seeking matching m work cs icb directory)
     unfolding seeking
@@ -310,17 +347,23 @@ module _ (P : Refusal → Type 0) (malformed : P Malformed) (missing : P NotBlur
         by none f h = done-only tt
         by (some e) f h = h e
 
-    pub lookup-only : (root : LongAd) (path : List ℕ) → Refuses P Any (lookupOf matching m work root path)
-    unfolding lookupOf seekPath
-    lookup-only root path = then-only (seeking-only (components path) root true) (λ s q. by s)
-      where
-        by : (s : Sought) → Refuses P Any (ended (icbOf s))
-        by (reached icb) = done-only tt
-        by (lost c) = refuse-only missing
+    pub seek-only : (root : LongAd) (path : List ℕ) → Refuses P Any (seekPath matching m work root path)
+    unfolding seekPath
+    seek-only root path = seeking-only (components path) root true
 
-    pub path-only : (root : LongAd) (path : List ℕ) → Refuses P Any (readPathOf matching m work root path)
-    unfolding readPathOf
-    path-only root path = then-only (lookup-only root path) (λ icb q. bytes-only P malformed unsupported m crc icb)
+    -- and 3, of a component that isn't there
+    module _ (missing : P NotBluray) where
+      pub lookup-only : (root : LongAd) (path : List ℕ) → Refuses P Any (lookupOf matching m work root path)
+      unfolding lookupOf seekPath
+      lookup-only root path = then-only (seeking-only (components path) root true) (λ s q. by s)
+        where
+          by : (s : Sought) → Refuses P Any (ended (icbOf s))
+          by (reached icb) = done-only tt
+          by (lost c) = refuse-only missing
+
+      pub path-only : (root : LongAd) (path : List ℕ) → Refuses P Any (readPathOf matching m work root path)
+      unfolding readPathOf
+      path-only root path = then-only (lookup-only root path) (λ icb q. bytes-only P malformed unsupported m crc icb)
 
 -- ---- a whole show, for any P that has 2, 4, 6 and 11
 

@@ -32,14 +32,10 @@ use Rattle.files.specs.Files.File.{embedded, chained}
 use Rattle.files.specs.inner.Pieces.{sectorsRead, beforeOutcome, joined, restOf}
 use Rattle.files.proofs.PieceLaws.{weigh-type, weigh-nowhere, weigh-missing, weigh-held}
 use Rattle.records.specs.declared.allocations.LongAd.{LongAd}
-use Rattle.volumes.specs.Openings.{opening}
-use Rattle.volumes.specs.Labels.{labelling}
-use Rattle.volumes.specs.declared.openings.How.{How}
 use Rattle.volumes.specs.declared.openings.VolumeRecord.{VolumeRecord}
-use Rattle.listings.specs.declared.matchings.Matching.{Matching}
-use Rattle.vault.specs.Calls.{reading, parting, extentListing, listing, showing, finding, pathReading, opens, labels, reads, lists, shows, readsPath, finds, parts, extents}
-use Rattle.vault.proofs.Missing.{lacking, reply-1, open-1, label-1, read-1, part-1, extents-1, list-1, show-1, lookup-1, read-path-1, open-unsaid, label-unsaid, read-unsaid, part-unsaid, extents-unsaid, list-unsaid, show-unsaid, lookup-unsaid, read-path-unsaid}
-use Rattle.vault.proofs.Sectors.{listed, open-counts, label-counts, read-counts, part-counts, extents-counts, list-counts, show-counts, lookup-counts, read-path-counts}
+use Rattle.vault.specs.Calls.{reading, extentListing, reads, extents}
+use Rattle.vault.specs.Public.Call.{reads as asRead, extents as asExtents}
+use Rattle.vault.proofs.Promises.{lacking, io-1, missing, counts}
 use Rattle.disc.proofs.GrownLaws.{Waits, waits-first, waits-next, waits-behind, refused-waits}
 
 -- ---- the sectors of extents
@@ -246,10 +242,10 @@ module _ (image : List ℕ) (v : VolumeRecord) (icb : LongAd) where
     unfolding ran
     read-waits-at f out row a b =
         let n = reported (length (asked (disc image) (reading v icb))) in
-        let q : isIo (outcome (disc image) (reading v icb)) ≡ true = sym (reply-1 NoRoom (λ e. omega arith) (length out) n (outcome (disc image) (reading v icb))) ∙ ap (λ k. eqb k 1) a in
+        let q : isIo (outcome (disc image) (reading v icb)) ≡ true = sym (io-1 (asRead v icb out) image) ∙ ap (λ k. eqb k 1) a in
         let w = runs-wait q in
         let e : reads image v icb out .reply .count - extents f image v icb row .reply .count ≡ length (asked (disc image) (reading v icb)) - length (asked (disc image) (extentListing v icb))
-        = omega (arith, read-counts image v icb out, extents-counts image v f icb row, w .place) in
+        = omega (arith, counts (asRead v icb out) image, counts (asExtents f v icb row) image, w .place) in
         rw e w
 
   -- ---- ready: the entry and the chain are read, the file isn't embedded, and the rules meet no extent that they refuse by 4. Then, with room enough, the read is
@@ -270,7 +266,7 @@ module _ (image : List ℕ) (v : VolumeRecord) (icb : LongAd) where
 
     pub read-ready : (out : List ℕ) → ((b : List ℕ) → outcome (disc image) (reading v icb) ≡ answered b → length b ≤ length out) → reads image v icb out .reply .answer ≡ pick (lacking image (reading v icb)) 1 0
     unfolding ran
-    read-ready out room = by (outcome (disc image) (reading v icb)) refl ready-runs (lacking image (reading v icb)) (sym (reply-1 NoRoom (λ e. omega arith) (length out) n (outcome (disc image) (reading v icb))) ∙ read-1 image v icb out)
+    read-ready out room = by (outcome (disc image) (reading v icb)) refl ready-runs (lacking image (reading v icb)) (sym (io-1 (asRead v icb out) image) ∙ missing (asRead v icb out) image)
       where
         n : ℕ
         n = reported (length (asked (disc image) (reading v icb)))
@@ -280,55 +276,3 @@ module _ (image : List ℕ) (v : VolumeRecord) (icb : LongAd) where
         by (answered b) e f false p = rw (le-leb (length b) (length out) (room b e))
         by (refused why) e f true p = eqb-true (number why) 1 p
         by (refused why) e f false p = absurd (let z = f p in let w : _≡_ {A = ℕ} 0 1 = cc in omega arith)
-
--- ---- each call that is refused by 1: its count is the place of the first sector that is missing, in the list that it has when there is more of the image
-
-abbrev Most : ℕ → Type 0
-Most n = n < 0xffff_ffff_ffff_ffff
-
-module _ (image more : List ℕ) where
-  abbrev Awaits : {A : Type 0} → Ask A → ℕ → Type 0
-  Awaits call n = Waits image (asked (disc (image ++ more)) call) n
-
-  awaits : {A : Type 0} (call : Ask A) → Refuses ButIo Any call → {n : ℕ} → eqb n 1 ≡ lacking image call → n ≡ 1 → {c : ℕ} → c ≡ listed image call → Most c → Awaits call c
-  awaits call only e f {c} g k =
-      let q : isIo (outcome (disc image) call) ≡ true = refused-missing image only ∙ sym e ∙ ap (λ j. eqb j 1) f in
-      let n : c ≡ length (asked (disc image) call) = omega arith in
-      rw n (refused-waits image (disc (image ++ more)) (image-grown image more) only q)
-
-  pub open-waits : (how : How) → opens image how .answer ≡ 1 → Most (opens image how .count) → Awaits (opening how) (opens image how .count)
-  open-waits how a k = awaits (opening how) (open-unsaid how) (open-1 image how) a (open-counts image how) k
-
-  pub label-waits : (how : How) (out : List ℕ) → labels image how out .reply .answer ≡ 1 → Most (labels image how out .reply .count) → Awaits (labelling how) (labels image how out .reply .count)
-  label-waits how out a k = awaits (labelling how) (label-unsaid how) (label-1 image how out) a (label-counts image how out) k
-
-  module _ (v : VolumeRecord) where
-    pub read-waits : (icb : LongAd) (out : List ℕ) → reads image v icb out .reply .answer ≡ 1 → Most (reads image v icb out .reply .count) → Awaits (reading v icb) (reads image v icb out .reply .count)
-    read-waits icb out a k = awaits (reading v icb) (read-unsaid v icb) (read-1 image v icb out) a (read-counts image v icb out) k
-
-    pub part-waits : (icb : LongAd) → parts image v icb .answer ≡ 1 → Most (parts image v icb .count) → Awaits (parting v icb) (parts image v icb .count)
-    part-waits icb a k = awaits (parting v icb) (part-unsaid v icb) (part-1 image v icb) a (part-counts image v icb) k
-
-    pub extents-waits : {A : Type 0} (f : AllocExtent → A) (icb : LongAd) (row : List A) → extents f image v icb row .reply .answer ≡ 1 → Most (extents f image v icb row .reply .count)
-        → Awaits (extentListing v icb) (extents f image v icb row .reply .count)
-    extents-waits f icb row a k = awaits (extentListing v icb) (extents-unsaid v icb) (extents-1 image v f icb row) a (extents-counts image v f icb row) k
-
-    pub list-waits : (icb : LongAd) (out work : List ℕ) → lists image v icb out work .reply .answer ≡ 1 → Most (lists image v icb out work .reply .count)
-        → Awaits (listing v (length work) icb) (lists image v icb out work .reply .count)
-    list-waits icb out work a k = awaits (listing v (length work) icb) (list-unsaid v (length work) icb) (list-1 image v icb out work) a (list-counts image v icb out work) k
-
-    pub show-waits : (levels : ℕ) (out work : List ℕ) → shows image v levels out work .reply .answer ≡ 1 → Most (shows image v levels out work .reply .count)
-        → Awaits (showing v levels (length work)) (shows image v levels out work .reply .count)
-    show-waits levels out work a k =
-        awaits (showing v levels (length work)) (show-unsaid v levels (length work)) (show-1 image v levels out work) a (show-counts image v levels out work) k
-
-    module _ (path : List ℕ) (matching : Matching) (work : List ℕ) where
-      pub lookup-waits : finds image v path matching work .found .answer ≡ 1 → Most (finds image v path matching work .found .count)
-          → Awaits (finding v (length work) path matching) (finds image v path matching work .found .count)
-      lookup-waits a k =
-          awaits (finding v (length work) path matching) (lookup-unsaid v (length work) path matching) (lookup-1 image v path matching work) a (lookup-counts image v path matching work) k
-
-      pub read-path-waits : (out : List ℕ) → readsPath image v path matching out work .reply .answer ≡ 1 → Most (readsPath image v path matching out work .reply .count)
-          → Awaits (pathReading v (length work) path matching) (readsPath image v path matching out work .reply .count)
-      read-path-waits out a k =
-          awaits (pathReading v (length work) path matching) (read-path-unsaid v (length work) path matching) (read-path-1 image v path matching out work) a (read-path-counts image v path matching out work) k

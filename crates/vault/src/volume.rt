@@ -2,7 +2,9 @@
 ghost use mathlib.Core.Path.{_≡_};
 ghost use Rattle.layouts.specs.Calls.{wordsOf, extentOf};
 ghost use Rattle.probes.specs.Probes.{probed};
-ghost use Rattle.vault.specs.Calls.{opens, labels, reads, measures, lists, shows, readsPath, readsAll, finds, fails, failsAt, parts, partsAt, extents, runs, listsBytes, findsIn};
+ghost use Rattle.vault.specs.Calls.{readsAll, listsBytes, findsIn};
+ghost use Rattle.vault.specs.Public.{leaves};
+ghost use Rattle.vault.specs.Public.Call.{opens, labels, reads, measures, lists, shows, readsPath, finds, fails, failsAt, parts, partsAt, extents, runs};
 use directories::listed::list_directory;
 use directories::lookups::Found;
 use disc::refusals::Refusal;
@@ -30,14 +32,14 @@ pub struct Volume(pub VolumeRecord);
 impl Volume {
     // Opens the volume that an image holds.
     pub fn open(image: &[u8], how: How) -> Opened
-        ensures { λ r. ⌜ r ≡ opens (now (image .entry)) how ⌝ }
+        ensures { λ r. ⌜ r ≡ leaves (opens how) (now (image .entry)) ⌝ }
     {
         open_volume(image, how)
     }
 
     // The ICB that a path names, by a choice of matching. The work space holds one directory at a time, and is all zero on return.
     pub fn lookup(self, image: &[u8], path: &[u8], matching: Matching, work: &mut [u8]) -> Found
-        ensures { λ r. ⌜ record { found = r; work = now (work .exit) } ≡ finds (now (image .entry)) (self .0) (now (path .entry)) matching (now (work .entry)) ⌝ }
+        ensures { λ r. ⌜ record { found = r; work = now (work .exit) } ≡ leaves (finds (self .0) (now (path .entry)) matching (now (work .entry))) (now (image .entry)) ⌝ }
     {
         let v = self.0;
         let mount = v.mount;
@@ -55,7 +57,7 @@ impl Volume {
         answer: &mut u64,
         count: &mut u64,
     ) -> &'p [u8]
-        ensures { λ r. ⌜ record { component = now r; answer = now (answer .exit); count = now (count .exit); work = now (work .exit) } ≡ fails (now (image .entry)) (self .0) (now (path .entry)) matching (now (work .entry)) ⌝ }
+        ensures { λ r. ⌜ record { component = now r; answer = now (answer .exit); count = now (count .exit); work = now (work .exit) } ≡ leaves (fails (self .0) (now (path .entry)) matching (now (work .entry))) (now (image .entry)) ⌝ }
     {
         let v = self.0;
         let mount = v.mount;
@@ -72,7 +74,7 @@ impl Volume {
         work: &mut [u8],
         at: &mut usize,
     ) -> Reply
-        ensures { λ r. ⌜ record { reply = r; at = now (at .exit); work = now (work .exit) } ≡ failsAt (now (image .entry)) (self .0) (now (path .entry)) matching (now (work .entry)) ⌝ }
+        ensures { λ r. ⌜ record { reply = r; at = now (at .exit); work = now (work .exit) } ≡ leaves (failsAt (self .0) (now (path .entry)) matching (now (work .entry))) (now (image .entry)) ⌝ }
     {
         let v = self.0;
         let mount = v.mount;
@@ -82,7 +84,7 @@ impl Volume {
 
     // The listing of the directory at icb, over the front of out.
     pub fn list(self, image: &[u8], icb: LongAd, out: &mut [u8], work: &mut [u8]) -> Reply
-        ensures { λ r. ⌜ record { reply = r; out = now (out .exit); work = now (work .exit) } ≡ lists (now (image .entry)) (self .0) icb (now (out .entry)) (now (work .entry)) ⌝ }
+        ensures { λ r. ⌜ record { reply = r; out = now (out .exit); work = now (work .exit) } ≡ leaves (lists (self .0) icb (now (out .entry)) (now (work .entry))) (now (image .entry)) ⌝ }
     {
         let mount = self.0.mount;
         list_directory(image, mount, icb, out, work)
@@ -91,7 +93,7 @@ impl Volume {
     // The volume's whole tree, over the front of out: a listing's record with its level for each entry that a path of at most `levels` components
     // leads to, each before what stands under it. The work space holds the directories on the way down, one behind the other.
     pub fn show(self, image: &[u8], levels: u32, out: &mut [u8], work: &mut [u8]) -> Reply
-        ensures { λ r. ⌜ record { reply = r; out = now (out .exit); work = now (work .exit) } ≡ shows (now (image .entry)) (self .0) levels (now (out .entry)) (now (work .entry)) ⌝ }
+        ensures { λ r. ⌜ record { reply = r; out = now (out .exit); work = now (work .exit) } ≡ leaves (shows (self .0) levels (now (out .entry)) (now (work .entry))) (now (image .entry)) ⌝ }
     {
         let v = self.0;
         let mount = v.mount;
@@ -101,7 +103,7 @@ impl Volume {
 
     // The bytes of the file at icb, over the front of out.
     pub fn read(self, image: &[u8], icb: LongAd, out: &mut [u8]) -> Reply
-        ensures { λ r. ⌜ record { reply = r; out = now (out .exit) } ≡ reads (now (image .entry)) (self .0) icb (now (out .entry)) ⌝ }
+        ensures { λ r. ⌜ record { reply = r; out = now (out .exit) } ≡ leaves (reads (self .0) icb (now (out .entry))) (now (image .entry)) ⌝ }
     {
         let mount = self.0.mount;
         read_file(image, mount, icb, out, Refusal::NoRoom)
@@ -109,7 +111,7 @@ impl Volume {
 
     // How many bytes a read of the file at icb answers where there is room: its refusals and its count, and no output.
     pub fn measure(self, image: &[u8], icb: LongAd) -> Reply
-        ensures { λ r. ⌜ r ≡ measures (now (image .entry)) (self .0) icb ⌝ }
+        ensures { λ r. ⌜ r ≡ leaves (measures (self .0) icb) (now (image .entry)) ⌝ }
     {
         let mount = self.0.mount;
         measure_file(image, mount, icb)
@@ -123,7 +125,7 @@ impl Volume {
         answer: &mut u64,
         count: &mut u64,
     ) -> &'i [u8]
-        ensures { λ r. ⌜ record { part = now r; answer = now (answer .exit); count = now (count .exit) } ≡ parts (now (image .entry)) (self .0) icb ⌝ }
+        ensures { λ r. ⌜ record { part = now r; answer = now (answer .exit); count = now (count .exit) } ≡ leaves (parts (self .0) icb) (now (image .entry)) ⌝ }
     {
         let mount = self.0.mount;
         file_part(image, mount, icb, answer, count)
@@ -131,7 +133,7 @@ impl Volume {
 
     // The length of that part, and in `at` its place in the image; zeros if there is none.
     pub fn part_at(self, image: &[u8], icb: LongAd, at: &mut usize) -> Reply
-        ensures { λ r. ⌜ record { reply = r; at = now (at .exit) } ≡ partsAt (now (image .entry)) (self .0) icb ⌝ }
+        ensures { λ r. ⌜ record { reply = r; at = now (at .exit) } ≡ leaves (partsAt (self .0) icb) (now (image .entry)) ⌝ }
     {
         let mount = self.0.mount;
         layouts::parts::part_at(image, mount, icb, at)
@@ -139,7 +141,7 @@ impl Volume {
 
     // Effective length, type, block and partition of every extent of the file at icb, four numbers to a slot; an embedded file has none.
     pub fn extent_words(self, image: &[u8], icb: LongAd, row: &mut [[u32; 4]]) -> Reply
-        ensures { λ r. ⌜ record { reply = r; row = now (row .exit) } ≡ extents wordsOf (now (image .entry)) (self .0) icb (now (row .entry)) ⌝ }
+        ensures { λ r. ⌜ record { reply = r; row = now (row .exit) } ≡ leaves (extents wordsOf (self .0) icb (now (row .entry))) (now (image .entry)) ⌝ }
     {
         let mount = self.0.mount;
         file_words(image, mount, icb, row)
@@ -147,7 +149,7 @@ impl Volume {
 
     // The same in a row of records: proved by a walk of its MIR, since the borrow checker doesn't cover a lent slice of structs.
     pub fn extents(self, image: &[u8], icb: LongAd, row: &mut [Extent]) -> Reply
-        ensures { λ r. ⌜ record { reply = r; row = now (row .exit) } ≡ extents extentOf (now (image .entry)) (self .0) icb (now (row .entry)) ⌝ }
+        ensures { λ r. ⌜ record { reply = r; row = now (row .exit) } ≡ leaves (extents extentOf (self .0) icb (now (row .entry))) (now (image .entry)) ⌝ }
     {
         file_rows(image, self.0.mount, icb, row)
     }
@@ -155,7 +157,7 @@ impl Volume {
     // Place and length of each run of the image that a read of the file at icb takes its bytes from, in reading order, a pair to a slot; cut as the read
     // is cut, so that their bytes joined are what it answers. An empty file has none.
     pub fn runs(self, image: &[u8], icb: LongAd, row: &mut [[u64; 2]]) -> Reply
-        ensures { λ r. ⌜ record { reply = r; row = now (row .exit) } ≡ runs (now (image .entry)) (self .0) icb (now (row .entry)) ⌝ }
+        ensures { λ r. ⌜ record { reply = r; row = now (row .exit) } ≡ leaves (runs (self .0) icb (now (row .entry))) (now (image .entry)) ⌝ }
     {
         let mount = self.0.mount;
         file_runs(image, mount, icb, row)
@@ -170,7 +172,7 @@ impl Volume {
         out: &mut [u8],
         work: &mut [u8],
     ) -> Reply
-        ensures { λ r. ⌜ record { reply = r; out = now (out .exit); work = now (work .exit) } ≡ readsPath (now (image .entry)) (self .0) (now (path .entry)) matching (now (out .entry)) (now (work .entry)) ⌝ }
+        ensures { λ r. ⌜ record { reply = r; out = now (out .exit); work = now (work .exit) } ≡ leaves (readsPath (self .0) (now (path .entry)) matching (now (out .entry)) (now (work .entry))) (now (image .entry)) ⌝ }
     {
         let v = self.0;
         let mount = v.mount;
@@ -227,7 +229,7 @@ impl Volume {
 
 // Opens an image and writes the name in its label, as UTF-8, over the front of out.
 pub fn label(image: &[u8], how: How, out: &mut [u8]) -> Reply
-    ensures { λ r. ⌜ record { reply = r; out = now (out .exit) } ≡ labels (now (image .entry)) how (now (out .entry)) ⌝ }
+    ensures { λ r. ⌜ record { reply = r; out = now (out .exit) } ≡ leaves (labels how (now (out .entry))) (now (image .entry)) ⌝ }
 {
     volumes::labels::label(image, how, out)
 }

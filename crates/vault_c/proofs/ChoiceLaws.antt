@@ -6,6 +6,7 @@ use mathlib.Core.Option.{Option, none, some}
 use mathlib.Core.List.{List, []}
 use mathlib.Core.Logic.{inl}
 use native.Mathlib.Omega.{arith}
+use lib.Dec.{eqb}
 use borrow.Author.Tests.{ne-eqb}
 use Rattle.disc.specs.declared.replies.Reply.{Reply}
 use Rattle.records.specs.Allocations.{noLong}
@@ -17,7 +18,9 @@ use Rattle.volumes.specs.declared.openings.How.{How}
 use Rattle.volumes.specs.declared.openings.Opened.{Opened}
 use Rattle.vault.specs.Calls.{opens, Written, labels}
 use Rattle.listings.specs.declared.matchings.Matching.the-variants.{CaseIgnored}
-use Rattle.vault.proofs.Soundness.{Listed, Sound, label-sound, open-sound}
+use Rattle.vault.specs.Public.{Call, byVolume, byBytes, may}
+use Rattle.vault.specs.Public.Call.{opens as asOpen, labels as asLabel}
+use Rattle.vault.proofs.Promises.{listed, sound}
 use Rattle.vault_c.specs.Choosing.{opensBy, opensAs, labelsBy, labelsAs}
 
 -- ---- the calls
@@ -83,22 +86,26 @@ module _ (image : List ℕ) (n : ℕ) (h : 8 ≤ n) where
 
 -- ---- whatever number is handed in, the answer is of the table, and a refusal has zeros and leaves the output as it came
 
--- whether it chooses that bodies are checked
-abbrev pub checkedIn : Option How → Bool
-checkedIn (some how) = how .checked
-checkedIn none = false
+-- the row of the choice; of none it is any row, for 4 is in each
+abbrev pub mayBy : {A R : Type 0} → (How → Call A R) → Option How → ℕ → Bool
+mayBy call (some how) k = may (call how) k
+mayBy call none k = eqb k 4
 
-pub open-as-sound : (image : List ℕ) (n : ℕ) → Listed (checkedIn (howOf n)) (opensAs image n .answer) × ((opensAs image n .answer ≡ 0 → ⊥) → opensAs image n .volume ≡ noVolume)
-open-as-sound image n = by (howOf n)
-  where
-    by : (o : Option How) → Listed (checkedIn o) (opensBy image o .answer) × ((opensBy image o .answer ≡ 0 → ⊥) → opensBy image o .volume ≡ noVolume)
-    by (some how) = open-sound image how
-    by none = (inl (omega arith), λ h. refl)
+module _ (image : List ℕ) where
+  pub open-as-sound : (n : ℕ) → (mayBy asOpen (howOf n) (opensAs image n .answer) ≡ true)
+      × ((opensAs image n .answer ≡ 0 → ⊥) → opensAs image n ≡ byVolume .bare (opensAs image n .answer) (opensAs image n .count))
+  open-as-sound n = by (howOf n)
+    where
+      by : (o : Option How) → (mayBy asOpen o (opensBy image o .answer) ≡ true)
+          × ((opensBy image o .answer ≡ 0 → ⊥) → opensBy image o ≡ byVolume .bare (opensBy image o .answer) (opensBy image o .count))
+      by (some how) = (listed (asOpen how) image, sound (asOpen how) image)
+      by none = (refl, λ h. refl)
 
-pub label-as-sound : (image : List ℕ) (n : ℕ) (out : List ℕ)
-    → Sound (Listed (checkedIn (howOf n))) (labelsAs image n out .reply .answer) (labelsAs image n out .reply .length) out (labelsAs image n out .out)
-label-as-sound image n out = by (howOf n)
-  where
-    by : (o : Option How) → Sound (Listed (checkedIn o)) (labelsBy image o out .reply .answer) (labelsBy image o out .reply .length) out (labelsBy image o out .out)
-    by (some how) = label-sound image noVolume noLong [] CaseIgnored out [] how
-    by none = record { listed = inl (omega arith); zeros = λ h. refl; kept = λ h. refl }
+  pub label-as-sound : (n : ℕ) (out : List ℕ) → (mayBy (λ how. asLabel how out) (howOf n) (labelsAs image n out .reply .answer) ≡ true)
+      × ((labelsAs image n out .reply .answer ≡ 0 → ⊥) → labelsAs image n out ≡ byBytes out .bare (labelsAs image n out .reply .answer) (labelsAs image n out .reply .count))
+  label-as-sound n out = by (howOf n)
+    where
+      by : (o : Option How) → (mayBy (λ how. asLabel how out) o (labelsBy image o out .reply .answer) ≡ true)
+          × ((labelsBy image o out .reply .answer ≡ 0 → ⊥) → labelsBy image o out ≡ byBytes out .bare (labelsBy image o out .reply .answer) (labelsBy image o out .reply .count))
+      by (some how) = (listed (asLabel how out) image, sound (asLabel how out) image)
+      by none = (refl, λ h. refl)
