@@ -10,3 +10,4 @@ pub mod OverflowLaws
 pub mod CaseLaws
 pub mod MatchingLaws
 pub mod GuardLaws
+pub mod RefusingLaws

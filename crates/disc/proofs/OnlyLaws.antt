@@ -4,6 +4,7 @@ use mathlib.Core.Path.{_≡_, refl}
 use mathlib.Core.Bool.{Bool, true, false, _||_}
 use mathlib.Core.List.{List, [], _∷_}
 use mathlib.Core.Logic.{⊎-elim}
+use mathlib.Core.Option.{Option, none, some}
 use Prim.Native.Nat.{ℕ, _+_, _*_, _≤_, _<_}
 use native.Mathlib.Omega.{arith}
 use lib.ListN.{length}
@@ -16,8 +17,9 @@ use Rattle.disc.specs.Ask.Held.{holds, lacks}
 use Rattle.disc.specs.Ask.Ask.{done, refuse, ask}
 use Rattle.disc.specs.Ask.Outcome.{answered, refused}
 use Rattle.disc.specs.Images.{disc}
+use Rattle.disc.specs.Places.{standing}
 use Rattle.disc.specs.declared.refusals.Refusal.{Refusal}
-use Rattle.disc.specs.declared.refusals.Refusal.the-variants.{Io}
+use Rattle.disc.specs.declared.refusals.Refusal.the-variants.{Io, Unsupported}
 use Rattle.disc.proofs.ImageLaws.{split, held, missing}
 
 -- ---- a tree that refuses by P alone, and answers with what is Q
@@ -86,6 +88,11 @@ Any a = Unit {0}
 abbrev pub isIo : {A : Type 0} → Outcome A → Bool
 isIo (answered a) = false
 isIo (refused why) = eqb (number why) 1
+
+-- a block that may stand nowhere on the volume, for any P that has 4
+pub standing-only : {A : Type 0} (P : Refusal → Type 0) → P Unsupported → {Q : A → Type 0} (o : Option ℕ) {f : ℕ → Ask A} → ((s : ℕ) → Refuses P Q (f s)) → Refuses P Q (standing o f)
+standing-only P unsupported none h = refuse-only unsupported
+standing-only P unsupported (some s) h = h s
 
 -- a sector of the list has bytes 2,048 s to 2,048 s + 2,047 not all inside the image
 unfoldable pub anyMissing : List ℕ → List ℕ → Bool

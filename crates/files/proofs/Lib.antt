@@ -11,3 +11,4 @@ pub mod ResolveLaws
 pub mod Promises
 pub mod ContentLaws
 pub mod GuardLaws
+pub mod RefusingLaws

@@ -4,3 +4,5 @@ pub mod ListLaws
 pub mod RunLaws
 pub mod RunListLaws
 pub mod Promises
+pub mod RefusingLaws
+pub mod GuardLaws

@@ -8,3 +8,4 @@ pub mod RecordLaws
 pub mod NamelessLaws
 pub mod MatchingLaws
 pub mod GuardLaws
+pub mod RefusingLaws

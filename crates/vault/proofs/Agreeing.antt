@@ -34,7 +34,7 @@ use Rattle.directories.proofs.LookupLaws.{look-is}
 use Rattle.directories.proofs.MatchingLaws.{only-agrees, written-agrees-only, ApartOn, IsLost, apart-only, apart-written-agrees, Doubles, doubles-refused, refused-doubles}
 use Rattle.volumes.specs.declared.openings.VolumeRecord.{VolumeRecord}
 use Rattle.vault.specs.Calls.{reading, seeking as seekingOf, finding, pathReading, worked, looked, finds, lost as lostBy, lostPlace}
-use Rattle.vault.proofs.Refusing.{directory-only}
+use Rattle.directories.proofs.RefusingLaws.{directory-only}
 use Rattle.vault.specs.Public.{way, leaves, answerOn}
 use Rattle.vault.proofs.Along.{Walker, along, walk-refused, refused-walk}
 use Rattle.vault.proofs.Along.Walker.{finder, failer, placer, reader}

@@ -41,7 +41,7 @@ use Rattle.volumes.specs.declared.openings.VolumeRecord.{VolumeRecord}
 use Rattle.vault.specs.Calls.{reading, listing, cleared, Worked, lists, listsBytes, findsIn}
 use Rattle.vault.specs.Public.{third}
 use Rattle.vault.proofs.Along.{named, number-named}
-use Rattle.vault.proofs.Refusing.{named-only}
+use Rattle.listings.proofs.RefusingLaws.{named-only}
 
 -- ---- a listing is a read, and `list_bytes` of the bytes that it gave, after the read's sectors
 

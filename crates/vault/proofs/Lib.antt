@@ -1,13 +1,11 @@
 -- What the calls leave, from the contracts of the crates below, and the promises.
 pub mod CallLaws
-pub mod RunGuards
 pub mod Promises
 pub mod Along
 pub mod AtHand
 pub mod Instances
 pub mod Sectors
 pub mod Orders
-pub mod Refusing
 pub mod Exactly
 pub mod Soundness
 pub mod Measuring

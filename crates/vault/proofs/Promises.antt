@@ -40,8 +40,13 @@ use Rattle.directories.specs.Lookups.{Sought}
 use Rattle.directories.specs.Lookups.Sought.{reached, lost}
 use Rattle.directories.proofs.GuardLaws.{listing-guards, seeking-guards, lookup-guards, path-guards}
 use Rattle.shows.proofs.GuardLaws.{showing-guards}
-use Rattle.vault.proofs.Refusing.{bytes-only, part-only, list-only, runs-only, opening-only, label-only, listed-only, listing-only, show-only, seek-only, lookup-only, path-only}
-use Rattle.vault.proofs.RunGuards.{runs-guards}
+use Rattle.files.proofs.RefusingLaws.{bytes-only, part-only, list-only}
+use Rattle.layouts.proofs.RefusingLaws.{runs-only}
+use Rattle.layouts.proofs.GuardLaws.{runs-guards}
+use Rattle.volumes.proofs.RefusingLaws.{opening-only, label-only}
+use Rattle.listings.proofs.RefusingLaws.{listed-only}
+use Rattle.directories.proofs.RefusingLaws.{listing-only, seek-only, lookup-only, path-only}
+use Rattle.shows.proofs.Promises.{showing-only}
 use Rattle.vault.specs.Calls.{reading, parting, extentListing, runListing, listing, showing, seeking, finding, pathReading}
 use Rattle.vault.specs.Public.{Way, byVolume, bySize, byIcb, byPart, byPlace, byBytes, byWork, byRow, byLost, byLostPlace, gives, says, Call, spec, tree, way, may, leaves, answerOn, countOn}
 use Rattle.vault.specs.Public.Call.{opens, labels, reads, measures, parts, partsAt, extents, runs, lists, shows, finds, fails, failsAt, listsBytes, readsPath}
@@ -179,7 +184,7 @@ said-by (extents f v icb row) = list-only (Said (extents f v icb row)) refl refl
 said-by (runs v icb row) = runs-only (Said (runs v icb row)) refl refl (v .mount) (λ k. k) icb
 said-by (lists v icb out work) = listing-only (Said (lists v icb out work)) refl refl refl (v .mount) (λ k. k) (length work) icb
 said-by (listsBytes v bytes out) = listed-only (Said (listsBytes v bytes out)) refl (isChecked (v .mount)) (λ k. k) bytes
-said-by (shows v levels out work) = show-only (Said (shows v levels out work)) refl refl refl refl (v .mount) (λ k. k) levels (length work) (v .root)
+said-by (shows v levels out work) = showing-only (Said (shows v levels out work)) (v .mount) (bytes-only (Said (shows v levels out work)) refl refl (v .mount) (λ k. k)) refl (λ k. k) refl refl levels (length work) (v .root)
 said-by (finds v path matching work) = lookup-only (Said (finds v path matching work)) refl refl refl matching (λ e. rw e) (v .mount) (λ k. k) (length work) refl (v .root) path
 said-by (fails v path matching work) = seek-only (Said (fails v path matching work)) refl refl refl matching (λ e. rw e) (v .mount) (λ k. k) (length work) (v .root) path
 said-by (failsAt v path matching work) = seek-only (Said (failsAt v path matching work)) refl refl refl matching (λ e. rw e) (v .mount) (λ k. k) (length work) (v .root) path

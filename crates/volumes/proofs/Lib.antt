@@ -9,3 +9,4 @@ pub mod Prevailing
 pub mod ChoiceLaws
 pub mod Promises
 pub mod GuardLaws
+pub mod RefusingLaws
