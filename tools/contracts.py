@@ -1,104 +1,104 @@
 #!/usr/bin/env python3
-"""Holds every public function of every library to a contract: it says something of what it gives (`ensures`), and asks nothing of its caller
-(no `requires`).
+"""Holds every public function of every library to a contract that leaves one result, and that asks nothing of its caller (no `requires`).
 
-    tools/contracts.py              names each function that doesn't, and ends with 1 if there is one
-    tools/contracts.py --self-test  plants such functions in copies of sources, each of which must be seen
+    tools/contracts.py              names each function whose contract doesn't, and ends with 1 if there is one
+    tools/contracts.py --self-test  plants such contracts, theorems and tables, each of which must be seen
 
-A library is a crate with src/lib.rt and no src/main.rt. There is no exception. Needs nothing but Python.
+What a call leaves is what it gives and each piece of memory that it is lent to write. An equation in an `ensures` pins one of these, or several as
+the fields of a record: one side is made of results, the other is a term that none is in, and that names a definition or a parameter (a literal will
+do where there is no parameter). A contract that is a relation has a theorem instead, that two results which meet it are equal: docs/ONE-RESULT.md
+names it, and its statement is read. A function with neither stands there as open. There are MOST_OPEN of these.
+
+A library is a crate with src/lib.rt and no src/main.rt. Needs nothing but Python.
 """
 import pathlib
-import re
 import sys
 
 sys.dont_write_bytecode = True
-from interface.source import Unread, closing
+from interface.source import Unread
+from pinned import trial
+from pinned.functions import functions
+from pinned.table import TABLE, read_table
+from pinned.theorems import misses, read_theorem
 
 ROOT = pathlib.Path(__file__).resolve().parents[1]
-PUBLIC = re.compile(r'^[ \t]*pub (?:extern "C" )?fn (\w+)\s*(?:<[^>]*>)?\(', re.M)
-CLAUSE = re.compile(r"\s*(requires|ensures)\s*\{")
+# It goes down where a contract is made tighter or a theorem is found, and never up.
+MOST_OPEN = 33
 
 
-def functions(text):
-    """Of each public function its name, its line and the kinds of its clauses."""
-    for found in PUBLIC.finditer(text):
-        end = closing(text, found.end() - 1)
-        rest = text[end:]
-        gives = re.match(r"\s*->\s*(.*?)\s*(?=\{|\brequires\b|\bensures\b)", rest, re.S)
-        at, clauses = gives.end() if gives else 0, []
-        while clause := CLAUSE.match(rest, at):
-            clauses.append(clause[1])
-            at = closing(rest, clause.end() - 1)
-        if not re.match(r"\s*\{", rest[at:]):
-            raise Unread(f"{found[1]}: what stands behind its contract is no body")
-        yield found[1], text.count("\n", 0, found.start(1)) + 1, clauses
+def clause_faults(function):
+    """What is wrong with the kinds of a function's clauses."""
+    kinds = [kind for kind, _ in function.clauses]
+    if "requires" in kinds:
+        yield "asks something of its caller"
+    if "ensures" not in kinds:
+        yield "says nothing of what it gives or writes"
+    if not function.results():
+        yield "gives nothing and writes nothing"
 
 
-def faults(text):
-    """The line, the name and the fault of each function that has one; and how many were looked at."""
-    found, seen = [], 0
-    for name, line, clauses in functions(text):
-        seen += 1
-        if "requires" in clauses:
-            found.append((line, name, "asks something of its caller"))
-        if "ensures" not in clauses:
-            found.append((line, name, "says nothing of what it gives or writes"))
-    return found, seen
+def theorem_fault(root, function, missing, name, file):
+    """Why a theorem doesn't give what no equation does; "" where it does."""
+    try:
+        theorem = read_theorem(root, file, name)
+    except Unread as why:
+        return f"has no theorem: {why}"
+    whys = []
+    for relation in function.relations():
+        why = misses(theorem, function, relation)
+        if not why:
+            left = missing - set(relation.results.values())
+            return f"says nothing of {', '.join(sorted(left))}" if left else ""
+        whys.append(why)
+    return f"`{name}` {whys[0]}" if whys else "has no relation that a theorem could be of"
 
 
-def check(root):
-    """What is wrong, a line for each; and how many functions of how many libraries were looked at."""
-    wrong, seen, libraries = [], 0, 0
-    for crate in sorted((root / "crates").iterdir()):
-        if not (crate / "src/lib.rt").exists() or (crate / "src/main.rt").exists():
-            continue
-        libraries += 1
-        for path in sorted((crate / "src").rglob("*.rt")):
-            found, n = faults(path.read_text(encoding="utf-8"))
-            seen += n
-            wrong += [f"{path.relative_to(root)}:{line}: {name} {why}" for line, name, why in found]
-    return wrong, seen, libraries
-
-
-# A function, and whether it is to be seen.
-TRIED = (
-    ("pub fn f(a: u8) -> u8 {\n    a\n}\n", True),
-    ("pub fn f(a: &mut [u8]) {\n}\n", True),
-    ("pub fn f<'a>(a: &'a mut u64) {\n}\n", True),
-    ("impl S {\n    pub fn f(\n        self,\n        a: u8,\n    ) -> S {\n        self\n    }\n}\n", True),
-    ("pub fn f(a: u8) -> u8\n    requires { ⌜ a < 2 ⌝ }\n    ensures { λ r. ⌜ r ≡ record { x = a } ⌝ }\n{\n    a\n}\n", True),
-    ("#[no_mangle]\npub extern \"C\" fn f(a: &[u8]) -> bool {\n    true\n}\n", True),
-    ("pub fn f(a: u8)\n    requires { ⌜ a < 2 ⌝ }\n{\n}\n", True),
-    ("pub fn f(a: u8) -> u8\n    ensures { λ r. ⌜ r ≡ record { x = a } ⌝ }\n{\n    g(a)\n}\n", False),
-    ("pub fn f(a: &[u8]) {\n    say(a);\n}\n", True),
-    ("fn f(a: u8) -> u8\n    requires { ⌜ a < 2 ⌝ }\n{\n    a\n}\n", False),
-    ("pub(crate) fn f(a: u8) -> u8 {\n    a\n}\n", False),
-    ("// pub fn f(a: u8) -> u8 {\npub struct S(pub u8);\n", False),
-)
-
-
-def self_test():
-    wrong = [text for text, seen in TRIED if bool(faults(text)[0]) != seen]
-    for text in wrong:
-        print(f"contracts: told wrongly:\n{text}")
-    print(f"contracts: {len(TRIED)} functions tried: {'FAILED' if wrong else 'all told'}")
-    return 1 if wrong else 0
+def check(root, most_open):
+    """What is wrong, a line for each; what is open; and how many functions of how many libraries are pinned by an equation, and by a theorem."""
+    proved, left = read_table(root)
+    wrong, names, by_equation, by_theorem = [], set(), 0, 0
+    for function in functions(root):
+        if function.name in names:
+            raise Unread(f"{function.where}: a second {function.name}")
+        names.add(function.name)
+        missing = function.results() - function.pinned()
+        faults = list(clause_faults(function))
+        if not missing:
+            by_equation += 1
+            faults += [f"needs no line in {TABLE}"] if function.name in {*proved, *left} else []
+        elif function.name in proved:
+            by_theorem += 1
+            fault = theorem_fault(root, function, missing, *proved[function.name])
+            faults += [fault] if fault else []
+        elif function.name not in left:
+            faults.append(f"doesn't pin {', '.join(sorted(missing))}, and has no theorem in {TABLE}")
+        wrong += [f"{function.where}: {function.name} {why}" for why in faults]
+    wrong += [f"{TABLE}: there is no public function {name}" for name in sorted({*proved, *left} - names)]
+    if len(left) != most_open:
+        wrong.append(f"{TABLE}: {len(left)} functions are open, and MOST_OPEN of tools/contracts.py is {most_open}")
+    return wrong, left, (len(names), len({name.partition("::")[0] for name in names}), by_equation, by_theorem)
 
 
 def main(words):
     if words == ["--self-test"]:
-        return self_test()
+        return trial.run(check, ROOT)
     if words:
         print(__doc__, file=sys.stderr)
         return 2
     try:
-        wrong, seen, libraries = check(ROOT)
+        wrong, left, (seen, libraries, by_equation, by_theorem) = check(ROOT, MOST_OPEN)
     except Unread as why:
-        wrong, seen, libraries = [str(why)], 0, 0
+        print(f"contracts: {why}")
+        return 1
+    for name, why in left.items():
+        print(f"contracts: open: {name}: {why}")
     for why in wrong:
         print(f"contracts: {why}")
     if not wrong:
-        print(f"contracts: {seen} public functions of {libraries} libraries, each says what it gives and asks nothing")
+        print(
+            f"contracts: {seen} public functions of {libraries} libraries, none asks anything; the result is pinned by an equation of {by_equation}, "
+            f"by a theorem of {by_theorem}; {len(left)} are open"
+        )
     return 1 if wrong else 0
 
 

@@ -1,0 +1,1 @@
+"""What tools/contracts.py is made of."""
