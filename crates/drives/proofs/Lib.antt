@@ -20,3 +20,4 @@ pub mod Promises
 pub mod ReadPromises
 pub mod StillPromises
 pub mod EndPromises
+pub mod OneResult
