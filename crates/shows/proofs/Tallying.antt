@@ -133,3 +133,8 @@ module _ (d : Disc) (m : Mount) where
 -- a tree that was tallied in a place of zeros leaves its own figures there
 pub tally-alone : {d : Disc} {m : Mount} {o : Outcome (List Node)} {after : List ℕ} {answer : ℕ} → Tallied d m o (replicate 76 0) after answer → {ns : List Node} → o ≡ answered ns → Holds (ofNodes d m ns) after
 tally-alone t e = t .adds _ e nothing zero-holds
+
+-- what was answered, in a place that held figures, leaves one result; after a refusal nothing is said of the place
+pub tallied-one : {d : Disc} {m : Mount} {o : Outcome (List Node)} {before after after′ : List ℕ} {answer answer′ : ℕ} (ns : List Node) → o ≡ answered ns → (f : Figures) → Holds f before
+    → Tallied d m o before after answer → Tallied d m o before after′ answer′ → (answer ≡ answer′) × (after ≡ after′)
+tallied-one ns e f h p q = (p .says ∙ sym (q .says), p .adds ns e f h .is ∙ sym (q .adds ns e f h .is))
