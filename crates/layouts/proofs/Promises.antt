@@ -34,6 +34,7 @@ use Rattle.layouts.specs.Calls.{partIn, PartReplied, extentOf, fieldsOf,
 use Rattle.layouts.specs.Runs.{runHere, running, extentsRuns, runsOf, fileRuns, gathered, RunsListed}
 use Rattle.layouts.specs.inner.RunLists.{runsIn}
 use Rattle.layouts.specs.declared.lists.Extent.{Extent}
+use Rattle.layouts.specs.declared.runs.Run.{Run}
 use Rattle.layouts.proofs.PartLaws.{part-stands}
 use Rattle.layouts.proofs.RunLaws.{AllInside, no-run, inside-alone, hold-here, extents-gathered, extents-inside}
 
@@ -42,6 +43,16 @@ use Rattle.layouts.proofs.RunLaws.{AllInside, no-run, inside-alone, hol
 pub listed-one : {A : Type 0} (f : AllocExtent → A) (r : Ran (List AllocExtent)) {before after after′ : List A} {reply reply′ : Reply}
     → Listed f r before after reply → Listed f r before after′ reply′ → (reply ≡ reply′) × (after ≡ after′)
 listed-one f r p q = replied-one p q
+
+-- so do that of the runs and that of the part
+
+pub runs-one : (r : Ran (List Run)) {before after after′ : List (List ℕ)} {reply reply′ : Reply}
+    → RunsListed r before after reply → RunsListed r before after′ reply′ → (reply ≡ reply′) × (after ≡ after′)
+runs-one r p q = replied-one p q
+
+pub part-one : (r : Ran Part) {part part′ : List ℕ} {answer answer′ count count′ : ℕ}
+    → PartReplied r part answer count → PartReplied r part′ answer′ count′ → (part ≡ part′) × (answer ≡ answer′) × (count ≡ count′)
+part-one r p q = (p .gives ∙ sym (q .gives), p .says ∙ sym (q .says), p .counts ∙ sym (q .counts))
 
 -- ---- the two rows say the same: four numbers are a record's fields
 
