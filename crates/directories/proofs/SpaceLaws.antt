@@ -101,3 +101,9 @@ module _ {r : Ran (List ℕ)} {w w′ : List ℕ} {reply : Reply} (p : Reads r w
 
   pub reads-bytes : reply .answer ≡ 0 → r .outcome ≡ answered (take (reply .length - 0) (drop 0 w′))
   reads-bytes h = reply-bytes (r .outcome) (reported (r .count)) (p .says) h w w′ (p .leaves) ∙ rw sub-zero
+
+-- ---- the contract of a read leaves one result
+
+pub reads-one : {r : Ran (List ℕ)} {before after after′ : List ℕ} {reply reply′ : Reply}
+    → Reads r before after reply → Reads r before after′ reply′ → (reply ≡ reply′) × (after ≡ after′)
+reads-one p q = (p .says ∙ sym (q .says), p .leaves ∙ sym (q .leaves))
