@@ -1,12 +1,12 @@
 -- What a directory, a file and an image add to the figures of a place. Assumes nothing.
-use mathlib.Core.Path.{_≡_, refl, ap, _∙_}
-use mathlib.Core.List.{List}
+use mathlib.Core.Path.{_≡_, refl, ap, sym, _∙_}
+use mathlib.Core.List.{List, [], _∷_}
 use Prim.Native.Nat.{ℕ, _+_, _*_, _<_, _≤_, _^_, max}
 use native.Mathlib.Nat.{add-zero}
 use native.Mathlib.Omega.{arith}
 use lib.ListN.{length, getD, set}
 use lib.Seq.{sets}
-use Rattle.figures.specs.Figures.{Figures, Wide, Adds, added, oneDirectory, oneFile, oneImage, oneAt, eachAdded, summed, greater, pairs, numbers, row}
+use Rattle.figures.specs.Figures.{Figures, Wide, Holds, Adds, added, oneDirectory, oneFile, oneImage, oneAt, eachAdded, summed, greater, pairs, numbers, row}
 use Rattle.figures.proofs.RowLaws.{each-long, each-none, each-one, sum-at, longer-at, laid, laid-long, first-list, first-set, second-list, second-set, last-number, last-set}
 use Rattle.figures.proofs.FigureLaws.{added-wide, numbers-long, holds-long}
 
@@ -118,3 +118,13 @@ file-added k b x y c hk hb hx hy hc a₁ a₂ a₃ a₄ a₅ a₆ f h =
     let e₅ = answer-counts f w (f .files + 1) (f .bytes + b) (f .extents + x) (f .sectors + y) e₄ k hk a₅ in
     let e₆ = chain-counts f w (f .files + 1) (f .bytes + b) (f .extents + x) (f .sectors + y) k c e₅ hc a₆ in
     record { wide = added-wide (oneFile k b x y c) w; is = e₆ ∙ ap pairs (rw (add-zero (f .directories), each-none (f .byImages) 16)) }
+
+-- ---- what the contracts leave
+
+-- one result, where the place holds figures
+pub adds-one : (g : Figures) {before after after′ : List ℕ} (f : Figures) → Holds f before → Adds g before after → Adds g before after′ → after ≡ after′
+adds-one g f h p q = p f h .is ∙ sym (q f h .is)
+
+-- and anything, where it holds none: one number is no place
+pub adds-any : (g : Figures) (n : ℕ) (after : List ℕ) → Adds g (n ∷ []) after
+adds-any g n after f h = absurd (let l : 1 ≡ 76 = holds-long h in omega arith)
