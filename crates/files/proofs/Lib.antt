@@ -12,3 +12,4 @@ pub mod Promises
 pub mod ContentLaws
 pub mod GuardLaws
 pub mod RefusingLaws
+pub mod OneResult
