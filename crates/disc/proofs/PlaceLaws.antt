@@ -170,3 +170,11 @@ module _ (m : Mount) where
   pub icb-unchecked : (p block : ℕ) → icbPlaced (unchecked m) p block ≡ icbPlaced m p block
   unfolding icbPlaced icbStart mappedStart
   icb-unchecked p block = refl
+
+-- ---- the contracts leave one result
+
+pub stands-in-one : {o : Option ℕ} {p p′ : Placed} → StandsIn o p → StandsIn o p′ → p ≡ p′
+stands-in-one s t = s .is ∙ sym (t .is)
+
+pub stands-one : (m : Mount) (r : PartitionRef) (block : ℕ) {p p′ : Placed} → Stands m r block p → Stands m r block p′ → p ≡ p′
+stands-one m r block s t = stands-in-one s t
