@@ -141,5 +141,6 @@ def functions(root):
             module = [word for word in path.relative_to(crate / "src").with_suffix("").parts if word != "lib"]
             for found in PUBLIC.finditer(text):
                 owner = [type for begins, ends, type in owners(text) if begins < found.start() < ends]
-                where = f"{path.relative_to(root)}:{text.count(chr(10), 0, found.start(1)) + 1}"
-                yield read_function(text, found, "::".join([crate.name, *module, *owner, found[1]]), where, imports(text), structs)
+                line = text.count("\n", 0, found.start(1)) + 1
+                name = "::".join([crate.name, *module, *owner, found[1]])
+                yield read_function(text, found, name, f"{path.relative_to(root)}:{line}", imports(text), structs)
