@@ -1,0 +1,1 @@
+"""What tools/index.py is made of."""
