@@ -40,7 +40,7 @@ use Rattle.chains.specs.declared.cursors.ChainStep.the-variants.{Takes, 
 use Rattle.chains.specs.declared.continuations.NextArea.{NextArea}
 use Rattle.chains.specs.declared.continuations.NextArea.the-variants.{Found, Refused as Misses}
 use Rattle.chains.specs.Chains.{areaFrom, nextArea, continued, hops, chain}
-use Rattle.chains.specs.Follows.{ReachesFrom, chainAt}
+use Rattle.chains.specs.inner.Follows.{ReachesFrom, chainAt}
 use Rattle.chains.specs.inner.Walks.{left, passed, hopsAt, weight, hopTo, hopping, stepped, stepOf, Counts}
 use Rattle.chains.proofs.WalkLaws.{Taken, Hopped, ended, hopped, taken}
 use Rattle.chains.proofs.FollowLaws.{next-short, next-long, next-missing, next-none, next-over, next-found}

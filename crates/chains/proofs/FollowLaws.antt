@@ -41,7 +41,7 @@ use Rattle.chains.specs.declared.continuations.NextArea.the-variants.{Fo
 use Rattle.chains.specs.declared.follows.Chain.the-variants.{Whole, Refused as BrokenOff}
 use Rattle.chains.specs.Chains.{areaIn, areaFrom, nextArea, continued}
 use Rattle.chains.specs.inner.Walks.{beyond, left}
-use Rattle.chains.specs.Follows.{FoundArea, NoArea, Reaches, ReachesFrom, chainAt, Followed}
+use Rattle.chains.specs.inner.Follows.{FoundArea, NoArea, Reaches, ReachesFrom, chainAt, Followed}
 use Rattle.chains.proofs.WalkLaws.{beyond-end}
 
 -- ---- the area that continues another

@@ -13,7 +13,7 @@ use Rattle.chains.specs.declared.cursors.ChainCursor.{ChainCursor}
 use Rattle.chains.specs.declared.counts.Counted.{Counted}
 use Rattle.chains.specs.declared.follows.Chain.{Chain}
 use Rattle.chains.specs.declared.follows.Chain.the-variants.{Whole, Refused as Broken}
-use Rattle.chains.specs.Follows.{chainAt, Followed, chainAnswer}
+use Rattle.chains.specs.inner.Follows.{chainAt, Followed, chainAnswer}
 use Rattle.chains.specs.inner.Walks.{hopsAt, Counts}
 
 module _ (image : List ℕ) (m : Mount) (kind : ℕ) (c : ChainCursor) where

@@ -1,4 +1,3 @@
 -- What the contracts cite, lowest first.
 pub mod Chains
 pub mod inner
-pub mod Follows

@@ -1,6 +1,6 @@
 // The area that continues another, looked for where it stands in the image.
 ghost use Prim.Native.Nat.{_<_, _^_};
-ghost use Rattle.chains.specs.Follows.{Reaches, ReachesFrom};
+ghost use Rattle.chains.specs.inner.Follows.{Reaches, ReachesFrom};
 use areas::AdContinuation;
 use disc::images::held_from;
 use disc::images::run_part;

@@ -1,5 +1,5 @@
 // A chain followed to its end.
-ghost use Rattle.chains.specs.Follows.{Followed};
+ghost use Rattle.chains.specs.inner.Follows.{Followed};
 use crate::continuations::NextArea;
 use crate::continuations::next_area;
 use crate::cursors::ChainCursor;

@@ -35,8 +35,8 @@ use Rattle.descriptors.specs.declared.anchors.AnchorRead.{AnchorRead}
 use Rattle.descriptors.specs.declared.anchors.AnchorRead.the-variants.{Read as AnAnchor, Refused as NoAnchor}
 use Rattle.volumes.specs.Sequences.{nothing, orderOf, anyPartition, wantedOf, keptOf, Says, saysIn, goOn, scan, turnOf}
 use Rattle.volumes.specs.Sequences.Says.{found, passed, over, fails}
-use Rattle.volumes.specs.Openings.{usual, noVolume, fileSetRef, fileSetOn, mountIn, mountOf, volumeIn, mountingOf, anchored, opening, openedBy}
-use Rattle.volumes.specs.inner.Steps.{mountable, fileSetAt}
+use Rattle.volumes.specs.Openings.{usual, noVolume, fileSetRef, fileSetAt, fileSetOn, mountIn, mountOf, volumeIn, mountingOf, anchored, opening, openedBy}
+use Rattle.volumes.specs.inner.Steps.{mountable}
 use Rattle.volumes.specs.declared.sequences.Kept.{Kept}
 use Rattle.volumes.specs.declared.sequences.SectorTurn.{SectorTurn}
 use Rattle.volumes.specs.declared.sequences.Wanted.the-variants.{Any}

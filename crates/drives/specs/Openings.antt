@@ -14,8 +14,7 @@ use Rattle.disc.specs.declared.refusals.Refusal.the-variants.{Io, Malformed, No
 use Rattle.volumes.specs.Sequences.{anyPartition, orderOf, keptOf, Says, saysIn, goOn, scan}
 use Rattle.descriptors.specs.Volumes.{readAnchor}
 use Rattle.descriptors.specs.FileSets.{readFileSet}
-use Rattle.volumes.specs.Openings.{usual, mountIn, mountingOf, volumeIn, anchored, opening, noVolume}
-use Rattle.volumes.specs.inner.Steps.{fileSetAt}
+use Rattle.volumes.specs.Openings.{usual, mountIn, mountingOf, volumeIn, fileSetAt, anchored, opening, noVolume}
 use Rattle.volumes.specs.declared.sequences.Kept.{Kept}
 use Rattle.volumes.specs.declared.openings.VolumeRecord.{VolumeRecord}
 use Rattle.volumes.specs.declared.openings.Opened.{Opened}

@@ -37,7 +37,7 @@ use Rattle.entries.specs.declared.«file_entries».EntryRead.{EntryRead}
 use Rattle.entries.specs.declared.«file_entries».EntryRead.the-variants.{Read, Refused as NoEntry}
 use Rattle.entries.proofs.EntryLaws.{read-entry}
 use Rattle.chains.specs.inner.Walks.{left, hopsAt}
-use Rattle.chains.specs.Follows.{chainAt, WholeChain, BrokenChain, Followed}
+use Rattle.chains.specs.inner.Follows.{chainAt, WholeChain, BrokenChain, Followed}
 use Rattle.chains.specs.declared.cursors.ChainCursor.{ChainCursor}
 use Rattle.chains.specs.declared.follows.Chain.{Chain}
 use Rattle.chains.specs.declared.follows.Chain.the-variants.{Whole, Refused as BrokenOff}

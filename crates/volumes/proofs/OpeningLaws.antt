@@ -40,8 +40,8 @@ use Rattle.descriptors.specs.declared.file_sets.FileSetDescriptor.{FileSetDescr
 use Rattle.descriptors.specs.declared.file_sets.FileSetRead.{FileSetRead}
 use Rattle.volumes.specs.Sequences.{nothing, Parsed, orderOf, anyPartition, keptOf, Says, saysIn, goOn, scan, scannedBy, scannedOf}
 use Rattle.volumes.specs.Sequences.Says.{found, passed, over, fails}
-use Rattle.volumes.specs.Openings.{noMount, noVolume, fileSetRef, mountOf, fileSetIn, volumeIn, fileSetOn, mountingOf, mounting, anchored, opening, openedBy, openedOf}
-use Rattle.volumes.specs.inner.Steps.{mountable, fileSetAt, parsedIn, scannedIn, mountRead}
+use Rattle.volumes.specs.Openings.{noMount, noVolume, fileSetRef, mountOf, fileSetIn, volumeIn, fileSetAt, fileSetOn, mountingOf, mounting, anchored, opening, openedBy, openedOf}
+use Rattle.volumes.specs.inner.Steps.{mountable, parsedIn, scannedIn, mountRead}
 use Rattle.volumes.specs.declared.sequences.Kept.{Kept}
 use Rattle.volumes.specs.declared.sequences.Scanned.{Scanned}
 use Rattle.volumes.specs.declared.mounts.MountRead.{MountRead}

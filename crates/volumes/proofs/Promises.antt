@@ -35,9 +35,8 @@ use Rattle.descriptors.specs.declared.anchors.AnchorRead.{AnchorRead}
 use Rattle.descriptors.specs.declared.anchors.AnchorRead.the-variants.{Read as AnAnchor, Refused as NoAnchor}
 use Rattle.volumes.specs.Sequences.{nothing, Parsed, Order, latest, highest, orderOf, anyPartition, keptOf, scan}
 use Rattle.volumes.specs.Sequences.Parsed.{primary, partition, logical}
-use Rattle.volumes.specs.Openings.{noVolume, mountIn, startIn, startOfNumber, fileSetRef, mappedMount, mountOf, fileSetIn, volumeIn, fileSetOn, mountingOf, mounting, anchored, opening, openedBy, openedOf}
+use Rattle.volumes.specs.Openings.{noVolume, mountIn, startIn, startOfNumber, fileSetRef, mappedMount, mountOf, fileSetIn, volumeIn, fileSetAt, fileSetOn, mountingOf, mounting, anchored, opening, openedBy, openedOf}
 use Rattle.volumes.specs.Labels.{labelOf, labelling}
-use Rattle.volumes.specs.inner.Steps.{fileSetAt}
 use Rattle.volumes.specs.declared.sequences.Kept.{Kept}
 use Rattle.volumes.specs.declared.openings.VolumeRecord.{VolumeRecord}
 use Rattle.volumes.specs.declared.openings.Opened.{Opened}

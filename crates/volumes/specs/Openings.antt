@@ -149,9 +149,13 @@ abbrev pub volumeIn : Mount → Kept → Outcome FileSetDescriptor → Outcome V
 volumeIn m k (answered d) = answered (record { mount = m; root = d .«root_directory_icb»; label = k .label })
 volumeIn m k (refused r) = refused r
 
--- the file set descriptor's partition; its sector; its parse
+-- the file set descriptor's sector; its parse
+abbrev pub fileSetAt : Bool → Kept → Mount → ℕ → Ask VolumeRecord
+fileSetAt check k m s = ask s (λ b. ended (volumeIn m k (readFileSet check b)))
+
+-- its partition, and these
 abbrev pub fileSetOn : Bool → Kept → Mount → Ask VolumeRecord
-fileSetOn check k m = standing (fileSetIn m k) (λ s. ask s (λ b. ended (volumeIn m k (readFileSet check b))))
+fileSetOn check k m = standing (fileSetIn m k) (fileSetAt check k m)
 
 -- no PVD, no PD, no LVD; the block size; how the volume is read; its file set descriptor
 unfoldable pub mountingOf : How → List Parsed → Kept → Ask VolumeRecord

@@ -7,22 +7,19 @@ use lib.ListN.{getD, replicate}
 use lib.Dec.{eqb, ltb}
 use Rattle.disc.specs.Choice.{pick}
 use Rattle.disc.specs.Refusals.{number}
-use Rattle.disc.specs.Ask.{Ask, Outcome, ended}
-use Rattle.disc.specs.Ask.Ask.{ask}
+use Rattle.disc.specs.Ask.{Outcome}
 use Rattle.disc.specs.Ask.Outcome.{answered, refused}
 use Rattle.disc.specs.Ran.{ran}
 use Rattle.disc.specs.Images.{disc}
 use Rattle.disc.specs.declared.places.Mount.{Mount}
 use Rattle.records.specs.Bytes.{u16at}
-use Rattle.descriptors.specs.FileSets.{readFileSet}
 use Rattle.volumes.specs.declared.sequences.Kept.{Kept}
-use Rattle.volumes.specs.declared.openings.VolumeRecord.{VolumeRecord}
 use Rattle.volumes.specs.declared.openings.How.{How}
 use Rattle.volumes.specs.declared.mounts.MountRead.{MountRead}
 use Rattle.volumes.specs.declared.mounts.MapStart.{MapStart}
 use Rattle.volumes.specs.declared.mounts.MapStarts.{MapStarts}
 use Rattle.volumes.specs.Sequences.{Parsed, scan}
-use Rattle.volumes.specs.Openings.{mapIn, eachOf, volumeIn, noMount}
+use Rattle.volumes.specs.Openings.{mapIn, eachOf, noMount}
 
 -- whether what was kept leads to a file set descriptor: 0, or the answer number of the refusal
 unfoldable pub mountable : Kept → ℕ
@@ -35,10 +32,6 @@ mountable k =
     3)
     3)
     3
-
--- the file set descriptor's sector, and its parse
-abbrev pub fileSetAt : Bool → Kept → Mount → ℕ → Ask VolumeRecord
-fileSetAt check k m s = ask s (λ b. ended (volumeIn m k (readFileSet check b)))
 
 -- ---- the descriptors that a scan answered, none where it was refused
 
