@@ -1,5 +1,5 @@
-"""A file of definitions or proofs (.antt), read from its text: what it uses, and its declarations, each with its place, its comment, its statement and, where
-others can look into it, its definition. It reads what this repository writes, and refuses the rest."""
+"""A file of definitions or proofs (.antt), read from its text: what it uses, and its declarations, each with its place, its comment, its statement and its
+clauses. It reads what this repository writes, and refuses the rest."""
 import functools
 import re
 from dataclasses import dataclass, field
@@ -10,7 +10,7 @@ NAME = r'(?:«[^»\n]*»|[^\s(){}.;,@"«»]+)'
 TOKEN = re.compile(rf'--[^\n]*|"(?:[^"\\\n]|\\.)*"|(?<![^\s(){{}};,])\.{NAME}|{NAME}(?:\.{NAME})*|[(){{}};,@.]')
 MARKED = re.compile(rf"((?:(?:unfoldable|abbrev|pub|axiom) )*)({NAME})(?: \{{[^}}:]*\}})? :(?=\s|$)")
 HOLDER = re.compile(rf"(pub )?(record|data) ({NAME})(?=\s)")
-RULES = re.compile(rf"(?:pub )?ruleset ({NAME}) =")
+RULES = re.compile(rf"(pub )?ruleset ({NAME}) =")
 USE = re.compile(r"(pub )?use (\S+?)(?:\.\{(.*)\}| as (\S+))?$", re.S)
 # A line that begins so goes on with the item above it, wherever it stands.
 CLOSERS = (")", "}", "]")
@@ -50,12 +50,12 @@ class File:
     about: list
     uses: list = field(default_factory=list)
     declared: dict = field(default_factory=dict)
-    mods: list = field(default_factory=list)
 
 
+@functools.cache
 def tokens(text):
     """The words of a text, without its comments."""
-    return [found[0] for found in TOKEN.finditer(text) if not found[0].startswith("--")]
+    return tuple(found[0] for found in TOKEN.finditer(text) if not found[0].startswith("--"))
 
 
 def plain(name):
@@ -102,7 +102,7 @@ def trimmed(lines):
 def heading(lines):
     """How many lines the head of a block has, up to its `where`."""
     for i, line in enumerate(lines):
-        if tokens(line)[-1:] == ["where"]:
+        if tokens(line)[-1:] == ("where",):
             return i + 1
     raise Unread("a block that has no `where`")
 
@@ -156,8 +156,8 @@ class Reader:
         text = "\n".join(held)
         if text.lstrip().startswith(("use ", "pub use ")):
             self.file.uses.append(read_use(text, line))
-        elif found := re.match(r"(?:pub )?mod (\S+)$", text.strip()):
-            self.file.mods.append(plain(found[1]))
+        elif re.match(r"(?:pub )?mod \S+$", text.strip()):
+            pass  # a file below this one, which is read by itself
         elif word == "module":
             n = heading(held)
             self.block(held[n:], line + n, [*sections, "\n".join(dedented(held[:n]))])
@@ -165,7 +165,7 @@ class Reader:
             last.end = line + len(held) - 1
             return last
         elif found := RULES.match(text.lstrip()):
-            return self.keep(Declaration(found[1], "rules", self.file, line, about, sections=sections))
+            return self.keep(Declaration(found[2], "rules", self.file, line, about, bool(found[1]), sections))
         elif found := HOLDER.match(text.lstrip()):
             return self.holder(line, held, about, sections, found)
         elif found := MARKED.match(text.lstrip()):

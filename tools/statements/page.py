@@ -168,12 +168,12 @@ class Page:
                 "",
             ]
         )
-        yield "The sum is over the text of the definitions that are reached, comments left out: it is another where one of them is.\n"
+        yield "The sum is over the text of the definitions that are reached, comments left out: it changes where one of them does.\n"
         rows = ["| module | lines | reached by a call of the vault | by another call alone | by a promise alone | sum |", "|---|---|---|---|---|---|"]
         for place, found in held.items():
-            by = [self.reached.by[one] for one in found]
-            first, second = sum(bool(one.calls) for one in by), sum(bool(one.others and not one.calls) for one in by)
-            rows.append(f"| {place.path} | {place.lines} | {first or ''} | {second or ''} | {len(by) - first - second or ''} | {summed(found)} |")
+            first = sum(bool(by[one].calls) for one in found)
+            second = sum(bool(by[one].others and not by[one].calls) for one in found)
+            rows.append(f"| {place.path} | {place.lines} | {first or ''} | {second or ''} | {len(found) - first - second or ''} | {summed(found)} |")
         yield "\n".join(rows) + "\n"
 
     def definitions(self):
@@ -182,9 +182,9 @@ class Page:
             yield f"### {place.path}\n\n{sentence(place.about)}\n"
             yield "\n".join(["| line | definition | says | reached by |", "|---|---|---|---|", *map(self.definition, found)]) + "\n"
         yield "## The types that the code declares\n"
-        rows = ["| type | place | says | reached by |", "|---|---|---|---|"]
-        for place, found in self.places(True).items():
-            rows += [f"| `{one.name}` | {place_of(one)} | {cell(sentence(one.about))} | {self.who(one)} |" for one in found]
+        rows = ["| type | place | says | reached by | sum |", "|---|---|---|---|---|"]
+        for found in self.places(True).values():
+            rows += [f"| `{one.name}` | {place_of(one)} | {cell(sentence(one.about))} | {self.who(one)} | {summed([one])} |" for one in found]
         yield "\n".join(rows) + "\n"
 
     def definition(self, one):
@@ -204,7 +204,7 @@ class Page:
 
 def summed(found):
     """A short sum over the words of some declarations."""
-    words = [word for one in found for text in (*one.sections, *one.statement, *one.clauses) for word in tokens(text)]
+    words = [word for one in found for text in (*one.sections, *one.statement, *one.clauses) for word in tokens(text.partition("//")[0])]
     return hashlib.sha256(" ".join(words).encode()).hexdigest()[:8]
 
 

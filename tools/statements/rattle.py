@@ -1,4 +1,4 @@
-"""A source file (.rt), read from its text: what its contracts use, its functions with their contracts, and the types that definitions know as `declared`."""
+"""A source (.rt), read from its text: what its contracts use, its functions with their contracts, and the types that definitions know as `declared`."""
 import functools
 import re
 from dataclasses import dataclass, field

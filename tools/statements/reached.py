@@ -102,7 +102,7 @@ class Reached:
             self.note(call.reached, "calls", call.function.name)
         for crate, calls in self.others.items():
             for call in calls:
-                self.note(call.reached, "others", f"{crate} {call.function.name}")
+                self.note(call.reached, "others", f"{crate} {call.function.called}")
         for _, found in self.promises:
             for promise in found:
                 self.note(promise.reached, "promises", promise.label)
@@ -111,10 +111,19 @@ class Reached:
         for one in reached:
             getattr(self.by.setdefault(one, By()), kind).append(name)
 
+    def statements(self):
+        """Each theorem that a promise names, once, with what its statement reaches."""
+        named = {one: None for _, found in self.promises for promise in found for one in promise.row.named if promises.is_theorem(one)}
+        return {one: self.world.reach(self.world.names(one)) for one in named}
+
     def outside(self):
-        """The definitions outside specs/ that promises reach, and how many promises reach each."""
-        held = {one: by for one, by in self.by.items() if one.kind not in ("struct", "enum") and one.place.module[0] != "specs"}
-        return sorted(((one, len(by.promises)) for one, by in held.items()), key=lambda pair: (pair[0].place.path, pair[0].line))
+        """The definitions outside specs/ that statements reach, each with the statements that reach it."""
+        held = {}
+        for statement, reached in self.statements().items():
+            for one in reached:
+                if one.kind not in ("struct", "enum") and one.place.module[0] != "specs":
+                    held.setdefault(one, []).append(statement)
+        return dict(sorted(held.items(), key=lambda pair: (pair[0].place.path, pair[0].line)))
 
     def inner(self):
         """The outer definitions' files that use an inner one, a line for each."""

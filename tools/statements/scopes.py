@@ -68,7 +68,7 @@ class Walk:
 
     def is_label(self, words, at):
         """Whether it is the name of a field or of an argument: `record { x = .. }`, `{A = ..}`."""
-        return words[at + 1 : at + 2] == ["="] and self.scopes[-1][0] == "{"
+        return words[at + 1 : at + 2] == ("=",) and self.scopes[-1][0] == "{"
 
 
 def split_clause(words):
@@ -78,13 +78,13 @@ def split_clause(words):
         depth += (word in OPENS) - (word in CLOSES)
         if word == "=" and depth == 0:
             return words[1:at], words[at + 1 :]
-    return words[1:], []
+    return words[1:], ()
 
 
 def clause_names(text, is_constructor, bound=()):
     """The names that a clause names: the constructors of its patterns, and what its body and the declarations under its `where` name."""
     lines = text.split("\n")
-    under = [i for i, line in enumerate(lines) if tokens(line) == ["where"]]
+    under = [i for i, line in enumerate(lines) if tokens(line) == ("where",)]
     inner = lines[under[0] + 1 :] if under else []
     patterns, body = split_clause(tokens("\n".join(lines[: under[0]] if under else lines)))
     names = [word for word in patterns if word not in OPENS + CLOSES]
