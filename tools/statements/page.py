@@ -14,7 +14,7 @@ the statements that are its proof, and behind these every definition that a cont
 toolchain, has no proof to read.
 
 A contract or a statement *reaches* the definitions that it names, those that these name, and so on. A theorem is reached by its statement alone, and so is
-what can't be unfolded. A type is one that the code declares.
+what can't be unfolded. Of a definition by cases a contract reaches the cases alone that it can come to. A type is one that the code declares.
 """
 DEFINITIONS = """## The definitions
 
@@ -92,7 +92,7 @@ class Page:
             one = call.function
             yield f"### `{one.called}`\n\n{' '.join(one.about)}\n"
             yield "```rust\n// " + place_of(one) + "\n" + "\n".join(contract(one)) + "\n```\n"
-            names = [name.name for name in call.names if name.kind not in TYPES]
+            names = [f"{name.owner.name}.{name.name}" if name.owner else name.name for name in call.names if name.kind not in TYPES]
             yield f"It names {listed(names)}, and reaches {self.summary(call.reached)}\n"
 
     def others(self):

@@ -4,6 +4,7 @@ from dataclasses import dataclass, field
 
 from . import promises
 from .antt import File
+from .cases import Cases
 from .rattle import Function
 
 FACE = "vault"
@@ -44,7 +45,7 @@ def calls_of(world, crate):
     held = [source for (name, _), source in world.sources.items() if name == crate]
     functions = [one for source in held for one in source.functions if one.public]
     named = [(one, world.contract_names(one)) for one in functions]
-    return [Call(one, names, world.reach(names)) for one, names in named]
+    return [Call(one, names, Cases(world).go(names)) for one, names in named]
 
 
 def started(world, one):

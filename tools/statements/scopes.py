@@ -82,7 +82,7 @@ def split_clause(words):
 
 
 def clause_names(text, is_constructor, bound=()):
-    """The names that a clause names: the constructors of its patterns, and what its body and the declarations under its `where` name."""
+    """The constructors of a clause's patterns, and the names that its body and the declarations under its `where` name."""
     lines = text.split("\n")
     under = [i for i, line in enumerate(lines) if tokens(line) == ("where",)]
     inner = lines[under[0] + 1 :] if under else []
@@ -91,13 +91,13 @@ def clause_names(text, is_constructor, bound=()):
     constructors = [word for word in names if is_constructor(word)]
     local = ["\n".join(held).strip() for _, held, _ in items(inner, 1)]
     held = {*bound, *(plain(found[2]) for text in local if (found := MARKED.match(text))), *(plain(word) for word in names if word not in constructors)}
-    free = constructors + Walk(held).go(body).free
+    free = Walk(held).go(body).free
     for text in local:
         if found := MARKED.match(text):
             free += Walk(held).go(tokens(text[found.end() :])).free
         elif not text.startswith("unfolding"):
-            free += clause_names(text, is_constructor, held)
-    return free
+            free += [word for words in clause_names(text, is_constructor, held) for word in words]
+    return constructors, free
 
 
 def section_walk(sections):
@@ -120,15 +120,16 @@ def holder_names(one, walk):
     return walk.free
 
 
-def declaration_names(one, is_constructor):
-    """The names that a declaration's statement names and, of a definition, its clauses."""
+def statement_names(one):
+    """The names that a declaration's statement names."""
     walk = section_walk(one.sections)
-    bound = set(walk.scopes[0][1])
-    text = "\n".join(one.statement)
     if one.kind in ("record", "data"):
         return holder_names(one, walk)
-    walk.go(tokens(text[MARKED.match(text).end() :]))
-    if one.kind == "definition":
-        for clause in one.clauses:
-            walk.free += clause_names(clause, is_constructor, bound)
-    return walk.free
+    text = "\n".join(one.statement)
+    return walk.go(tokens(text[MARKED.match(text).end() :])).free
+
+
+def definition_names(one, is_constructor):
+    """Of each clause of a definition the constructors that it is for, and the names that it names."""
+    bound = section_walk(one.sections).scopes[0][1]
+    return [clause_names(clause, is_constructor, bound) for clause in one.clauses] if one.kind == "definition" else []

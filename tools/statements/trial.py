@@ -6,6 +6,9 @@ import tempfile
 
 from interface.source import Unread
 
+from .reached import calls_of
+from .world import World
+
 PROMISES, INDEX = "docs/PROMISES.md", "docs/INDEX.md"
 CRCS, LAWS, FIGURES = "crates/crcs/specs/Crcs.antt", "crates/crcs/proofs/Promises.antt", "crates/figures/src/lib.rt"
 
@@ -39,6 +42,72 @@ FAULTS = (
 # A definition outside specs/ that a statement reaches.
 OUTSIDE = (LAWS, r"^(pub crc-fits : .*)< 2 \^ 16", r"abbrev pub most : ℕ\nmost = 2 ^ 16\n\n\1< most")
 
+# A small repository, and what each contract of it reaches: the case that it names, or both where any value may be meant.
+SMALL = {
+    "crates.txt": "small:\n",
+    "crates/small/specs/Kinds.antt": """use Prim.Native.Nat.{ℕ}
+
+pub data Kind : Type 0 where
+  one : Kind
+  other : Kind
+
+abbrev pub ofOne : ℕ
+ofOne = 1
+
+abbrev pub ofOther : ℕ
+ofOther = 2
+
+abbrev pub valueOf : Kind → ℕ
+valueOf one = ofOne
+valueOf other = ofOther
+
+module _ (k : Kind) where
+  abbrev pub given : ℕ
+  given = valueOf k
+""",
+    "crates/small/src/lib.rt": """ghost use mathlib.Core.Path.{_≡_};
+ghost use Rattle.small.specs.Kinds.{Kind, given, ofOther};
+ghost use Rattle.small.specs.Kinds.Kind.{one, other as second};
+pub fn first() -> u8
+    ensures { λ r. ⌜ r ≡ given one ⌝ }
+{
+    1
+}
+pub fn last() -> u8
+    ensures { λ r. ⌜ r ≡ given second ⌝ }
+{
+    2
+}
+pub fn any() -> bool
+    ensures { λ r. ⌜ (k : Kind) → given k ≡ given k ⌝ }
+{
+    true
+}
+pub fn hidden(ofOther: u8) -> u8
+    ensures { λ r. ⌜ r ≡ ofOther ⌝ }
+{
+    ofOther
+}
+""",
+}
+REACHED = {
+    "first": "Kind given ofOne valueOf",
+    "last": "Kind given ofOther valueOf",
+    "any": "Kind given ofOne ofOther valueOf",
+    "hidden": "",
+}
+
+
+def small():
+    """What the contracts of the small repository reach that isn't so."""
+    with tempfile.TemporaryDirectory() as name:
+        room = pathlib.Path(name)
+        for path, text in SMALL.items():
+            (room / path).parent.mkdir(parents=True, exist_ok=True)
+            (room / path).write_text(text, encoding="utf-8")
+        found = {call.function.name: " ".join(sorted(one.name for one in call.reached)) for call in calls_of(World(room), "small")}
+    return [f"{name} of the small repository reaches {found.get(name)}" for name, must in REACHED.items() if found.get(name) != must]
+
 
 def copied(root, room):
     """Copies what is read of a tree."""
@@ -71,7 +140,7 @@ def run(root, check, write, count):
         room = pathlib.Path(name)
         copied(root, room)
         write(room)
-        before, wrong = check(room), []
+        before, wrong = check(room), small()
         for what, file, pattern, new, must in FAULTS:
             said = [line for line in planted(room, file, pattern, new, check) if line not in before]
             if not any(must in line for line in said):
@@ -80,5 +149,5 @@ def run(root, check, write, count):
             wrong.append("a definition outside specs/: not counted")
     for why in wrong:
         print(f"index: NOT SEEN: {why}")
-    print(f"index: {len(FAULTS) + 1} faults planted: {'FAILED' if wrong else 'all seen'}")
+    print(f"index: {len(FAULTS) + 1} faults planted and {len(REACHED)} contracts tried: {'FAILED' if wrong else 'all seen'}")
     return 1 if wrong else 0

@@ -6,7 +6,7 @@ from interface.source import Unread
 
 from . import antt, rattle
 from .antt import plain, tokens
-from .scopes import Walk, declaration_names
+from .scopes import Walk, definition_names, statement_names
 
 # What the language and its Prim have: nothing of these is declared in a module that is used.
 BUILT_IN = set("Type Unit ⊥ × → tt record in = : omega rw cc search".split())
@@ -157,25 +157,26 @@ class World:
 
         return told
 
-    def names(self, one):
-        """The declarations that a declaration's text names, once each, in order."""
+    def pieces(self, one):
+        """The statement of a declaration and each of its clauses: the constructors that it is for, and what it names."""
         if one not in self.named:
             if one.kind in ("struct", "enum"):
-                self.named[one] = self.types_in(one.place, "\n".join(one.statement), [one.name, *(part.name for part in one.parts)])
+                self.named[one] = [((), self.types_in(one.place, "\n".join(one.statement), [one.name, *(part.name for part in one.parts)]))]
             else:
-                words = declaration_names(one, self.is_constructor(one.place))
+                clauses = definition_names(one, self.is_constructor(one.place))
                 try:
-                    self.named[one] = self.resolved(one.place, words)
+                    self.named[one] = [tuple(self.resolved(one.place, words) for words in piece) for piece in [((), statement_names(one)), *clauses]]
                 except Unread as why:
                     raise Unread(f"line {one.line} of {why}")
         return self.named[one]
 
+    def names(self, one):
+        """The declarations that a declaration's text names, once each, in order."""
+        return list(dict.fromkeys(named.owner or named for piece in self.pieces(one) for names in piece for named in names))
+
     def resolved(self, place, words):
-        found = {}
-        for word in words:
-            if one := self.lookup(place, word):
-                found[one.owner or one] = None
-        return list(found)
+        """What some words name, once each, in order."""
+        return list(dict.fromkeys(one for word in words if (one := self.lookup(place, word))))
 
     def types_in(self, source, text, own=()):
         """The types that a source's text names, but for those that are its own: a type and its variants."""
@@ -208,7 +209,7 @@ class World:
     def reach(self, found):
         """All declarations that some declarations name, and those that these name."""
         reached = {}
-        left = list(found)
+        left = [one.owner or one for one in found]
         while left:
             one = left.pop()
             if one not in reached:
