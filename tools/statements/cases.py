@@ -1,6 +1,7 @@
-"""What a contract reaches, case by case. Of a definition by cases those clauses count alone whose constructors can be met: where `reads` is the only one of its
-type that is named, `spec` reaches what it says of `reads`. A constructor is met where it is named outside a pattern. All constructors of a data type are met
-where the type is open: named elsewhere than in the type of a definition, so that any value of it may be meant. The variants of the code's types always are."""
+"""What a contract reaches, case by case. Of a definition by cases those clauses count alone whose constructors can be met: where `reads` is the only one
+of its type that is named, `spec` reaches what it says of `reads`. A constructor is met where it is named outside a pattern. All constructors of a data
+type are met where the type is open: named elsewhere than in the type of a definition, so that any value of it may be meant. The variants of the code's
+types always are."""
 
 
 class Cases:
