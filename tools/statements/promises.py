@@ -71,12 +71,16 @@ class Names:
 
     def __init__(self, world):
         self.world = world
+        self.held = {}  # the files of each crate
+        for (crate, parts), file in world.files.items():
+            if parts[-1] not in OWN:
+                self.held.setdefault(crate, []).append(file)
         self.all = set()
         self.faults = []
 
     def files(self, crates, module=None):
         """The files of some crates, or those of one name: proofs first, and Promises before the others."""
-        held = [file for (crate, parts), file in self.world.files.items() if crate in crates and parts[-1] not in OWN and module in (None, parts[-1])]
+        held = [file for crate in crates for file in self.held.get(crate, ()) if module in (None, file.module[-1])]
         return sorted(held, key=lambda file: (file.module[0] != "proofs", file.module[-1] != "Promises", file.path))
 
     def is_module(self, crates, word):

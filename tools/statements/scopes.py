@@ -1,5 +1,7 @@
 """Which names a text names, those left out that are bound in it. Binders are `(x : T)`, `{x : T}`, `λ x.`, `let x = ..` and, in a clause, the variables
 of its patterns; a name is bound up to the end of the bracket that it stands in, or up to the next `;` or `,` there."""
+import functools
+
 from .antt import MARKED, heading, items, plain, tokens
 
 OPENS, CLOSES = ("(", "{"), (")", "}")
@@ -120,6 +122,7 @@ def holder_names(one, walk):
     return walk.free
 
 
+@functools.cache
 def statement_names(one):
     """The names that a declaration's statement names."""
     walk = section_walk(one.sections)

@@ -23,7 +23,8 @@ class World:
         self.files = {}  # by crate and module
         self.sources = {}
         self.scopes = {}
-        self.named = {}
+        self.named = {}  # by declaration, piece by piece
+        self.all = {}  # by declaration, as a whole
         for path in sorted((root / "crates").glob("*/*/**/*")):
             crate, *module = path.relative_to(root / "crates").with_suffix("").parts
             shown = path.relative_to(root).as_posix()
@@ -172,7 +173,9 @@ class World:
 
     def names(self, one):
         """The declarations that a declaration's text names, once each, in order."""
-        return list(dict.fromkeys(named.owner or named for piece in self.pieces(one) for names in piece for named in names))
+        if one not in self.all:
+            self.all[one] = list(dict.fromkeys(named.owner or named for piece in self.pieces(one) for names in piece for named in names))
+        return self.all[one]
 
     def resolved(self, place, words):
         """What some words name, once each, in order."""
