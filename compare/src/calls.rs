@@ -1,6 +1,7 @@
 //! The calls of include/vault.h: what is asked, and what was answered.
 
-use strandlodge_sys::asked::{self, long_ad, recorded};
+use strandlodge_sys::asked;
+use strandlodge_sys::icbs::{long_ad, recorded};
 use strandlodge_sys::vault::{self as face, AS_WRITTEN, CASE_IGNORED, CHECKED, FIGURES, MAPS};
 
 #[derive(Clone, Copy, PartialEq, Eq, Debug, PartialOrd, Ord)]

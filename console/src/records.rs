@@ -26,15 +26,9 @@ pub struct LongAd {
 }
 
 impl LongAd {
-    /// From its recorded form, whose first number has 30 bits of length below two of type.
+    /// From its recorded form.
     pub(crate) fn recorded(b: &[u8; 16]) -> LongAd {
-        let raw = u32::from_le_bytes([b[0], b[1], b[2], b[3]]);
-        LongAd {
-            length: raw & 0x3fff_ffff,
-            extent_type: (raw >> 30) as u8,
-            location: LbAddr { block: u32::from_le_bytes([b[4], b[5], b[6], b[7]]), partition_ref: u16::from_le_bytes([b[8], b[9]]) },
-            implementation_use: [b[10], b[11], b[12], b[13], b[14], b[15]],
-        }
+        LongAd::of_c(strandlodge_sys::icbs::long_ad(b))
     }
 
     /// From the form in which it crosses the interface.

@@ -4,13 +4,14 @@
 //!
 //! The archives are x86-64 code for Linux, and are linked there alone. Consoles use the crate `strandlodge`, which wraps these calls.
 //!
-//! [`sparse`], [`asked`], [`said`] and [`replay`] are for the programs and tests of the repository: its images are kept sparse, and what is asked of them is
-//! stored with what must be said.
+//! [`icbs`] reads and writes an ICB as it is recorded. [`sparse`], [`asked`], [`said`] and [`replay`] are for the programs and tests of the repository: its
+//! images are kept sparse, and what is asked of them is stored with what must be said.
 
 #[macro_use]
 mod layout;
 
 pub mod asked;
+pub mod icbs;
 pub mod records;
 pub mod replay;
 pub mod said;

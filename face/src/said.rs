@@ -1,6 +1,7 @@
 //! What a call said, and its line in the output of the program `asker`.
 
-use crate::asked::{Call, NO_VOLUME, Query, recorded};
+use crate::asked::{Call, NO_VOLUME, Query};
+use crate::icbs::recorded;
 use crate::vault::Volume;
 
 /// What lent memory comes full of.
