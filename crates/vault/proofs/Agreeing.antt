@@ -145,9 +145,9 @@ module _ (image : List ℕ) (v : VolumeRecord) (path work : List ℕ) where
 
   -- and always then, after the sectors of the way to the directory and of its read; the component that failed is empty, and all else is as a refusal has it
   module _ (o : SeveralOn) where
-    abbrev pub sectorsOf : ℕ
-    sectorsOf = ran (disc image) (seeking Unambiguous (v .mount) (length work) (o .before) (v .root) true) .count + ran (disc image) (directoryBytes (v .mount) (length work) (o .directory)) .count
+    abbrev pub sectorsOfSeveral : ℕ
+    sectorsOfSeveral = ran (disc image) (seeking Unambiguous (v .mount) (length work) (o .before) (v .root) true) .count + ran (disc image) (directoryBytes (v .mount) (length work) (o .directory)) .count
 
-    pub several-along : {A R : Type 0} (w : Walker A R) → leaves (along w v path Unambiguous work) image ≡ way (along w v path Unambiguous work) .bare 9 (reported sectorsOf)
+    pub several-along : {A R : Type 0} (w : Walker A R) → leaves (along w v path Unambiguous work) image ≡ way (along w v path Unambiguous work) .bare 9 (reported sectorsOfSeveral)
     unfolding seekPath
-    several-along w = walk-refused image v path Unambiguous work Ambiguous sectorsOf (doubles-refused (disc image) (v .mount) (length work) (components path) (v .root) o) w
+    several-along w = walk-refused image v path Unambiguous work Ambiguous sectorsOfSeveral (doubles-refused (disc image) (v .mount) (length work) (components path) (v .root) o) w

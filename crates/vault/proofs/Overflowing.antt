@@ -45,9 +45,9 @@ module _ (image : List ℕ) (v : VolumeRecord) (path : List ℕ) (matching : Mat
 
   -- ---- and always then, after the sectors of the way to the directory and of its read; all else is as a refusal has it
   module _ (o : Exceeds image v path matching work) where
-    abbrev pub sectorsOf : ℕ
-    sectorsOf = ran (disc image) (seeking matching (v .mount) (length work) (o .before) (v .root) true) .count + ran (disc image) (reading v (o .directory)) .count
+    abbrev pub sectorsOfExcess : ℕ
+    sectorsOfExcess = ran (disc image) (seeking matching (v .mount) (length work) (o .before) (v .root) true) .count + ran (disc image) (reading v (o .directory)) .count
 
-    pub exceeds-along : {A R : Type 0} (w : Walker A R) → leaves (along w v path matching work) image ≡ way (along w v path matching work) .bare 6 (reported sectorsOf)
+    pub exceeds-along : {A R : Type 0} (w : Walker A R) → leaves (along w v path matching work) image ≡ way (along w v path matching work) .bare 6 (reported sectorsOfExcess)
     unfolding seekPath
-    exceeds-along w = walk-refused image v path matching work NoWork sectorsOf (overflows-refused (disc image) matching (v .mount) (length work) (components path) (v .root) o) w
+    exceeds-along w = walk-refused image v path matching work NoWork sectorsOfExcess (overflows-refused (disc image) matching (v .mount) (length work) (components path) (v .root) o) w

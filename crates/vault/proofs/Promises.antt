@@ -354,7 +354,8 @@ plain (fails v path matching work) = seeking (plainly v) (length work) path matc
 plain (failsAt v path matching work) = seeking (plainly v) (length work) path matching
 plain (readsPath v path matching out work) = pathReading (plainly v) (length work) path matching
 
-unfoldable pub guards : {A R : Type 0} (c : Call A R) → spec c .row .ten ≡ true → Guards rightAt (tree c) (plain c)
+-- where bodies are checked both calls are one tree, in which it is marked where a descriptor is parsed
+pub guards : {A R : Type 0} (c : Call A R) → spec c .row .ten ≡ true → Guards rightAt (tree c) (plain c)
 guards (opens how) k = rw k (opening-guards (how .highest) (how .maps))
 guards (labels how out) k = rw k (labelling-guards (how .highest) (how .maps))
 guards (reads v icb out) k = bytes-guards (v .mount) k icb
@@ -371,19 +372,20 @@ guards (fails v path matching work) k = seeking-guards (v .mount) k (length work
 guards (failsAt v path matching work) k = seeking-guards (v .mount) k (length work) matching (v .root) path
 guards (readsPath v path matching out work) k = path-guards (v .mount) k (length work) matching (v .root) path
 
-module _ {A R : Type 0} (c : Call A R) (k : spec c .row .ten ≡ true) (image : List ℕ) where
+module _ {A R : Type 0} (c : Call A R) (image : List ℕ) where
   bad-10 : eqb (answerOn c image) 10 ≡ isBad (outcome (disc image) (tree c))
   bad-10 = ap (λ n. eqb n 10) (order c image) ∙ bad-told (tells c) (outcome (disc image) (tree c))
 
   -- 10 exactly when a descriptor that the call without the check parses has a wrong body
-  pub wrong : eqb (answerOn c image) 10 ≡ anyWrong rightAt (parsed (disc image) (guards c k .tree))
-  wrong = bad-10 ∙ guards-bad (guards c k) (disc image)
+  pub wrong : (g : Guards rightAt (tree c) (plain c)) → eqb (answerOn c image) 10 ≡ anyWrong rightAt (parsed (disc image) (g .tree))
+  wrong g = bad-10 ∙ guards-bad g (disc image)
 
-  -- and where it isn't refused by 10 it comes to the same, after as many sectors,
+module _ {A R : Type 0} (c : Call A R) (k : spec c .row .ten ≡ true) (image : List ℕ) where
+  -- where it isn't refused by 10 it comes to the same, after as many sectors,
   pub checked-run : (answerOn c image ≡ 10 → ⊥) → ran (disc image) (tree c) ≡ ran (disc image) (plain c)
   unfolding ran
   checked-run h =
-      let e : isBad (outcome (disc image) (tree c)) ≡ false = sym bad-10 ∙ ne-eqb _ 10 h in
+      let e : isBad (outcome (disc image) (tree c)) ≡ false = sym (bad-10 c image) ∙ ne-eqb _ 10 h in
       λ i. record { outcome = guards-outcome (guards c k) (disc image) e i; count = length (guards-asked (guards c k) (disc image) e i) }
 
   -- and leaves the same
