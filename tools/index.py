@@ -3,8 +3,8 @@
 
     tools/index.py              writes it
     tools/index.py --check      says where it isn't what the sources say; where docs/PROMISES.md names a theorem, a contract or an edit that isn't there, or
-                                leaves an edit out; where an outer spec uses an inner one. Ends with 1 if there is anything
-    tools/index.py --outside    lists the definitions outside specs/ that a promise's statement reaches, each with how many do; ends with 1 if there is one
+                                leaves an edit out; where an outer spec uses an inner one; where a promise's statement reaches a definition outside
+                                specs/. Ends with 1 if there is anything
     tools/index.py --self-test  plants faults in a copy of the sources, each of which --check must see
 
 Each name of each `use` in crates/ is resolved on the way, and one that isn't declared fails the tool. Needs nothing but Python.
@@ -17,7 +17,6 @@ from faces import difference
 from interface.source import Unread
 from statements import trial
 from statements.page import PATH, Page
-from statements.promises import place_of
 from statements.reached import Reached
 from statements.world import World
 
@@ -41,18 +40,6 @@ def check(root):
     return reached.faults() + ([f"{PATH}: {why}"] if why else [])
 
 
-def outside(root):
-    """Prints what statements reach outside specs/; how many definitions there are."""
-    reached = read(root)
-    found = reached.outside()
-    for one, by in found.items():
-        print(f"{place_of(one)}: {one.kind} {one.name}: {len(by)}, {by[0].name}{' ..' if len(by) > 1 else ''}")
-    by = {statement for statements in found.values() for statement in statements}
-    files = {one.place for one in found}
-    print(f"index: {len(by)} of {len(reached.statements())} statements reach {len(found)} definitions outside specs/, in {len(files)} files")
-    return len(found)
-
-
 def write(root):
     """Writes the page; says what --check would say besides."""
     reached = read(root)
@@ -61,14 +48,12 @@ def write(root):
 
 
 def main(words):
-    if words not in ([], ["--check"], ["--outside"], ["--self-test"]):
+    if words not in ([], ["--check"], ["--self-test"]):
         print(__doc__, file=sys.stderr)
         return 2
     try:
         if words == ["--self-test"]:
-            return trial.run(ROOT, check, write, lambda root: len(read(root).outside()))
-        if words == ["--outside"]:
-            return 1 if outside(ROOT) else 0
+            return trial.run(ROOT, check, write)
         wrong = check(ROOT) if words else write(ROOT)
     except Unread as why:
         wrong = [str(why)]

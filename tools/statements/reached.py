@@ -118,13 +118,13 @@ class Reached:
         return {one: self.world.reach(self.world.names(one)) for one in named}
 
     def outside(self):
-        """The definitions outside specs/ that statements reach, each with the statements that reach it."""
+        """The definitions outside specs/ that statements reach, a line for each."""
         held = {}
         for statement, reached in self.statements().items():
             for one in reached:
                 if one.kind not in ("struct", "enum") and one.place.module[0] != "specs":
-                    held.setdefault(one, []).append(statement)
-        return dict(sorted(held.items(), key=lambda pair: (pair[0].place.path, pair[0].line)))
+                    held.setdefault((one.place.path, one.line, one.name), statement.name)
+        return [f"{path}:{line}: the statement of `{by}` reaches {name}, which stands outside specs/" for (path, line, name), by in sorted(held.items())]
 
     def inner(self):
         """The outer definitions' files that use an inner one, a line for each."""
@@ -137,4 +137,4 @@ class Reached:
         ]
 
     def faults(self):
-        return [*self.names.faults, *self.edits.faults, *self.edits.left_out(), *self.inner()]
+        return [*self.names.faults, *self.edits.faults, *self.edits.left_out(), *self.inner(), *self.outside()]

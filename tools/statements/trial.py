@@ -37,11 +37,9 @@ FAULTS = (
     ("a type that is another", "crates/disc/src/places.rt", r"^(pub struct Mount \{\n(?:.*\n)*?    pub start: )u32", r"\1u64", "| `Mount` |"),
     ("a contract of a name that isn't there", FIGURES, r"(?s)(fn total\(.*?)totalAnswer", r"\1totalMark", "nothing here is called totalMark"),
     ("a call more", FIGURES, r"\Z", "\npub fn none(n: u64) -> u64\n    ensures { λ r. ⌜ r ≡ n ⌝ }\n{\n    n\n}\n", "`none`"),
+    ("a definition outside specs/", LAWS, r"^(pub crc-fits : .*)< 2 \^ 16", r"abbrev pub most : ℕ\nmost = 2 ^ 16\n\n\1< most", "reaches most, which stands outside"),
     ("a page that isn't the sources'", INDEX, r"^## The promises$", "## Promises", "line "),
 )
-# A definition outside specs/ that a statement reaches.
-OUTSIDE = (LAWS, r"^(pub crc-fits : .*)< 2 \^ 16", r"abbrev pub most : ℕ\nmost = 2 ^ 16\n\n\1< most")
-
 # A small repository, and what each contract of it reaches: the case that it names, or both where any value may be meant.
 SMALL = {
     "crates.txt": "small:\n",
@@ -120,8 +118,8 @@ def copied(root, room):
             shutil.copyfile(path, to)
 
 
-def planted(room, file, pattern, new, told):
-    """What `told` says of the copy with a fault in it, which is mended again."""
+def planted(room, file, pattern, new, check):
+    """What `check` says of the copy with a fault in it, which is mended again."""
     path = room / file
     was = path.read_text(encoding="utf-8")
     text, number = re.subn(pattern, new, was, flags=re.M)
@@ -129,12 +127,12 @@ def planted(room, file, pattern, new, told):
         raise Unread(f"{file}: the pattern {pattern} is there {number} times")
     path.write_text(text, encoding="utf-8")
     try:
-        return told(room)
+        return check(room)
     finally:
         path.write_text(was, encoding="utf-8")
 
 
-def run(root, check, write, count):
+def run(root, check, write):
     """Whether each fault is seen, by words that aren't said of the copy as it is."""
     with tempfile.TemporaryDirectory() as name:
         room = pathlib.Path(name)
@@ -145,9 +143,7 @@ def run(root, check, write, count):
             said = [line for line in planted(room, file, pattern, new, check) if line not in before]
             if not any(must in line for line in said):
                 wrong.append(f"{what}: {'; '.join(said) or 'nothing was said'}")
-        if planted(room, *OUTSIDE, count) != count(room) + 1:
-            wrong.append("a definition outside specs/: not counted")
     for why in wrong:
         print(f"index: NOT SEEN: {why}")
-    print(f"index: {len(FAULTS) + 1} faults planted and {len(REACHED)} contracts tried: {'FAILED' if wrong else 'all seen'}")
+    print(f"index: {len(FAULTS)} faults planted and {len(REACHED)} contracts tried: {'FAILED' if wrong else 'all seen'}")
     return 1 if wrong else 0

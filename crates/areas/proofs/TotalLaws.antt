@@ -15,11 +15,7 @@ use Rattle.areas.specs.declared.Descriptor.{Descriptor}
 use Rattle.areas.specs.declared.Descriptor.the-variants.{Stop, Data, Continued, Compressed}
 use Rattle.areas.specs.Areas.{sizeOf, descriptorOf, shortDescriptor, longDescriptor, extDescriptor, descriptorAt, Area, behind, descriptors, areaAt}
 use Rattle.areas.proofs.AreaLaws.{some-size}
-
--- the effective lengths of extents, added up
-unfoldable pub total : List AllocExtent → ℕ
-total [] = 0
-total (e ∷ es) = e .length + total es
+use Rattle.areas.specs.Totals.{total}
 
 pub total-append : (a b : List AllocExtent) → total (a ++ b) ≡ total a + total b
 unfolding total

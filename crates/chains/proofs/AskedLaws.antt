@@ -27,11 +27,9 @@ use Rattle.areas.specs.declared.AdEnding.{AdEnding}
 use Rattle.areas.specs.declared.AdEnding.the-variants.{End, Continuation, Refused}
 use Rattle.areas.specs.Areas.{Area}
 use Rattle.chains.specs.Chains.{areaIn, areaFrom, nextArea, continued, chain}
+use Rattle.chains.specs.Totals.{AtMost}
 
 -- ---- a tree that asks for at most n sectors, whatever it is given
-
-pub record AtMost {A : Type 0} (n : ℕ) (m : Ask A) : Type 0 where
-  pub most : (d : Disc) → ran d m .count ≤ n
 
 module _ {A : Type 0} where
   pub done-asks : (a : A) (n : ℕ) → AtMost n (done a)

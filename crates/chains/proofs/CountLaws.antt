@@ -1,5 +1,5 @@
 -- What is left of a chain, counted one step at a time: its extents, and the areas that are gone to. Assumes nothing.
-use mathlib.Core.Path.{_≡_, refl, ap, sym, _∙_}
+use mathlib.Core.Path.{_≡_, refl, sym, _∙_}
 use mathlib.Core.Bool.{Bool}
 use mathlib.Core.List.{List, [], _∷_}
 use mathlib.Core.Logic.{⊎-elim}
@@ -8,12 +8,11 @@ use Prim.Native.Nat.{ℕ, zero, suc, _+_, _-_, _*_, _≤_, _<_, _^_}
 use native.Mathlib.Omega.{arith}
 use lib.ListN.{length}
 use borrow.Author.Tests.{ne-eqb}
-use Rattle.disc.proofs.ByteLaws.{Bytes}
 use Rattle.disc.specs.Counts.{reported}
-use Rattle.disc.specs.Ask.{Ask, Outcome, outcome}
+use Rattle.disc.specs.Ask.{Outcome, outcome}
 use Rattle.disc.specs.Ask.Ask.{refuse}
 use Rattle.disc.specs.Ask.Outcome.{answered, refused}
-use Rattle.disc.specs.Ran.{Ran, ran, followed}
+use Rattle.disc.specs.Ran.{ran}
 use Rattle.disc.specs.Images.{disc, sectors, heldFrom, bytesOf, sectorsFor}
 use Rattle.disc.specs.Places.{placed, isChecked}
 use Rattle.disc.specs.declared.places.Mount.{Mount}
@@ -39,11 +38,12 @@ use Rattle.chains.specs.declared.cursors.ChainStep.{ChainStep}
 use Rattle.chains.specs.declared.cursors.ChainStep.the-variants.{Takes, Hops, Ends}
 use Rattle.chains.specs.declared.continuations.NextArea.{NextArea}
 use Rattle.chains.specs.declared.continuations.NextArea.the-variants.{Found, Refused as Misses}
-use Rattle.chains.specs.Chains.{areaFrom, nextArea, continued, hops, chain}
+use Rattle.chains.specs.Chains.{nextArea, continued, hops}
 use Rattle.chains.specs.inner.Follows.{ReachesFrom, chainAt}
 use Rattle.chains.specs.inner.Walks.{left, passed, hopsAt, weight, hopTo, hopping, stepped, stepOf, Counts}
 use Rattle.chains.proofs.WalkLaws.{Taken, Hopped, ended, hopped, taken}
 use Rattle.chains.proofs.FollowLaws.{next-short, next-long, next-missing, next-none, next-over, next-found}
+use Rattle.disc.specs.Parts.{Bytes}
 
 -- ---- the areas that are gone to, one step at a time
 

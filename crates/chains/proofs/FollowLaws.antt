@@ -24,7 +24,7 @@ use Rattle.disc.specs.declared.refusals.Refusal.{Refusal}
 use Rattle.disc.specs.declared.refusals.Refusal.the-variants.{Io, Malformed, Unsupported}
 use Rattle.disc.proofs.PlaceLaws.{stands-nowhere, stands-at}
 use Rattle.disc.proofs.RanLaws.{ran-done, ran-refuse, ran-then}
-use Rattle.disc.proofs.ImageLaws.{sectorsRun, sectors-run, part-whole}
+use Rattle.disc.proofs.ImageLaws.{sectors-run, part-whole}
 use Rattle.tags.specs.Tags.{readAed}
 use Rattle.tags.specs.declared.AllocationExtentDescriptor.{AllocationExtentDescriptor}
 use Rattle.tags.specs.declared.AedRead.{AedRead}
@@ -43,6 +43,7 @@ use Rattle.chains.specs.Chains.{areaIn, areaFrom, nextArea, continued}
 use Rattle.chains.specs.inner.Walks.{beyond, left}
 use Rattle.chains.specs.inner.Follows.{FoundArea, NoArea, Reaches, ReachesFrom, chainAt, Followed}
 use Rattle.chains.proofs.WalkLaws.{beyond-end}
+use Rattle.disc.specs.Lists.{sectorsRun}
 
 -- ---- the area that continues another
 

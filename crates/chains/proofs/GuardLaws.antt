@@ -1,6 +1,6 @@
 -- A chain of a volume whose descriptors' bodies are checked is the chain without that check, with the header of each continuation marked where it is parsed.
 -- Assumes nothing.
-use mathlib.Core.Path.{_≡_, refl, ap, fun-ext}
+use mathlib.Core.Path.{_≡_, refl}
 use mathlib.Core.Bool.{Bool, true, false}
 use mathlib.Core.List.{List, []}
 use mathlib.Core.Option.{Option, none, some}
@@ -9,7 +9,7 @@ use native.Mathlib.Omega.{arith}
 use lib.Dec.{ltb}
 use Rattle.disc.specs.Choice.{pick}
 use Rattle.disc.specs.Ask.{Ask, then}
-use Rattle.disc.specs.Ask.Ask.{done, refuse, ask}
+use Rattle.disc.specs.Ask.Ask.{done, refuse}
 use Rattle.disc.specs.Images.{sectors, sectorsFor}
 use Rattle.disc.specs.Places.{mappedStart, startFor, placed, isChecked, unchecked, standing}
 use Rattle.disc.specs.declared.places.Mount.{Mount}
@@ -17,25 +17,21 @@ use Rattle.disc.specs.declared.places.PartitionRef.{PartitionRef}
 use Rattle.disc.specs.declared.places.PartitionRef.the-variants.{Unnamed, Named}
 use Rattle.disc.specs.declared.refusals.Refusal.{Refusal}
 use Rattle.disc.specs.declared.refusals.Refusal.the-variants.{Malformed, Unsupported}
-use Rattle.disc.proofs.AskLaws.{then-then}
-use Rattle.disc.proofs.MarkedLaws.{ButBad, Guards, done-guards, refuse-guards, ask-guards, then-guards}
+use Rattle.disc.proofs.AskLaws.{then-then, then-done}
+use Rattle.disc.proofs.MarkedLaws.{done-guards, refuse-guards, ask-guards, then-guards}
 use Rattle.records.specs.Bytes.{u32at}
 use Rattle.tags.specs.Tags.{aedAfter, readAed}
-use Rattle.tags.proofs.BodyLaws.{rightAt, gate-guards}
+use Rattle.tags.proofs.BodyLaws.{gate-guards}
 use Rattle.areas.specs.declared.AdContinuation.{AdContinuation}
 use Rattle.areas.specs.declared.AdEnding.{AdEnding}
 use Rattle.areas.specs.declared.AdEnding.the-variants.{End, Continuation, Refused}
 use Rattle.areas.specs.Areas.{Area, areaAt}
 use Rattle.areas.proofs.AreaLaws.{area-refused}
 use Rattle.chains.specs.Chains.{areaIn, areaFrom, nextArea, continued, chain}
+use Rattle.disc.specs.Marks.{ButBad, Guards}
+use Rattle.tags.specs.Heads.{rightAt}
 
 -- ---- trees in front of another
-
-then-done : {A : Type 0} (m : Ask A) → then m done ≡ m
-unfolding then
-then-done (done a) = refl
-then-done (refuse r) = refl
-then-done (ask s k) = ap (ask s) (fun-ext (λ b. then-done (k b)))
 
 -- two trees with what comes behind each
 record Before {A B : Type 0} (f f′ : A → Ask B) (m m′ : Ask A) : Type 0 where

@@ -27,17 +27,12 @@ use Rattle.areas.specs.declared.AdContinuation.{AdContinuation}
 use Rattle.areas.specs.declared.AdEnding.{AdEnding}
 use Rattle.areas.specs.declared.AdEnding.the-variants.{End, Continuation, Refused}
 use Rattle.areas.specs.Areas.{Area}
-use Rattle.areas.proofs.TotalLaws.{total, total-append, area-total}
+use Rattle.areas.proofs.TotalLaws.{total-append, area-total}
 use Rattle.chains.specs.Chains.{areaIn, areaFrom, nextArea, continued, chain}
+use Rattle.areas.specs.Totals.{total}
+use Rattle.chains.specs.Totals.{sizeIn, Within, held}
 
 -- ---- a tree whose answers have at most a size, whatever it is given
-
-abbrev pub sizeIn : {A : Type 0} → (A → ℕ) → Outcome A → ℕ
-sizeIn size (answered a) = size a
-sizeIn size (refused r) = 0
-
-pub record Within {A : Type 0} (size : A → ℕ) (n : ℕ) (m : Ask A) : Type 0 where
-  pub most : (d : Disc) → sizeIn size (ran d m .outcome) ≤ n
 
 module _ {A : Type 0} (size : A → ℕ) (n : ℕ) where
   done-within : (a : A) → size a ≤ n → Within size n (done a)
@@ -58,9 +53,6 @@ module _ {A : Type 0} (size : A → ℕ) (n : ℕ) where
       by d (refused r) c g = omega arith
 
 -- ---- the chain
-
-abbrev held : Area → ℕ
-held x = total (x .extents)
 
 module _ (v : Mount) (kind : ℕ) where
   area-within : (size : ℕ) (s : List ℕ) (r : AedRead) → size ≤ 1048576 → Within held (2 ^ 47) (areaIn kind size s r)

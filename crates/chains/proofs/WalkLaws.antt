@@ -4,11 +4,7 @@ use mathlib.Core.List.{List, [], _∷_}
 use mathlib.Core.Option.{Option, none, some}
 use Prim.Native.Nat.{ℕ, zero, suc, _+_, _-_, _*_, _≤_, _<_, _^_}
 use native.Mathlib.Omega.{arith}
-use lib.ListN.{getD}
-use mir.Syntax.{w8}
-use mir.Val.{Fits}
 use borrow.Author.Tests.{eq-eqb, ne-eqb}
-use Rattle.disc.proofs.ByteLaws.{Bytes}
 use Rattle.disc.specs.Places.{placed, Stands}
 use Rattle.disc.specs.declared.places.Mount.{Mount}
 use Rattle.disc.specs.declared.places.Sector.{Sector}
@@ -28,6 +24,7 @@ use Rattle.chains.specs.declared.cursors.ChainCursor.{ChainCursor}
 use Rattle.chains.specs.declared.cursors.ChainStep.{ChainStep}
 use Rattle.chains.specs.declared.cursors.ChainStep.the-variants.{Takes, Hops, Ends}
 use Rattle.chains.specs.inner.Walks.{areaSize, beyond, left, weight, hopTo, hopping, stepped, stepOf}
+use Rattle.disc.specs.Parts.{Bytes}
 
 -- ---- the returns of `hop` and `advance`
 

@@ -5,11 +5,11 @@ use mathlib.Core.List.{List, [], _∷_}
 use Prim.Native.Nat.{ℕ, suc, _+_, _*_, _%_, _^_, _<_, _≤_}
 use native.Mathlib.Omega.{arith}
 use lib.Bits.{bitXor, xor-lt, xor-self, xor-shifted}
-use Rattle.disc.proofs.ByteLaws.{Bytes}
 use Rattle.disc.proofs.ImageLaws.{split}
 use Rattle.crcs.specs.Crcs.{oneBit, eightBits, oneByte, crcFrom}
 use Rattle.crcs.proofs.XorLaws.{xor-assoc, xor-equal, xor-left, xor-right}
 use Rattle.crcs.proofs.CrcLaws.{two, four, bit-clear, bit-set, bit-fits, bit-linear, eight-fits, eight-linear, eight-low, byte-fits}
+use Rattle.disc.specs.Parts.{Bytes}
 
 -- Two registers that a function takes to one are one.
 abbrev OneToOne : (ℕ → ℕ) → Type 0

@@ -4,10 +4,10 @@ use mathlib.Core.Path.{_≡_, refl, sym, _∙_}
 use mathlib.Core.List.{List, [], _∷_, _++_}
 use Prim.Native.Nat.{ℕ, _^_, _<_}
 use lib.Dec.{lit<}
-use Rattle.disc.proofs.ByteLaws.{Bytes}
 use Rattle.crcs.specs.Crcs.{oneBit, eightBits, oneByte, crcFrom, crcOf, remainder}
 use Rattle.crcs.proofs.CrcLaws.{byte-fits}
 use Rattle.crcs.proofs.ChangeLaws.{byte-taken, bytes-register, pair-taken}
+use Rattle.disc.specs.Parts.{Bytes}
 
 -- ---- the register
 

@@ -14,11 +14,7 @@ use borrow.Author.Tests.{eqb-true}
 use Rattle.crcs.specs.Crcs.{oneByte, remainder}
 use Rattle.crcs.specs.inner.Tables.{Remainders}
 use Rattle.crcs.proofs.CrcLaws.{byte-is}
-
--- Each entry is the remainder of its place, counted from i.
-abbrev pub remaindersFrom : ℕ → List ℕ → Bool
-remaindersFrom i [] = true
-remaindersFrom i (x ∷ t) = eqb x (remainder i) && remaindersFrom (suc i) t
+use Rattle.crcs.specs.Remainders.{remaindersFrom}
 
 both : (a b : Bool) → (a && b) ≡ true → (a ≡ true) × (b ≡ true)
 both true b e = (refl, e)

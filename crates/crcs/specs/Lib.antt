@@ -1,3 +1,4 @@
 -- What the contracts cite.
 pub mod Crcs
+pub mod Remainders
 pub mod inner

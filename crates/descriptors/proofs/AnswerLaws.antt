@@ -14,7 +14,7 @@ use Rattle.tags.specs.Tags.{readHead}
 use Rattle.tags.specs.declared.DescriptorTag.{DescriptorTag}
 use Rattle.tags.specs.declared.TagRead.{TagRead}
 use Rattle.tags.specs.declared.TagRead.the-variants.{Read as ATag, Refused as NoTag}
-use Rattle.tags.proofs.HeadLaws.{Passed, head-read, head-refused, gated-answered, gated-refused}
+use Rattle.tags.proofs.HeadLaws.{head-read, head-refused, gated-answered, gated-refused}
 use Rattle.names.specs.Names.{nameOfField}
 use Rattle.names.proofs.Promises.{field-refused}
 use Rattle.descriptors.specs.Volumes.{anchorOf, anchorAfter, readAnchor, labelled, primaryOf, primaryBehind, readPrimary, partitionOf, partitionAfter, readPartition, logicalOf, logicalBehind, readLogical}
@@ -28,14 +28,7 @@ use Rattle.descriptors.specs.declared.file_sets.FileSetDescriptor.{FileS
 use Rattle.descriptors.specs.declared.partitions.PartitionDescriptor.{PartitionDescriptor}
 use Rattle.descriptors.specs.declared.partitions.PartitionRead.{PartitionRead}
 use Rattle.descriptors.specs.declared.partitions.PartitionRead.the-variants.{Read as APartition, Refused as NoPartition}
-
-pub record GoodAnchor (check : Bool) (s : List ℕ) (a : AnchorVolumeDescriptorPointer) : Type 0 where
-  pub head : Passed check s 2 32 (a .tag)
-  pub is : a ≡ anchorOf s (a .tag)
-
-pub record GoodPartition (check : Bool) (s : List ℕ) (p : PartitionDescriptor) : Type 0 where
-  pub head : Passed check s 5 196 (p .tag)
-  pub is : p ≡ partitionOf s (p .tag)
+use Rattle.descriptors.specs.Accepted.{GoodAnchor, GoodPartition, GoodPrimary, GoodLogical, GoodFileSet}
 
 module _ (check : Bool) (s : List ℕ) where
   pub anchor-good : {x : AnchorRead} {a : AnchorVolumeDescriptorPointer} → x ≡ readAnchor check s → x ≡ AnAnchor a → GoodAnchor check s a
@@ -95,22 +88,6 @@ module _ (s : List ℕ) (t : DescriptorTag) {r : Refusal} where
   pub logical-behind-refused : logicalBehind s t ≡ refused r → r ≡ Malformed
   unfolding logicalBehind
   logical-behind-refused k = field-refused (take 128 (drop 84 s)) (labelled-bad (nameOfField (take 128 (drop 84 s))) (logicalOf s t) k)
-
-pub record GoodPrimary (check : Bool) (s : List ℕ) (d : PrimaryVolumeDescriptor) : Type 0 where
-  pub head : Passed check s 1 56 (d .tag)
-  pub is : d ≡ primaryOf s (d .tag)
-  pub name : List ℕ
-  pub named : nameOfField (d .«volume_identifier») ≡ answered name
-
-pub record GoodLogical (check : Bool) (s : List ℕ) (d : LogicalVolumeDescriptor) : Type 0 where
-  pub head : Passed check s 6 440 (d .tag)
-  pub is : d ≡ logicalOf s (d .tag)
-  pub name : List ℕ
-  pub named : nameOfField (d .«logical_volume_identifier») ≡ answered name
-
-pub record GoodFileSet (check : Bool) (s : List ℕ) (d : FileSetDescriptor) : Type 0 where
-  pub head : Passed check s 256 416 (d .tag)
-  pub is : d ≡ fileSetOf s (d .tag)
 
 module _ (check : Bool) (s : List ℕ) where
   pub primary-good : {d : PrimaryVolumeDescriptor} → readPrimary check s ≡ answered d → GoodPrimary check s d

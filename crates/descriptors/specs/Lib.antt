@@ -3,3 +3,4 @@ pub mod Volumes
 pub mod FileSets
 pub mod Answers
 pub mod Recognition
+pub mod Accepted

@@ -12,18 +12,19 @@ use Rattle.listings.specs.declared.matchings.Matching.{Matching}
 use Rattle.disc.specs.Ask.{Disc, Outcome, andThen}
 use Rattle.disc.specs.Ask.Outcome.{answered, refused}
 use Rattle.disc.specs.Ran.{Ran, ran, onward}
-use Rattle.disc.proofs.RanLaws.{ran-done}
+use Rattle.disc.proofs.RanLaws.{ran-done, ran-known}
 use Rattle.records.specs.declared.allocations.LongAd.{LongAd}
 use Rattle.identifiers.specs.Identifiers.{isDirectory}
 use Rattle.listings.specs.Entries.{Entry, entries}
 use Rattle.listings.specs.Listings.{foldIn, allNamed, chosen, findIn}
 use Rattle.listings.specs.Paths.{Component, components}
-use Rattle.listings.proofs.RecordLaws.{folded, same-all}
+use Rattle.listings.proofs.RecordLaws.{same-all}
 use Rattle.directories.specs.Directories.{directoryBytes}
 use Rattle.directories.specs.Lookups.{Sought, entering, seeking, seekPath, icbOf, lookupOf}
-use Rattle.directories.proofs.SpaceLaws.{ran-known}
 use Rattle.directories.proofs.LookupLaws.{look-is}
-use Rattle.directories.proofs.PathLaws.{walk, on, walk-is}
+use Rattle.directories.proofs.PathLaws.{on, walk-is}
+use Rattle.listings.specs.Matchings.{folded}
+use Rattle.directories.specs.Leads.{walk}
 
 same-entering : (d : Disc) (matching : Matching) (v : Mount) (work : ℕ) (icb : LongAd) (c c′ : Component) → folded (foldIn matching) c ≡ folded (foldIn matching) c′ → ran d (entering matching v work icb (c .bytes)) ≡ ran d (entering matching v work icb (c′ .bytes))
 unfolding entering findIn

@@ -14,9 +14,8 @@ use Rattle.disc.specs.Choice.{pick}
 use Rattle.disc.specs.Ask.{ended}
 use Rattle.disc.specs.Ask.Outcome.{answered, refused}
 use Rattle.disc.specs.declared.refusals.Refusal.the-variants.{NotBluray, NoWork}
-use Rattle.disc.proofs.MarkedLaws.{Guards, done-guards, refuse-guards, then-guards}
+use Rattle.disc.proofs.MarkedLaws.{done-guards, refuse-guards, then-guards}
 use Rattle.records.specs.declared.allocations.LongAd.{LongAd}
-use Rattle.tags.proofs.BodyLaws.{rightAt}
 use Rattle.identifiers.specs.Identifiers.{isDirectory}
 use Rattle.files.proofs.GuardLaws.{bytes-guards}
 use Rattle.listings.specs.Entries.{Entry}
@@ -26,6 +25,8 @@ use Rattle.listings.proofs.GuardLaws.{find-guards, listing-guards as listed-gua
 use Rattle.directories.specs.Directories.{within, directoryBytes, listingAt}
 use Rattle.directories.specs.Lookups.{Sought, entering, orLost, seeking, seekPath, icbOf, lookupOf, readPathOf}
 use Rattle.directories.specs.Lookups.Sought.{reached, lost}
+use Rattle.disc.specs.Marks.{Guards}
+use Rattle.tags.specs.Heads.{rightAt}
 
 module _ (m : Mount) (c : isChecked m ≡ true) (work : ℕ) where
   -- ---- a directory

@@ -14,11 +14,12 @@ use Rattle.disc.specs.Replies.{Replied}
 use Rattle.disc.specs.declared.refusals.Refusal.the-variants.{NoRoom}
 use Rattle.disc.specs.declared.replies.Reply.{Reply}
 use Rattle.disc.proofs.ReplyLaws.{recount}
+use Rattle.disc.proofs.RanLaws.{ran-known}
 use Rattle.records.specs.declared.allocations.LongAd.{LongAd}
 use Rattle.listings.specs.Listings.{listing}
 use Rattle.directories.specs.Directories.{directoryBytes, listingAt}
 use Rattle.directories.specs.inner.Spaces.{replyTo, Reads}
-use Rattle.directories.proofs.SpaceLaws.{ran-known, reads-count, reads-bytes}
+use Rattle.directories.proofs.SpaceLaws.{reads-count, reads-bytes}
 
 -- a read that was refused refuses what follows it
 refused-replied : (o : Outcome (List ℕ)) (n : ℕ) {reply : Reply} → reply ≡ replyTo o (reported n) → (reply .answer ≡ 0 → ⊥) → (f : List ℕ → Outcome (List ℕ)) (d : List ℕ)

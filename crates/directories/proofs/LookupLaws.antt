@@ -1,28 +1,25 @@
 -- What is asked of a path, by the walk's end. Assumes nothing.
 use mathlib.Core.Path.{_≡_, refl, sym, ap, _∙_}
-use mathlib.Core.Bool.{Bool, true, false}
+use mathlib.Core.Bool.{true, false}
 use mathlib.Core.List.{List}
 use Prim.Native.Nat.{ℕ, _+_, _-_, _≤_, _<_, _^_}
 use native.Mathlib.Omega.{arith}
 use lib.ListN.{length, take, drop, length-drop}
 use lib.Seq.{length-take-le}
-use lib.Dec.{leb}
 use mir.Syntax.{w64}
 use mir.Val.{Fits}
 use Rattle.disc.specs.declared.places.Mount.{Mount}
 use Rattle.listings.specs.declared.matchings.Matching.{Matching}
-use Rattle.disc.specs.Choice.{pick}
-use Rattle.disc.specs.Refusals.{number}
 use Rattle.disc.specs.Counts.{reported}
 use Rattle.disc.specs.Ask.{Disc, Outcome, andThen}
 use Rattle.disc.specs.Ask.Outcome.{answered, refused}
 use Rattle.disc.specs.Ran.{Ran, ran, after, onward, followed}
-use Rattle.disc.specs.Replies.{replyBy, Replied}
+use Rattle.disc.specs.Replies.{Replied}
 use Rattle.disc.specs.declared.refusals.Refusal.the-variants.{NoRoom}
 use Rattle.disc.specs.declared.replies.Reply.{Reply}
 use Rattle.disc.proofs.PartLaws.{part-slice}
 use Rattle.disc.proofs.CountLaws.{reported-sum}
-use Rattle.disc.proofs.RanLaws.{ran-then}
+use Rattle.disc.proofs.RanLaws.{ran-then, ran-known}
 use Rattle.disc.proofs.RefusalLaws.{refusal-numbered}
 use Rattle.disc.proofs.ReplyLaws.{reply-refused, reply-counts, recount}
 use Rattle.records.specs.declared.allocations.LongAd.{LongAd}
@@ -33,7 +30,6 @@ use Rattle.directories.specs.inner.Walks.{Walks}
 use Rattle.directories.specs.declared.lookups.Found.{Found}
 use Rattle.directories.specs.declared.walks.PathPlace.{PathPlace}
 use Rattle.directories.proofs.PlaceLaws.{failed-stands}
-use Rattle.directories.proofs.SpaceLaws.{ran-known}
 
 -- ---- a lookup, and the component that failed
 

@@ -1,7 +1,7 @@
 -- How the choices of matching agree along a path, what the second tells apart, and at which component the third is refused. Assumes nothing.
 use mathlib.Core.Path.{_≡_, refl, sym, ap, _∙_}
 use mathlib.Core.Bool.{Bool, true, false}
-use mathlib.Core.List.{List, [], _∷_, _++_}
+use mathlib.Core.List.{List, [], _∷_}
 use mathlib.Core.Logic.{_⊎_, inl, inr}
 use mathlib.Core.Option.{Option, none, some}
 use Prim.Native.Nat.{ℕ, _+_}
@@ -14,23 +14,23 @@ use Rattle.disc.specs.Ask.Outcome.{answered, refused}
 use Rattle.disc.specs.Ran.{Ran, ran, after, onward}
 use Rattle.disc.specs.declared.refusals.Refusal.{Refusal}
 use Rattle.disc.specs.declared.refusals.Refusal.the-variants.{Ambiguous}
-use Rattle.disc.proofs.RanLaws.{ran-done, never}
+use Rattle.disc.proofs.RanLaws.{ran-done, never, ran-known}
 use Rattle.records.specs.declared.allocations.LongAd.{LongAd}
 use Rattle.identifiers.specs.Identifiers.{isDirectory}
 use Rattle.names.specs.Names.{lower, asIs}
 use Rattle.listings.specs.Entries.{Entry, entries}
-use Rattle.listings.specs.Listings.{foldIn, allNamed, chosen, firstNamed, findIn}
+use Rattle.listings.specs.Listings.{allNamed, chosen, findIn}
 use Rattle.listings.specs.Paths.{Component}
 use Rattle.listings.specs.declared.matchings.Matching.{Matching}
 use Rattle.listings.specs.declared.matchings.Matching.the-variants.{CaseIgnored, AsWritten, Unambiguous}
 use Rattle.listings.proofs.Promises.{entries-refused}
 use Rattle.listings.proofs.RecordLaws.{found-answers}
-use Rattle.listings.proofs.MatchingLaws.{chosen-refused, Several, refused-several, several-refused, only-first, told-apart, written-agrees, Apart, apart-agree, apart-written}
+use Rattle.listings.proofs.MatchingLaws.{chosen-refused, refused-several, several-refused, only-first, told-apart, written-agrees, apart-agree, apart-written}
 use Rattle.directories.specs.Directories.{directoryBytes}
-use Rattle.directories.specs.Lookups.{Sought, entering, orLost, seeking}
-use Rattle.directories.specs.Lookups.Sought.{reached, lost}
-use Rattle.directories.proofs.SpaceLaws.{ran-known}
-use Rattle.directories.proofs.PathLaws.{Takes, Leads, entering-is, takes-enters, enters-takes, takes-first, walk, on, walk-is, leads-on}
+use Rattle.directories.specs.Lookups.{Sought, entering, seeking}
+use Rattle.directories.specs.Lookups.Sought.{reached}
+use Rattle.directories.proofs.PathLaws.{entering-is, takes-enters, enters-takes, takes-first, on, walk-is, leads-on}
+use Rattle.directories.specs.Leads.{Takes, Leads, walk, ApartOn, IsLost, Doubles}
 
 -- go on alike after the same
 onward-same : (o : Outcome (Option Entry)) (n : ℕ) (f g : Option Entry → Ran Sought) → ((x : Option Entry) → o ≡ answered x → f x ≡ g x) → onward o n f ≡ onward o n g
@@ -163,19 +163,6 @@ module _ (d : Disc) (v : Mount) (work : ℕ) where
 
 -- ---- where no two names are equal with case ignored
 
--- no two listed names of the directories on the way are: those in which a component is to be found, and to which the first choice leads
-unfoldable pub ApartOn : Disc → Mount → ℕ → List Component → LongAd → Bool → Type 0
-ApartOn d v work [] icb directory = Unit {0}
-ApartOn d v work (c ∷ cs) icb false = Unit {0}
-ApartOn d v work (c ∷ cs) icb true =
-    (b : List ℕ) (es : List Entry) → ran d (directoryBytes v work icb) .outcome ≡ answered b → entries (isChecked v) b ≡ answered es
-    → Apart es × ((e : Entry) → firstNamed lower (c .bytes) es ≡ some e → ApartOn d v work cs (e .identifier .icb) (isDirectory (e .identifier)))
-
--- a walk that was lost at a component, which is refused by 3
-pub record IsLost (r : Ran Sought) : Type 0 where
-  pub component : Component
-  pub is : r .outcome ≡ answered (lost component)
-
 module _ (d : Disc) (v : Mount) (work : ℕ) where
   apart-one : (c : Component) (cs : List Component) (icb : LongAd) → ApartOn d v work (c ∷ cs) icb true
       → ran d (entering Unambiguous v work icb (c .bytes)) ≡ ran d (entering CaseIgnored v work icb (c .bytes))
@@ -271,20 +258,6 @@ module _ (d : Disc) (v : Mount) (work : ℕ) where
       by (answered (some e)) q ih = behind e q (ih e (written-case c cs icb a (enters-takes d AsWritten v work icb (c .bytes) q)))
 
 -- ---- at which component of a path several entries match
-
--- a directory that a part of the components leads to, and in which several entries match the next
-pub record Doubles (d : Disc) (v : Mount) (work : ℕ) (cs : List Component) (from : LongAd) : Type 0 where
-  pub before : List Component
-  pub next : Component
-  pub others : List Component
-  pub parts : cs ≡ before ++ next ∷ others
-  pub directory : LongAd
-  pub led : Leads d Unambiguous v work before from directory
-  pub bytes : List ℕ
-  pub read : ran d (directoryBytes v work directory) .outcome ≡ answered bytes
-  pub all : List Entry
-  pub parsed : entries (isChecked v) bytes ≡ answered all
-  pub several : Several (allNamed lower (next .bytes) all)
 
 module _ (d : Disc) (v : Mount) (work : ℕ) where
   -- the first such directory on the way refuses the walk, after the sectors of its read

@@ -1,9 +1,9 @@
 -- At which component of a path the work space is too small. Assumes nothing.
 use mathlib.Core.Path.{_≡_, refl, sym, ap, _∙_}
 use mathlib.Core.Bool.{Bool, true, false}
-use mathlib.Core.List.{List, [], _∷_, _++_}
+use mathlib.Core.List.{List, [], _∷_}
 use mathlib.Core.Option.{Option, none, some}
-use Prim.Native.Nat.{ℕ, _+_, _<_}
+use Prim.Native.Nat.{ℕ, _+_}
 use native.Mathlib.Omega.{arith}
 use lib.ListN.{length}
 use lib.Dec.{leb}
@@ -17,7 +17,7 @@ use Rattle.disc.specs.Ask.{Disc, Outcome, andThen}
 use Rattle.disc.specs.Ask.Outcome.{answered, refused}
 use Rattle.disc.specs.Ran.{Ran, ran, after, onward}
 use Rattle.disc.specs.declared.refusals.Refusal.the-variants.{NoWork}
-use Rattle.disc.proofs.RanLaws.{ran-done, never}
+use Rattle.disc.proofs.RanLaws.{ran-done, never, ran-known}
 use Rattle.records.specs.declared.allocations.LongAd.{LongAd}
 use Rattle.identifiers.specs.Identifiers.{isDirectory}
 use Rattle.files.specs.Files.{fileBytes}
@@ -28,21 +28,9 @@ use Rattle.listings.proofs.Promises.{entries-refused}
 use Rattle.listings.proofs.MatchingLaws.{chosen-refused}
 use Rattle.directories.specs.Directories.{within, directoryBytes}
 use Rattle.directories.specs.Lookups.{Sought, entering, seeking}
-use Rattle.directories.proofs.SpaceLaws.{ran-known}
 use Rattle.directories.proofs.Promises.{no-work}
-use Rattle.directories.proofs.PathLaws.{Leads, entering-is, enters-takes, walk, on, walk-is, leads-on}
-
--- a directory that a part of the components leads to, and in which the next is to be found, reads as more bytes than the work space has
-pub record Overflows (d : Disc) (matching : Matching) (v : Mount) (work : ℕ) (cs : List Component) (from : LongAd) : Type 0 where
-  pub before : List Component
-  pub next : Component
-  pub others : List Component
-  pub parts : cs ≡ before ++ next ∷ others
-  pub directory : LongAd
-  pub led : Leads d matching v work before from directory
-  pub bytes : List ℕ
-  pub read : ran d (fileBytes v directory) .outcome ≡ answered bytes
-  pub exceeds : work < length bytes
+use Rattle.directories.proofs.PathLaws.{entering-is, enters-takes, on, walk-is, leads-on}
+use Rattle.directories.specs.Leads.{Leads, walk, Overflows}
 
 module _ (d : Disc) (matching : Matching) (v : Mount) (work : ℕ) where
   -- the first directory on the way that exceeds it refuses the walk, after the sectors of its read

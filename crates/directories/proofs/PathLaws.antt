@@ -12,61 +12,27 @@ use Rattle.listings.specs.declared.matchings.Matching.{Matching}
 use Rattle.disc.specs.Ask.{Disc, Outcome, andThen}
 use Rattle.disc.specs.Ask.Outcome.{answered, refused}
 use Rattle.disc.specs.Ran.{Ran, ran, after, onward}
-use Rattle.disc.proofs.RanLaws.{ran-done, ran-then, never}
+use Rattle.disc.proofs.RanLaws.{ran-done, ran-then, never, ran-known}
 use Rattle.records.specs.declared.allocations.LongAd.{LongAd}
 use Rattle.identifiers.specs.Identifiers.{isDirectory}
 use Rattle.listings.specs.Entries.{Entry, entries}
 use Rattle.listings.specs.Listings.{foldIn, answersTo, allNamed, chosen, firstNamed, findIn}
 use Rattle.listings.specs.Paths.{Component}
-use Rattle.listings.proofs.Promises.{NoneAnswers, first-wins}
-use Rattle.listings.proofs.MatchingLaws.{takesFirst, chosen-first, chosen-is-first, only-wins}
+use Rattle.listings.proofs.Promises.{first-wins}
+use Rattle.listings.proofs.MatchingLaws.{chosen-first, chosen-is-first, only-wins}
 use Rattle.directories.specs.Directories.{directoryBytes}
 use Rattle.directories.specs.Lookups.{Sought, entering, orLost, seeking}
 use Rattle.directories.specs.Lookups.Sought.{reached, lost}
-use Rattle.directories.proofs.SpaceLaws.{ran-known}
+use Rattle.listings.specs.Matchings.{NoneAnswers, takesFirst}
+use Rattle.directories.specs.Leads.{Takes, Leads, Led, lastIn, walk}
 
 -- ---- the words
-
--- e is what a name takes in the directory at icb: the directory is read into the work space, all of its entries are parsed, and e is what the choice
--- of matching takes of those that answer to the name
-pub record Takes (d : Disc) (matching : Matching) (v : Mount) (work : ℕ) (icb : LongAd) (name : List ℕ) (e : Entry) : Type 0 where
-  pub bytes : List ℕ
-  pub read : ran d (directoryBytes v work icb) .outcome ≡ answered bytes
-  pub all : List Entry
-  pub parsed : entries (isChecked v) bytes ≡ answered all
-  pub takes : chosen matching (allNamed (foldIn matching) name all) ≡ answered (some e)
-
--- what it takes is a directory, with whose ICB the next goes on
-pub record Enters (d : Disc) (matching : Matching) (v : Mount) (work : ℕ) (icb : LongAd) (name : List ℕ) (next : LongAd → Type 0) : Type 0 where
-  pub entry : Entry
-  pub takes : Takes d matching v work icb name entry
-  pub directory : isDirectory (entry .identifier) ≡ true
-  pub on : next (entry .identifier .icb)
-
--- components lead from the directory at one ICB to that at another, from directory to directory
-unfoldable pub Leads : Disc → Matching → Mount → ℕ → List Component → LongAd → LongAd → Type 0
-Leads d matching v work [] from to = from ≡ to
-Leads d matching v work (c ∷ cs) from to = Enters d matching v work from (c .bytes) (λ icb. Leads d matching v work cs icb to)
-
--- the components of cs lead to a directory
-pub record Led (d : Disc) (matching : Matching) (v : Mount) (work : ℕ) (cs : List Component) (from : LongAd) : Type 0 where
-  pub to : LongAd
-  pub leads : Leads d matching v work cs from to
 
 -- a name takes an entry whose ICB is i
 pub record TakesIcb (d : Disc) (matching : Matching) (v : Mount) (work : ℕ) (icb : LongAd) (name : List ℕ) (i : LongAd) : Type 0 where
   pub taken : Entry
   pub takes : Takes d matching v work icb name taken
   pub is : i ≡ taken .identifier .icb
-
--- where a walk ends that comes with its last component to an entry, or to none
-abbrev pub lastOf : Component → Option Entry → Sought
-lastOf c none = lost c
-lastOf c (some e) = reached (e .identifier .icb)
-
-abbrev pub lastIn : Component → Outcome (Option Entry) → Outcome Sought
-lastIn c (answered o) = answered (lastOf c o)
-lastIn c (refused why) = refused why
 
 -- ---- one component
 
@@ -120,31 +86,27 @@ module _ (d : Disc) (matching : Matching) (v : Mount) (work : ℕ) (icb : LongAd
 -- ---- one component and those behind it
 
 module _ (d : Disc) (matching : Matching) (v : Mount) (work : ℕ) where
-  -- the walk of components, and what follows once the first of them is found, or isn't
-  abbrev pub walk : List Component → LongAd → Bool → Ran Sought
-  walk cs icb directory = ran d (seeking matching v work cs icb directory)
-
   abbrev pub on : Component → List Component → Option Entry → Ran Sought
   on c cs o = ran d (orLost c o (λ e. seeking matching v work cs (e .identifier .icb) (isDirectory (e .identifier))))
 
   pub walk-is : (c : Component) (cs : List Component) (icb : LongAd)
-      → walk (c ∷ cs) icb true ≡ onward (ran d (entering matching v work icb (c .bytes)) .outcome) (ran d (entering matching v work icb (c .bytes)) .count) (on c cs)
+      → (walk d matching v work) (c ∷ cs) icb true ≡ onward (ran d (entering matching v work icb (c .bytes)) .outcome) (ran d (entering matching v work icb (c .bytes)) .count) (on c cs)
   unfolding seeking
   walk-is c cs icb = ran-then d (entering matching v work icb (c .bytes)) (λ o. orLost c o (λ e. seeking matching v work cs (e .identifier .icb) (isDirectory (e .identifier))))
 
   -- it goes on with what the first takes
   pub seek-takes : (c : Component) (cs : List Component) (icb : LongAd) {e : Entry} → Takes d matching v work icb (c .bytes) e
-      → walk (c ∷ cs) icb true ≡ after (ran d (directoryBytes v work icb) .count) (walk cs (e .identifier .icb) (isDirectory (e .identifier)))
+      → (walk d matching v work) (c ∷ cs) icb true ≡ after (ran d (directoryBytes v work icb) .count) ((walk d matching v work) cs (e .identifier .icb) (isDirectory (e .identifier)))
   seek-takes c cs icb t = walk-is c cs icb ∙ rw (takes-enters d matching v work icb (c .bytes) t)
 
   -- the first entry of its name wins, whatever stands behind it, under the choices that take it
   pub seek-first : takesFirst matching ≡ true → (icb : LongAd) (c : Component) {b : List ℕ} → ran d (directoryBytes v work icb) .outcome ≡ answered b
       → (before : List Entry) (e : Entry) (rest : List Entry) → entries (isChecked v) b ≡ answered (before ++ e ∷ rest) → NoneAnswers (foldIn matching) (c .bytes) before → answersTo (foldIn matching) (c .bytes) e ≡ true
-      → (cs : List Component) → walk (c ∷ cs) icb true ≡ after (ran d (directoryBytes v work icb) .count) (walk cs (e .identifier .icb) (isDirectory (e .identifier)))
+      → (cs : List Component) → (walk d matching v work) (c ∷ cs) icb true ≡ after (ran d (directoryBytes v work icb) .count) ((walk d matching v work) cs (e .identifier .icb) (isDirectory (e .identifier)))
   seek-first f icb c r before e rest k n h cs = seek-takes c cs icb (first-takes d matching v work icb (c .bytes) f r before e rest k n h)
 
   -- a component under a file is not reached
-  under : (cs : List Component) (c : Component) (others : List Component) (icb : LongAd) {x : Sought} {A : Type 0} → walk (cs ++ c ∷ others) icb false .outcome ≡ answered x
+  under : (cs : List Component) (c : Component) (others : List Component) (icb : LongAd) {x : Sought} {A : Type 0} → (walk d matching v work) (cs ++ c ∷ others) icb false .outcome ≡ answered x
       → ((y : Component) → x ≡ lost y → A) → A
   unfolding seeking
   under [] c others icb h f = f c (let z = rw ran-done at h in cc)
@@ -153,7 +115,7 @@ module _ (d : Disc) (matching : Matching) (v : Mount) (work : ℕ) where
   -- ---- where components lead
 
   -- the walk goes on behind them, counts added
-  pub leads-on : (cs more : List Component) (from to : LongAd) → Leads d matching v work cs from to → walk (cs ++ more) from true ≡ after (walk cs from true .count) (walk more to true)
+  pub leads-on : (cs more : List Component) (from to : LongAd) → Leads d matching v work cs from to → (walk d matching v work) (cs ++ more) from true ≡ after ((walk d matching v work) cs from true .count) ((walk d matching v work) more to true)
   unfolding Leads seeking
   leads-on [] more from to l = rw (l, ran-done, zero-add)
   leads-on (c ∷ cs) more from to l =
@@ -162,13 +124,13 @@ module _ (d : Disc) (matching : Matching) (v : Mount) (work : ℕ) where
       ∙ rw (l .directory, leads-on cs more i to (l .on), seek-takes c cs from (l .takes), l .directory, add-assoc)
 
   -- and they themselves reach that directory
-  pub leads-reached : (cs : List Component) (from to : LongAd) → Leads d matching v work cs from to → walk cs from true .outcome ≡ answered (reached to)
+  pub leads-reached : (cs : List Component) (from to : LongAd) → Leads d matching v work cs from to → (walk d matching v work) cs from true .outcome ≡ answered (reached to)
   unfolding Leads seeking
   leads-reached [] from to l = rw (l, ran-done)
   leads-reached (c ∷ cs) from to l = rw (seek-takes c cs from (l .takes), l .directory) (leads-reached cs (l .entry .identifier .icb) to (l .on))
 
   -- what stands behind a component that is reached stands in a directory
-  pub reached-led : (cs : List Component) (c : Component) (others : List Component) (from : LongAd) {i : LongAd} → walk (cs ++ c ∷ others) from true .outcome ≡ answered (reached i)
+  pub reached-led : (cs : List Component) (c : Component) (others : List Component) (from : LongAd) {i : LongAd} → (walk d matching v work) (cs ++ c ∷ others) from true .outcome ≡ answered (reached i)
       → Led d matching v work cs from
   unfolding Leads
   reached-led [] c others from h = record { to = from; leads = refl }
@@ -176,14 +138,14 @@ module _ (d : Disc) (matching : Matching) (v : Mount) (work : ℕ) where
       by (ran d (entering matching v work from (x .bytes)) .outcome) (ran d (entering matching v work from (x .bytes)) .count) refl (λ icb k. reached-led cs c others icb k)
       (sym (ap (λ (r : Ran Sought). r .outcome) (walk-is x (cs ++ c ∷ others) from)) ∙ h)
     where
-      into : (e : Entry) → ran d (entering matching v work from (x .bytes)) .outcome ≡ answered (some e) → ((icb : LongAd) → walk (cs ++ c ∷ others) icb true .outcome ≡ answered (reached i) → Led d matching v work cs icb)
-          → (t : Bool) → isDirectory (e .identifier) ≡ t → walk (cs ++ c ∷ others) (e .identifier .icb) t .outcome ≡ answered (reached i) → Led d matching v work (x ∷ cs) from
+      into : (e : Entry) → ran d (entering matching v work from (x .bytes)) .outcome ≡ answered (some e) → ((icb : LongAd) → (walk d matching v work) (cs ++ c ∷ others) icb true .outcome ≡ answered (reached i) → Led d matching v work cs icb)
+          → (t : Bool) → isDirectory (e .identifier) ≡ t → (walk d matching v work) (cs ++ c ∷ others) (e .identifier .icb) t .outcome ≡ answered (reached i) → Led d matching v work (x ∷ cs) from
       into e q ih true t k =
           let l = ih (e .identifier .icb) k in
           record { to = l .to; leads = record { entry = e; takes = enters-takes d matching v work from (x .bytes) q; directory = t; on = l .leads } }
       into e q ih false t k = under cs c others (e .identifier .icb) k (λ y z. absurd (let w : _≡_ {A = ℕ} 0 1 = cc in omega arith))
 
-      by : (o : Outcome (Option Entry)) (n : ℕ) → ran d (entering matching v work from (x .bytes)) .outcome ≡ o → ((icb : LongAd) → walk (cs ++ c ∷ others) icb true .outcome ≡ answered (reached i) → Led d matching v work cs icb)
+      by : (o : Outcome (Option Entry)) (n : ℕ) → ran d (entering matching v work from (x .bytes)) .outcome ≡ o → ((icb : LongAd) → (walk d matching v work) (cs ++ c ∷ others) icb true .outcome ≡ answered (reached i) → Led d matching v work cs icb)
           → onward o n (on x (cs ++ c ∷ others)) .outcome ≡ answered (reached i) → Led d matching v work (x ∷ cs) from
       by (refused why) n q ih k = never k
       by (answered none) n q ih k = absurd (let z = rw ran-done at k in let w : _≡_ {A = ℕ} 0 1 = cc in omega arith)
@@ -194,11 +156,11 @@ module _ (d : Disc) (matching : Matching) (v : Mount) (work : ℕ) where
   -- the walk comes to what the choice takes of the entries of its name in the directory that the others lead to, or it is lost there, or refused
   pub last-sought : (cs : List Component) (c : Component) (from to : LongAd) → Leads d matching v work cs from to
       → {b : List ℕ} → ran d (directoryBytes v work to) .outcome ≡ answered b → {es : List Entry} → entries (isChecked v) b ≡ answered es
-      → walk (cs ++ c ∷ []) from true ≡ record { outcome = lastIn c (chosen matching (allNamed (foldIn matching) (c .bytes) es)); count = walk cs from true .count + ran d (directoryBytes v work to) .count }
+      → (walk d matching v work) (cs ++ c ∷ []) from true ≡ record { outcome = lastIn c (chosen matching (allNamed (foldIn matching) (c .bytes) es)); count = (walk d matching v work) cs from true .count + ran d (directoryBytes v work to) .count }
   unfolding entering findIn seeking
   last-sought cs c from to l {b} r {es} p =
       leads-on cs (c ∷ []) from to l
-      ∙ ap (after (walk cs from true .count))
+      ∙ ap (after ((walk d matching v work) cs from true .count))
       (walk-is c [] to ∙ rw (ran-known d (directoryBytes v work to) (findIn (isChecked v) matching (c .bytes)), r, p) (by (chosen matching (allNamed (foldIn matching) (c .bytes) es)) (ran d (directoryBytes v work to) .count)))
     where
       by : (o : Outcome (Option Entry)) (n : ℕ) → onward o n (on c []) ≡ record { outcome = lastIn c o; count = n }
@@ -207,7 +169,7 @@ module _ (d : Disc) (matching : Matching) (v : Mount) (work : ℕ) where
       by (refused why) n = refl
 
   -- one that was reached was taken there
-  pub last-taken : (c : Component) (icb : LongAd) {i : LongAd} → walk (c ∷ []) icb true .outcome ≡ answered (reached i) → TakesIcb d matching v work icb (c .bytes) i
+  pub last-taken : (c : Component) (icb : LongAd) {i : LongAd} → (walk d matching v work) (c ∷ []) icb true .outcome ≡ answered (reached i) → TakesIcb d matching v work icb (c .bytes) i
   unfolding seeking
   last-taken c icb {i} h =
       by (ran d (entering matching v work icb (c .bytes)) .outcome) (ran d (entering matching v work icb (c .bytes)) .count) refl

@@ -13,8 +13,8 @@ use Rattle.disc.proofs.PartLaws.{part-none}
 use Rattle.records.specs.declared.allocations.LongAd.{LongAd}
 use Rattle.identifiers.specs.Identifiers.{isDirectory}
 use Rattle.listings.specs.Entries.{Entry}
-use Rattle.listings.specs.Paths.{Component, components}
-use Rattle.listings.proofs.PathLaws.{InPath, AllInPath, components-stand}
+use Rattle.listings.specs.Paths.{Component, components, InPath}
+use Rattle.listings.proofs.PathLaws.{AllInPath, components-stand}
 use Rattle.directories.specs.Lookups.{Sought, entering, orLost, seeking, seekPath, lostOf, failedOf}
 use Rattle.directories.specs.Lookups.Sought.{reached, lost}
 

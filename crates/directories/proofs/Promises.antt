@@ -2,7 +2,7 @@
 -- the ends of a path come to; that a directory's bytes are bytes. Assumes nothing.
 use mathlib.Core.Path.{_≡_, refl, ap, sym, _∙_}
 use mathlib.Core.Bool.{Bool, true, false}
-use mathlib.Core.List.{List, [], _∷_, _++_, append-nil}
+use mathlib.Core.List.{List, [], _∷_, _++_}
 use mathlib.Core.Option.{some}
 use Prim.Native.Nat.{ℕ, _<_}
 use lib.ListN.{length}
@@ -12,41 +12,26 @@ use Rattle.disc.specs.declared.places.Mount.{Mount}
 use Rattle.disc.specs.Places.{isChecked}
 use Rattle.listings.specs.declared.matchings.Matching.{Matching}
 use Rattle.disc.specs.Choice.{pick}
-use Rattle.disc.specs.Ask.{Disc, Ask, Outcome, outcome, asked, then, ended, andThen}
+use Rattle.disc.specs.Ask.{Disc, Outcome, outcome, asked, andThen}
 use Rattle.disc.specs.Ask.Outcome.{answered, refused}
 use Rattle.disc.specs.Images.{disc}
 use Rattle.disc.specs.Ran.{Ran, ran}
 use Rattle.disc.specs.declared.refusals.Refusal.the-variants.{NoWork}
-use Rattle.disc.proofs.AskLaws.{asked-then, askedBehind}
-use Rattle.disc.proofs.ByteLaws.{Bytes}
-use Rattle.disc.proofs.RanLaws.{ran-done, never}
+use Rattle.disc.proofs.AskLaws.{asked-known}
+use Rattle.disc.proofs.RanLaws.{ran-done, never, ran-known}
 use Rattle.records.specs.declared.allocations.LongAd.{LongAd}
 use Rattle.files.specs.Files.{fileBytes}
 use Rattle.files.proofs.ContentLaws.{content-bytes}
 use Rattle.listings.specs.Entries.{Entry, entries}
 use Rattle.listings.specs.Listings.{foldIn, answersTo, findIn}
 use Rattle.listings.specs.Paths.{Component, front, behind, componentsFrom, components}
-use Rattle.listings.proofs.Promises.{NoneAnswers, first-wins}
-use Rattle.listings.proofs.MatchingLaws.{takesFirst, chosen-first}
+use Rattle.listings.proofs.Promises.{first-wins}
+use Rattle.listings.proofs.MatchingLaws.{chosen-first}
 use Rattle.directories.specs.Directories.{within, directoryBytes}
 use Rattle.directories.specs.Lookups.{entering, seeking, seekPath, icbOf, lookupOf}
 use Rattle.directories.specs.Lookups.Sought.{reached, lost}
-use Rattle.directories.proofs.SpaceLaws.{ran-known}
-
--- ---- what is known without a question
-
-asked-ended : {A : Type 0} (d : Disc) (o : Outcome A) → asked d (ended o) ≡ []
-unfolding asked
-asked-ended d (answered a) = refl
-asked-ended d (refused r) = refl
-
--- what follows without a question asks for nothing more
-asked-known : {A B : Type 0} (d : Disc) (m : Ask A) (f : A → Outcome B) → asked d (then m (λ a. ended (f a))) ≡ asked d m
-asked-known {A} {B} d m f = asked-then d m (λ a. ended (f a)) ∙ ap (λ l. asked d m ++ l) (by (outcome d m)) ∙ append-nil (asked d m)
-  where
-    by : (o : Outcome A) → askedBehind d o (λ a. ended (f a)) ≡ []
-    by (answered a) = asked-ended d (f a)
-    by (refused r) = refl
+use Rattle.disc.specs.Parts.{Bytes}
+use Rattle.listings.specs.Matchings.{NoneAnswers, takesFirst}
 
 -- the call for the component that failed asks for the lookup's sectors
 pub failed-asks : (d : Disc) (matching : Matching) (v : Mount) (work : ℕ) (root : LongAd) (path : List ℕ) → asked d (lookupOf matching v work root path) ≡ asked d (seekPath matching v work root path)

@@ -3,7 +3,7 @@ use mathlib.Core.Path.{_≡_}
 use mathlib.Core.Bool.{Bool, true, false}
 use mathlib.Core.List.{List, [], _∷_}
 use mathlib.Core.Option.{Option, none, some}
-use Prim.Native.Nat.{ℕ, _-_}
+use Prim.Native.Nat.{ℕ}
 use lib.ListN.{length}
 use lib.Dec.{leb}
 use Rattle.disc.specs.declared.places.Mount.{Mount}
@@ -13,7 +13,7 @@ use Rattle.disc.specs.Ask.{Ask, ended}
 use Rattle.disc.specs.Ask.Outcome.{answered, refused}
 use Rattle.disc.specs.declared.refusals.Refusal.{Refusal}
 use Rattle.disc.specs.declared.refusals.Refusal.the-variants.{Malformed, NotBluray, Unsupported, NoWork, Ambiguous, BadCrc}
-use Rattle.disc.proofs.OnlyLaws.{Refuses, done-only, refuse-only, then-only, Any}
+use Rattle.disc.proofs.OnlyLaws.{done-only, refuse-only, then-only}
 use Rattle.records.specs.declared.allocations.LongAd.{LongAd}
 use Rattle.listings.specs.Entries.{Entry}
 use Rattle.listings.specs.declared.matchings.Matching.{Matching}
@@ -25,6 +25,7 @@ use Rattle.directories.specs.Lookups.{Sought, entering, orLost, seeking,
 use Rattle.directories.specs.Lookups.Sought.{reached, lost}
 use Rattle.files.proofs.RefusingLaws.{bytes-only}
 use Rattle.listings.proofs.RefusingLaws.{listed-only, named-only}
+use Rattle.disc.specs.Refusing.{Refuses, Any}
 
 -- ---- directories, for any P that has 2, 4 and 6, and 10 where bodies are checked
 

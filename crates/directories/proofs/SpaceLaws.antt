@@ -3,7 +3,7 @@ use mathlib.Core.Path.{_≡_, refl, sym, ap, _∙_}
 use mathlib.Core.Bool.{Bool, true, false}
 use mathlib.Core.List.{List, _++_}
 use Prim.Native.Nat.{ℕ, _-_, _≤_, zero-le}
-use native.Mathlib.Nat.{add-zero, sub-zero}
+use native.Mathlib.Nat.{sub-zero}
 use native.Mathlib.Omega.{arith}
 use lib.ListN.{length, take, drop, length-append}
 use lib.Seq.{take-append-seam}
@@ -12,29 +12,18 @@ use Rattle.disc.specs.declared.places.Mount.{Mount}
 use Rattle.disc.specs.Choice.{pick}
 use Rattle.disc.specs.Refusals.{number}
 use Rattle.disc.specs.Counts.{reported}
-use Rattle.disc.specs.Ask.{Disc, Ask, Outcome, outcome, asked, then, ended, andThen}
+use Rattle.disc.specs.Ask.{Disc, Outcome, outcome, andThen}
 use Rattle.disc.specs.Ask.Outcome.{answered, refused}
-use Rattle.disc.specs.Ran.{Ran, ran, onward}
+use Rattle.disc.specs.Ran.{Ran, ran}
 use Rattle.disc.specs.Replies.{replyBy, leftBy, Replied}
 use Rattle.disc.specs.declared.refusals.Refusal.the-variants.{NoWork}
 use Rattle.disc.specs.declared.replies.Reply.{Reply}
-use Rattle.disc.proofs.RanLaws.{ran-then, ran-ended}
+use Rattle.disc.proofs.RanLaws.{ran-known}
 use Rattle.disc.proofs.RefusalLaws.{refusal-numbered}
 use Rattle.records.specs.declared.allocations.LongAd.{LongAd}
 use Rattle.files.specs.Files.{fileBytes}
 use Rattle.directories.specs.Directories.{within, directoryBytes}
 use Rattle.directories.specs.inner.Spaces.{replyTo, onFront, Reads}
-
--- ---- what follows without a question
-
--- it asks for nothing more
-pub ran-known : {A B : Type 0} (d : Disc) (m : Ask A) (f : A → Outcome B)
-    → ran d (then m (λ a. ended (f a))) ≡ record { outcome = andThen (ran d m .outcome) f; count = ran d m .count }
-ran-known {A} {B} d m f = ran-then d m (λ a. ended (f a)) ∙ by (ran d m .outcome) (ran d m .count)
-  where
-    by : (o : Outcome A) (n : ℕ) → onward o n (λ a. ran d (ended (f a))) ≡ record { outcome = andThen o f; count = n }
-    by (answered a) n = rw (ran-ended d (f a), add-zero)
-    by (refused r) n = refl
 
 -- ---- a directory read
 

@@ -19,7 +19,7 @@ use Rattle.disc.specs.Ask.Outcome.{answered, refused}
 use Rattle.disc.specs.Ran.{Ran, ran, after, onward, followed}
 use Rattle.disc.specs.declared.refusals.Refusal.the-variants.{NotBluray}
 use Rattle.disc.specs.declared.replies.Reply.{Reply}
-use Rattle.disc.proofs.RanLaws.{ran-then}
+use Rattle.disc.proofs.RanLaws.{ran-then, ran-known}
 use Rattle.disc.proofs.RefusalLaws.{refusal-numbered}
 use Rattle.records.specs.Allocations.{noLong}
 use Rattle.records.specs.declared.allocations.LongAd.{LongAd}
@@ -37,7 +37,7 @@ use Rattle.directories.specs.inner.Walks.{enteredOf, stoppedAt, lostAt, 
 use Rattle.directories.specs.declared.lookups.Found.{Found}
 use Rattle.directories.specs.declared.walks.Entered.{Entered}
 use Rattle.directories.specs.declared.walks.PathPlace.{PathPlace}
-use Rattle.directories.proofs.SpaceLaws.{ran-known, reads-count, reads-bytes}
+use Rattle.directories.proofs.SpaceLaws.{reads-count, reads-bytes}
 
 -- ---- one component
 

@@ -6,10 +6,11 @@ use mathlib.Core.Logic.{_⊎_, inl, inr}
 use Prim.Native.Nat.{ℕ}
 use lib.ListN.{length}
 use Rattle.disc.specs.declared.refusals.Refusal.the-variants.{Io}
-use Rattle.disc.specs.Ask.{Held, Disc, Ask, Outcome, given, outcome, asked, then, Agree, Grown, wants, fed, fedTimes, ended}
+use Rattle.disc.specs.Ask.{Held, Disc, Ask, Outcome, given, outcome, asked, then, Agree, Grown, wants, fed, fedTimes, ended, andThen}
 use Rattle.disc.specs.Ask.Held.{holds, lacks}
 use Rattle.disc.specs.Ask.Ask.{done, refuse, ask}
 use Rattle.disc.specs.Ask.Outcome.{answered, refused}
+use Rattle.disc.specs.Lists.{askedBehind}
 
 -- ---- RULES 2.7: discs that agree on the list of a call give the same outcome and the same list
 
@@ -65,10 +66,6 @@ grown-outcome (ask s k) d e g =
 
 -- ---- one call behind another: the list of the first, and then that of the second where the first was answered
 
-abbrev pub askedBehind : {A B : Type 0} → Disc → Outcome A → (A → Ask B) → List ℕ
-askedBehind d (answered a) f = asked d (f a)
-askedBehind d (refused r) f = []
-
 pub asked-then : {A B : Type 0} (d : Disc) (m : Ask A) (f : A → Ask B) → asked d (then m f) ≡ asked d m ++ askedBehind d (outcome d m) f
 unfolding then outcome asked
 asked-then d (done a) f = refl
@@ -122,3 +119,59 @@ unfolding then
 then-then (done a) f g = refl
 then-then (refuse r) f g = refl
 then-then (ask s k) f g = ap (ask s) (fun-ext (λ b. then-then (k b) f g))
+
+-- ---- a call behind another
+
+-- a call whose answer is handed on is that call
+pub then-done : {A : Type 0} (m : Ask A) → then m (λ a. done a) ≡ m
+unfolding then
+then-done (done a) = refl
+then-done (refuse r) = refl
+then-done (ask s k) = ap (ask s) (fun-ext (λ b. then-done (k b)))
+
+pub then-same : {A B : Type 0} (m : Ask A) (f g : A → Ask B) → ((a : A) → f a ≡ g a) → then m f ≡ then m g
+then-same m f g h = ap (then m) (fun-ext h)
+
+-- its outcome goes by that of the first
+pub outcome-then : {A B : Type 0} (d : Disc) (m : Ask A) (f : A → Ask B) → outcome d (then m f) ≡ andThen (outcome d m) (λ a. outcome d (f a))
+unfolding outcome then
+outcome-then d (done a) f = refl
+outcome-then d (refuse r) f = refl
+outcome-then {A} {B} d (ask s k) f = by (d s) (λ b. outcome-then d (k b) f)
+  where
+    by : (h : Held) → ((b : List ℕ) → outcome d (then (k b) f) ≡ andThen (outcome d (k b)) (λ a. outcome d (f a)))
+        → given h (λ b. outcome d (then (k b) f)) (refused Io) ≡ andThen (given h (λ b. outcome d (k b)) (refused Io)) (λ a. outcome d (f a))
+    by (holds b) ih = ih b
+    by lacks ih = refl
+
+-- ---- what is known without a question
+
+pub outcome-ended : {A : Type 0} (d : Disc) (o : Outcome A) → outcome d (ended o) ≡ o
+unfolding outcome
+outcome-ended d (answered a) = refl
+outcome-ended d (refused r) = refl
+
+pub asked-ended : {A : Type 0} (d : Disc) (o : Outcome A) → asked d (ended o) ≡ []
+unfolding asked
+asked-ended d (answered a) = refl
+asked-ended d (refused r) = refl
+
+-- what follows without a question asks for nothing more
+pub asked-known : {A B : Type 0} (d : Disc) (m : Ask A) (f : A → Outcome B) → asked d (then m (λ a. ended (f a))) ≡ asked d m
+asked-known {A} {B} d m f = asked-then d m (λ a. ended (f a)) ∙ ap (λ l. asked d m ++ l) (by (outcome d m)) ∙ append-nil (asked d m)
+  where
+    by : (o : Outcome A) → askedBehind d o (λ a. ended (f a)) ≡ []
+    by (answered a) = asked-ended d (f a)
+    by (refused r) = refl
+
+-- ---- the branch that a sector takes
+
+pub given-asked : {A : Type 0} (d : Disc) (x : Held) (k : List ℕ → Ask A) → asked d (given x k (refuse Io)) ≡ given x (λ b. asked d (k b)) []
+unfolding asked
+given-asked d (holds b) k = refl
+given-asked d lacks k = refl
+
+pub given-outcome : {A : Type 0} (d : Disc) (x : Held) (k : List ℕ → Ask A) → outcome d (given x k (refuse Io)) ≡ given x (λ b. outcome d (k b)) (refused Io)
+unfolding outcome
+given-outcome d (holds b) k = refl
+given-outcome d lacks k = refl

@@ -1,14 +1,11 @@
 -- What holds of every slice of bytes. Assumes nothing.
 use Prim.Native.Nat.{ℕ, zero, suc}
 use mathlib.Core.List.{List, [], _∷_, _++_}
-use lib.ListN.{getD, take, drop}
+use lib.ListN.{take, drop}
 use mir.Val.{Fits}
 use mir.Syntax.{w8}
 use mir.Facts.{fits-lit}
-
--- every element is a byte
-abbrev pub Bytes : List ℕ → Type 0
-Bytes s = (i : ℕ) → Fits w8 (getD s i 0)
+use Rattle.disc.specs.Parts.{Bytes}
 
 -- ---- parts of bytes, and bytes joined
 

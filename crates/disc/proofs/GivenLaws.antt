@@ -12,8 +12,9 @@ use Rattle.disc.specs.Ask.Ask.{done, refuse, ask}
 use Rattle.disc.specs.Ask.Outcome.{answered, refused}
 use Rattle.disc.specs.Images.{there, disc}
 use Rattle.disc.specs.declared.refusals.Refusal.the-variants.{Io}
-use Rattle.disc.proofs.ByteLaws.{Bytes, bytes-taken, bytes-dropped}
+use Rattle.disc.proofs.ByteLaws.{bytes-taken, bytes-dropped}
 use Rattle.disc.proofs.RanLaws.{never}
+use Rattle.disc.specs.Parts.{Bytes}
 
 -- those of an image that is bytes are
 pub sector-bytes : (image : List ℕ) → Bytes image → (s : ℕ) (b : List ℕ) → disc image s ≡ holds b → Bytes b

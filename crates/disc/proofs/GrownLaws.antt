@@ -1,25 +1,26 @@
 -- What a tree of questions comes to on a disc that has all that another has: the same, or the other lacked a sector of the list, and then how far the list
 -- went says which. Assumes nothing.
-use mathlib.Core.Path.{_≡_, refl, ap, sym, _∙_}
+use mathlib.Core.Path.{_≡_, refl, ap}
 use mathlib.Core.Bool.{Bool, true, false, _||_}
 use mathlib.Core.List.{List, [], _∷_, _++_}
-use mathlib.Core.Logic.{_⊎_, inl, inr, ⊎-elim}
+use mathlib.Core.Logic.{⊎-elim}
 use Prim.Native.Nat.{ℕ, suc, _+_, _*_, _≤_, _<_}
 use native.Mathlib.Nat.{zero-add}
 use native.Mathlib.Omega.{arith}
-use lib.ListN.{length, length-append}
-use lib.Dec.{eqb, ltb}
+use lib.ListN.{length}
+use lib.Dec.{ltb}
 use borrow.Author.Tests.{ne-eqb, ltb-false, le-ltb}
 use Rattle.disc.specs.Refusals.{number}
-use Rattle.disc.specs.Ask.{Held, Disc, Ask, Outcome, given, outcome, asked, Grown}
+use Rattle.disc.specs.Ask.{Held, Disc, Ask, given, outcome, asked, Grown}
 use Rattle.disc.specs.Ask.Held.{holds, lacks}
 use Rattle.disc.specs.Ask.Ask.{done, refuse, ask}
-use Rattle.disc.specs.Ask.Outcome.{answered, refused}
+use Rattle.disc.specs.Ask.Outcome.{refused}
 use Rattle.disc.specs.Images.{disc}
-use Rattle.disc.specs.Ran.{Ran, ran}
+use Rattle.disc.specs.Ran.{ran}
 use Rattle.disc.specs.declared.refusals.Refusal.the-variants.{Io}
-use Rattle.disc.proofs.ImageLaws.{split, held, missing, image-grown}
-use Rattle.disc.proofs.OnlyLaws.{Only, Refuses, isIo, anyMissing, ButIo}
+use Rattle.disc.proofs.ImageLaws.{split, held, missing}
+use Rattle.disc.specs.Refusing.{Only, Refuses, isIo, ButIo}
+use Rattle.disc.specs.Lists.{anyMissing, upTo, Waits}
 
 -- ---- where no sector was missing, nothing changes
 
@@ -44,10 +45,6 @@ grown-ran m d e g h = let r = grown-same m d e g h in λ i. record { outcome = r
 
 -- ---- the list on the smaller disc is that on the larger, cut behind the first sector that the smaller one lacks
 
-unfoldable pub upTo : Disc → List ℕ → List ℕ
-upTo d [] = []
-upTo d (s ∷ rest) = s ∷ given (d s) (λ b. upTo d rest) []
-
 pub grown-cut : {A : Type 0} (m : Ask A) (d e : Disc) → Grown d e → asked d m ≡ upTo d (asked e m)
 unfolding asked upTo Grown
 grown-cut (done a) d e g = refl
@@ -60,16 +57,6 @@ grown-cut (ask s k) d e g = ap (λ l. s ∷ l) (by (d s) refl (λ b. grown-cut (
     by (holds b) p ih = rw (g s b p) (ih b)
 
 -- ---- where one was missing, the list goes as far as the first that is
-
--- the sector that is waited for: it is the n-th of the list, it isn't wholly inside the image, and all before it are
-pub record Waits (image list : List ℕ) (n : ℕ) : Type 0 where
-  pub sector : ℕ
-  pub before : List ℕ
-  pub behind : List ℕ
-  pub is : list ≡ before ++ sector ∷ behind
-  pub place : n ≡ length before + 1
-  pub there : anyMissing image before ≡ false
-  pub gone : length image < 2048 * (sector + 1)
 
 -- a list whose first sector is missing
 pub waits-first : (image : List ℕ) (s : ℕ) (list : List ℕ) → length image < 2048 * (s + 1) → Waits image (s ∷ list) 1

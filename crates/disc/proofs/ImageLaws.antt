@@ -18,8 +18,9 @@ use Rattle.disc.specs.Ask.Held.{holds, lacks}
 use Rattle.disc.specs.Ask.Ask.{done}
 use Rattle.disc.specs.Ask.Outcome.{answered, refused}
 use Rattle.disc.specs.Ran.{Ran, ran, after, followed}
-use Rattle.disc.specs.Images.{there, disc, sectors, heldFrom, bytesOf}
+use Rattle.disc.specs.Images.{disc, sectors, heldFrom, bytesOf}
 use Rattle.disc.proofs.RanLaws.{ran-done, ran-there, ran-missing, ran-then}
+use Rattle.disc.specs.Lists.{sectorsRun}
 
 -- either order holds
 pub split : (a b : ℕ) → (a ≤ b) ⊎ (b < a)
@@ -66,12 +67,6 @@ image-grown image more s b h = ⊎-elim
         (take-append-le 2048 (drop (2048 * s) image) more (rw length-drop (omega arith)))
 
 -- ---- a run of sectors: all are there exactly when the last one is, and else the first missing one is known by a division
-
-abbrev pub sectorsRun : List ℕ → ℕ → ℕ → Ran (List ℕ)
-sectorsRun image n at =
-    pick (leb n (heldFrom image at))
-    (record { outcome = answered (take (2048 * n) (drop (2048 * at) image)); count = n })
-    (record { outcome = refused Io; count = heldFrom image at + 1 })
 
 -- one more equation between answers, by their parts
 pub same-answer : {a b : List ℕ} {m n : ℕ} → a ≡ b → m ≡ n

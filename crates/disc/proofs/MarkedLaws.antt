@@ -5,67 +5,22 @@ use mathlib.Core.Bool.{Bool, true, false, not, _||_}
 use mathlib.Core.List.{List, [], _∷_, _++_}
 use Prim.Native.Nat.{ℕ}
 use native.Mathlib.Omega.{arith}
-use lib.Dec.{eqb}
 use borrow.Author.Tests.{ne-eqb}
 use Rattle.disc.specs.Choice.{pick}
 use Rattle.disc.specs.Refusals.{number}
-use Rattle.disc.specs.Ask.{Disc, Held, Ask, Outcome, outcome, asked, then, given, ended}
+use Rattle.disc.specs.Ask.{Disc, Held, Ask, Outcome, outcome, asked, then, given, ended, andThen}
 use Rattle.disc.specs.Ask.Held.{holds, lacks}
 use Rattle.disc.specs.Ask.Ask.{done, refuse, ask}
 use Rattle.disc.specs.Ask.Outcome.{answered, refused}
 use Rattle.disc.specs.declared.refusals.Refusal.{Refusal}
 use Rattle.disc.specs.declared.refusals.Refusal.the-variants.{Io, BadCrc}
-use Rattle.disc.proofs.OnlyLaws.{Only, Refuses}
-
--- every refusal but 10
-abbrev pub ButBad : Refusal → Type 0
-ButBad why = number why ≡ 10 → ⊥
+use Rattle.disc.specs.Refusing.{Only, Refuses}
+use Rattle.disc.specs.Marks.{ButBad, Marked, plain, guarded, parsed, anyWrong, isBad, Front, Guards}
+use Rattle.disc.specs.Marks.Marked.{answers, refuses, asks, parses}
 
 -- ---- a call in which it is marked where a descriptor is parsed: the bytes at hand begin with it, and its tag is accepted
 
-pub data Marked (A : Type 0) : Type 0 where
-  answers : A → Marked A
-  refuses : (why : Refusal) → ButBad why → Marked A
-  asks : ℕ → (List ℕ → Marked A) → Marked A
-  parses : List ℕ → Marked A → Marked A
-
--- the call without the marks: no body is looked at
-unfoldable pub plain : {A : Type 0} → Marked A → Ask A
-plain (answers a) = done a
-plain (refuses why n) = refuse why
-plain (asks s k) = ask s (λ b. plain (k b))
-plain (parses s m) = plain m
-
--- the call that is refused by 10 at the first mark whose body isn't right
-unfoldable pub guarded : {A : Type 0} → (List ℕ → Bool) → Marked A → Ask A
-guarded right (answers a) = done a
-guarded right (refuses why n) = refuse why
-guarded right (asks s k) = ask s (λ b. guarded right (k b))
-guarded right (parses s m) = pick (right s) (guarded right m) (refuse BadCrc)
-
--- the descriptors that the call without the marks parses, up to its end
-unfoldable pub parsed : {A : Type 0} → Disc → Marked A → List (List ℕ)
-parsed d (answers a) = []
-parsed d (refuses why n) = []
-parsed d (asks s k) = given (d s) (λ b. parsed d (k b)) []
-parsed d (parses s m) = s ∷ parsed d m
-
--- one of them has a body that isn't right
-unfoldable pub anyWrong : (List ℕ → Bool) → List (List ℕ) → Bool
-anyWrong right [] = false
-anyWrong right (s ∷ rest) = not (right s) || anyWrong right rest
-
--- refused for a wrong body
-abbrev pub isBad : {A : Type 0} → Outcome A → Bool
-isBad (answered a) = false
-isBad (refused why) = eqb (number why) 10
-
 -- ---- what both come to on a disc
-
--- a list that begins with another
-pub record Front (short long : List ℕ) : Type 0 where
-  pub rest : List ℕ
-  pub is : long ≡ short ++ rest
 
 module _ {A : Type 0} (right : List ℕ → Bool) (d : Disc) where
   -- 10 exactly when a descriptor that is parsed has a wrong body
@@ -141,11 +96,6 @@ module _ {A : Type 0} (right : List ℕ → Bool) (d : Disc) where
       by false f = record { rest = asked d (plain m); is = refl }
 
 -- ---- two calls of which the first is the second with bodies checked
-
-pub record Guards {A : Type 0} (right : List ℕ → Bool) (m n : Ask A) : Type 0 where
-  pub tree : Marked A
-  pub checks : guarded right tree ≡ m
-  pub plains : plain tree ≡ n
 
 thenMarked : {A B : Type 0} → Marked A → (A → Marked B) → Marked B
 thenMarked (answers a) f = f a
@@ -230,3 +180,20 @@ module _ {A : Type 0} {right : List ℕ → Bool} {m n : Ask A} (g : Guards righ
   guards-front =
       let f = guarded-front right d (g .tree) in
       record { rest = f .rest; is = ap (asked d) (sym (g .plains)) ∙ f .is ∙ ap (λ x. asked d x ++ f .rest) (g .checks) }
+
+-- ---- what is known without a question
+
+-- it parses nothing, and is refused by no 10
+pub known-guards : {A : Type 0} {right : List ℕ → Bool} (o : Outcome A) → ((why : Refusal) → o ≡ refused why → ButBad why) → Guards right (ended o) (ended o)
+known-guards (answered a) n = done-guards a
+known-guards (refused why) n = refuse-guards why (n why refl)
+
+-- one outcome behind another is a call behind another
+ended-then : {A B : Type 0} (o : Outcome A) (f : A → Outcome B) → ended (andThen o f) ≡ then (ended o) (λ a. ended (f a))
+unfolding then
+ended-then (answered a) f = refl
+ended-then (refused why) f = refl
+
+pub and-guards : {A B : Type 0} {right : List ℕ → Bool} (o o′ : Outcome A) (f f′ : A → Outcome B) → Guards right (ended o) (ended o′)
+    → ((a : A) → Guards right (ended (f a)) (ended (f′ a))) → Guards right (ended (andThen o f)) (ended (andThen o′ f′))
+and-guards o o′ f f′ p q = rw (ended-then o f, ended-then o′ f′) (then-guards p q)

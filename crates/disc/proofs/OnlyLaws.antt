@@ -2,17 +2,17 @@
 -- sector of its list isn't wholly inside the image. Assumes nothing.
 use mathlib.Core.Path.{_≡_, refl}
 use mathlib.Core.Bool.{Bool, true, false, _||_}
-use mathlib.Core.List.{List, [], _∷_}
+use mathlib.Core.List.{List, [], _∷_, _++_}
 use mathlib.Core.Logic.{⊎-elim}
 use mathlib.Core.Option.{Option, none, some}
 use Prim.Native.Nat.{ℕ, _+_, _*_, _≤_, _<_}
 use native.Mathlib.Omega.{arith}
 use lib.ListN.{length}
-use lib.Dec.{eqb, ltb}
+use lib.Dec.{ltb}
 use borrow.Author.Tests.{ne-eqb, lt-ltb, le-ltb}
 use Rattle.disc.specs.Choice.{pick}
 use Rattle.disc.specs.Refusals.{number}
-use Rattle.disc.specs.Ask.{Disc, Held, Ask, Outcome, outcome, asked, then, given}
+use Rattle.disc.specs.Ask.{Disc, Held, Ask, outcome, asked, then, given}
 use Rattle.disc.specs.Ask.Held.{holds, lacks}
 use Rattle.disc.specs.Ask.Ask.{done, refuse, ask}
 use Rattle.disc.specs.Ask.Outcome.{answered, refused}
@@ -21,21 +21,11 @@ use Rattle.disc.specs.Places.{standing}
 use Rattle.disc.specs.declared.refusals.Refusal.{Refusal}
 use Rattle.disc.specs.declared.refusals.Refusal.the-variants.{Io, Unsupported}
 use Rattle.disc.proofs.ImageLaws.{split, held, missing}
+use Rattle.disc.proofs.RanLaws.{never}
+use Rattle.disc.specs.Refusing.{Only, Refuses, Within, Any, isIo, ButIo}
+use Rattle.disc.specs.Lists.{anyMissing}
 
 -- ---- a tree that refuses by P alone, and answers with what is Q
-
-unfoldable pub Only : {A : Type 0} → (Refusal → Type 0) → (A → Type 0) → Ask A → Type 0
-Only P Q (done a) = Q a
-Only P Q (refuse r) = P r
-Only P Q (ask s k) = (b : List ℕ) → Only P Q (k b)
-
-pub record Refuses {A : Type 0} (P : Refusal → Type 0) (Q : A → Type 0) (m : Ask A) : Type 0 where
-  pub only : Only P Q m
-
--- an outcome that is no refusal but by P
-unfoldable pub Within : {A : Type 0} → (Refusal → Type 0) → Outcome A → Type 0
-Within P (answered a) = Unit {0}
-Within P (refused r) = P r
 
 only-within : {A : Type 0} (P : Refusal → Type 0) (Q : A → Type 0) → P Io → (d : Disc) (m : Ask A) → Only P Q m → Within P (outcome d m)
 unfolding Only Within outcome
@@ -78,30 +68,12 @@ module _ {A : Type 0} {P : Refusal → Type 0} {Q : A → Type 0} where
   pub then-only : {B : Type 0} {R : B → Type 0} {m : Ask A} {f : A → Ask B} → Refuses P Q m → ((a : A) → Q a → Refuses P R (f a)) → Refuses P R (then m f)
   then-only {R = R} {m} {f} p q = record { only = only-then P Q R m f (p .only) (λ a h. q a h .only) }
 
--- anything
-abbrev pub Any : {A : Type 0} → A → Type 0
-Any a = Unit {0}
-
 -- ---- refused by 1 exactly when a sector of the list isn't there
-
--- refused for a missing sector
-abbrev pub isIo : {A : Type 0} → Outcome A → Bool
-isIo (answered a) = false
-isIo (refused why) = eqb (number why) 1
 
 -- a block that may stand nowhere on the volume, for any P that has 4
 pub standing-only : {A : Type 0} (P : Refusal → Type 0) → P Unsupported → {Q : A → Type 0} (o : Option ℕ) {f : ℕ → Ask A} → ((s : ℕ) → Refuses P Q (f s)) → Refuses P Q (standing o f)
 standing-only P unsupported none h = refuse-only unsupported
 standing-only P unsupported (some s) h = h s
-
--- a sector of the list has bytes 2,048 s to 2,048 s + 2,047 not all inside the image
-unfoldable pub anyMissing : List ℕ → List ℕ → Bool
-anyMissing image [] = false
-anyMissing image (s ∷ rest) = ltb (length image) (2048 * (s + 1)) || anyMissing image rest
-
--- every refusal but 1
-abbrev pub ButIo : Refusal → Type 0
-ButIo why = number why ≡ 1 → ⊥
 
 only-missing : {A : Type 0} (Q : A → Type 0) (image : List ℕ) (m : Ask A) → Only ButIo Q m → isIo (outcome (disc image) m) ≡ anyMissing image (asked (disc image) m)
 unfolding Only outcome asked anyMissing
@@ -114,3 +86,36 @@ only-missing Q image (ask s k) p = ⊎-elim
 
 pub refused-missing : {A : Type 0} {Q : A → Type 0} (image : List ℕ) {m : Ask A} → Refuses ButIo Q m → isIo (outcome (disc image) m) ≡ anyMissing image (asked (disc image) m)
 refused-missing {Q = Q} image {m} p = only-missing Q image m (p .only)
+
+-- ---- weaker facts, and what is answered
+
+pub only-weaker : {A : Type 0} {P Q : Refusal → Type 0} → ((why : Refusal) → P why → Q why) → (m : Ask A) → Only P Any m → Only Q Any m
+unfolding Only
+only-weaker h (done a) p = tt
+only-weaker h (refuse r) p = h r p
+only-weaker h (ask s k) p = λ b. only-weaker h (k b) (p b)
+
+-- a tree that answers with what is Q does so on every disc
+pub only-answers : {A : Type 0} {P : Refusal → Type 0} {Q : A → Type 0} (d : Disc) {m : Ask A} → Refuses P Q m → {a : A} → outcome d m ≡ answered a → Q a
+unfolding Only outcome
+only-answers {A} {P} {Q} d {m} r e = by m (r .only) e
+  where
+    by : (m : Ask A) → Only P Q m → {a : A} → outcome d m ≡ answered a → Q a
+    by (done x) p {a} e = let z : x ≡ a = cc in rw z at p
+    by (refuse why) p e = never e
+    by (ask s k) p {a} e = held (d s) (λ b q. by (k b) (p b) q) e
+      where
+        held : (x : Held) → ((b : List ℕ) → outcome d (k b) ≡ answered a → Q a) → given x (λ b. outcome d (k b)) (refused Io) ≡ answered a → Q a
+        held (holds b) ih q = ih b q
+        held lacks ih q = never q
+
+-- ---- lists joined
+
+pub missing-joined : (image a b : List ℕ) → anyMissing image (a ++ b) ≡ (anyMissing image a || anyMissing image b)
+unfolding anyMissing
+missing-joined image [] b = refl
+missing-joined image (s ∷ a) b = by (ltb (length image) _) (anyMissing image (a ++ b)) (anyMissing image a) (anyMissing image b) (missing-joined image a b)
+  where
+    by : (t x y z : Bool) → x ≡ (y || z) → (t || x) ≡ ((t || y) || z)
+    by true x y z e = refl
+    by false x y z e = e

@@ -1,13 +1,10 @@
 -- A part of a list, by its place. Assumes nothing.
 use mathlib.Core.Path.{_≡_, refl}
 use mathlib.Core.List.{List, []}
-use Prim.Native.Nat.{ℕ, _+_, _-_, _≤_, zero-le}
+use Prim.Native.Nat.{ℕ, _+_, _-_, zero-le}
 use native.Mathlib.Nat.{add-sub-cancel-left}
 use lib.ListN.{length, take, drop}
-
-pub record PartAt (s part : List ℕ) (at : ℕ) : Type 0 where
-  pub bytes : take (length part) (drop at s) ≡ part
-  pub inside : at + length part ≤ length s
+use Rattle.disc.specs.Parts.{PartAt}
 
 -- the empty part at the front
 pub part-none : (s : List ℕ) → PartAt s [] 0

@@ -1,13 +1,13 @@
 -- Laws of a run, outcome and count together: what every loop's and every caller's proof cites. Assumes nothing.
-use mathlib.Core.Path.{_≡_, refl}
+use mathlib.Core.Path.{_≡_, refl, _∙_}
 use mathlib.Core.List.{List}
 use Prim.Native.Nat.{ℕ, suc, _+_}
-use native.Mathlib.Nat.{zero-add, add-assoc}
+use native.Mathlib.Nat.{zero-add, add-zero, add-assoc}
 use native.Mathlib.Omega.{arith}
 use lib.ListN.{length}
 use Rattle.disc.specs.declared.refusals.Refusal.{Refusal}
 use Rattle.disc.specs.declared.refusals.Refusal.the-variants.{Io}
-use Rattle.disc.specs.Ask.{Held, Disc, Ask, Outcome, outcome, asked, then, ended, Agree}
+use Rattle.disc.specs.Ask.{Held, Disc, Ask, Outcome, outcome, asked, then, ended, andThen, Agree}
 use Rattle.disc.specs.Ask.Held.{holds, lacks}
 use Rattle.disc.specs.Ask.Ask.{done, refuse, ask}
 use Rattle.disc.specs.Ask.Outcome.{answered, refused}
@@ -67,3 +67,14 @@ ran-ended d (refused r) = ran-refuse d r
 -- what is refused isn't answered
 pub never : {A : Type 0} {B : Type 0} {b : B} {r : Refusal} → refused r ≡ answered b → A
 never e = absurd (let z : _≡_ {A = ℕ} 0 1 = cc in omega arith)
+
+-- ---- what follows without a question
+
+-- it asks for nothing more
+pub ran-known : {A B : Type 0} (d : Disc) (m : Ask A) (f : A → Outcome B)
+    → ran d (then m (λ a. ended (f a))) ≡ record { outcome = andThen (ran d m .outcome) f; count = ran d m .count }
+ran-known {A} {B} d m f = ran-then d m (λ a. ended (f a)) ∙ by (ran d m .outcome) (ran d m .count)
+  where
+    by : (o : Outcome A) (n : ℕ) → onward o n (λ a. ran d (ended (f a))) ≡ record { outcome = andThen o f; count = n }
+    by (answered a) n = rw (ran-ended d (f a), add-zero)
+    by (refused r) n = refl

@@ -1,8 +1,8 @@
 -- Laws of refusals. Assumes nothing.
-use mathlib.Core.Path.{_≡_}
+use mathlib.Core.Path.{_≡_, refl, ap, sym, _∙_}
 use Prim.Native.Nat.{_≤_, _<_, _^_}
 use native.Mathlib.Omega.{arith}
-use Rattle.disc.specs.Refusals.{number}
+use Rattle.disc.specs.Refusals.{number, refusalOf}
 use Rattle.disc.specs.declared.refusals.Refusal.{Refusal}
 use Rattle.disc.specs.declared.refusals.Refusal.the-variants.{Io, Malformed, NotBluray, Unsupported, NoRoom, NoWork, NoSlot, Ambiguous, BadCrc, TooDeep, TooMany, BadName, BadFiles, BadShelf}
 
@@ -43,3 +43,25 @@ refusal-numbered TooMany e = omega arith
 refusal-numbered BadName e = omega arith
 refusal-numbered BadFiles e = omega arith
 refusal-numbered BadShelf e = omega arith
+
+-- a refusal comes back from its number
+pub refusal-known : (why : Refusal) → refusalOf (number why) ≡ why
+unfolding refusalOf
+refusal-known Io = refl
+refusal-known Malformed = refl
+refusal-known NotBluray = refl
+refusal-known Unsupported = refl
+refusal-known NoRoom = refl
+refusal-known NoWork = refl
+refusal-known NoSlot = refl
+refusal-known Ambiguous = refl
+refusal-known BadCrc = refl
+refusal-known TooDeep = refl
+refusal-known TooMany = refl
+refusal-known BadName = refl
+refusal-known BadFiles = refl
+refusal-known BadShelf = refl
+
+-- so a number has one refusal
+pub refusal-is : (why other : Refusal) → number why ≡ number other → why ≡ other
+refusal-is why other e = sym (refusal-known why) ∙ ap refusalOf e ∙ refusal-known other

@@ -8,3 +8,7 @@ pub mod Places
 pub mod Images
 pub mod Moves
 pub mod Replies
+pub mod Lists
+pub mod Parts
+pub mod Marks
+pub mod Refusing

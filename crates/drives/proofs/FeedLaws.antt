@@ -3,9 +3,9 @@ use mathlib.Core.Path.{_≡_, refl, ap, sym, _∙_, fun-ext}
 use mathlib.Core.Bool.{Bool, true, false}
 use mathlib.Core.List.{List, [], _∷_, _++_, append-nil, append-assoc}
 use mathlib.Core.Option.{Option, none, some}
-use Prim.Native.Nat.{ℕ, zero, suc, _+_, _-_, _≤_, _<_}
+use Prim.Native.Nat.{ℕ, zero, suc, _+_, _-_, _<_}
 use native.Mathlib.Omega.{arith}
-use lib.ListN.{length, take, length-append, length-take}
+use lib.ListN.{length, take, length-append}
 use lib.Seq.{take-all, take-take, take-append-add, length-take-le}
 use lib.Dec.{eqb, leb}
 use borrow.Author.Tests.{leb-true, leb-false, le-leb, lt-leb}
@@ -15,8 +15,8 @@ use Rattle.disc.specs.Ask.Ask.{done, refuse, ask}
 use Rattle.disc.specs.Images.{sectorsFor}
 use Rattle.disc.specs.Places.{placed, standing as placing}
 use Rattle.disc.specs.declared.places.Mount.{Mount}
-use Rattle.disc.specs.declared.refusals.Refusal.the-variants.{Malformed, Unsupported}
-use Rattle.disc.proofs.AskLaws.{then-then}
+use Rattle.disc.specs.declared.refusals.Refusal.the-variants.{Unsupported}
+use Rattle.disc.proofs.AskLaws.{then-then, then-same, then-done}
 use Rattle.records.specs.declared.allocations.LongAd.{LongAd}
 use Rattle.areas.specs.declared.AllocExtent.{AllocExtent}
 use Rattle.areas.specs.declared.AdEnding.{AdEnding}
@@ -26,19 +26,10 @@ use Rattle.chains.specs.Chains.{mostContinuations, nextArea, continued}
 use Rattle.files.specs.Reads.{joining, extentBytes, extentsBytes}
 use Rattle.files.specs.Files.{Located, entryAt, entryMount, isEmbedded, embeddedBytes, resolved, contentOf, fileAt, fileBytes}
 use Rattle.drives.specs.Feeds.{Feed, following, naming, collected}
-use Rattle.drives.specs.Feeds.Feed.{over, stop, hold, put, want}
+use Rattle.drives.specs.Feeds.Feed.{over, stop, put}
 use Rattle.drives.specs.FileFeeds.{extentFeed, standing, extentsFeed, namedBy, chainFeed, entryFeed, fileFeed}
 
 -- ---- trees
-
-pub then-same : {A B : Type 0} (t : Ask A) (f g : A → Ask B) → ((a : A) → f a ≡ g a) → then t f ≡ then t g
-then-same t f g h = ap (then t) (fun-ext h)
-
-then-done : {A : Type 0} (t : Ask A) → then t (λ a. done a) ≡ t
-unfolding then
-then-done (done a) = refl
-then-done (refuse r) = refl
-then-done (ask s k) = ap (ask s) (fun-ext (λ b. then-done (k b)))
 
 pub collected-following : {A : Type 0} (front : List ℕ) (t : Ask A) (f : A → Feed) → collected front (following t f) ≡ then t (λ a. collected front (f a))
 unfolding collected following then

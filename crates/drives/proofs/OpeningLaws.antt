@@ -1,19 +1,18 @@
 -- Laws of the opening that is fed a sector at a time: each state that the code makes stands for the tree that is left. Assumes nothing.
 use mathlib.Core.Path.{_≡_, refl, ap, sym, _∙_}
 use mathlib.Core.Bool.{Bool, true, false}
-use mathlib.Core.List.{List, [], _∷_}
+use mathlib.Core.List.{List}
 use Prim.Native.Nat.{ℕ, zero, suc, _+_, _-_, _/_, _<_, _≤_, _^_}
 use native.Mathlib.Omega.{arith}
 use lib.ListN.{length}
-use lib.Dec.{eqb, ltb, lit<}
-use borrow.Author.Tests.{lt-ltb, le-ltb, eq-eqb, ne-eqb, ltb-true, ltb-false}
+use lib.Dec.{eqb, ltb}
+use borrow.Author.Tests.{lt-ltb, le-ltb, eq-eqb, ne-eqb, ltb-true}
 use Rattle.disc.specs.Choice.{pick}
 use Rattle.disc.specs.Refusals.{number}
 use Rattle.disc.specs.Counts.{reported}
 use mathlib.Core.Option.{some}
 use Rattle.disc.specs.Ask.{Held, Ask, Outcome, given, then, ended}
-use Rattle.disc.specs.Ask.Ask.{done, refuse, ask}
-use Rattle.disc.specs.Ask.Held.{holds, lacks}
+use Rattle.disc.specs.Ask.Ask.{refuse, ask}
 use Rattle.disc.specs.Ask.Outcome.{answered, refused}
 use Rattle.disc.specs.Places.{placed, Stands as StandsAt}
 use Rattle.disc.specs.declared.places.Sector.{Sector}
@@ -21,8 +20,8 @@ use Rattle.disc.specs.declared.places.PartitionRef.the-variants.{Named}
 use Rattle.disc.specs.declared.places.Placed.{Placed}
 use Rattle.disc.specs.declared.places.Placed.the-variants.{At, Nowhere}
 use Rattle.disc.specs.declared.refusals.Refusal.{Refusal}
-use Rattle.disc.specs.declared.refusals.Refusal.the-variants.{Io, Malformed, NotBluray, Unsupported, NoRoom, NoWork, NoSlot, Ambiguous, BadCrc, TooDeep, TooMany, BadName, BadFiles, BadShelf}
-use Rattle.disc.proofs.RefusalLaws.{refusal-numbered}
+use Rattle.disc.specs.declared.refusals.Refusal.the-variants.{Io, NotBluray, Unsupported}
+use Rattle.disc.proofs.RefusalLaws.{refusal-numbered, refusal-known}
 use Rattle.disc.proofs.PlaceLaws.{stands-nowhere, stands-at, stands-low}
 use Rattle.disc.proofs.AskLaws.{then-then}
 use Rattle.disc.proofs.PickLaws.{not-both}
@@ -33,7 +32,7 @@ use Rattle.descriptors.specs.FileSets.{readFileSet}
 use Rattle.descriptors.specs.declared.anchors.AnchorVolumeDescriptorPointer.{AnchorVolumeDescriptorPointer}
 use Rattle.descriptors.specs.declared.anchors.AnchorRead.{AnchorRead}
 use Rattle.descriptors.specs.declared.anchors.AnchorRead.the-variants.{Read as AnAnchor, Refused as NoAnchor}
-use Rattle.volumes.specs.Sequences.{nothing, orderOf, anyPartition, wantedOf, keptOf, Says, saysIn, goOn, scan, turnOf}
+use Rattle.volumes.specs.Sequences.{nothing, orderOf, anyPartition, wantedOf, keptOf, Says, saysIn, scan, turnOf}
 use Rattle.volumes.specs.Sequences.Says.{found, passed, over, fails}
 use Rattle.volumes.specs.Openings.{usual, noVolume, fileSetRef, fileSetAt, fileSetOn, mountIn, mountOf, volumeIn, mountingOf, anchored, opening, openedBy}
 use Rattle.volumes.specs.inner.Steps.{mountable}
@@ -43,7 +42,7 @@ use Rattle.volumes.specs.declared.sequences.Wanted.the-variants.{Any}
 use Rattle.volumes.specs.declared.openings.VolumeRecord.{VolumeRecord}
 use Rattle.volumes.specs.declared.openings.Opened.{Opened}
 use Rattle.drives.specs.Feeds.{lent, branch}
-use Rattle.drives.specs.Openings.{refusalOf, mountingFrom, scanning, scanFrom, behindSector, mostSectors, isWanting, wantedSector, openedTree, treeOf, behindWanted, saidOf, Stands, Fed}
+use Rattle.drives.specs.Openings.{mountingFrom, scanning, scanFrom, behindSector, mostSectors, isWanting, wantedSector, openedTree, treeOf, behindWanted, Stands, Fed}
 use Rattle.drives.specs.declared.openings.Opening.{Opening}
 
 -- ---- whether a sector is wanted
@@ -70,24 +69,6 @@ module _ (o : Opening) where
       by false e = absurd (let z : _≡_ {A = ℕ} 0 1 = cc in omega arith)
 
 -- ---- an end
-
--- a refusal comes back from its number
-pub refusal-known : (why : Refusal) → refusalOf (number why) ≡ why
-unfolding refusalOf
-refusal-known Io = refl
-refusal-known Malformed = refl
-refusal-known NotBluray = refl
-refusal-known Unsupported = refl
-refusal-known NoRoom = refl
-refusal-known NoWork = refl
-refusal-known NoSlot = refl
-refusal-known Ambiguous = refl
-refusal-known BadCrc = refl
-refusal-known TooDeep = refl
-refusal-known TooMany = refl
-refusal-known BadName = refl
-refusal-known BadFiles = refl
-refusal-known BadShelf = refl
 
 -- as the code makes an end
 abbrev pub Ended : Opening → Opened → Type 0

@@ -11,17 +11,16 @@ use lib.Dec.{eqb, leb}
 use borrow.Author.Tests.{le-ltb}
 use Rattle.disc.specs.Choice.{pick}
 use Rattle.disc.specs.Counts.{reported}
-use Rattle.disc.specs.Refusals.{number}
-use Rattle.disc.specs.Ask.{Disc, Held, Ask, Outcome, given, outcome, asked, then, Agree}
+use Rattle.disc.specs.Refusals.{refusalOf}
+use Rattle.disc.specs.Ask.{Disc, Held, Ask, given, outcome, asked, Agree}
 use Rattle.disc.specs.Ask.Held.{holds, lacks}
 use Rattle.disc.specs.Ask.Ask.{done, refuse, ask}
-use Rattle.disc.specs.Ask.Outcome.{answered, refused}
-use Rattle.disc.specs.Images.{sectors}
+use Rattle.disc.specs.Ask.Outcome.{refused}
 use Rattle.disc.specs.Places.{placed}
 use Rattle.disc.specs.declared.places.Mount.{Mount}
-use Rattle.disc.specs.declared.refusals.Refusal.the-variants.{Io, NoRoom, NoSlot}
+use Rattle.disc.specs.declared.refusals.Refusal.the-variants.{Io}
 use Rattle.disc.proofs.PickLaws.{pick-both, not-both}
-use Rattle.disc.proofs.AskLaws.{same-asked}
+use Rattle.disc.proofs.AskLaws.{same-asked, given-asked, given-outcome}
 use Rattle.disc.proofs.RanLaws.{same-ran}
 use Rattle.records.specs.declared.allocations.LongAd.{LongAd}
 use Rattle.areas.specs.declared.AllocExtent.{AllocExtent}
@@ -29,17 +28,15 @@ use Rattle.areas.specs.declared.AdEnding.{AdEnding}
 use Rattle.areas.specs.declared.AdEnding.the-variants.{End, Continuation, Refused}
 use Rattle.chains.specs.Chains.{nextArea}
 use Rattle.files.specs.Files.{Located, entryAt, entryMount, isEmbedded, fileBytes}
-use Rattle.volumes.specs.Openings.{usual, opening, noVolume, openedBy, openedOf}
+use Rattle.volumes.specs.Openings.{usual, opening, openedBy, openedOf}
 use Rattle.volumes.specs.declared.openings.VolumeRecord.{VolumeRecord}
 use Rattle.volumes.specs.declared.openings.Opened.{Opened}
 use Rattle.disc.specs.Ran.{ran}
-use Rattle.volumes.specs.Sequences.{scan}
 use Rattle.drives.specs.Feeds.{Feed, lent, branch, following, naming, Grown, within, endOf, wanted, arrived, heldMost, shortOf}
 use Rattle.drives.specs.Feeds.Feed.{over, stop, name, hold, put, want}
 use Rattle.drives.specs.Feeds.Short.{enough}
-use Rattle.drives.specs.Feeds.End.{answers, refuses}
 use Rattle.drives.specs.FileFeeds.{extentFeed, standing, extentsFeed, namedBy, chainFeed, entryFeed, fileFeed}
-use Rattle.drives.specs.Openings.{isWanting, wantedSector, openedTree, refusalOf, treeOf, behindWanted, saidOf, Stands, Fed}
+use Rattle.drives.specs.Openings.{isWanting, wantedSector, treeOf, behindWanted, saidOf, Stands, Fed}
 use Rattle.drives.specs.declared.openings.Opening.{Opening}
 use Rattle.drives.proofs.OpeningLaws.{tree-asks, ended-tree}
 use Rattle.drives.proofs.FeedLaws.{file-collected}
@@ -51,17 +48,6 @@ use Rattle.drives.proofs.LimitLaws.{outcomeBy, collected-outcome, colle
 pub data Walk (d : Disc) : List ℕ → Opening → Opening → Type 0 where
   ends : {o : Opening} → isWanting o ≡ false → Walk d [] o o
   steps : {o r q : Opening} {ns : List ℕ} (s : List ℕ) → isWanting o ≡ true → lent s ≡ d (wantedSector o) → Fed o s r → Walk d ns r q → Walk d (wantedSector o ∷ ns) o q
-
--- what a branch asks and comes to
-branch-asked : {A : Type 0} (d : Disc) (x : Held) (k : List ℕ → Ask A) → asked d (given x k (refuse Io)) ≡ given x (λ b. asked d (k b)) []
-unfolding asked
-branch-asked d (holds b) k = refl
-branch-asked d lacks k = refl
-
-branch-outcome : {A : Type 0} (d : Disc) (x : Held) (k : List ℕ → Ask A) → outcome d (given x k (refuse Io)) ≡ given x (λ b. outcome d (k b)) (refused Io)
-unfolding outcome
-branch-outcome d (holds b) k = refl
-branch-outcome d lacks k = refl
 
 said-count : (n : ℕ) (t : Ask VolumeRecord) → saidOf n t .count ≡ n
 said-count n (done v) = refl
@@ -92,8 +78,8 @@ came-step d m o r q ns s t w h p c =
     let x = rw u at c in
     let y : t ≡ ask (wantedSector o) (behindWanted o) = sym (p .tree) ∙ e in
     rw y (record {
-      list = ap (λ l. wantedSector o ∷ l) (x .list ∙ branch-asked d (d (wantedSector o)) (behindWanted o));
-      says = x .says ∙ ap (openedBy (reported (m + 1 + length ns))) (branch-outcome d (d (wantedSector o)) (behindWanted o)) ∙ counted;
+      list = ap (λ l. wantedSector o ∷ l) (x .list ∙ given-asked d (d (wantedSector o)) (behindWanted o));
+      says = x .says ∙ ap (openedBy (reported (m + 1 + length ns))) (given-outcome d (d (wantedSector o)) (behindWanted o)) ∙ counted;
     })
   where
     counted : openedBy (reported (m + 1 + length ns)) (given (d (wantedSector o)) (λ b. outcome d (behindWanted o b)) (refused Io)) ≡ openedBy (reported (m + suc (length ns))) (given (d (wantedSector o)) (λ b. outcome d (behindWanted o b)) (refused Io))

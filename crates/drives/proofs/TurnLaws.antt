@@ -1,12 +1,12 @@
 -- Laws of a read that is fed: each state that the code makes stands for what is left of the feed. Assumes nothing.
 use mathlib.Core.Path.{_≡_, refl, ap, sym, _∙_}
 use mathlib.Core.Bool.{Bool, true, false}
-use mathlib.Core.List.{List, [], _∷_, _++_, map, append-nil}
-use mathlib.Core.Option.{Option, none, some}
+use mathlib.Core.List.{List, [], _∷_, map}
+use mathlib.Core.Option.{none, some}
 use Prim.Native.Nat.{ℕ, zero, suc, _+_, _-_, _*_, _/_, _<_, _≤_, _^_, min}
 use native.Mathlib.Numerals.{add-one}
 use native.Mathlib.Omega.{arith}
-use lib.ListN.{length, getD, take, drop, replicate, length-append, length-take, length-replicate, List·getD-map, drop-of-length-le}
+use lib.ListN.{length, getD, take, drop, length-take, List·getD-map, drop-of-length-le}
 use lib.Seq.{getD-take, drop-cons}
 use lib.Dec.{eqb, ltb, leb}
 use borrow.Author.Tests.{lt-ltb, le-ltb, eq-eqb, ne-eqb, lt-leb, le-leb, ltb-true, ltb-false}
@@ -14,34 +14,30 @@ use Rattle.disc.specs.Choice.{pick}
 use Rattle.disc.specs.Refusals.{number}
 use Rattle.disc.specs.Ask.{then}
 use Rattle.disc.specs.Images.{sectors, sectorsFor}
-use Rattle.disc.specs.Places.{placed, isChecked, Stands as StandsAt}
+use Rattle.disc.specs.Places.{placed, Stands as StandsAt}
 use Rattle.disc.specs.declared.places.Mount.{Mount}
 use Rattle.disc.specs.declared.places.Sector.{Sector}
 use Rattle.disc.specs.declared.places.PartitionRef.{PartitionRef}
-use Rattle.disc.specs.declared.places.PartitionRef.the-variants.{Unnamed}
 use Rattle.disc.specs.declared.places.Placed.{Placed}
 use Rattle.disc.specs.declared.places.Placed.the-variants.{At, Nowhere}
 use Rattle.disc.specs.declared.refusals.Refusal.{Refusal}
 use Rattle.disc.specs.declared.refusals.Refusal.the-variants.{Malformed, Unsupported, NoSlot}
-use Rattle.disc.proofs.RefusalLaws.{refusal-numbered}
+use Rattle.disc.proofs.RefusalLaws.{refusal-numbered, refusal-known}
 use Rattle.disc.proofs.PlaceLaws.{stands-nowhere, stands-at}
 use Rattle.disc.proofs.PickLaws.{not-both}
 use Rattle.areas.specs.declared.AllocExtent.{AllocExtent}
 use Rattle.areas.specs.declared.AdContinuation.{AdContinuation}
-use Rattle.areas.specs.declared.AdEnding.{AdEnding}
 use Rattle.areas.specs.declared.AdEnding.the-variants.{End, Continuation, Refused}
-use Rattle.areas.specs.Areas.{Area, extent}
 use Rattle.chains.specs.Chains.{areaFrom, nextArea}
 use Rattle.drives.specs.Feeds.{Feed, naming, crowded, settledIn, crowdedBy}
-use Rattle.drives.specs.Feeds.Feed.{over, stop, hold, put, want}
+use Rattle.drives.specs.Feeds.Feed.{over, stop, hold}
 use Rattle.drives.specs.FileFeeds.{extentFeed, extentsFeed, joined, namedBy, chainFeed}
 use Rattle.drives.specs.Openings.{mostSectors}
-use Rattle.drives.specs.Readings.{referenceIn, extentIn, extentsIn, endingOf, feedOf, isWanting, endTree, leftOf, numberOf}
+use Rattle.drives.specs.Readings.{referenceIn, extentIn, extentsIn, endingOf, feedOf, isWanting, endTree, leftOf}
 use Rattle.drives.specs.inner.Turns.{Ends, quiet, Stands, extentsBehind, Enters, EntersAt, continuing, nextOf, Chains, ContinuesAt}
 use Rattle.drives.specs.declared.scans.Scan.{Scan}
 use Rattle.drives.specs.declared.readings.Reading.{Reading}
 use Rattle.drives.specs.declared.turns.Entered.{Entered}
-use Rattle.drives.proofs.OpeningLaws.{refusal-known}
 
 -- ---- an end
 

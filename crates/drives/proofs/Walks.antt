@@ -10,17 +10,16 @@ use lib.Seq.{drop-drop}
 use lib.Dec.{eqb}
 use Rattle.disc.specs.Choice.{pick}
 use Rattle.disc.specs.Counts.{reported}
-use Rattle.disc.specs.Refusals.{number}
+use Rattle.disc.specs.Refusals.{number, refusalOf}
 use Rattle.disc.specs.Ask.{Disc}
 use Rattle.disc.proofs.PickLaws.{not-both}
 use Rattle.drives.specs.Feeds.{Feed, lent, Settled, settledIn, fedBy, Grown, firstOf, behindFirst, within, End, endOf, wanted, arrived}
 use Rattle.drives.specs.Feeds.Feed.{over, stop}
 use Rattle.drives.specs.Feeds.End.{answers, refuses}
-use Rattle.drives.specs.Openings.{refusalOf}
-use Rattle.drives.specs.Readings.{isWanting, wantedSector, endTree, leftOf, numberOf, putAt, Goes, zeroed, Fed}
+use Rattle.drives.specs.Readings.{isWanting, wantedSector, leftOf, numberOf, putAt, Goes, zeroed, Fed}
 use Rattle.drives.specs.declared.readings.Reading.{Reading}
 use Rattle.drives.proofs.GrownLaws.{withLength, length-free, left-grown}
-use Rattle.drives.proofs.WalkLaws.{Feeds, left-at, fed-at, Settles, settles, put-fits, put-front, put-behind}
+use Rattle.drives.proofs.WalkLaws.{Feeds, left-at, fed-at, settles, put-fits, put-front, put-behind}
 
 -- ---- walks
 

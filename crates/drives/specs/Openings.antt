@@ -6,11 +6,9 @@ use mathlib.Core.List.{List, []}
 use lib.Dec.{eqb, ltb}
 use Rattle.disc.specs.Choice.{pick}
 use Rattle.disc.specs.Counts.{reported}
-use Rattle.disc.specs.Refusals.{number}
+use Rattle.disc.specs.Refusals.{number, refusalOf}
 use Rattle.disc.specs.Ask.{Ask, then, ended}
 use Rattle.disc.specs.Ask.Ask.{done, refuse, ask}
-use Rattle.disc.specs.declared.refusals.Refusal.{Refusal}
-use Rattle.disc.specs.declared.refusals.Refusal.the-variants.{Io, Malformed, NotBluray, Unsupported, NoRoom, NoWork, NoSlot, Ambiguous, BadCrc, TooDeep, TooMany, BadName, BadFiles, BadShelf}
 use Rattle.volumes.specs.Sequences.{anyPartition, orderOf, keptOf, Says, saysIn, goOn, scan}
 use Rattle.descriptors.specs.Volumes.{readAnchor}
 use Rattle.descriptors.specs.FileSets.{readFileSet}
@@ -22,24 +20,6 @@ use Rattle.drives.specs.Feeds.{lent, branch}
 use Rattle.drives.specs.declared.openings.Opening.{Opening}
 
 -- ---- what is left
-
--- the refusal of a number; a number of no refusal is none that a step gives
-unfoldable pub refusalOf : ℕ → Refusal
-refusalOf n =
-    pick (eqb n 2) Malformed
-    (pick (eqb n 3) NotBluray
-    (pick (eqb n 4) Unsupported
-    (pick (eqb n 5) NoRoom
-    (pick (eqb n 6) NoWork
-    (pick (eqb n 7) NoSlot
-    (pick (eqb n 9) Ambiguous
-    (pick (eqb n 10) BadCrc
-    (pick (eqb n 11) TooDeep
-    (pick (eqb n 12) TooMany
-    (pick (eqb n 13) BadName
-    (pick (eqb n 14) BadFiles
-    (pick (eqb n 15) BadShelf
-    Io))))))))))))
 
 -- behind what was kept of the descriptors so far
 abbrev pub mountingFrom : Kept → Ask VolumeRecord

@@ -1,18 +1,17 @@
 -- A file's read, fed a sector at a time: the place in its feed that a state stands for with the row in which its extents wait, and a step.
 -- RULES 6 and 7, 14.1 to 14.9.
-use Prim.Native.Nat.{ℕ, zero, suc, _+_, _-_, _*_, _≤_}
+use Prim.Native.Nat.{ℕ, suc, _+_, _-_, _*_, _≤_}
 use mathlib.Core.Path.{_≡_}
 use mathlib.Core.Bool.{Bool, true, false, not, _&&_}
-use mathlib.Core.List.{List, [], _∷_, _++_, map}
+use mathlib.Core.List.{List, _++_, map}
 use lib.ListN.{length, getD, take, drop, replicate}
 use lib.Dec.{eqb, ltb, leb}
 use Rattle.disc.specs.Choice.{pick}
 use Rattle.disc.specs.Counts.{reported}
-use Rattle.disc.specs.Refusals.{number}
+use Rattle.disc.specs.Refusals.{number, refusalOf}
 use Rattle.disc.specs.Ask.{then}
 use Rattle.disc.specs.Images.{sectors}
 use Rattle.disc.specs.Places.{isChecked}
-use Rattle.disc.specs.declared.places.Mount.{Mount}
 use Rattle.disc.specs.declared.places.PartitionRef.{PartitionRef}
 use Rattle.disc.specs.declared.places.PartitionRef.the-variants.{Unnamed, Named}
 use Rattle.disc.specs.declared.refusals.Refusal.the-variants.{Malformed, Unsupported, BadCrc}
@@ -22,12 +21,12 @@ use Rattle.areas.specs.declared.AllocExtent.{AllocExtent}
 use Rattle.areas.specs.declared.AdEnding.{AdEnding}
 use Rattle.areas.specs.declared.AdEnding.the-variants.{End, Continuation, Refused}
 use Rattle.areas.specs.Areas.{sizeOf, extent, continuation, Area, ended, areaAt}
-use Rattle.chains.specs.Chains.{areaIn, nextArea}
+use Rattle.chains.specs.Chains.{areaIn}
 use Rattle.files.specs.Files.{entryIn}
 use Rattle.drives.specs.Feeds.{Feed, following, naming, crowdedBy, lent, fedBy, Settled, settledIn}
 use Rattle.drives.specs.Feeds.Feed.{over, stop, name, hold, put, want}
 use Rattle.drives.specs.FileFeeds.{extentFeed, extentsFeed, joined, namedBy, chainFeed, entryFeed}
-use Rattle.drives.specs.Openings.{refusalOf, mostSectors}
+use Rattle.drives.specs.Openings.{mostSectors}
 use Rattle.drives.specs.declared.scans.Scan.{Scan}
 use Rattle.drives.specs.declared.readings.Body.{Body}
 use Rattle.drives.specs.declared.readings.Reading.{Reading}

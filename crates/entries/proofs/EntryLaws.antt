@@ -23,7 +23,9 @@ use Rattle.entries.specs.declared.«file_entries».EntryRead.{EntryRead}
 use Rattle.entries.specs.declared.«file_entries».EntryRead.the-variants.{Read, Refused}
 use Rattle.entries.specs.IcbTags.{icbTagOf}
 use Rattle.entries.specs.FileEntries.{plainTail, extendedTail, kindOf, entryOf, entryWith, entryId, entryBehind, entryAfter, readEntry}
-use Rattle.tags.proofs.HeadLaws.{Passed, head-read, head-refused}
+use Rattle.tags.proofs.HeadLaws.{head-read, head-refused}
+use Rattle.tags.specs.Heads.{Passed}
+use Rattle.entries.specs.Whole.{tailOf, WholeEntry}
 
 -- ---- the returns of `plain_tail` and `extended_tail`
 
@@ -98,17 +100,6 @@ module _ (check : Bool) (s : List ℕ) {id : ℕ} (i : id ≡ entryId s) {x : Ta
   entry-yes h k = rw (← i, ← e, h) k
 
 -- ---- what was read
-
--- the fields from 64 on, by the tag's id
-abbrev pub tailOf : List ℕ → DescriptorTag → EntryTail
-tailOf s t = pick (eqb (t .id) 266) (extendedTail s) (plainTail s)
-
--- e is the entry at the front of s: it passed the gate, its fields are those of the bytes, its kind is known, and its area lies within s
-pub record WholeEntry (check : Bool) (s : List ℕ) (e : FileEntry) : Type 0 where
-  pub head : Passed check s (entryId s) 176 (e .tag)
-  pub fields : e ≡ entryOf s (e .tag) (icbTagOf s 16) (tailOf s (e .tag))
-  pub known : e .kind ≤ 3
-  pub inside : e .«area_at» + e .«area_length» ≤ length s
 
 module _ (check : Bool) (s : List ℕ) {e : FileEntry} (t : DescriptorTag) (p : Passed check s (entryId s) 176 t) where
   with-says : (d : EntryTail) → d ≡ tailOf s t → entryWith s t (icbTagOf s 16) d ≡ Read e → WholeEntry check s e

@@ -2,3 +2,4 @@
 pub mod IcbTags
 pub mod FileEntries
 pub mod Answers
+pub mod Whole

@@ -8,10 +8,11 @@ use lib.ListN.{length, getD, take, drop, replicate, length-append}
 use lib.Seq.{take-at, drop-at, drop-append-add}
 use borrow.Author.Tests.{le-leb}
 use Rattle.disc.proofs.ImageLaws.{split}
-use Rattle.figures.specs.Figures.{Figures, Wide, Holds, nothing, most, added, addedTo, allAdded, eachAdded, numbers, pairs, row, rows, placesAdded, totalOf, totaled, totalAnswer}
+use Rattle.figures.specs.Figures.{Figures, Wide, Holds, nothing, most, added, addedTo, allAdded, eachAdded, numbers, pairs, row, rows, placesAdded, totalOf, totaled, totalAnswer, AllWide}
 use Rattle.figures.proofs.PairLaws.{over-above, over-within, reported-above, reported-within}
 use Rattle.figures.proofs.RowLaws.{each-long, each-append, pairs-long, pairs-added, laid-long}
 pub use Rattle.figures.proofs.RowLaws.{pairs-number, pairs-mark}
+use Rattle.figures.specs.Figures.AllWide.{none-wide, more-wide}
 
 -- ---- figures
 
@@ -62,11 +63,6 @@ pub places-added : {f g : Figures} {s t : List ℕ} → Holds f s → Holds g t 
 places-added {f} {g} h k = record { wide = added-wide g (h .wide); is = rw (h .is, k .is) (row-added (h .wide) (k .wide)) }
 
 -- ---- places one behind another, and their total
-
--- each has a count for each answer number
-pub data AllWide : List Figures → Type 0 where
-  none-wide : AllWide []
-  more-wide : {f : Figures} {fs : List Figures} → Wide f → AllWide fs → AllWide (f ∷ fs)
 
 pub rows-long : {fs : List Figures} → AllWide fs → length (rows fs) ≡ 76 * length fs
 unfolding rows

@@ -155,3 +155,8 @@ totaled n places =
 
 abbrev pub totalAnswer : ℕ → List ℕ → ℕ
 totalAnswer n places = pick (leb (place * (n + 1)) (length places)) 0 (number BadShelf)
+
+-- each has a count for each answer number
+pub data AllWide : List Figures → Type 0 where
+  none-wide : AllWide []
+  more-wide : {f : Figures} {fs : List Figures} → Wide f → AllWide fs → AllWide (f ∷ fs)

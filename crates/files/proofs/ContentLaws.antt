@@ -12,7 +12,7 @@ use Rattle.disc.specs.Ask.{Ask, then}
 use Rattle.disc.specs.Ask.Outcome.{answered}
 use Rattle.disc.specs.Images.{disc, sectorsFor}
 use Rattle.disc.specs.Ran.{ran}
-use Rattle.disc.proofs.ByteLaws.{Bytes, bytes-taken, bytes-dropped, bytes-joined}
+use Rattle.disc.proofs.ByteLaws.{bytes-taken, bytes-dropped, bytes-joined}
 use Rattle.disc.proofs.GivenLaws.{sector-bytes, Gives, gives-then, gives-any, gives-pick, gives-outcome}
 use Rattle.records.specs.declared.allocations.LongAd.{LongAd}
 use Rattle.areas.specs.declared.AllocExtent.{AllocExtent}
@@ -22,6 +22,7 @@ use Rattle.entries.specs.declared.«file_entries».EntryRead.the-variants.{Read
 use Rattle.files.specs.Reads.{joining, extentBytes, extentsBytes}
 use Rattle.files.specs.Files.{Located, located, entryIn, entryAt, entryMount, isEmbedded, chainOf, File, fileAt, contentOf, fileBytes}
 use Rattle.files.specs.Files.File.{embedded, chained}
+use Rattle.disc.specs.Parts.{Bytes}
 
 joining-bytes : (want : ℕ) (b : List ℕ) (more : Ask (List ℕ)) → Bytes b → Gives Bytes more → Gives Bytes (joining want b more)
 unfolding Gives

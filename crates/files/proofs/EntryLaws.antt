@@ -12,13 +12,13 @@ use mir.Syntax.{w64}
 use mir.Val.{Fits}
 use borrow.Author.Tests.{eq-eqb, ne-eqb, eqb-true, eqb-false}
 use Rattle.disc.specs.Choice.{pick}
-use Rattle.disc.specs.Ask.{Ask, bytesIn}
+use Rattle.disc.specs.Ask.{bytesIn}
 use Rattle.disc.specs.Ask.Held.{holds, lacks}
 use Rattle.disc.specs.Ask.Ask.{done}
 use Rattle.disc.specs.Ask.Outcome.{answered, refused}
 use Rattle.disc.specs.Ran.{Ran, ran, after, followed}
 use Rattle.disc.specs.Images.{there, disc, heldFrom}
-use Rattle.disc.specs.Places.{icbPlaced, isChecked, standing, StandsIn}
+use Rattle.disc.specs.Places.{icbPlaced, isChecked, StandsIn}
 use Rattle.disc.specs.declared.places.Mount.{Mount}
 use Rattle.disc.specs.declared.places.Placed.{Placed}
 use Rattle.disc.specs.declared.places.Placed.the-variants.{At, Nowhere}
@@ -42,7 +42,7 @@ use Rattle.chains.specs.declared.cursors.ChainCursor.{ChainCursor}
 use Rattle.chains.specs.declared.follows.Chain.{Chain}
 use Rattle.chains.specs.declared.follows.Chain.the-variants.{Whole, Refused as BrokenOff}
 use Rattle.chains.proofs.CountLaws.{whole-hops}
-use Rattle.chains.proofs.AskedLaws.{AtMost, done-asks, refuse-asks, pick-asks, ask-asks, standing-asks}
+use Rattle.chains.proofs.AskedLaws.{done-asks, refuse-asks, pick-asks, ask-asks, standing-asks}
 use Rattle.files.specs.declared.icbs.Place.{Place}
 use Rattle.files.specs.declared.icbs.PlaceRead.{PlaceRead}
 use Rattle.files.specs.declared.icbs.PlaceRead.the-variants.{Found, Refused}
@@ -51,6 +51,7 @@ use Rattle.files.specs.Files.File.{chained}
 use Rattle.files.specs.inner.Places.{placeAt, placeBy, placeOn, placeFrom, placeOf}
 use Rattle.files.specs.inner.Wholes.{readBy, placeIn, frontOf, FoundPlace, Finds, Locates, EmbeddedFile, Resolves}
 use Rattle.files.specs.declared.resolves.Resolved.the-variants.{Embedded, Chained, Refused as Unresolved}
+use Rattle.chains.specs.Totals.{AtMost}
 
 -- a part of a part
 part-of : (n i m : ℕ) (s : List ℕ) → i + n ≤ m → take n (drop i (take m s)) ≡ take n (drop i s)

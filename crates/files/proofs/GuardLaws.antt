@@ -13,10 +13,10 @@ use Rattle.disc.specs.Images.{sectorsFor}
 use Rattle.disc.specs.Places.{placed, icbPlaced, isChecked, unchecked, standing}
 use Rattle.disc.specs.declared.places.Mount.{Mount}
 use Rattle.disc.specs.declared.refusals.Refusal.the-variants.{Malformed, Unsupported}
-use Rattle.disc.proofs.MarkedLaws.{Guards, done-guards, refuse-guards, ask-guards, pick-guards, then-guards}
+use Rattle.disc.proofs.MarkedLaws.{done-guards, refuse-guards, ask-guards, pick-guards, then-guards}
 use Rattle.disc.proofs.PlaceLaws.{entry-checked, entry-unchecked, icb-unchecked}
 use Rattle.records.specs.declared.allocations.LongAd.{LongAd}
-use Rattle.tags.proofs.BodyLaws.{rightAt, gate-guards}
+use Rattle.tags.proofs.BodyLaws.{gate-guards}
 use Rattle.tags.specs.declared.DescriptorTag.{DescriptorTag}
 use Rattle.areas.specs.declared.AllocExtent.{AllocExtent}
 use Rattle.areas.specs.Areas.{areaAt}
@@ -28,6 +28,8 @@ use Rattle.chains.proofs.GuardLaws.{placed-unchecked, area-ends, chain-guards}
 use Rattle.files.specs.Reads.{joining, extentBytes, extentsBytes}
 use Rattle.files.specs.Files.{Located, located, entryIn, entryAt, entryMount, isEmbedded, chainOf, File, fileAt, contentOf, fileBytes, filePart, fileExtents}
 use Rattle.files.specs.Files.File.{embedded, chained}
+use Rattle.disc.specs.Marks.{Guards}
+use Rattle.tags.specs.Heads.{rightAt}
 
 -- ---- its extents hold no descriptor
 

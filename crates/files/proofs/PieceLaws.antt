@@ -1,5 +1,5 @@
 -- What the next piece of a file is: the laws that `sectors_read`, `weigh` and `next_piece` cite. Assumes nothing.
-use mathlib.Core.Path.{_≡_, refl, sym, _∙_}
+use mathlib.Core.Path.{_≡_, refl, _∙_}
 use mathlib.Core.List.{List, [], _∷_, _++_}
 use mathlib.Core.Option.{none, some}
 use mathlib.Core.Logic.{⊎-elim}
@@ -9,7 +9,6 @@ use lib.ListN.{length, take, drop, length-drop}
 use lib.Seq.{take-all, length-take-le}
 use lib.Dec.{leb}
 use borrow.Author.Tests.{eq-eqb, ne-eqb, le-leb, lt-leb}
-use Rattle.disc.proofs.ByteLaws.{Bytes}
 use Rattle.disc.specs.Choice.{pick}
 use Rattle.disc.specs.Ask.{Disc, Ask, Outcome}
 use Rattle.disc.specs.Ask.Ask.{done}
@@ -35,6 +34,7 @@ use Rattle.files.specs.declared.pieces.Turn.the-variants.{Piece as APiec
 use Rattle.files.specs.Reads.{joining, extentsBytes, visited}
 use Rattle.files.specs.inner.Pieces.{sectorsRead, inFront, joined, restOf, Lies, weighedAt, Weighed, Turned}
 use Rattle.files.proofs.ExtentLaws.{extentRuns, extent-runs}
+use Rattle.disc.specs.Parts.{Bytes}
 
 -- ---- what an extent gives
 

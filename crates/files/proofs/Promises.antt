@@ -13,7 +13,7 @@ use Rattle.disc.specs.Choice.{pick}
 use Rattle.disc.specs.Counts.{reported}
 use Rattle.disc.specs.Ask.{Held, Disc, Ask, Outcome, asked, then, Agree}
 use Rattle.disc.specs.Ask.Held.{holds, lacks}
-use Rattle.disc.specs.Ask.Ask.{done, refuse, ask}
+use Rattle.disc.specs.Ask.Ask.{done, refuse}
 use Rattle.disc.specs.Ask.Outcome.{answered, refused}
 use Rattle.disc.specs.Ran.{Ran, ran, after, onward}
 use Rattle.disc.specs.Images.{disc, heldFrom}
@@ -31,12 +31,12 @@ use Rattle.disc.specs.declared.places.PartitionRef.the-variants.{Unnamed, Named
 use Rattle.areas.specs.declared.AllocExtent.{AllocExtent}
 use Rattle.areas.specs.declared.AdEnding.the-variants.{End}
 use Rattle.areas.specs.Areas.{Area, extent, areaAt, descriptors, descriptorAt, descriptorOf, sizeOf}
-use Rattle.areas.proofs.TotalLaws.{total, area-total}
+use Rattle.areas.proofs.TotalLaws.{area-total}
 use Rattle.entries.specs.FileEntries.{readEntry}
 use Rattle.entries.specs.declared.«file_entries».EntryRead.{EntryRead}
 use Rattle.entries.specs.declared.«file_entries».EntryRead.the-variants.{Read, Refused}
 use Rattle.chains.specs.Chains.{continued}
-use Rattle.chains.proofs.AskedLaws.{AtMost, done-asks, pick-asks, then-asks, chain-asks}
+use Rattle.chains.proofs.AskedLaws.{done-asks, pick-asks, then-asks, chain-asks}
 use Rattle.chains.proofs.TotalLaws.{chain-within}
 use Rattle.files.specs.Reads.{visited, heldAt, extentsHold}
 use Rattle.files.specs.Files.{Located, located, entryIn, entryAt, entryMount, isEmbedded, embeddedBytes, chainOf, File, resolved, fileAt, contentOf, fileBytes, filePart, fileExtents, visitsOf, fileVisited, visitsIn}
@@ -46,6 +46,9 @@ use Rattle.files.specs.inner.Pieces.{sectorsRead, restOf, HeldPiece}
 use Rattle.files.proofs.EntryLaws.{entry-asks, locates}
 use Rattle.files.proofs.PieceLaws.{weigh-type, weigh-held}
 use Rattle.files.proofs.BoundLaws.{extents-cut, extents-bound}
+use Rattle.areas.specs.Totals.{total}
+use Rattle.chains.specs.Totals.{AtMost}
+use Rattle.files.specs.Example.{example, own, first, second}
 
 -- ---- RULES 2.7: images that agree on the sectors that a read asks for give the same reply and the same memory
 
@@ -175,9 +178,6 @@ module _ (image : List ℕ) (m : Mount) (icb : LongAd) {x : Located} (h : ran (d
 
 -- ---- the example of RULES 7.11: short extents 3,000 at block 10, 100 at 20, 5,000 of type 1 at 30
 
-abbrev pub example : List AllocExtent
-example = extent 3000 0 10 Unnamed ∷ extent 100 0 20 Unnamed ∷ extent 5000 1 30 Unnamed ∷ []
-
 pub example-area : areaAt 0 (0xb8 ∷ 0x0b ∷ 0 ∷ 0 ∷ 10 ∷ 0 ∷ 0 ∷ 0 ∷ 100 ∷ 0 ∷ 0 ∷ 0 ∷ 20 ∷ 0 ∷ 0 ∷ 0 ∷ 0x88 ∷ 0x13 ∷ 0 ∷ 0x40 ∷ 30 ∷ 0 ∷ 0 ∷ 0 ∷ []) 0 24
     ≡ record { extents = example; ending = End }
 unfolding areaAt descriptors descriptorAt descriptorOf sizeOf
@@ -189,47 +189,38 @@ example-visits = (refl, refl, refl)
 
 -- the three sectors that it takes are there, in the partition of its entry
 module _ (image : List ℕ) (m : Mount) (icb : LongAd) (a : 2 ≤ heldFrom image (sectorOf (entryMount m icb .start) 10)) (b : 1 ≤ heldFrom image (sectorOf (entryMount m icb .start) 20)) where
-  abbrev own : Mount
-  own = entryMount m icb
-
-  abbrev first : ℕ → List ℕ
-  first n = take n (drop (2048 * sectorOf (own .start) 10) image)
-
-  abbrev second : ℕ → List ℕ
-  second n = take n (drop (2048 * sectorOf (own .start) 20) image)
-
-  held-1 : (want : ℕ) → sectorsRead 3000 want ≤ 2 → HeldPiece image own (extent 3000 0 10 Unnamed) want (2048 * sectorOf (own .start) 10) (sectorsRead 3000 want) (min 3000 want)
+  held-1 : (want : ℕ) → sectorsRead 3000 want ≤ 2 → HeldPiece image (own m icb) (extent 3000 0 10 Unnamed) want (2048 * sectorOf ((own m icb) .start) 10) (sectorsRead 3000 want) (min 3000 want)
   unfolding placed
-  held-1 want h = weigh-held image own (extent 3000 0 10 Unnamed) want refl refl (omega arith)
+  held-1 want h = weigh-held image (own m icb) (extent 3000 0 10 Unnamed) want refl refl (omega arith)
 
-  held-2 : (want : ℕ) → sectorsRead 100 want ≤ 1 → HeldPiece image own (extent 100 0 20 Unnamed) want (2048 * sectorOf (own .start) 20) (sectorsRead 100 want) (min 100 want)
+  held-2 : (want : ℕ) → sectorsRead 100 want ≤ 1 → HeldPiece image (own m icb) (extent 100 0 20 Unnamed) want (2048 * sectorOf ((own m icb) .start) 20) (sectorsRead 100 want) (min 100 want)
   unfolding placed
-  held-2 want h = weigh-held image own (extent 100 0 20 Unnamed) want refl refl (omega arith)
+  held-2 want h = weigh-held image (own m icb) (extent 100 0 20 Unnamed) want refl refl (omega arith)
 
-  reads-3050 : restOf image own example 3050 ≡ record { outcome = answered (first 3000 ++ second 50); count = 3 }
+  reads-3050 : restOf image (own m icb) example 3050 ≡ record { outcome = answered ((first image m icb) 3000 ++ (second image m icb) 50); count = 3 }
   reads-3050 = held-1 3050 (omega arith) .runs _ ∙ rw (held-2 50 (omega arith) .runs (extent 5000 1 30 Unnamed ∷ []))
 
-  reads-0 : restOf image own example 0 ≡ record { outcome = answered []; count = 1 }
+  reads-0 : restOf image (own m icb) example 0 ≡ record { outcome = answered []; count = 1 }
   reads-0 = held-1 0 (omega arith) .runs _
 
-  reads-3101 : restOf image own example 3101 ≡ record { outcome = refused Unsupported; count = 3 }
+  reads-3101 : restOf image (own m icb) example 3101 ≡ record { outcome = refused Unsupported; count = 3 }
   reads-3101 =
       held-1 3101 (omega arith) .runs _
-      ∙ rw (held-2 101 (omega arith) .runs (extent 5000 1 30 Unnamed ∷ []), weigh-type image own (extent 5000 1 30 Unnamed) 1 (λ z. omega arith) [])
+      ∙ rw (held-2 101 (omega arith) .runs (extent 5000 1 30 Unnamed ∷ []), weigh-type image (own m icb) (extent 5000 1 30 Unnamed) 1 (λ z. omega arith) [])
 
   module _ {x : Located} (h : ran (disc image) (entryAt m icb) .outcome ≡ answered x) (n : x .entry .kind ≡ 0)
       (l : areaAt 0 (x .sector) (x .entry .«area_at») (x .entry .«area_length») ≡ record { extents = example; ending = End }) where
-    lists : ran (disc image) (chainOf own x) ≡ record { outcome = answered example; count = 0 }
+    lists : ran (disc image) (chainOf (own m icb) x) ≡ record { outcome = answered example; count = 0 }
     unfolding continued then
     lists = rw (n, l) (ran-done (disc image) example)
 
-    comes : (want : ℕ) → x .entry .«information_length» ≡ want → (r : Ran (List ℕ)) → restOf image own example want ≡ r → ran (disc image) (fileBytes m icb) ≡ after 1 r
+    comes : (want : ℕ) → x .entry .«information_length» ≡ want → (r : Ran (List ℕ)) → restOf image (own m icb) example want ≡ r → ran (disc image) (fileBytes m icb) ≡ after 1 r
     comes want e r q =
         chain-runs image m icb h (rw n) (ap (λ (y : Ran (List AllocExtent)). y .outcome) lists)
         ∙ rw (lists, e, q)
 
     -- 3,050 bytes after 4 sectors; none after 2; refusal 4
-    pub example-3050 : x .entry .«information_length» ≡ 3050 → ran (disc image) (fileBytes m icb) ≡ record { outcome = answered (first 3000 ++ second 50); count = 4 }
+    pub example-3050 : x .entry .«information_length» ≡ 3050 → ran (disc image) (fileBytes m icb) ≡ record { outcome = answered ((first image m icb) 3000 ++ (second image m icb) 50); count = 4 }
     example-3050 e = comes 3050 e _ reads-3050
 
     pub example-0 : x .entry .«information_length» ≡ 0 → ran (disc image) (fileBytes m icb) ≡ record { outcome = answered []; count = 2 }

@@ -12,7 +12,7 @@ use Rattle.disc.specs.Ask.{Ask}
 use Rattle.disc.specs.Images.{sectors, sectorsFor}
 use Rattle.disc.specs.declared.refusals.Refusal.{Refusal}
 use Rattle.disc.specs.declared.refusals.Refusal.the-variants.{Malformed, Unsupported, BadCrc}
-use Rattle.disc.proofs.OnlyLaws.{Refuses, done-only, refuse-only, ask-only, pick-only, then-only, Any, standing-only}
+use Rattle.disc.proofs.OnlyLaws.{done-only, refuse-only, ask-only, pick-only, then-only, standing-only}
 use Rattle.disc.proofs.PlaceLaws.{entry-checked}
 use Rattle.records.specs.declared.allocations.LongAd.{LongAd}
 use Rattle.tags.specs.Tags.{readAed}
@@ -32,6 +32,7 @@ use Rattle.entries.proofs.EntryLaws.{read-entry-refused}
 use Rattle.chains.specs.Chains.{areaIn, nextArea, continued, areaFrom}
 use Rattle.files.specs.Reads.{joining, extentBytes, extentsBytes}
 use Rattle.files.specs.Files.{Located, located, entryAt, entryMount, isEmbedded, chainOf, fileBytes, filePart, fileExtents, File, fileAt, contentOf}
+use Rattle.disc.specs.Refusing.{Refuses, Any}
 
 -- how an area ends
 unfoldable pub EndsBy : (Refusal → Type 0) → AdEnding → Type 0

@@ -2,4 +2,5 @@
 pub mod Reads
 pub mod Files
 pub mod Sizes
+pub mod Example
 pub mod inner

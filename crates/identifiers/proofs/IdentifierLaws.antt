@@ -22,14 +22,16 @@ use Rattle.tags.specs.declared.TagRead.the-variants.{Read as ATag, Refused as N
 use Rattle.names.specs.Names.{nameOf, written, sizeOf}
 use Rattle.names.specs.declared.dstrings.NameSize.{NameSize}
 use Rattle.names.specs.declared.dstrings.NameSize.the-variants.{Size, Refused as NoName}
-use Rattle.disc.proofs.ByteLaws.{Bytes, bytes-taken, bytes-dropped}
+use Rattle.disc.proofs.ByteLaws.{bytes-taken, bytes-dropped}
 use Rattle.names.proofs.Promises.{name-short, name-refused}
 use Rattle.identifiers.specs.declared.FileIdentifierDescriptor.{FileIdentifierDescriptor}
 use Rattle.identifiers.specs.declared.IdentifierRead.{IdentifierRead}
 use Rattle.identifiers.specs.Identifiers.{nameAt, nameEnd, recordedName, nextAt, identifierOf, identifierSized, identifierNamed, readIdentifier, identifierRead}
 use Rattle.identifiers.specs.inner.Wholes.{Whole}
 use Rattle.disc.proofs.RefusalLaws.{refusal-numbered}
-use Rattle.tags.proofs.HeadLaws.{Passed, gated-answered, gated-refused}
+use Rattle.tags.proofs.HeadLaws.{gated-answered, gated-refused}
+use Rattle.disc.specs.Parts.{Bytes}
+use Rattle.tags.specs.Heads.{Passed}
 
 -- ---- the returns of the functions
 

@@ -12,7 +12,6 @@ use lib.Seq.{sets, sets-eq}
 use mir.Syntax.{w64}
 use mir.Val.{Fits}
 use borrow.Author.Tests.{le-leb, lt-leb, leb-true}
-use Rattle.disc.proofs.ByteLaws.{Bytes}
 use Rattle.disc.specs.Refusals.{number}
 use Rattle.disc.specs.Choice.{pick}
 use Rattle.disc.specs.Counts.{reported}
@@ -44,6 +43,7 @@ use Rattle.layouts.specs.declared.lists.Extent.{Extent}
 use Rattle.layouts.specs.declared.lists.Listing.{Listing}
 use Rattle.layouts.specs.Calls.{referenceOf, extentOf, fieldsOf, wordsOf, Listed}
 use Rattle.layouts.specs.inner.Lists.{storedOf, Front, Stands, Planned, listedRun}
+use Rattle.disc.specs.Parts.{Bytes}
 
 -- ---- the return of `extent_of`
 

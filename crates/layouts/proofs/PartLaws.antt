@@ -14,14 +14,14 @@ use Rattle.disc.specs.Refusals.{number}
 use Rattle.disc.specs.Ask.{Disc, Outcome}
 use Rattle.disc.specs.Ask.Ask.{done}
 use Rattle.disc.specs.Ask.Outcome.{answered, refused}
-use Rattle.disc.specs.Ran.{Ran, ran, after, onward, followed}
+use Rattle.disc.specs.Ran.{ran, after, onward, followed}
 use Rattle.disc.specs.Replies.{answerOf}
 use Rattle.disc.specs.Images.{disc}
 use Rattle.disc.specs.declared.places.Mount.{Mount}
 use Rattle.disc.specs.declared.refusals.Refusal.{Refusal}
 use Rattle.disc.specs.declared.replies.Reply.{Reply}
 use Rattle.disc.proofs.RanLaws.{ran-done, ran-then}
-use Rattle.disc.proofs.PartLaws.{PartAt, part-none, part-slice}
+use Rattle.disc.proofs.PartLaws.{part-none, part-slice}
 use Rattle.records.specs.declared.allocations.LongAd.{LongAd}
 use Rattle.areas.specs.declared.AllocExtent.{AllocExtent}
 use Rattle.files.specs.declared.icbs.Place.{Place}
@@ -35,6 +35,8 @@ use Rattle.files.specs.inner.Places.{placeOf}
 use Rattle.files.specs.inner.Wholes.{embeddedIn, FoundPlace, Locates, EmbeddedFile, ChainedFile, NoFile, Resolves}
 use Rattle.files.proofs.EntryLaws.{found-kind, found-goes, found-embedded, locates}
 use Rattle.layouts.specs.Calls.{partIn, partReply, PartReplied}
+use Rattle.disc.specs.Parts.{PartAt}
+use Rattle.layouts.specs.Inside.{file}
 
 embedded-size : (image : List ℕ) (p : Place) → p .at + p .size ≤ length image → length (embeddedIn image p) ≡ min (p .size) (p .information)
 embedded-size image p h = length-take-le (min (p .size) (p .information)) (drop (p .at) image) (rw length-drop (omega arith))
@@ -42,18 +44,15 @@ embedded-size image p h = length-take-le (min (p .size) (p .information)) (drop 
 -- ---- what the call comes to, by what `resolve` found
 
 module _ (image : List ℕ) (m : Mount) (icb : LongAd) where
-  abbrev file : Ran Part
-  file = ran (disc image) (filePart m icb)
-
-  refused-runs : {why : Refusal} {n : ℕ} → NoFile image m icb why n → file ≡ record { outcome = refused why; count = n }
+  refused-runs : {why : Refusal} {n : ℕ} → NoFile image m icb why n → (file image m icb) ≡ record { outcome = refused why; count = n }
   unfolding filePart
   refused-runs q = rw (ran-then, q .runs)
 
-  chained-runs : {p : Place} {n : ℕ} → ChainedFile image m icb p n → file ≡ record { outcome = answered noPart; count = n }
+  chained-runs : {p : Place} {n : ℕ} → ChainedFile image m icb p n → (file image m icb) ≡ record { outcome = answered noPart; count = n }
   unfolding filePart
   chained-runs {p} {n} q = rw (ran-then, q .runs, ran-done) (ap (λ k. record { outcome = answered noPart; count = k }) (omega arith))
 
-  embedded-runs : {p : Place} → EmbeddedFile image m icb p → file ≡ record { outcome = answered (record { at = p .at; bytes = embeddedIn image p }); count = 1 }
+  embedded-runs : {p : Place} → EmbeddedFile image m icb p → (file image m icb) ≡ record { outcome = answered (record { at = p .at; bytes = embeddedIn image p }); count = 1 }
   unfolding filePart
   embedded-runs {p} q =
       let w : p .at ≡ 2048 * q .entry .at + q .entry .entry .«area_at» = ap (λ (x : Place). x .at) (q .is) in

@@ -19,13 +19,12 @@ use Rattle.disc.specs.Replies.{answerOf, replyBy, leftBy}
 use Rattle.disc.specs.declared.places.Mount.{Mount}
 use Rattle.disc.specs.declared.refusals.Refusal.the-variants.{Unsupported, NoSlot}
 use Rattle.disc.specs.declared.replies.Reply.{Reply}
-use Rattle.disc.proofs.AskLaws.{askedBehind, asked-then, asked-done}
-use Rattle.disc.proofs.PartLaws.{PartAt}
+use Rattle.disc.proofs.AskLaws.{asked-then, asked-done}
 use Rattle.disc.proofs.RanLaws.{ran-done, ran-then, same-ran}
 use Rattle.disc.proofs.ReplyLaws.{replied-one}
 use Rattle.records.specs.declared.allocations.LongAd.{LongAd}
 use Rattle.areas.specs.declared.AllocExtent.{AllocExtent}
-use Rattle.chains.proofs.AskedLaws.{AtMost, done-asks, then-asks}
+use Rattle.chains.proofs.AskedLaws.{done-asks, then-asks}
 use Rattle.files.specs.Reads.{joining, extentBytes, extentsBytes}
 use Rattle.files.specs.Files.{Located, entryMount, File, fileAt, contentOf, fileBytes, Part, partOf, filePart, extentsOf, fileExtents}
 use Rattle.files.specs.Files.File.{embedded, chained}
@@ -36,7 +35,11 @@ use Rattle.layouts.specs.inner.RunLists.{runsIn}
 use Rattle.layouts.specs.declared.lists.Extent.{Extent}
 use Rattle.layouts.specs.declared.runs.Run.{Run}
 use Rattle.layouts.proofs.PartLaws.{part-stands}
-use Rattle.layouts.proofs.RunLaws.{AllInside, no-run, inside-alone, hold-here, extents-gathered, extents-inside}
+use Rattle.layouts.proofs.RunLaws.{no-run, inside-alone, hold-here, extents-gathered, extents-inside}
+use Rattle.disc.specs.Lists.{askedBehind}
+use Rattle.disc.specs.Parts.{PartAt}
+use Rattle.chains.specs.Totals.{AtMost}
+use Rattle.layouts.specs.Inside.{AllInside}
 
 -- ---- a list's contract leaves one result, whatever a slot holds of an extent
 

@@ -12,13 +12,14 @@ use Rattle.disc.specs.Ask.{Ask}
 use Rattle.disc.specs.Images.{sectorsFor}
 use Rattle.disc.specs.declared.refusals.Refusal.{Refusal}
 use Rattle.disc.specs.declared.refusals.Refusal.the-variants.{Malformed, Unsupported, BadCrc}
-use Rattle.disc.proofs.OnlyLaws.{Refuses, done-only, refuse-only, pick-only, then-only, Any, standing-only}
+use Rattle.disc.proofs.OnlyLaws.{done-only, refuse-only, pick-only, then-only, standing-only}
 use Rattle.records.specs.declared.allocations.LongAd.{LongAd}
 use Rattle.areas.specs.declared.AllocExtent.{AllocExtent}
 use Rattle.files.specs.Files.{entryMount, File}
 use Rattle.layouts.specs.Runs.{running, extentsRuns, runsOf, fileRuns}
 use Rattle.layouts.specs.declared.runs.Run.{Run}
 use Rattle.files.proofs.RefusingLaws.{extent-only, file-only}
+use Rattle.disc.specs.Refusing.{Refuses, Any}
 
 -- ---- the runs of a file, for any P that has 2 and 4, and 10 where bodies are checked
 

@@ -26,12 +26,13 @@ use Rattle.areas.specs.declared.AllocExtent.{AllocExtent}
 use Rattle.chains.specs.inner.Walks.{left}
 use Rattle.chains.specs.declared.cursors.ChainCursor.{ChainCursor}
 use Rattle.files.specs.Reads.{extentsBytes}
-use Rattle.files.specs.inner.Pieces.{sectorsRead, beforeOutcome, inFront, joined, restOf, restAt, There, HeldPiece, PieceTurn}
+use Rattle.files.specs.inner.Pieces.{sectorsRead, inFront, joined, restOf, There, PieceTurn}
 use Rattle.files.proofs.ExtentLaws.{extentRuns, extent-runs}
 use Rattle.files.proofs.PieceLaws.{part-long, weigh-type, weigh-nowhere, weigh-missing, weigh-held}
 use Rattle.layouts.specs.declared.runs.Run.{Run}
-use Rattle.layouts.specs.Runs.{runHere, running, extentsRuns, runsHold, heldBy, gathered}
+use Rattle.layouts.specs.Runs.{runHere, running, extentsRuns, runsHold, gathered}
 use Rattle.layouts.specs.inner.RunLists.{runsOn, runsAt, runsIn}
+use Rattle.layouts.specs.Inside.{AllInside}
 
 -- runs in front of what is answered: they are all that was wanted, or more come behind them
 abbrev pub beforeRuns : List Run → Outcome (List Run) → Outcome (List Run)
@@ -116,14 +117,6 @@ module _ (image : List ℕ) (m : Mount) (e : AllocExtent) (want : ℕ) where
               (split sectors (heldFrom image s))
 
 -- ---- runs inside an image
-
-pub record Inside (image : List ℕ) (r : Run) : Type 0 where
-  pub byte : 1 ≤ r .length
-  pub within : r .at + r .length ≤ length image
-
-unfoldable pub AllInside : List ℕ → List Run → Type 0
-AllInside image [] = Unit {0}
-AllInside image (r ∷ rest) = Inside image r × AllInside image rest
 
 pub no-run : (image : List ℕ) → AllInside image []
 unfolding AllInside

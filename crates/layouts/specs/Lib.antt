@@ -1,4 +1,5 @@
 -- What the contracts cite, lowest first.
 pub mod Calls
 pub mod Runs
+pub mod Inside
 pub mod inner

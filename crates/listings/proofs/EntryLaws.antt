@@ -26,7 +26,6 @@ use Rattle.records.specs.declared.allocations.LongAd.{LongAd}
 use Rattle.names.specs.Names.{Wrote, nameOf, written, foldOf, isNamed}
 use Rattle.names.specs.declared.matching.Fold.{Fold}
 use Rattle.names.specs.declared.matching.Fold.the-variants.{Lower, AsIs}
-use Rattle.disc.proofs.ByteLaws.{Bytes}
 use Rattle.identifiers.specs.declared.FileIdentifierDescriptor.{FileIdentifierDescriptor}
 use Rattle.identifiers.specs.declared.IdentifierRead.{IdentifierRead}
 use Rattle.identifiers.specs.Identifiers.{readIdentifier, identifierRead, recordedName, nameAt, nameEnd, nextAt, bit, isDirectory}
@@ -38,6 +37,7 @@ use Rattle.listings.specs.inner.Passes.{Recorded, Puts, icbIn, headIn, r
 use Rattle.listings.specs.declared.finds.Named.{Named}
 use Rattle.listings.specs.declared.matchings.Matching.{Matching}
 use Rattle.listings.specs.declared.matchings.Matching.the-variants.{CaseIgnored, AsWritten, Unambiguous}
+use Rattle.disc.specs.Parts.{Bytes}
 
 -- ---- a lent tail
 

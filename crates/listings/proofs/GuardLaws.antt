@@ -11,15 +11,17 @@ use lib.Dec.{ltb}
 use Rattle.disc.specs.Choice.{pick}
 use Rattle.disc.specs.Ask.{Outcome, outcome, ended, andThen}
 use Rattle.disc.specs.Ask.Held.{lacks}
-use Rattle.disc.specs.Ask.Outcome.{answered, refused}
-use Rattle.disc.proofs.MarkedLaws.{Guards, done-guards, guards-outcome}
-use Rattle.tags.proofs.BodyLaws.{rightAt}
+use Rattle.disc.specs.Ask.Outcome.{answered}
+use Rattle.disc.proofs.MarkedLaws.{done-guards, guards-outcome, known-guards, and-guards}
 use Rattle.identifiers.specs.Identifiers.{readIdentifier, nextAt}
-use Rattle.identifiers.proofs.GuardLaws.{known-guards, and-guards, identifier-guards}
+use Rattle.identifiers.proofs.GuardLaws.{identifier-guards}
 use Rattle.listings.specs.Entries.{Entry, entryOf, entryRead, inFront, entriesFrom, entries}
 use Rattle.listings.specs.Listings.{records, listing, foldIn, allNamed, chosen, findIn}
 use Rattle.listings.specs.declared.matchings.Matching.{Matching}
 use Rattle.listings.proofs.MatchingLaws.{chosen-refused}
+use Rattle.disc.specs.Marks.{Guards}
+use Rattle.disc.proofs.AskLaws.{outcome-ended}
+use Rattle.tags.specs.Heads.{rightAt}
 
 -- ---- the entries
 
@@ -60,13 +62,8 @@ find-guards m component s = and-guards (entries true s) (entries false s) taken 
 
 -- ---- what is answered with the check is answered the same without
 
-ended-outcome : {A : Type 0} (o : Outcome A) → outcome (λ s. lacks) (ended o) ≡ o
-unfolding outcome
-ended-outcome (answered a) = refl
-ended-outcome (refused why) = refl
-
 pub entries-unchecked : (check : Bool) (s : List ℕ) {es : List Entry} → entries check s ≡ answered es → entries false s ≡ answered es
 entries-unchecked false s h = h
 entries-unchecked true s {es} h =
-    let e : outcome (λ s. lacks) (ended (entries true s)) ≡ answered es = ended-outcome (entries true s) ∙ h in
-    sym (ended-outcome (entries false s)) ∙ sym (guards-outcome (entries-guards s) (λ s. lacks) (rw e refl)) ∙ e
+    let e : outcome (λ s. lacks) (ended (entries true s)) ≡ answered es = outcome-ended (λ s. lacks) (entries true s) ∙ h in
+    sym (outcome-ended (λ s. lacks) (entries false s)) ∙ sym (guards-outcome (entries-guards s) (λ s. lacks) (rw e refl)) ∙ e

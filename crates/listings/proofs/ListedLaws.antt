@@ -11,7 +11,6 @@ use borrow.Rule.Slice.PartMut.{midOf, putMid}
 use borrow.Author.Tests.{le-leb, lt-leb}
 use Rattle.disc.specs.Choice.{pick}
 use Rattle.disc.specs.Ask.Outcome.{answered}
-use Rattle.disc.proofs.ByteLaws.{Bytes}
 use Rattle.disc.proofs.MoveLaws.{over-fits}
 use Rattle.identifiers.specs.declared.IdentifierRead.{IdentifierRead}
 use Rattle.identifiers.specs.Identifiers.{readIdentifier, identifierRead, nameEnd, nextAt}
@@ -21,6 +20,7 @@ use Rattle.listings.specs.Listings.{shown, records}
 use Rattle.listings.specs.inner.Passes.{listedOver}
 use Rattle.listings.proofs.EntryLaws.{read-good, read-whole, read-bad, shown-length}
 use Rattle.listings.proofs.WalkLaws.{alone}
+use Rattle.disc.specs.Parts.{Bytes}
 
 module _ (s : List ℕ) (b : Bytes s) {r : IdentifierRead} (p : r ≡ identifierRead (readIdentifier false s)) where
   pub listed-bad : (r .answer ≡ 0 → ⊥) → (d : List ℕ) → d ≡ listedOver (entryRead false s) d

@@ -2,7 +2,7 @@
 -- byte are told apart by the second. Assumes nothing.
 use mathlib.Core.Path.{_≡_, refl, sym, ap, _∙_}
 use mathlib.Core.Bool.{Bool, true, false}
-use mathlib.Core.List.{List, [], _∷_, _++_, map}
+use mathlib.Core.List.{List, [], _∷_, _++_}
 use mathlib.Core.Option.{Option, none, some}
 use Prim.Native.Nat.{ℕ}
 use native.Mathlib.Omega.{arith}
@@ -20,8 +20,8 @@ use Rattle.listings.specs.Entries.{Entry, isSkipped, nameIn}
 use Rattle.listings.specs.Listings.{answersTo, allNamed, chosen, firstNamed}
 use Rattle.listings.specs.declared.matchings.Matching.{Matching}
 use Rattle.listings.specs.declared.matchings.Matching.the-variants.{CaseIgnored, AsWritten, Unambiguous}
-use Rattle.listings.proofs.Promises.{NoneAnswers, answers-folded}
-use Rattle.listings.proofs.RecordLaws.{found-answers}
+use Rattle.listings.proofs.Promises.{answers-folded}
+use Rattle.listings.specs.Matchings.{NoneAnswers, takesFirst, Several, Only, NoneAlike, Apart}
 
 none-some : {A B : Type 0} {a : A} → _≡_ {A = Option A} none (some a) → B
 none-some e = absurd (let z : _≡_ {A = ℕ} 0 1 = cc in omega arith)
@@ -41,12 +41,6 @@ all-first fold c (e ∷ es) = by (answersTo fold c e) (all-first fold c es)
     by : (t : Bool) → firstOf (allNamed fold c es) ≡ firstNamed fold c es → firstOf (pick t (e ∷ allNamed fold c es) (allNamed fold c es)) ≡ pick t (some e) (firstNamed fold c es)
     by true h = refl
     by false h = h
-
--- the choices that take the first of several
-abbrev pub takesFirst : Matching → Bool
-takesFirst CaseIgnored = true
-takesFirst AsWritten = true
-takesFirst Unambiguous = false
 
 chosen-head : (m : Matching) → takesFirst m ≡ true → (xs : List Entry) → chosen m xs ≡ answered (firstOf xs)
 unfolding chosen
@@ -80,13 +74,6 @@ chosen-refused m (e ∷ []) h = absurd (let z : _≡_ {A = ℕ} 0 1 = cc in omeg
 chosen-refused CaseIgnored (e ∷ f ∷ es) h = absurd (let z : _≡_ {A = ℕ} 0 1 = cc in omega arith)
 chosen-refused AsWritten (e ∷ f ∷ es) h = absurd (let z : _≡_ {A = ℕ} 0 1 = cc in omega arith)
 chosen-refused Unambiguous (e ∷ f ∷ es) h = (refl, cc)
-
--- several of them: those that a refusal by 9 is for
-pub record Several (xs : List Entry) : Type 0 where
-  pub one : Entry
-  pub other : Entry
-  pub more : List Entry
-  pub are : xs ≡ one ∷ other ∷ more
 
 pub refused-several : (m : Matching) (xs : List Entry) {why : Refusal} → chosen m xs ≡ refused why → Several xs
 unfolding chosen
@@ -149,15 +136,6 @@ module _ (fold : ℕ → ℕ) (c : List ℕ) where
       → chosen m (allNamed fold c (before ++ e ∷ rest)) ≡ answered (some e)
   unfolding chosen
   only-wins m before e rest n h k = rw (only-named before e rest n h k) refl
-
--- the only entry as it stands in its directory: none before it answers, and none behind it
-pub record Only (fold : ℕ → ℕ) (c : List ℕ) (es : List Entry) (e : Entry) : Type 0 where
-  pub before : List Entry
-  pub rest : List Entry
-  pub parts : es ≡ before ++ e ∷ rest
-  pub none-before : NoneAnswers fold c before
-  pub answers : answersTo fold c e ≡ true
-  pub none-behind : NoneAnswers fold c rest
 
 module _ (fold : ℕ → ℕ) (c : List ℕ) where
   none-answers : (es : List Entry) → allNamed fold c es ≡ [] → NoneAnswers fold c es
@@ -246,15 +224,6 @@ pub written-agrees : (c : List ℕ) (es : List Entry) {e f : Entry} → chosen A
 written-agrees c es h k = written-only c es (chosen-is-first AsWritten asIs c es h) (only-answers (allNamed lower c es) k)
 
 -- ---- where no two listed names are equal with case ignored
-
--- the name of an entry, if it is listed, is none of the others' that are
-unfoldable pub NoneAlike : Entry → List Entry → Type 0
-NoneAlike e [] = Unit {0}
-NoneAlike e (f ∷ fs) = (isSkipped (e .identifier) ≡ false → isSkipped (f .identifier) ≡ false → map lower (nameIn e) ≡ map lower (nameIn f) → ⊥) × NoneAlike e fs
-
-unfoldable pub Apart : List Entry → Type 0
-Apart [] = Unit {0}
-Apart (e ∷ es) = NoneAlike e es × Apart es
 
 alone : (c : List ℕ) (e : Entry) → answersTo lower c e ≡ true → (es : List Entry) → NoneAlike e es → allNamed lower c es ≡ []
 unfolding allNamed NoneAlike

@@ -6,33 +6,15 @@ use mathlib.Core.List.{List, [], _∷_}
 use mathlib.Core.Logic.{_⊎_, inl, inr}
 use mathlib.Core.Option.{some}
 use Prim.Native.Nat.{ℕ}
-use lib.ListN.{length, getD}
 use Rattle.disc.specs.Choice.{pick}
 use Rattle.disc.specs.Ask.Outcome.{answered}
-use Rattle.names.specs.Names.{nameless, nameOf, isNamed}
+use Rattle.names.specs.Names.{nameOf, isNamed}
 use Rattle.names.proofs.Promises.{nameless-empty, nameless-named}
 use Rattle.listings.specs.Entries.{Entry, nameIn, entries}
 use Rattle.listings.specs.Listings.{shown, records, listing, foldIn, answersTo, allNamed, chosen, firstNamed, findIn, namedTo, namedOf}
 use Rattle.listings.specs.declared.matchings.Matching.{Matching}
 use Rattle.listings.specs.declared.matchings.Matching.the-variants.{CaseIgnored, AsWritten, Unambiguous}
-
--- two recorded names of one length, both empty by their ids
-pub record Emptied (s t : List ℕ) : Type 0 where
-  pub one : nameless (getD s 0 0) ≡ true
-  pub other : nameless (getD t 0 0) ≡ true
-  pub long : length s ≡ length t
-
--- two entries with one identifier, whose recorded names are equal, or both empty
-pub record Alike (e f : Entry) : Type 0 where
-  pub identified : e .identifier ≡ f .identifier
-  pub named : (e .recorded ≡ f .recorded) ⊎ Emptied (e .recorded) (f .recorded)
-
--- entry by entry
-unfoldable pub AllAlike : List Entry → List Entry → Type 0
-AllAlike [] [] = Unit {0}
-AllAlike [] (f ∷ fs) = ⊥
-AllAlike (e ∷ es) [] = ⊥
-AllAlike (e ∷ es) (f ∷ fs) = Alike e f × AllAlike es fs
+use Rattle.listings.specs.Nameless.{Emptied, Alike, AllAlike}
 
 alike-name : {s t : List ℕ} → (s ≡ t) ⊎ Emptied s t → nameOf s ≡ nameOf t
 alike-name (inl e) = ap nameOf e

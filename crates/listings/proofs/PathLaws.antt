@@ -12,8 +12,7 @@ use lib.Dec.{eqb}
 use borrow.Author.Tests.{eq-eqb, ne-eqb}
 use Rattle.disc.proofs.PickLaws.{pick-both}
 use Rattle.disc.specs.Choice.{pick}
-use Rattle.disc.proofs.PartLaws.{PartAt}
-use Rattle.listings.specs.Paths.{Component, front, behind, componentsFrom, components, slashes, unlessEmpty}
+use Rattle.listings.specs.Paths.{Component, front, behind, componentsFrom, components, slashes, unlessEmpty, InPath}
 
 -- ---- the loop over slashes has come to i
 
@@ -135,9 +134,6 @@ pub component-within : (path : List ℕ) (at : ℕ) {e : ℕ} → at < length pa
 component-within path at h q = omega (arith, q, front-long (drop at path), length-drop at path)
 
 -- ---- a component stands at its place
-
-abbrev pub InPath : List ℕ → Component → Type 0
-InPath path c = PartAt path (c .bytes) (c .at)
 
 unfoldable pub AllInPath : List ℕ → List Component → Type 0
 AllInPath path [] = Unit {0}

@@ -3,11 +3,11 @@
 use mathlib.Core.Path.{_≡_, refl, sym, _∙_}
 use mathlib.Core.Bool.{Bool, true, false}
 use mathlib.Core.List.{List, [], _∷_, _++_, map}
-use mathlib.Core.Option.{Option, none, some}
+use mathlib.Core.Option.{none, some}
 use Prim.Native.Nat.{ℕ, zero, suc, _-_, _≤_}
 use native.Mathlib.Omega.{arith}
 use lib.ListN.{length}
-use lib.Dec.{ltb, eqb}
+use lib.Dec.{ltb}
 use Rattle.disc.specs.Ran.{told}
 use Rattle.disc.specs.Choice.{pick}
 use Rattle.disc.specs.Ask.{Outcome, andThen}
@@ -16,7 +16,6 @@ use Rattle.disc.specs.Replies.{Replied}
 use Rattle.disc.specs.declared.refusals.Refusal.{Refusal}
 use Rattle.disc.specs.declared.refusals.Refusal.the-variants.{Malformed, NoRoom, BadCrc}
 use Rattle.disc.specs.declared.replies.Reply.{Reply}
-use Rattle.disc.proofs.ByteLaws.{Bytes}
 use Rattle.disc.proofs.PickLaws.{not-both}
 use Rattle.disc.proofs.ReplyLaws.{replied-one}
 use Rattle.names.specs.Names.{pairs, untilZero, surrogate, dropSurrogates, encode, utf8, nameOf, written, matched, isNamed}
@@ -32,24 +31,22 @@ use Rattle.listings.specs.Paths.{front, behind, componentsFrom, componen
 use Rattle.listings.specs.declared.finds.Named.{Named}
 use Rattle.listings.specs.declared.matchings.Matching.{Matching}
 use Rattle.listings.proofs.RecordLaws.{each-read, each-at, name-brief}
+use Rattle.disc.specs.Parts.{Bytes}
+use Rattle.listings.specs.Matchings.{NoneAnswers}
+use Rattle.listings.specs.Example.{entryOfA, entryA}
 
 -- ---- the first entry of a name, under a fold
 
 module _ (fold : ℕ → ℕ) where
-  -- none of them answers to the component
-  unfoldable pub NoneAnswers : List ℕ → List Entry → Type 0
-  NoneAnswers component [] = Unit {0}
-  NoneAnswers component (e ∷ more) = (answersTo fold component e ≡ false) × NoneAnswers component more
-
   -- whatever stands behind it, an entry that answers is taken where none before it does
-  pub first-wins : (component : List ℕ) (before : List Entry) (e : Entry) (rest : List Entry) → NoneAnswers component before → answersTo fold component e ≡ true
+  pub first-wins : (component : List ℕ) (before : List Entry) (e : Entry) (rest : List Entry) → (NoneAnswers fold) component before → answersTo fold component e ≡ true
       → firstNamed fold component (before ++ e ∷ rest) ≡ some e
   unfolding firstNamed NoneAnswers
   first-wins component [] e rest n h = rw h
   first-wins component (x ∷ more) e rest n h = rw (n .0) (first-wins component more e rest (n .1) h)
 
   -- and no entry is found where none answers
-  pub none-found : (component : List ℕ) (all : List Entry) → NoneAnswers component all → firstNamed fold component all ≡ none
+  pub none-found : (component : List ℕ) (all : List Entry) → (NoneAnswers fold) component all → firstNamed fold component all ≡ none
   unfolding firstNamed NoneAnswers
   none-found component [] n = refl
   none-found component (x ∷ more) n = rw (n .0) (none-found component more (n .1))
@@ -112,16 +109,6 @@ pub find-one : (check : Bool) (m : Matching) (component raw : List ℕ) {r r′ 
 find-one check m component raw p q = p ∙ sym q
 
 -- ---- worked cases
-
--- an entry "A" at block 5, with the checksum k, the CRC c of no bytes, and its characteristics
-abbrev pub entryOfA : ℕ → ℕ → ℕ → List ℕ
-entryOfA k c marks =
-    0x01 ∷ 0x01 ∷ 0x02 ∷ 0x00 ∷ k ∷ 0x00 ∷ 0x00 ∷ 0x00 ∷ c ∷ 0x00 ∷ 0x00 ∷ 0x00 ∷ 0x00 ∷ 0x00 ∷ 0x00 ∷ 0x00 ∷ 0x01 ∷ 0x00 ∷ marks ∷ 0x02
-    ∷ 0x00 ∷ 0x08 ∷ 0x00 ∷ 0x00 ∷ 0x05 ∷ 0x00 ∷ 0x00 ∷ 0x00 ∷ 0x00 ∷ 0x00 ∷ 0x00 ∷ 0x00 ∷ 0x00 ∷ 0x00 ∷ 0x00 ∷ 0x00 ∷ 0x00 ∷ 0x00 ∷ 0x08 ∷ 0x41 ∷ []
-
--- a directory, with the CRC that no bytes have
-abbrev pub entryA : List ℕ
-entryA = entryOfA 0x04 0x00 0x02
 
 pub one-listed : (check : Bool) → listing check entryA
     ≡ answered (0x44 ∷ 0x45 ∷ 1 ∷ 0x00 ∷ 0x08 ∷ 0x00 ∷ 0x00 ∷ 0x05 ∷ 0x00 ∷ 0x00 ∷ 0x00 ∷ 0x00 ∷ 0x00 ∷ 0x00 ∷ 0x00 ∷ 0x00 ∷ 0x00 ∷ 0x00 ∷ 0x00 ∷ 1 ∷ 0 ∷ 0x41 ∷ [])

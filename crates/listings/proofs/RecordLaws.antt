@@ -11,7 +11,6 @@ use borrow.Author.Tests.{le-ltb}
 use Rattle.disc.specs.Choice.{pick}
 use Rattle.disc.specs.Ask.{Outcome, andThen}
 use Rattle.disc.specs.Ask.Outcome.{answered, refused}
-use Rattle.disc.proofs.ByteLaws.{Bytes}
 use Rattle.disc.proofs.RanLaws.{never}
 use Rattle.records.specs.Bytes.{u16at}
 use Rattle.records.specs.Allocations.{longOf}
@@ -24,14 +23,10 @@ use Rattle.listings.specs.Entries.{Entry, entryRead, inFront, isSkipped,
 use Rattle.listings.specs.Listings.{recordHead, shown, records, listing, answersTo, allNamed, firstNamed}
 use Rattle.listings.specs.Paths.{Component}
 use Rattle.listings.proofs.EntryLaws.{Known, known, size-is, icb-recorded}
+use Rattle.disc.specs.Parts.{Bytes}
+use Rattle.listings.specs.Matchings.{WasRead, folded}
 
 -- ---- every entry of a directory stands at the front of some bytes, and was read there with its body checked or without
-
-pub record WasRead (e : Entry) : Type 0 where
-  pub check : Bool
-  pub raw : List ℕ
-  pub are : Bytes raw
-  pub is : entryRead check raw ≡ answered e
 
 unfoldable pub EachRead : List Entry → Type 0
 EachRead [] = Unit {0}
@@ -120,10 +115,6 @@ module _ (fold : ℕ → ℕ) where
 
   -- ---- what differs under no fold is told apart by none
 
-  -- a component under the fold, wherever it stands
-  abbrev pub folded : Component → List ℕ
-  folded c = map fold (c .bytes)
-
   both : (a b : Bool) → (a ≡ true → b ≡ true) → (b ≡ true → a ≡ true) → a ≡ b
   both true b f g = sym (f refl)
   both false true f g = g refl
@@ -141,12 +132,12 @@ module _ (fold : ℕ → ℕ) where
   same-answers c c′ h e = ap (λ t. pick (isSkipped (e .identifier)) false (pick (ltb 255 (length (e .recorded))) false t)) (same-matched (nameOf (e .recorded)) c c′ h)
 
   -- components that are equal once folded have the same entries, and the same first
-  pub same-all : (c c′ : Component) → folded c ≡ folded c′ → (es : List Entry) → allNamed fold (c .bytes) es ≡ allNamed fold (c′ .bytes) es
+  pub same-all : (c c′ : Component) → (folded fold) c ≡ (folded fold) c′ → (es : List Entry) → allNamed fold (c .bytes) es ≡ allNamed fold (c′ .bytes) es
   unfolding allNamed
   same-all c c′ h [] = refl
   same-all c c′ h (e ∷ es) = rw (same-answers (c .bytes) (c′ .bytes) h e, same-all c c′ h es)
 
-  pub same-first : (c c′ : Component) → folded c ≡ folded c′ → (es : List Entry) → firstNamed fold (c .bytes) es ≡ firstNamed fold (c′ .bytes) es
+  pub same-first : (c c′ : Component) → (folded fold) c ≡ (folded fold) c′ → (es : List Entry) → firstNamed fold (c .bytes) es ≡ firstNamed fold (c′ .bytes) es
   unfolding firstNamed
   same-first c c′ h [] = refl
   same-first c c′ h (e ∷ es) = rw (same-answers (c .bytes) (c′ .bytes) h e, same-first c c′ h es)

@@ -3,18 +3,19 @@ use mathlib.Core.Path.{_≡_, refl, sym, subst}
 use mathlib.Core.Bool.{Bool, true}
 use mathlib.Core.List.{List}
 use mathlib.Core.Option.{Option}
-use Prim.Native.Nat.{ℕ, _-_}
+use Prim.Native.Nat.{ℕ}
 use Rattle.disc.specs.Ask.{Outcome, ended, andThen}
 use Rattle.disc.specs.Ask.Outcome.{answered, refused}
 use Rattle.disc.specs.declared.refusals.Refusal.{Refusal}
 use Rattle.disc.specs.declared.refusals.Refusal.the-variants.{Malformed, Ambiguous, BadCrc}
-use Rattle.disc.proofs.OnlyLaws.{Refuses, done-only, refuse-only, Any}
+use Rattle.disc.proofs.OnlyLaws.{done-only, refuse-only}
 use Rattle.listings.specs.Entries.{Entry, entries}
 use Rattle.listings.specs.Listings.{records, listing, foldIn, allNamed, chosen, findIn}
 use Rattle.listings.specs.declared.matchings.Matching.{Matching}
 use Rattle.listings.specs.declared.matchings.Matching.the-variants.{Unambiguous}
 use Rattle.listings.proofs.Promises.{entries-refused}
 use Rattle.listings.proofs.MatchingLaws.{chosen-refused}
+use Rattle.disc.specs.Refusing.{Refuses, Any}
 
 -- ---- a directory's bytes at hand, for any P that has 2, and 10 where bodies are checked
 

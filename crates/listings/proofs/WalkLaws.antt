@@ -7,7 +7,7 @@ use native.Mathlib.Nat.{add-zero, zero-add, sub-zero}
 use native.Mathlib.Omega.{arith}
 use lib.ListN.{length, drop, length-drop, length-append, length-take, drop-of-length-le}
 use lib.Seq.{drop-drop, getD-drop, take-all, sets}
-use lib.Dec.{ltb, lit<}
+use lib.Dec.{lit<}
 use borrow.Author.Tests.{lt-ltb, le-ltb}
 use borrow.Rule.Slice.PartMut.{midOf, putMid, same-len-mid}
 use mir.Syntax.{w64}
@@ -25,7 +25,6 @@ use Rattle.disc.proofs.MoveLaws.{over-fits, sets-append, sets-whole}
 use Rattle.disc.proofs.RefusalLaws.{refusal-numbered}
 use Rattle.disc.proofs.ReplyLaws.{reply-refused, reply-full, reply-done}
 use Rattle.identifiers.specs.declared.IdentifierRead.{IdentifierRead}
-use Rattle.disc.proofs.ByteLaws.{Bytes}
 use Rattle.identifiers.specs.Identifiers.{readIdentifier, identifierRead, nameAt, nameEnd, nextAt}
 use Rattle.identifiers.specs.inner.Wholes.{Whole}
 use Rattle.listings.specs.Entries.{Entry, entryOf, entryRead, isSkipped, inFront, entriesFrom, entries}
@@ -39,6 +38,7 @@ use Rattle.listings.specs.declared.matchings.Matching.the-variants.{Case
 use Rattle.listings.proofs.EntryLaws.{tail-over, read-good, read-whole, read-bad, shown-length}
 use Rattle.listings.proofs.RecordLaws.{all-listed}
 use Rattle.listings.proofs.GuardLaws.{entries-unchecked}
+use Rattle.disc.specs.Parts.{Bytes}
 
 -- ---- the entries at the front of s
 

@@ -2,4 +2,7 @@
 pub mod Entries
 pub mod Listings
 pub mod Paths
+pub mod Matchings
+pub mod Nameless
+pub mod Example
 pub mod inner

@@ -3,6 +3,7 @@ use Prim.Native.Nat.{ℕ, suc}
 use mathlib.Core.List.{List, [], _∷_}
 use lib.Dec.{eqb}
 use Rattle.disc.specs.Choice.{pick}
+use Rattle.disc.specs.Parts.{PartAt}
 
 -- a component: its bytes, and where in the path they start
 pub record Component : Type 0 where
@@ -38,3 +39,6 @@ components path = componentsFrom 0 path
 unfoldable pub slashes : List ℕ → ℕ
 slashes [] = 0
 slashes (b ∷ s) = pick (eqb b 0x2f) (suc (slashes s)) 0
+
+abbrev pub InPath : List ℕ → Component → Type 0
+InPath path c = PartAt path (c .bytes) (c .at)

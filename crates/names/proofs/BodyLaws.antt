@@ -1,23 +1,23 @@
 -- The text of a d-string's body, unit by unit, as the loops that measure and write it ask. Assumes nothing.
 use mathlib.Core.Path.{_≡_, refl, ap, _∙_}
-use mathlib.Core.Bool.{Bool, true, false}
+use mathlib.Core.Bool.{true, false}
 use mathlib.Core.List.{List, [], _∷_, _++_}
 use Prim.Native.Nat.{ℕ, zero, suc, _+_, _-_, _*_, _^_, _<_, _≤_, zero-le}
 use native.Mathlib.Numerals.{add-one, add-two}
 use native.Mathlib.Omega.{arith}
-use lib.ListN.{length, getD, drop, length-append, length-drop}
+use lib.ListN.{length, drop, length-append, length-drop}
 use lib.Seq.{drop-cons, getD-drop, sets}
 use lib.Dec.{eqb, ltb, lit≤}
-use mir.Syntax.{w8, w64}
+use mir.Syntax.{w64}
 use mir.Val.{Fits}
 use borrow.Author.Tests.{ne-eqb, lt-ltb}
-use Rattle.disc.proofs.ByteLaws.{Bytes}
 use Rattle.disc.proofs.PickLaws.{pick-both}
 use Rattle.disc.specs.Choice.{pick}
 use Rattle.disc.proofs.MoveLaws.{sets-append}
 use Rattle.names.specs.Names.{Wrote, pairs, untilZero, surrogate, dropSurrogates, encode, utf8}
 use Rattle.names.specs.inner.Units.{WroteAt, At, units, textOf, unitAt, unitBytes}
 use Rattle.names.proofs.UnitLaws.{sets-over}
+use Rattle.disc.specs.Parts.{Bytes}
 
 -- The UTF-8 of units.
 abbrev pub textFrom : List ℕ → List ℕ

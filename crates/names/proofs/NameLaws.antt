@@ -20,9 +20,9 @@ use Rattle.names.specs.declared.fields.FieldLength.{FieldLength}
 use Rattle.names.specs.declared.fields.FieldLength.the-variants.{Length, TooLong}
 use Rattle.names.specs.Names.{Wrote, nameless, nameOf, nameOfField, written, sizeOf}
 use Rattle.names.specs.inner.Units.{Body, Formed, FieldMeasured, units, textOf, nameAs, frontName}
-use Rattle.disc.proofs.ByteLaws.{Bytes}
 use Rattle.disc.proofs.ReplyLaws.{reply-refused}
 use Rattle.names.proofs.Promises.{bytes-kept}
+use Rattle.disc.specs.Parts.{Bytes}
 
 -- ---- which form a d-string has
 

@@ -9,7 +9,6 @@ use native.Mathlib.Omega.{arith}
 use lib.ListN.{length, getD, take}
 use lib.Dec.{eqb, ltb}
 use borrow.Author.Tests.{eqb-true, eq-eqb, lt-ltb, le-ltb}
-use Rattle.disc.proofs.ByteLaws.{Bytes}
 use Rattle.disc.proofs.PickLaws.{pick-both}
 use Rattle.disc.specs.Choice.{pick}
 use Rattle.disc.specs.Ask.{Outcome}
@@ -20,6 +19,7 @@ use Rattle.names.specs.declared.dstrings.NameSize.{NameSize}
 use Rattle.names.specs.declared.dstrings.NameSize.the-variants.{Size}
 use Rattle.names.specs.Names.{Wrote, pairs, untilZero, surrogate, dropSurrogates, encode, utf8, nameless, nameOf, nameOfField, written, sizeOf, lower, asIs, sameName, isNamed, nameAnswer, sizeAnswer}
 use Rattle.names.proofs.BodyLaws.{short-bytes, short-pairs}
+use Rattle.disc.specs.Parts.{Bytes}
 
 -- ---- d-strings
 

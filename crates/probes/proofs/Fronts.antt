@@ -15,25 +15,7 @@ use Rattle.disc.proofs.PickLaws.{not-both}
 use Rattle.descriptors.specs.Recognition.{identified, begins, nsr, terminates, other, identityOf, structureOf}
 use Rattle.descriptors.specs.declared.recognition.Structure.{Structure}
 use Rattle.descriptors.specs.declared.recognition.Structure.the-variants.{Beginning, Nsr, Terminating, Other, Unknown}
-
--- the letters of each identifier behind a first byte of 0
-abbrev pub BEA01 : List ℕ
-BEA01 = 0 ∷ 66 ∷ 69 ∷ 65 ∷ 48 ∷ 49 ∷ []
-
-abbrev pub NSR02 : List ℕ
-NSR02 = 0 ∷ 78 ∷ 83 ∷ 82 ∷ 48 ∷ 50 ∷ []
-
-abbrev pub NSR03 : List ℕ
-NSR03 = 0 ∷ 78 ∷ 83 ∷ 82 ∷ 48 ∷ 51 ∷ []
-
-abbrev pub TEA01 : List ℕ
-TEA01 = 0 ∷ 84 ∷ 69 ∷ 65 ∷ 48 ∷ 49 ∷ []
-
-abbrev pub CD001 : List ℕ
-CD001 = 0 ∷ 67 ∷ 68 ∷ 48 ∷ 48 ∷ 49 ∷ []
-
-abbrev pub CDW02 : List ℕ
-CDW02 = 0 ∷ 67 ∷ 68 ∷ 87 ∷ 48 ∷ 50 ∷ []
+use Rattle.probes.specs.Fronts.{BEA01, NSR02, NSR03, TEA01, CD001, CDW02}
 
 -- what a structure tells of them; of an unknown one nothing is needed
 abbrev pub Told : List ℕ → Structure → Type 0

@@ -4,7 +4,7 @@ use mathlib.Core.Path.{_≡_, _∙_}
 use mathlib.Core.Bool.{Bool, true, false}
 use mathlib.Core.List.{List}
 use mathlib.Core.Logic.{_⊎_, inl, inr, ⊎-elim}
-use Prim.Native.Nat.{ℕ, _+_, _*_, _<_, _≤_}
+use Prim.Native.Nat.{ℕ, _+_, _*_, _≤_}
 use native.Mathlib.Omega.{arith}
 use lib.ListN.{length, take, drop, length-drop}
 use lib.Seq.{take-take, length-take-le}
@@ -12,33 +12,9 @@ use Rattle.disc.proofs.PickLaws.{not-both}
 use Rattle.descriptors.specs.declared.recognition.Structure.{Structure}
 use Rattle.descriptors.specs.declared.recognition.Structure.the-variants.{Beginning, Nsr, Terminating, Other}
 use Rattle.probes.specs.Probes.{probed}
-use Rattle.probes.proofs.Fronts.{BEA01, NSR02, NSR03, TEA01, CD001, CDW02, Told, bea01, nsr02, nsr03, tea01, cd001, cdw02, told}
+use Rattle.probes.proofs.Fronts.{Told, bea01, nsr02, nsr03, tea01, cd001, cdw02, told}
 use Rattle.probes.proofs.EndLaws.{structureAt, Listed, Stands, Ended, ends, says}
-
--- the first six bytes of sector s: its first byte and its identifier
-abbrev pub front : List ℕ → ℕ → List ℕ
-front image s = take 6 (drop (2048 * s) image)
-
--- 0 and one of the identifiers but TEA01
-abbrev pub Passed : List ℕ → Type 0
-Passed f = (f ≡ BEA01) ⊎ (f ≡ NSR02) ⊎ (f ≡ NSR03) ⊎ (f ≡ CD001) ⊎ (f ≡ CDW02)
-
--- a sector that starts so stands from 16 on and before sector t
-pub record Before (image : List ℕ) (t : ℕ) (f : List ℕ) : Type 0 where
-  pub sector : ℕ
-  pub from : 16 ≤ sector
-  pub before : sector < t
-  pub is : front image sector ≡ f
-
--- sector t is the first TEA01 among the eight from 16 on, and what stands before it is as the rule wants it
-pub record Recognised (image : List ℕ) (t : ℕ) : Type 0 where
-  pub from : 16 ≤ t
-  pub within : t < 16 + 8
-  pub there : 2048 * t + 2048 ≤ length image  -- and so is each sector before it
-  pub listed : (s : ℕ) → 16 ≤ s → s < t → Passed (front image s)
-  pub last : front image t ≡ TEA01
-  pub began : Before image t BEA01
-  pub named : Before image t NSR02 ⊎ Before image t NSR03
+use Rattle.probes.specs.Fronts.{BEA01, NSR02, NSR03, front, Passed, Before, Recognised}
 
 -- ---- a sector's structure by its first six bytes
 

@@ -7,9 +7,9 @@ use native.Mathlib.Nat.{le-of-suc-le-suc, not-suc-le-zero, zero-add, add-mul-div
 use lib.Dec.{lit<}
 use native.Mathlib.Omega.{arith}
 use lib.ListN.{length, take, List·getD-eq-default}
-use Rattle.disc.proofs.ByteLaws.{Bytes}
 use Rattle.records.specs.Bytes.{byte, u16at, u32at, u64at, le16, le32}
 use Rattle.records.specs.Allocations.{rawOf}
+use Rattle.disc.specs.Parts.{Bytes}
 
 pub u16-le16 : (n : ℕ) → n < 2 ^ 16 → u16at (le16 n) 0 ≡ n
 u16-le16 n h = omega arith

@@ -8,7 +8,6 @@ use native.Mathlib.Omega.{arith}
 use lib.Dec.{lit<}
 use lib.ListN.{length, take}
 use lib.Seq.{take-all, getD-take}
-use Rattle.disc.proofs.ByteLaws.{Bytes}
 use Rattle.disc.proofs.PickLaws.{picked-size}
 use Rattle.disc.specs.declared.refusals.Refusal.the-variants.{Malformed}
 use Rattle.records.specs.Bytes.{byte, u16at, u32at, le16, le32, two, six}
@@ -25,6 +24,7 @@ use Rattle.records.specs.declared.allocations.LongRead.{LongRead}
 use Rattle.records.specs.declared.allocations.ExtAd.{ExtAd}
 use Rattle.records.specs.declared.allocations.ExtRead.{ExtRead}
 use Rattle.records.proofs.Numbers.{u16-le16, u32-le32, le16-u16, le32-u32, u32-fits, raw-whole, from, from-take}
+use Rattle.disc.specs.Parts.{Bytes}
 
 -- ---- for every record
 

@@ -11,14 +11,15 @@ use Rattle.disc.specs.declared.places.Mount.{Mount}
 use Rattle.disc.specs.Places.{isChecked, unchecked}
 use Rattle.disc.specs.Ask.{Ask}
 use Rattle.disc.specs.declared.refusals.Refusal.the-variants.{TooDeep}
-use Rattle.disc.proofs.MarkedLaws.{Guards, done-guards, refuse-guards, pick-guards, then-guards}
+use Rattle.disc.proofs.MarkedLaws.{done-guards, refuse-guards, pick-guards, then-guards}
 use Rattle.records.specs.declared.allocations.LongAd.{LongAd}
-use Rattle.tags.proofs.BodyLaws.{rightAt}
 use Rattle.identifiers.specs.Identifiers.{isDirectory}
 use Rattle.listings.specs.Entries.{Entry, isSkipped}
 use Rattle.listings.proofs.GuardLaws.{entries-guards}
 use Rattle.directories.proofs.GuardLaws.{directory-guards}
 use Rattle.shows.specs.Shows.{Node, nodesOf, nodesAt, mostLevels, tree, nodeRecords, showing}
+use Rattle.disc.specs.Marks.{Guards}
+use Rattle.tags.specs.Heads.{rightAt}
 
 of-guards : (inside inside′ : LongAd → Ask (List Node)) → ((icb : LongAd) → Guards rightAt (inside icb) (inside′ icb)) → (level : ℕ) (es : List Entry)
     → Guards rightAt (nodesOf inside level es) (nodesOf inside′ level es)

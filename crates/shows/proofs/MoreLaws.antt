@@ -19,6 +19,7 @@ use Rattle.identifiers.specs.Identifiers.{isDirectory}
 use Rattle.listings.specs.Entries.{Entry, isSkipped, entries}
 use Rattle.directories.specs.Directories.{directoryBytes}
 use Rattle.shows.specs.Shows.{Node, under, nodesOf, nodesAt}
+use Rattle.shows.specs.Levels.{Alike}
 
 -- ---- the second goes on at least as far as the first
 
@@ -52,10 +53,6 @@ extends-pick true m n m′ n′ p q = p
 extends-pick false m n m′ n′ p q = q
 
 -- ---- where the first is answered
-
-pub record Alike {A : Type 0} (d : Disc) (m n : Ask A) : Type 0 where
-  pub outcomes : outcome d n ≡ outcome d m
-  pub lists : asked d n ≡ asked d m
 
 pub extends-alike : {A : Type 0} (d : Disc) (m n : Ask A) → Extends m n → {a : A} → outcome d m ≡ answered a → Alike d m n
 unfolding Extends outcome asked

@@ -13,7 +13,6 @@ use Rattle.disc.specs.Choice.{pick}
 use Rattle.disc.specs.Moves.{over}
 use Rattle.disc.specs.Ask.{Outcome}
 use Rattle.disc.specs.Ask.Outcome.{answered, refused}
-use Rattle.disc.proofs.ByteLaws.{Bytes}
 use Rattle.disc.proofs.MoveLaws.{over-fits}
 use Rattle.disc.proofs.RanLaws.{never}
 use Rattle.identifiers.specs.Identifiers.{readIdentifier, identifierRead}
@@ -26,6 +25,7 @@ use Rattle.listings.proofs.EntryLaws.{tail-over, read-good, read-whole, read-ba
 use Rattle.shows.specs.Shows.{leveled, nodeRecord}
 use Rattle.shows.specs.inner.Turns.{seenBy, ownRecord, Marked, SeenGood, SeenBad, Noted}
 use Rattle.shows.specs.declared.nodes.EntrySeen.{EntrySeen}
+use Rattle.disc.specs.Parts.{Bytes}
 
 -- ---- a record with the level in it
 

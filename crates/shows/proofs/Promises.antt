@@ -9,26 +9,24 @@ use Prim.Native.Nat.{ℕ, zero, suc, _+_, _-_, _≤_, _<_, min}
 use native.Mathlib.Nat.{add-zero}
 use native.Mathlib.Omega.{arith}
 use lib.ListN.{length}
-use lib.Dec.{eqb, leb}
+use lib.Dec.{leb}
 use borrow.Author.Tests.{eq-eqb, ne-eqb}
 use Rattle.disc.specs.Choice.{pick}
 use Rattle.disc.specs.Counts.{reported}
 use Rattle.disc.specs.Places.{isChecked, unchecked}
-use Rattle.disc.specs.Refusals.{number}
-use Rattle.disc.specs.Ask.{Held, Disc, Ask, Outcome, given, outcome, asked, then, ended, andThen, Agree}
-use Rattle.disc.specs.Ask.Held.{holds, lacks}
+use Rattle.disc.specs.Ask.{Disc, Ask, Outcome, outcome, asked, then, ended, andThen, Agree}
 use Rattle.disc.specs.Ask.Ask.{done, refuse, ask}
 use Rattle.disc.specs.Ask.Outcome.{answered, refused}
 use Rattle.disc.specs.Ran.{Ran, ran, after, onward, followed}
 use Rattle.disc.specs.Replies.{Replied}
 use Rattle.disc.specs.declared.places.Mount.{Mount}
 use Rattle.disc.specs.declared.refusals.Refusal.{Refusal}
-use Rattle.disc.specs.declared.refusals.Refusal.the-variants.{Io, Malformed, NoRoom, NoWork, BadCrc, TooDeep}
+use Rattle.disc.specs.declared.refusals.Refusal.the-variants.{Malformed, NoRoom, NoWork, BadCrc, TooDeep}
 use Rattle.disc.specs.declared.replies.Reply.{Reply}
 use Rattle.disc.proofs.AskLaws.{asked-done}
-use Rattle.disc.proofs.MarkedLaws.{isBad, guards-outcome, guards-asked}
-use Rattle.disc.proofs.OnlyLaws.{Only, Refuses, done-only, refuse-only, ask-only, pick-only, then-only, Any}
-use Rattle.disc.proofs.RanLaws.{ran-done, ran-refuse, ran-then, never}
+use Rattle.disc.proofs.MarkedLaws.{guards-outcome, guards-asked}
+use Rattle.disc.proofs.OnlyLaws.{done-only, refuse-only, ask-only, pick-only, then-only, only-answers}
+use Rattle.disc.proofs.RanLaws.{ran-done, ran-refuse, ran-then, never, ran-known}
 use Rattle.disc.proofs.ReplyLaws.{reply-counts, replied-one, same-replied}
 use Rattle.records.specs.declared.allocations.LongAd.{LongAd}
 use Rattle.names.specs.Names.{pairs, untilZero, surrogate, dropSurrogates, encode, utf8, nameOf}
@@ -38,22 +36,19 @@ use Rattle.identifiers.specs.Identifiers.{nameAt, nameEnd, recordedName, nextAt
 use Rattle.files.specs.Files.{fileBytes}
 use Rattle.listings.specs.Entries.{Entry, entryRead, isSkipped, nameIn, entriesFrom, entries}
 use Rattle.listings.specs.Listings.{recordHead, shown, records, listing}
-use Rattle.listings.proofs.Promises.{entries-refused, entryA}
+use Rattle.listings.proofs.Promises.{entries-refused}
 use Rattle.directories.specs.Directories.{within, directoryBytes, listingAt}
 use Rattle.directories.proofs.Promises.{no-work}
-use Rattle.directories.proofs.SpaceLaws.{ran-known}
 use Rattle.shows.specs.Shows.{Node, under, nodesOf, nodesAt, mostLevels, tree, leveled, nodeRecord, nodeRecords, showing}
 use Rattle.shows.proofs.ShowLaws.{tree-none, tree-many, tree-within}
 use Rattle.shows.proofs.GuardLaws.{showing-guards}
-use Rattle.shows.proofs.MoreLaws.{Alike, extends-same, extends-then, extends-alike, nodes-extends}
+use Rattle.shows.proofs.MoreLaws.{extends-same, extends-then, extends-alike, nodes-extends}
+use Rattle.disc.specs.Marks.{isBad}
+use Rattle.disc.specs.Refusing.{Refuses, Any}
+use Rattle.listings.specs.Example.{entryA}
+use Rattle.shows.specs.Levels.{Alike, Eleven, counted, leveledRecords, levelNodes, NoDirectory, atLevel, AtLeast, AnyRefusal, directoryRun, entriesRun}
 
 -- ---- the levels that are asked for (RULES 8.37)
-
--- refused by 11, with nothing asked for
-pub record Eleven {A : Type 0} (d : Disc) (m : Ask A) : Type 0 where
-  pub refuses : outcome d m ≡ refused TooDeep
-  pub numbered : number TooDeep ≡ 11
-  pub asks : asked d m ≡ []
 
 at-once : {A : Type 0} (d : Disc) {m : Ask A} → m ≡ refuse TooDeep → Eleven d m
 unfolding outcome asked
@@ -75,18 +70,11 @@ module _ (d : Disc) (m : Mount) (work : ℕ) where
   unfolding nodesAt nodesOf then
   last-level level below e es h k = at-once d (rw (h, k))
 
--- an outcome after so many sectors
-abbrev pub counted : {A : Type 0} → ℕ → Outcome A → Ran A
-counted n o = record { outcome = o; count = n }
-
 -- ---- a directory on the way down (RULES 8.38 and 8.39)
 
 module _ (d : Disc) (m : Mount) (left level work : ℕ) (icb : LongAd) where
-  abbrev Opened : Ran (List ℕ)
-  Opened = ran d (directoryBytes m work icb)
-
   nodes-is : ran d (nodesAt m (suc left) level work icb)
-      ≡ followed Opened (λ b. ran d (then (ended (entries (isChecked m) b)) (λ es. nodesOf (nodesAt m left (suc level) (work - length b)) level es)))
+      ≡ followed (directoryRun d m work icb) (λ b. ran d (then (ended (entries (isChecked m) b)) (λ es. nodesOf (nodesAt m left (suc level) (work - length b)) level es)))
   unfolding nodesAt
   nodes-is = ran-then d (directoryBytes m work icb) (λ b. then (ended (entries (isChecked m) b)) (λ es. nodesOf (nodesAt m left (suc level) (work - length b)) level es))
 
@@ -96,26 +84,12 @@ module _ (d : Disc) (m : Mount) (left level work : ℕ) (icb : LongAd) where
   no-fit e h = nodes-is ∙ rw (no-work d m work icb e h)
 
   -- one with a bad entry is refused as the entry is, once it is read and before any of its entries has its turn
-  pub bad-entry : {b : List ℕ} {why : Refusal} → Opened .outcome ≡ answered b → entries (isChecked m) b ≡ refused why
-      → ran d (nodesAt m (suc left) level work icb) ≡ counted (Opened .count) (refused why)
+  pub bad-entry : {b : List ℕ} {why : Refusal} → (directoryRun d m work icb) .outcome ≡ answered b → entries (isChecked m) b ≡ refused why
+      → ran d (nodesAt m (suc left) level work icb) ≡ counted ((directoryRun d m work icb) .count) (refused why)
   unfolding then
   bad-entry {why = why} e h = nodes-is ∙ rw (e, h, ran-refuse {A = List Node} d why, add-zero)
 
 -- ---- a show and a listing (RULES 8.34 and 8.35)
-
--- the entries of the directory at icb, which a listing and a show have alike
-abbrev pub entriesAt : Mount → ℕ → LongAd → Ask (List Entry)
-entriesAt m work icb = then (directoryBytes m work icb) (λ b. ended (entries (isChecked m) b))
-
--- a directory's listing, with the level put into each record
-unfoldable pub leveledRecords : ℕ → List Entry → List ℕ
-leveledRecords level [] = []
-leveledRecords level (e ∷ es) = pick (isSkipped (e .identifier)) (leveledRecords level es) (leveled level (shown e) ++ leveledRecords level es)
-
--- its entries as nodes
-unfoldable pub levelNodes : ℕ → List Entry → List Node
-levelNodes level [] = []
-levelNodes level (e ∷ es) = pick (isSkipped (e .identifier)) (levelNodes level es) (record { level = level; entry = e } ∷ levelNodes level es)
 
 pub level-records : (level : ℕ) (es : List Entry) → nodeRecords (levelNodes level es) ≡ leveledRecords level es
 unfolding levelNodes leveledRecords nodeRecords nodeRecord
@@ -126,11 +100,6 @@ level-records level (e ∷ es) = by (isSkipped (e .identifier)) (level-records l
         → nodeRecords (pick t (levelNodes level es) (record { level = level; entry = e } ∷ levelNodes level es)) ≡ pick t (leveledRecords level es) (leveled level (shown e) ++ leveledRecords level es)
     by true h = h
     by false h = ap (λ r. leveled level (shown e) ++ r) h
-
--- no listed entry is a directory
-unfoldable pub NoDirectory : List Entry → Type 0
-NoDirectory [] = Unit {0}
-NoDirectory (e ∷ es) = (isSkipped (e .identifier) ≡ false → isDirectory (e .identifier) ≡ false) × NoDirectory es
 
 plain-nodes : (inside : LongAd → Ask (List Node)) (level : ℕ) (es : List Entry) → NoDirectory es → nodesOf inside level es ≡ done (levelNodes level es)
 unfolding nodesOf then NoDirectory levelNodes
@@ -144,17 +113,14 @@ plain-nodes inside level (e ∷ es) h = by (isSkipped (e .identifier)) (h .0) (p
     by false k ih = rw (k refl, ih)
 
 module _ (d : Disc) (m : Mount) (work : ℕ) (root : LongAd) where
-  abbrev E : Ran (List Entry)
-  E = ran d (entriesAt m work root)
-
   abbrev R : Ran (List ℕ)
   R = ran d (directoryBytes m work root)
 
-  entries-is : E ≡ counted (R .count) (andThen (R .outcome) (entries (isChecked m)))
+  entries-is : (entriesRun d m work root) ≡ counted (R .count) (andThen (R .outcome) (entries (isChecked m)))
   entries-is = ran-known d (directoryBytes m work root) (entries (isChecked m))
 
   -- a listing is the records of those entries
-  pub listing-entries : ran d (listingAt m work root) ≡ counted (E .count) (andThen (E .outcome) (λ es. answered (records es)))
+  pub listing-entries : ran d (listingAt m work root) ≡ counted ((entriesRun d m work root) .count) (andThen ((entriesRun d m work root) .outcome) (λ es. answered (records es)))
   unfolding listingAt listing
   listing-entries = ran-known d (directoryBytes m work root) (listing (isChecked m)) ∙ rw entries-is (by (R .outcome))
     where
@@ -163,8 +129,8 @@ module _ (d : Disc) (m : Mount) (work : ℕ) (root : LongAd) where
       by (answered b) = refl
       by (refused why) = refl
 
-  level-one : ((es : List Entry) → E .outcome ≡ answered es → NoDirectory es)
-      → ran d (nodesAt m 1 1 work root) ≡ counted (E .count) (andThen (E .outcome) (λ es. answered (levelNodes 1 es)))
+  level-one : ((es : List Entry) → (entriesRun d m work root) .outcome ≡ answered es → NoDirectory es)
+      → ran d (nodesAt m 1 1 work root) ≡ counted ((entriesRun d m work root) .count) (andThen ((entriesRun d m work root) .outcome) (λ es. answered (levelNodes 1 es)))
   unfolding then
   level-one h = nodes-is d m 0 1 work root ∙ rw entries-is (by (R .outcome) refl)
     where
@@ -183,29 +149,19 @@ module _ (d : Disc) (m : Mount) (work : ℕ) (root : LongAd) where
       by (refused why) e = refl
 
   -- with one level, where no listed entry is a directory, the show is the listing with the level put into each record: answered, refused and counted as that is
-  pub one-level : ((es : List Entry) → E .outcome ≡ answered es → NoDirectory es)
-      → ran d (showing m 1 work root) ≡ counted (E .count) (andThen (E .outcome) (λ es. answered (leveledRecords 1 es)))
+  pub one-level : ((es : List Entry) → (entriesRun d m work root) .outcome ≡ answered es → NoDirectory es)
+      → ran d (showing m 1 work root) ≡ counted ((entriesRun d m work root) .count) (andThen ((entriesRun d m work root) .outcome) (λ es. answered (leveledRecords 1 es)))
   unfolding showing
   one-level h =
       ran-known d (tree m 1 work root) (λ ns. answered (nodeRecords ns))
-      ∙ rw (tree-within m work root 1 (omega arith) (omega arith), level-one h) (by (E .outcome))
+      ∙ rw (tree-within m work root 1 (omega arith) (omega arith), level-one h) (by ((entriesRun d m work root) .outcome))
     where
-      by : (o : Outcome (List Entry)) → counted (E .count) (andThen (andThen o (λ es. answered (levelNodes 1 es))) (λ ns. answered (nodeRecords ns)))
-          ≡ counted (E .count) (andThen o (λ es. answered (leveledRecords 1 es)))
+      by : (o : Outcome (List Entry)) → counted ((entriesRun d m work root) .count) (andThen (andThen o (λ es. answered (levelNodes 1 es))) (λ ns. answered (nodeRecords ns)))
+          ≡ counted ((entriesRun d m work root) .count) (andThen o (λ es. answered (leveledRecords 1 es)))
       by (answered es) = rw (level-records 1 es)
       by (refused why) = refl
 
 -- ---- of a whole tree, the nodes of one directory (RULES 8.35)
-
--- the nodes of one level
-unfoldable pub atLevel : ℕ → List Node → List Node
-atLevel level [] = []
-atLevel level (n ∷ ns) = pick (eqb (n .level) level) (n ∷ atLevel level ns) (atLevel level ns)
-
--- no node's level is less than this
-unfoldable pub AtLeast : ℕ → List Node → Type 0
-AtLeast level [] = Unit {0}
-AtLeast level (n ∷ ns) = (level ≤ n .level) × AtLeast level ns
 
 least-joined : (level : ℕ) (a b : List Node) → AtLeast level a → AtLeast level b → AtLeast level (a ++ b)
 unfolding AtLeast
@@ -222,28 +178,10 @@ unfolding AtLeast atLevel
 none-at level [] b p = refl
 none-at level (n ∷ a) b p = rw (ne-eqb (n .level) level (λ e. omega (arith, p .0))) (none-at level a b (p .1))
 
--- any refusal
-abbrev AnyRefusal : Refusal → Type 0
-AnyRefusal why = Unit {0}
-
 any-only : {A : Type 0} (m : Ask A) → Refuses AnyRefusal Any m
 any-only (done a) = done-only tt
 any-only (refuse why) = refuse-only tt
 any-only (ask s k) = ask-only (λ b. any-only (k b))
-
--- a tree that answers with what is Q does so on every disc
-only-answers : {A : Type 0} {P : Refusal → Type 0} {Q : A → Type 0} (d : Disc) {m : Ask A} → Refuses P Q m → {a : A} → outcome d m ≡ answered a → Q a
-unfolding Only outcome
-only-answers {A} {P} {Q} d {m} r e = by m (r .only) e
-  where
-    by : (m : Ask A) → Only P Q m → {a : A} → outcome d m ≡ answered a → Q a
-    by (done x) p {a} e = let z : x ≡ a = cc in rw z at p
-    by (refuse why) p e = never e
-    by (ask s k) p {a} e = held (d s) (λ b q. by (k b) (p b) q) e
-      where
-        held : (x : Held) → ((b : List ℕ) → outcome d (k b) ≡ answered a → Q a) → given x (λ b. outcome d (k b)) (refused Io) ≡ answered a → Q a
-        held (holds b) ih q = ih b q
-        held lacks ih q = never q
 
 of-least : (inside : LongAd → Ask (List Node)) (level : ℕ) → ((icb : LongAd) → Refuses AnyRefusal (AtLeast (suc level)) (inside icb)) → (es : List Entry) → Refuses AnyRefusal (AtLeast level) (nodesOf inside level es)
 unfolding nodesOf AtLeast

@@ -21,12 +21,11 @@ use Rattle.disc.specs.declared.places.Mount.{Mount}
 use Rattle.disc.specs.declared.refusals.Refusal.the-variants.{NoRoom, TooDeep}
 use Rattle.disc.specs.declared.replies.Reply.{Reply}
 use Rattle.disc.proofs.MoveLaws.{over-fits, sets-whole}
-use Rattle.disc.proofs.RanLaws.{ran-refuse}
+use Rattle.disc.proofs.RanLaws.{ran-refuse, ran-known}
 use Rattle.disc.proofs.RefusalLaws.{refusal-numbered}
 use Rattle.disc.proofs.ReplyLaws.{reply-refused, reply-full, reply-done}
 use Rattle.records.specs.declared.allocations.LongAd.{LongAd}
 use Rattle.figures.specs.Figures.{Figures}
-use Rattle.directories.proofs.SpaceLaws.{ran-known}
 use Rattle.shows.specs.Shows.{Node, nodesAt, mostLevels, tree, nodeRecords, showing}
 use Rattle.shows.specs.inner.Turns.{behindBy, lent, Shown}
 use Rattle.shows.specs.Tallies.{ofNode, Tallied}

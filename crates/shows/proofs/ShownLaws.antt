@@ -1,5 +1,5 @@
 -- Parts of the tree shown one behind another: places, records and figures. Assumes nothing.
-use mathlib.Core.Path.{_≡_, refl, sym, ap, _∙_, fun-ext}
+use mathlib.Core.Path.{_≡_, refl, sym, ap, _∙_}
 use mathlib.Core.Bool.{Bool, true, false}
 use mathlib.Core.List.{List, [], _∷_, _++_, map, append-nil, append-assoc, map-append}
 use Prim.Native.Nat.{ℕ, _+_, _≤_}
@@ -11,11 +11,11 @@ use Rattle.disc.specs.Choice.{pick}
 use Rattle.disc.specs.Refusals.{number}
 use Rattle.disc.specs.Counts.{reported}
 use Rattle.disc.specs.Ask.{Disc, Ask, Outcome, then}
-use Rattle.disc.specs.Ask.Ask.{done, refuse, ask}
+use Rattle.disc.specs.Ask.Ask.{done}
 use Rattle.disc.specs.Ask.Outcome.{answered, refused}
 use Rattle.disc.specs.Ran.{Ran, ran, onward, followed, told}
 use Rattle.disc.specs.declared.refusals.Refusal.{Refusal}
-use Rattle.disc.proofs.AskLaws.{then-then}
+use Rattle.disc.proofs.AskLaws.{then-then, then-done}
 use Rattle.disc.proofs.MoveLaws.{sets-append}
 use Rattle.disc.proofs.RanLaws.{ran-done, ran-then, never}
 use Rattle.disc.proofs.RefusalLaws.{refusal-numbered}
@@ -29,13 +29,6 @@ use Rattle.shows.specs.inner.Turns.{stoppedAt, Held, behindBy, Lent, Sho
 use Rattle.shows.specs.declared.levels.ShowPlace.{ShowPlace}
 
 -- ---- trees behind each other
-
--- a tree whose answer is handed on is that tree
-pub then-done : {A : Type 0} (m : Ask A) → then m (λ a. done a) ≡ m
-unfolding then
-then-done (done a) = refl
-then-done (refuse r) = refl
-then-done (ask s k) = ap (ask s) (fun-ext (λ b. then-done (k b)))
 
 -- the nodes of a directory: those of the first entry's turn, and those of the others
 nodes-turn : (inside : LongAd → Ask (List Node)) (level : ℕ) (e : Entry) (es : List Entry)

@@ -19,14 +19,7 @@ use Rattle.figures.specs.Figures.{Figures, nothing, oneAt, oneFile, eachAdded, 
 use Rattle.figures.proofs.FigureLaws.{zero-holds, added-wide}
 use Rattle.identifiers.specs.Identifiers.{isDirectory}
 use Rattle.shows.specs.Shows.{Node}
-use Rattle.shows.specs.Tallies.{fileBy, ofFile, ofEntry, ofNode, ofNodes, Tallied}
-
--- the counts that reading the files among the nodes reports
-unfoldable pub readCounts : Disc → Mount → List Node → List ℕ
-readCounts d m [] = []
-readCounts d m (n ∷ ns) =
-    pick (isDirectory (n .entry .identifier)) (readCounts d m ns)
-    (reported (ran d (fileBytes m (n .entry .identifier .icb)) .count) ∷ readCounts d m ns)
+use Rattle.shows.specs.Tallies.{fileBy, ofFile, ofEntry, ofNode, ofNodes, Tallied, readCounts}
 
 -- ---- a file is one file, with one answer number
 

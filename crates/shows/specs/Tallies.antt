@@ -2,7 +2,7 @@
 use Prim.Native.Nat.{ℕ}
 use mathlib.Core.Path.{_≡_}
 use mathlib.Core.Bool.{Bool}
-use mathlib.Core.List.{List, map}
+use mathlib.Core.List.{List, map, [], _∷_}
 use lib.ListN.{length}
 use Rattle.disc.specs.Choice.{pick}
 use Rattle.disc.specs.Refusals.{number}
@@ -46,3 +46,10 @@ ofNodes d m ns = allAdded (map (ofNode d m) ns)
 pub record Tallied (d : Disc) (m : Mount) (o : Outcome (List Node)) (before after : List ℕ) (answer : ℕ) : Type 0 where
   pub says : answer ≡ answerOf o
   pub adds : (ns : List Node) → o ≡ answered ns → (f : Figures) → Holds f before → Holds (addedTo f (map (ofNode d m) ns)) after
+
+-- the counts that reading the files among the nodes reports
+unfoldable pub readCounts : Disc → Mount → List Node → List ℕ
+readCounts d m [] = []
+readCounts d m (n ∷ ns) =
+    pick (isDirectory (n .entry .identifier)) (readCounts d m ns)
+    (reported (ran d (fileBytes m (n .entry .identifier .icb)) .count) ∷ readCounts d m ns)

@@ -12,7 +12,6 @@ use lib.Seq.{drop-drop, drop-at, take-at, take-length}
 use lib.Dec.{leb}
 use borrow.Author.Tests.{le-leb, lt-leb}
 use Rattle.disc.specs.Choice.{pick}
-use Rattle.disc.specs.Refusals.{number}
 use Rattle.disc.specs.Images.{disc}
 use Rattle.disc.specs.Ask.Outcome.{answered, refused}
 use Rattle.disc.specs.Ran.{ran}
@@ -25,29 +24,25 @@ use Rattle.volumes.specs.Choices.{openingBy}
 use Rattle.volumes.specs.declared.choices.Choice.{Choice}
 use Rattle.volumes.specs.declared.choices.Choice.the-variants.{Unknown}
 use Rattle.volumes.specs.declared.openings.VolumeRecord.{VolumeRecord}
-use Rattle.figures.specs.Figures.{Figures, nothing, oneImage, added, addedTo, allAdded, row, rows, numbers, pairs, totaled, sum}
-use Rattle.figures.proofs.FigureLaws.{AllWide, zero-holds, row-long, rows-long, rows-total, addedTo-wide, marked-over, over-mark}
+use Rattle.figures.specs.Figures.{Figures, nothing, oneImage, added, addedTo, allAdded, row, rows, numbers, pairs, totaled, sum, AllWide}
+use Rattle.figures.proofs.FigureLaws.{zero-holds, row-long, rows-long, rows-total, addedTo-wide, marked-over, over-mark}
 use Rattle.shows.specs.Shows.{Node, tree, mostLevels}
-use Rattle.shows.specs.Tallies.{ofNodes}
-use Rattle.shows.proofs.Tallying.{readCounts, sectors-summed}
+use Rattle.shows.specs.Tallies.{ofNodes, readCounts}
+use Rattle.shows.proofs.Tallying.{sectors-summed}
 use Rattle.surveys.specs.Surveys.{Surveyed, ofImage, images, surveyed, fits, surveys}
 use Rattle.surveys.proofs.ShelfLaws.{all-wide, images-long, rows-with-total}
-use Rattle.surveys.proofs.TotalLaws.{rows-place, sectors-to, chain-most, OneOf, chain-one, below-total}
+use Rattle.surveys.proofs.TotalLaws.{rows-place, sectors-to, chain-most, chain-one, below-total}
+use Rattle.surveys.specs.Shelves.{OneOf, Alone, imageAt, eachOf, shelfOf, Short}
 
 -- ---- an image, and its figures (RULES 16.7)
 
 module _ (how : Choice) (work : ℕ) (image : List ℕ) where
-  -- one that is refused counts under its number, which isn't 0, and has no other figure
-  pub record Alone (why : Refusal) : Type 0 where
-    pub is : ofImage how work image ≡ oneImage (number why)
-    pub numbered : number why ≡ 0 → ⊥
-
-  pub opening-alone : {why : Refusal} → ran (disc image) (openingBy how) .outcome ≡ refused why → Alone why
+  pub opening-alone : {why : Refusal} → ran (disc image) (openingBy how) .outcome ≡ refused why → (Alone how work image) why
   unfolding ofImage
   opening-alone {why} e = record { is = rw e; numbered = refusal-numbered why }
 
   module _ {v : VolumeRecord} (o : ran (disc image) (openingBy how) .outcome ≡ answered v) where
-    pub tree-alone : {why : Refusal} → ran (disc image) (tree (v .mount) mostLevels work (v .root)) .outcome ≡ refused why → Alone why
+    pub tree-alone : {why : Refusal} → ran (disc image) (tree (v .mount) mostLevels work (v .root)) .outcome ≡ refused why → (Alone how work image) why
     unfolding ofImage
     tree-alone {why} e = record { is = rw (o, e); numbered = refusal-numbered why }
 
@@ -68,9 +63,6 @@ unknown-4 work image = rw (ran-refuse {A = VolumeRecord} (disc image) Unsupporte
 
 -- ---- the images of a shelf (RULES 16.6)
 
-abbrev pub imageAt : List ℕ → List ℕ → ℕ → List ℕ
-imageAt lengths shelf i = getD (images lengths shelf) i []
-
 -- each as long as its place in the row of lengths says, behind those before it
 pub image-stands : (lengths shelf : List ℕ) (i : ℕ) → i < length lengths → imageAt lengths shelf i ≡ take (getD lengths i 0) (drop (sum (take i lengths)) shelf)
 unfolding images sum
@@ -79,13 +71,6 @@ image-stands (n ∷ ns) shelf zero h = refl
 image-stands (n ∷ ns) shelf (suc i) h = image-stands ns (drop n shelf) i (omega arith) ∙ ap (take (getD ns i 0)) (drop-drop (sum (take i ns)) n shelf)
 
 -- ---- the call
-
--- the figures of the images, and of the shelf
-abbrev pub eachOf : Choice → ℕ → List ℕ → List ℕ → List Figures
-eachOf how work lengths shelf = map (ofImage how work) (images lengths shelf)
-
-abbrev pub shelfOf : Choice → ℕ → List ℕ → List ℕ → Figures
-shelfOf how work lengths shelf = allAdded (eachOf how work lengths shelf)
 
 and-false : (b : Bool) → (b && false) ≡ false
 and-false true = refl
@@ -118,10 +103,7 @@ module _ (how : Choice) (shelf lengths figures work : List ℕ) where
 
   -- ---- 15, exactly when (RULES 16.9), and then nothing is written but the zeros of the work space
 
-  abbrev pub Short : Type 0
-  Short = (length shelf < sum lengths) ⊎ (length figures < 76 * (length lengths + 1))
-
-  pub survey-15 : Short → surveys how shelf lengths figures work ≡ record { answer = 15; figures = figures; work = replicate (length work) 0 }
+  pub survey-15 : (Short shelf lengths figures) → surveys how shelf lengths figures work ≡ record { answer = 15; figures = figures; work = replicate (length work) 0 }
   survey-15 = ⊎-elim
       (λ (h : length shelf < sum lengths). rw (lt-leb (sum lengths) (length shelf) h))
       (λ (h : length figures < 76 * (length lengths + 1)). rw (lt-leb (76 * (length lengths + 1)) (length figures) h, and-false (leb (sum lengths) (length shelf))))
@@ -129,7 +111,7 @@ module _ (how : Choice) (shelf lengths figures work : List ℕ) where
   pub survey-0 : sum lengths ≤ length shelf → 76 * (length lengths + 1) ≤ length figures → surveys how shelf lengths figures work .answer ≡ 0
   survey-0 h k = rw (le-leb (sum lengths) (length shelf) h, le-leb (76 * (length lengths + 1)) (length figures) k)
 
-  pub bad-shelf-15 : surveys how shelf lengths figures work .answer ≡ 15 → Short
+  pub bad-shelf-15 : surveys how shelf lengths figures work .answer ≡ 15 → (Short shelf lengths figures)
   bad-shelf-15 e = ⊎-elim
       (λ (h : sum lengths ≤ length shelf). ⊎-elim
       (λ (k : 76 * (length lengths + 1) ≤ length figures). absurd (let z = survey-0 h k in omega arith))

@@ -17,11 +17,11 @@ use Rattle.disc.specs.Refusals.{number}
 use Rattle.disc.specs.declared.refusals.Refusal.the-variants.{BadShelf}
 use Rattle.disc.proofs.ImageLaws.{split}
 use Rattle.volumes.specs.declared.choices.Choice.{Choice}
-use Rattle.figures.specs.Figures.{Figures, Holds, row, rows, allAdded, totaled, totalAnswer, sum}
-use Rattle.figures.proofs.FigureLaws.{AllWide, holds-long, rows-total, rows-answer}
-use Rattle.figures.proofs.FigureLaws.AllWide.{none-wide, more-wide}
+use Rattle.figures.specs.Figures.{Figures, Holds, row, rows, allAdded, totaled, totalAnswer, sum, AllWide}
+use Rattle.figures.proofs.FigureLaws.{holds-long, rows-total, rows-answer}
 use Rattle.surveys.specs.Surveys.{Surveyed, ofImage, images, withTotal, surveyed, fits, surveys}
 use Rattle.surveys.proofs.ImageLaws.{image-wide}
+use Rattle.figures.specs.Figures.AllWide.{none-wide, more-wide}
 
 -- ---- the lengths against the bytes: what is left of both, behind i of them
 

@@ -7,9 +7,10 @@ use native.Mathlib.Omega.{arith}
 use lib.ListN.{length, getD, take, drop, length-append}
 use lib.Seq.{drop-drop, take-at, drop-at}
 use Rattle.disc.proofs.ImageLaws.{split}
-use Rattle.figures.specs.Figures.{Figures, Wide, row, rows, added, addedTo, eachAdded, numbers, sum}
-use Rattle.figures.proofs.FigureLaws.{AllWide, row-long, added-wide}
-use Rattle.figures.proofs.FigureLaws.AllWide.{none-wide, more-wide}
+use Rattle.figures.specs.Figures.{Figures, Wide, row, rows, added, addedTo, eachAdded, numbers, sum, AllWide}
+use Rattle.figures.proofs.FigureLaws.{row-long, added-wide}
+use Rattle.figures.specs.Figures.AllWide.{none-wide, more-wide}
+use Rattle.surveys.specs.Shelves.{OneOf}
 
 -- ---- a place of a row
 
@@ -40,12 +41,6 @@ unfolding addedTo
 chain-most [] f i h d = absurd (omega arith)
 chain-most (g ∷ fs) f zero h d = let k = chain-from fs (added f g) in omega arith
 chain-most (g ∷ fs) f (suc i) h d = chain-most fs (added f g) i (omega arith) d
-
--- the chain of one of them
-pub record OneOf (fs : List Figures) (d : Figures) (chain : ℕ) : Type 0 where
-  pub which : ℕ
-  pub inside : which < length fs
-  pub is : getD fs which d .chain ≡ chain
 
 pub chain-one : (fs : List Figures) (f d : Figures) → (addedTo f fs .chain ≡ f .chain) ⊎ OneOf fs d (addedTo f fs .chain)
 unfolding addedTo

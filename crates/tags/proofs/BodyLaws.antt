@@ -12,14 +12,16 @@ use Rattle.disc.specs.Ask.{Ask}
 use Rattle.disc.specs.Ask.Ask.{refuse}
 use Rattle.disc.specs.declared.refusals.Refusal.{Refusal}
 use Rattle.disc.specs.declared.refusals.Refusal.the-variants.{Malformed, BadCrc}
-use Rattle.disc.proofs.ByteLaws.{Bytes}
-use Rattle.disc.proofs.MarkedLaws.{Guards, refuse-guards, parse-guards}
+use Rattle.disc.proofs.MarkedLaws.{refuse-guards, parse-guards}
 use Rattle.crcs.specs.Crcs.{crcOf}
 use Rattle.crcs.proofs.Promises.{crc-pair}
 use Rattle.tags.specs.Tags.{accepted, tagOf, readTag, bodyRight, withBody, withId, readHead}
 use Rattle.tags.specs.declared.DescriptorTag.{DescriptorTag}
 use Rattle.tags.specs.declared.TagRead.{TagRead}
 use Rattle.tags.specs.declared.TagRead.the-variants.{Read, Refused}
+use Rattle.disc.specs.Parts.{Bytes}
+use Rattle.disc.specs.Marks.{Guards}
+use Rattle.tags.specs.Heads.{rightAt}
 
 -- ---- the returns of `has_right_body`
 
@@ -51,10 +53,6 @@ module _ (t : DescriptorTag) where
       crc-pair p q a b a′ b′ h i j k l (ap crcOf (sym e) ∙ right-crc s right ∙ sym (right-crc s′ right′) ∙ ap crcOf f)
 
 -- ---- the gate in a call
-
--- the body of the descriptor at the front of s, by the tag that stands there
-abbrev pub rightAt : List ℕ → Bool
-rightAt s = bodyRight s (tagOf s)
 
 -- a call that goes on behind the gate: with bodies checked it is the call without, with the descriptor marked where its tag is accepted
 module _ {A : Type 0} (s : List ℕ) (id size : ℕ) (f g : TagRead → Ask A) (p : (r : Refusal) → f (Refused r) ≡ refuse r) (q : (r : Refusal) → g (Refused r) ≡ refuse r) where

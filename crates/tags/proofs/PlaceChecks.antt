@@ -4,7 +4,7 @@ use mathlib.Core.Path.{_≡_, refl, sym, _∙_}
 use mathlib.Core.Bool.{Bool, true, false, _||_}
 use mathlib.Core.Option.{Option, none, some}
 use native.Mathlib.Omega.{arith}
-use lib.Dec.{leb, eqb}
+use lib.Dec.{eqb}
 use borrow.Author.Tests.{eq-eqb, eqb-true, le-leb, lt-leb}
 use Rattle.disc.proofs.PickLaws.{not-both}
 use Rattle.disc.specs.Choice.{pick}
@@ -13,6 +13,7 @@ use Rattle.disc.specs.declared.places.Mount.{Mount}
 use Rattle.disc.specs.declared.places.PartitionRef.the-variants.{Unnamed, Named}
 use Rattle.tags.specs.Tags.{ofVolume, ofPartition, listed, placeOf, isPlace, inPlace}
 use Rattle.tags.specs.declared.DescriptorTag.{DescriptorTag}
+use Rattle.tags.specs.Heads.{Crossed}
 
 -- ---- the returns of `is_in_place`
 
@@ -68,11 +69,6 @@ place-unlisted t e sector block = by (ofVolume (t .id)) (ofPartition (t .id)) e
     by false false q = refl
 
 -- ---- a tag that the crossing places: block b of a partition that starts at `start` is sector start + b
-
-pub record Crossed (start : ℕ) (t : DescriptorTag) (block sector : ℕ) : Type 0 where
-  pub of-partition : 256 ≤ t .id → t .id ≤ 266 → (inPlace t sector block ≡ true → t .location ≡ block) × (t .location ≡ block → inPlace t sector block ≡ true)
-  pub of-volume : 1 ≤ t .id → t .id ≤ 9
-      → (inPlace t sector block ≡ true → t .location ≡ start + block) × (t .location ≡ start + block → inPlace t sector block ≡ true)
 
 module _ (m : Mount) (t : DescriptorTag) (block : ℕ) where
   crossed-at : {start sector : ℕ} → sector ≡ start + block → Crossed start t block sector

@@ -9,7 +9,6 @@ use native.Mathlib.Omega.{arith}
 use borrow.Author.Tests.{le-leb, leb-true, eqb-true, eq-eqb, ne-eqb}
 use lib.Dec.{leb, eqb}
 use lib.ListN.{length, take}
-use Rattle.disc.proofs.ByteLaws.{Bytes}
 use Rattle.disc.proofs.PickLaws.{picked}
 use Rattle.disc.specs.declared.refusals.Refusal.the-variants.{Malformed}
 use Rattle.records.specs.Bytes.{byte, u16at, le32}
@@ -22,6 +21,8 @@ use Rattle.tags.specs.declared.AllocationExtentDescriptor.{AllocationExt
 use Rattle.tags.specs.declared.AedRead.the-variants.{Header, NoHeader}
 use Rattle.tags.proofs.HeadLaws.{head-read, aed-read}
 use Rattle.records.proofs.Numbers.{u16-le16, u32-le32, le16-u16, le32-u32, from, from-take}
+use Rattle.disc.specs.Parts.{Bytes}
+use Rattle.tags.specs.Heads.{written}
 
 -- ---- tag
 
@@ -35,23 +36,20 @@ read-only s t e =
 
 -- what follows a tag's bytes is not looked at
 module _ (t : DescriptorTag) (rest : List ℕ) (h : TagValue t) where
-  abbrev written : List ℕ
-  written = encodeTag t ++ rest
-
-  id-same : u16at written 0 ≡ t .id
+  id-same : u16at (written t rest) 0 ≡ t .id
   id-same = u16-le16 (t .id) (h .id)
 
-  written-accepted : accepted written ≡ listed (t .id)
-  written-accepted = ap₂ (λ (a b : Bool). a && true && b) (ap listed id-same) (eq-eqb (checksum written) (checksum written) refl) ∙ both (listed (t .id))
+  written-accepted : accepted (written t rest) ≡ listed (t .id)
+  written-accepted = ap₂ (λ (a b : Bool). a && true && b) (ap listed id-same) (eq-eqb (checksum (written t rest)) (checksum (written t rest)) refl) ∙ both (listed (t .id))
     where
       both : (b : Bool) → (b && true && true) ≡ b
       both true = refl
       both false = refl
 
-  pub tag-again : listed (t .id) ≡ true → readTag written ≡ Read t
-  tag-again l = simp (le-leb 16 (length written) (omega arith), written-accepted, l) (ap Read same)
+  pub tag-again : listed (t .id) ≡ true → readTag (written t rest) ≡ Read t
+  tag-again l = simp (le-leb 16 (length (written t rest)) (omega arith), written-accepted, l) (ap Read same)
     where
-      same : tagOf written ≡ t
+      same : tagOf (written t rest) ≡ t
       same = λ i.
           record {
             id = id-same i;
@@ -63,8 +61,8 @@ module _ (t : DescriptorTag) (rest : List ℕ) (h : TagValue t) where
           }
 
   -- one that reading can't give isn't read back
-  pub tag-unlisted : listed (t .id) ≡ false → readTag written ≡ Refused Malformed
-  tag-unlisted l = simp (le-leb 16 (length written) (omega arith), written-accepted, l)
+  pub tag-unlisted : listed (t .id) ≡ false → readTag (written t rest) ≡ Refused Malformed
+  tag-unlisted l = simp (le-leb 16 (length (written t rest)) (omega arith), written-accepted, l)
 
 tag-bytes-back : (s : List ℕ) → Bytes s → accepted s ≡ true → encodeTag (tagOf s) ≡ from s 0 16
 tag-bytes-back s h e =

@@ -1,16 +1,12 @@
 -- The worked table, cases 1 to 6, by computation: each answer by its number and its values. Assumes nothing.
-use Prim.Native.Nat.{ℕ}
 use mathlib.Core.Path.{_≡_, refl}
-use mathlib.Core.List.{List, [], _∷_, _++_}
+use mathlib.Core.List.{[], _∷_}
 use lib.ListN.{replicate, take}
 use Rattle.records.specs.Allocations.{readShort}
 use Rattle.records.specs.Answers.{shortAnswer}
 use Rattle.tags.specs.Tags.{readTag}
 use Rattle.tags.specs.Answers.{noTag, tagAnswer}
-
--- a tag's bytes with a checksum and a reserved byte
-abbrev pub row : ℕ → ℕ → List ℕ
-row k z = 0x02 ∷ 0x00 ∷ 0x03 ∷ 0x00 ∷ k ∷ z ∷ replicate 6 0x00 ++ 0x00 ∷ 0x01 ∷ 0x00 ∷ 0x00 ∷ []
+use Rattle.tags.specs.Heads.{row}
 
 pub table :
     (tagAnswer (readTag (row 0x06 0x00))

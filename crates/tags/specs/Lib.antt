@@ -2,3 +2,4 @@
 pub mod Tags
 pub mod Answers
 pub mod Values
+pub mod Heads

@@ -2,14 +2,12 @@
 -- the second and the third answer has one ICB; where no two names of the directories on the path are equal with ASCII case ignored, the first and the
 -- third give the same, and the second gives the same or is refused by 3. And 9 is given exactly when several entries match. Assumes nothing.
 use mathlib.Core.Path.{_≡_, refl, ap, sym, _∙_}
-use mathlib.Core.Bool.{Bool, true, false}
-use mathlib.Core.List.{List, []}
+use mathlib.Core.Bool.{true, false}
+use mathlib.Core.List.{List}
 use mathlib.Core.Logic.{_⊎_, inl, inr}
-use Prim.Native.Nat.{ℕ, _+_, _≤_}
+use Prim.Native.Nat.{ℕ}
 use native.Mathlib.Omega.{arith}
 use lib.ListN.{length}
-use lib.Dec.{leb}
-use Rattle.disc.specs.Choice.{pick}
 use Rattle.disc.specs.Refusals.{number}
 use Rattle.disc.specs.Counts.{reported}
 use Rattle.disc.specs.Ask.{Outcome, outcome, andThen}
@@ -19,30 +17,30 @@ use Rattle.disc.specs.Ran.{Ran, ran}
 use Rattle.disc.specs.Replies.{answerOf}
 use Rattle.disc.specs.declared.refusals.Refusal.{Refusal}
 use Rattle.disc.specs.declared.refusals.Refusal.the-variants.{Ambiguous}
-use Rattle.disc.proofs.OnlyLaws.{Within, refuses-within}
+use Rattle.disc.proofs.OnlyLaws.{refuses-within}
 use Rattle.disc.proofs.RanLaws.{ran-then}
 use Rattle.disc.proofs.RefusalLaws.{refusal-numbered}
-use Rattle.records.specs.Allocations.{noLong}
 use Rattle.records.specs.declared.allocations.LongAd.{LongAd}
 use Rattle.listings.specs.Paths.{components}
 use Rattle.listings.specs.declared.matchings.Matching.{Matching}
 use Rattle.listings.specs.declared.matchings.Matching.the-variants.{CaseIgnored, AsWritten, Unambiguous}
 use Rattle.directories.specs.Directories.{directoryBytes}
-use Rattle.directories.specs.Lookups.{Sought, seeking, seekPath, icbOf, lookupOf, readPathOf}
+use Rattle.directories.specs.Lookups.{Sought, seekPath, icbOf, readPathOf}
 use Rattle.directories.specs.Lookups.Sought.{reached, lost}
 use Rattle.directories.proofs.LookupLaws.{look-is}
-use Rattle.directories.proofs.MatchingLaws.{only-agrees, written-agrees-only, ApartOn, IsLost, apart-only, apart-written-agrees, Doubles, doubles-refused, refused-doubles}
+use Rattle.directories.proofs.MatchingLaws.{only-agrees, written-agrees-only, apart-only, apart-written-agrees, doubles-refused, refused-doubles}
 use Rattle.volumes.specs.declared.openings.VolumeRecord.{VolumeRecord}
 use Rattle.vault.specs.Calls.{reading, seeking as seekingOf, finding, pathReading, worked, looked, finds, lost as lostBy, lostPlace}
 use Rattle.directories.proofs.RefusingLaws.{directory-only}
 use Rattle.vault.specs.Public.{way, leaves, answerOn}
-use Rattle.vault.proofs.Along.{Walker, along, walk-refused, refused-walk}
-use Rattle.vault.proofs.Along.Walker.{finder, failer, placer, reader}
+use Rattle.vault.proofs.Along.{walk-refused, refused-walk}
+use Rattle.disc.specs.Refusing.{Within}
+use Rattle.directories.specs.Leads.{IsLost}
+use Rattle.vault.specs.Along.{Walker, along, Same}
+use Rattle.vault.specs.Along.Walker.{finder, failer, placer, reader}
+use Rattle.vault.specs.Paths.{AllApart, SeveralOn, sectorsOfSeveral}
 
 -- ---- calls whose walks are the same
-
-pub record Same (image : List ℕ) (v : VolumeRecord) (path : List ℕ) (matching matching′ : Matching) (work : List ℕ) : Type 1 where
-  pub calls : {A R : Type 0} (w : Walker A R) → leaves (along w v path matching work) image ≡ leaves (along w v path matching′ work) image
 
 module _ (image : List ℕ) (v : VolumeRecord) (path work : List ℕ) where
   abbrev W : Matching → Ran Sought
@@ -103,16 +101,13 @@ module _ (image : List ℕ) (v : VolumeRecord) (path work : List ℕ) where
 
   -- ---- where no two listed names of the directories on the path are equal with case ignored
 
-  abbrev pub AllApart : Type 0
-  AllApart = ApartOn (disc image) (v .mount) (length work) (components path) (v .root) true
-
   -- the first choice and the third give the same,
-  pub apart-same : AllApart → Same image v path Unambiguous CaseIgnored work
+  pub apart-same : (AllApart image v path work) → Same image v path Unambiguous CaseIgnored work
   unfolding seekPath
   apart-same a = same Unambiguous CaseIgnored (apart-only (disc image) (v .mount) (length work) (components path) (v .root) true a)
 
   -- and the second gives the same too, or is refused by 3
-  pub apart-written-same : AllApart → Same image v path AsWritten CaseIgnored work ⊎ (finds image v path AsWritten work .found .answer ≡ 3)
+  pub apart-written-same : (AllApart image v path work) → Same image v path AsWritten CaseIgnored work ⊎ (finds image v path AsWritten work .found .answer ≡ 3)
   unfolding seekPath
   apart-written-same a = by (apart-written-agrees (disc image) (v .mount) (length work) (components path) (v .root) true a)
     where
@@ -121,9 +116,6 @@ module _ (image : List ℕ) (v : VolumeRecord) (path work : List ℕ) where
       by (inr l) = inr (ap (λ (r : Ran LongAd). answerOf (r .outcome)) (looks AsWritten) ∙ ap (λ (o : Outcome Sought). answerOf (andThen o icbOf)) (l .is))
 
   -- ---- 9 exactly when several entries of a directory on the path match the component that is to be found there
-
-  abbrev pub SeveralOn : Type 0
-  SeveralOn = Doubles (disc image) (v .mount) (length work) (components path) (v .root)
 
   abbrev ButNine : Refusal → Type 0
   ButNine why = number why ≡ 9 → ⊥
@@ -139,15 +131,12 @@ module _ (image : List ℕ) (v : VolumeRecord) (path work : List ℕ) where
       by (answered b) h w = let z : _≡_ {A = ℕ} 0 1 = cc in omega arith
       by (refused why) h w = let z : why ≡ Ambiguous = cc in w (ap number z)
 
-  pub along-9 : {A R : Type 0} (w : Walker A R) → answerOn (along w v path Unambiguous work) image ≡ 9 → SeveralOn
+  pub along-9 : {A R : Type 0} (w : Walker A R) → answerOn (along w v path Unambiguous work) image ≡ 9 → (SeveralOn image v path work)
   unfolding seekPath
   along-9 w e = refused-doubles (disc image) (v .mount) (length work) never-nine (components path) (v .root) (refused-walk image v path Unambiguous work Ambiguous (inr refl) w e)
 
   -- and always then, after the sectors of the way to the directory and of its read; the component that failed is empty, and all else is as a refusal has it
-  module _ (o : SeveralOn) where
-    abbrev pub sectorsOfSeveral : ℕ
-    sectorsOfSeveral = ran (disc image) (seeking Unambiguous (v .mount) (length work) (o .before) (v .root) true) .count + ran (disc image) (directoryBytes (v .mount) (length work) (o .directory)) .count
-
-    pub several-along : {A R : Type 0} (w : Walker A R) → leaves (along w v path Unambiguous work) image ≡ way (along w v path Unambiguous work) .bare 9 (reported sectorsOfSeveral)
+  module _ (o : (SeveralOn image v path work)) where
+    pub several-along : {A R : Type 0} (w : Walker A R) → leaves (along w v path Unambiguous work) image ≡ way (along w v path Unambiguous work) .bare 9 (reported (sectorsOfSeveral image v path work o))
     unfolding seekPath
-    several-along w = walk-refused image v path Unambiguous work Ambiguous sectorsOfSeveral (doubles-refused (disc image) (v .mount) (length work) (components path) (v .root) o) w
+    several-along w = walk-refused image v path Unambiguous work Ambiguous (sectorsOfSeveral image v path work o) (doubles-refused (disc image) (v .mount) (length work) (components path) (v .root) o) w

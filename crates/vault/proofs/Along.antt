@@ -1,14 +1,11 @@
 -- The four calls that walk a path, as one: where the walk is refused they leave what is bare, and a number that no read says by itself is the walk's. Assumes nothing.
 use mathlib.Core.Path.{_≡_, refl, ap, sym, _∙_}
-use mathlib.Core.Bool.{Bool, true, false}
+use mathlib.Core.Bool.{true, false}
 use mathlib.Core.List.{List}
 use mathlib.Core.Logic.{_⊎_, inl, inr}
 use Prim.Native.Nat.{ℕ}
 use native.Mathlib.Omega.{arith}
 use lib.ListN.{length}
-use lib.Dec.{eqb, leb}
-use borrow.Author.Tests.{eqb-true}
-use Rattle.disc.specs.Choice.{pick}
 use Rattle.disc.specs.Refusals.{number}
 use Rattle.disc.specs.Counts.{reported}
 use Rattle.disc.specs.Ask.{Outcome, outcome, andThen}
@@ -17,53 +14,20 @@ use Rattle.disc.specs.Images.{disc}
 use Rattle.disc.specs.Ran.{Ran, ran, onward}
 use Rattle.disc.specs.Replies.{answerOf}
 use Rattle.disc.specs.declared.refusals.Refusal.{Refusal}
-use Rattle.disc.specs.declared.refusals.Refusal.the-variants.{Io, Malformed, NotBluray, Unsupported, NoRoom, NoWork, NoSlot, Ambiguous, BadCrc, TooDeep, TooMany, BadName, BadFiles, BadShelf}
-use Rattle.disc.proofs.OnlyLaws.{Within, refuses-within}
 use Rattle.disc.proofs.RanLaws.{ran-then}
+use Rattle.disc.proofs.RefusalLaws.{refusal-is}
 use Rattle.records.specs.declared.allocations.LongAd.{LongAd}
 use Rattle.listings.specs.declared.matchings.Matching.{Matching}
 use Rattle.directories.specs.Lookups.{Sought, icbOf, readPathOf}
 use Rattle.directories.specs.Lookups.Sought.{reached, lost}
 use Rattle.directories.proofs.LookupLaws.{look-is}
 use Rattle.volumes.specs.declared.openings.VolumeRecord.{VolumeRecord}
-use Rattle.vault.specs.Calls.{reading, seeking, finding, Looked, Lost, LostPlace, Worked}
-use Rattle.vault.specs.Public.{byBytes, byWork, Call, tree, way, may, leaves, answerOn}
-use Rattle.vault.specs.Public.Call.{reads, finds, fails, failsAt, readsPath}
-use Rattle.vault.proofs.Promises.{tells, numberOf, order, listed}
-
-pub data Walker : Type 0 → Type 0 → Type 1 where
-  finder : Walker LongAd Looked
-  failer : Walker Sought Lost
-  placer : Walker Sought LostPlace
-  reader : List ℕ → Walker (List ℕ) Worked
-
-abbrev pub along : {A R : Type 0} → Walker A R → VolumeRecord → List ℕ → Matching → List ℕ → Call A R
-along finder v path matching work = finds v path matching work
-along failer v path matching work = fails v path matching work
-along placer v path matching work = failsAt v path matching work
-along (reader out) v path matching work = readsPath v path matching out work
-
--- the refusal that has a number
-abbrev pub named : ℕ → Refusal
-named n =
-    pick (eqb n 1) Io (pick (eqb n 2) Malformed (pick (eqb n 3) NotBluray (pick (eqb n 4) Unsupported (pick (eqb n 5) NoRoom (pick (eqb n 6) NoWork (pick (eqb n 7) NoSlot
-    (pick (eqb n 9) Ambiguous (pick (eqb n 10) BadCrc (pick (eqb n 11) TooDeep (pick (eqb n 12) TooMany (pick (eqb n 13) BadName (pick (eqb n 14) BadFiles BadShelf))))))))))))
-
-pub number-named : (why : Refusal) → named (number why) ≡ why
-number-named Io = refl
-number-named Malformed = refl
-number-named NotBluray = refl
-number-named Unsupported = refl
-number-named NoRoom = refl
-number-named NoWork = refl
-number-named NoSlot = refl
-number-named Ambiguous = refl
-number-named BadCrc = refl
-number-named TooDeep = refl
-number-named TooMany = refl
-number-named BadName = refl
-number-named BadFiles = refl
-number-named BadShelf = refl
+use Rattle.vault.specs.Calls.{reading, seeking, finding}
+use Rattle.vault.specs.Public.{byBytes, byWork, tree, way, may, leaves, answerOn, numberOf}
+use Rattle.vault.specs.Public.Call.{reads, readsPath}
+use Rattle.vault.proofs.Promises.{tells, order, listed}
+use Rattle.vault.specs.Along.{Walker, along}
+use Rattle.vault.specs.Along.Walker.{finder, failer, placer, reader}
 
 module _ (image : List ℕ) (v : VolumeRecord) (path : List ℕ) (matching : Matching) (work : List ℕ) where
   abbrev pub walk : Ran Sought
@@ -121,4 +85,4 @@ module _ (image : List ℕ) (v : VolumeRecord) (path : List ℕ) (matching : Mat
         by (answered (reached icb)) (inr k) q = absurd (omega arith)
         by (answered (lost c)) (inl k) q = absurd (omega arith)
         by (answered (lost c)) (inr k) q = absurd (omega arith)
-        by (refused r) k q = ap refused (sym (number-named r) ∙ ap named q ∙ number-named why)
+        by (refused r) k q = ap refused (refusal-is r why q)

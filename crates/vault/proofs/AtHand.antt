@@ -1,15 +1,15 @@
 -- RULES 8.2 to 8.10 and 8.22 to 8.24, of a directory's bytes at hand. A listing is a read of the directory and `list_bytes` of what it gave; a step of a
 -- lookup is such a read and `find_in`. Every answer of `find_in` is in the table, and a refusal has zeros; of `list_bytes` this is Promises, since it is a
 -- call that asks for no sector. Assumes nothing.
-use mathlib.Core.Path.{_≡_, refl, ap, sym, _∙_}
-use mathlib.Core.Bool.{Bool, true, false, _||_, _&&_}
+use mathlib.Core.Path.{_≡_, refl, ap, _∙_}
+use mathlib.Core.Bool.{Bool, true, false}
 use mathlib.Core.List.{List, _∷_}
 use mathlib.Core.Option.{Option, none, some}
 use Prim.Native.Nat.{ℕ, _≤_}
 use native.Mathlib.Nat.{add-zero}
 use native.Mathlib.Omega.{arith}
 use lib.ListN.{length}
-use lib.Dec.{eqb, leb}
+use lib.Dec.{leb}
 use borrow.Author.Tests.{ne-eqb, le-leb}
 use Rattle.disc.specs.Choice.{pick}
 use Rattle.disc.specs.Counts.{reported}
@@ -18,36 +18,28 @@ use Rattle.disc.specs.Refusals.{number}
 use Rattle.disc.specs.Ask.{Disc, Outcome, outcome, asked, andThen, ended}
 use Rattle.disc.specs.Ask.Outcome.{answered, refused}
 use Rattle.disc.specs.Images.{disc}
-use Rattle.disc.specs.Ran.{Ran, ran, after, onward, told}
+use Rattle.disc.specs.Ran.{Ran, ran, after, onward}
 use Rattle.disc.specs.Replies.{replyBy}
 use Rattle.disc.specs.declared.refusals.Refusal.{Refusal}
-use Rattle.disc.specs.declared.refusals.Refusal.the-variants.{NoRoom, NoWork}
+use Rattle.disc.specs.declared.refusals.Refusal.the-variants.{NoRoom}
 use Rattle.disc.specs.declared.replies.Reply.{Reply}
-use Rattle.disc.proofs.OnlyLaws.{Only, Any}
-use Rattle.disc.proofs.RanLaws.{ran-then}
-use Rattle.disc.proofs.RefusalLaws.{refusal-numbered}
+use Rattle.disc.proofs.RanLaws.{ran-then, ran-known}
+use Rattle.disc.proofs.RefusalLaws.{refusal-numbered, refusal-known}
 use Rattle.records.specs.declared.allocations.LongAd.{LongAd}
 use Rattle.listings.specs.Entries.{Entry}
-use Rattle.listings.specs.Listings.{findIn, unnamed, namedTo, namedOf, listing as listingIn}
+use Rattle.listings.specs.Listings.{findIn, unnamed, namedOf, listing as listingIn}
 use Rattle.listings.specs.Paths.{Component}
-use Rattle.listings.specs.declared.finds.Named.{Named}
 use Rattle.listings.specs.declared.matchings.Matching.{Matching}
 use Rattle.identifiers.specs.Identifiers.{isDirectory}
 use Rattle.directories.specs.Directories.{within, directoryBytes, listingAt}
-use Rattle.directories.specs.Lookups.{Sought, entering, orLost, seeking}
-use Rattle.directories.specs.Lookups.Sought.{lost}
-use Rattle.directories.proofs.SpaceLaws.{ran-known}
+use Rattle.directories.specs.Lookups.{entering, orLost, seeking}
 use Rattle.volumes.specs.declared.openings.VolumeRecord.{VolumeRecord}
-use Rattle.vault.specs.Calls.{reading, listing, cleared, Worked, lists, listsBytes, findsIn}
-use Rattle.vault.specs.Public.{third}
-use Rattle.vault.proofs.Along.{named, number-named}
+use Rattle.vault.specs.Calls.{reading, listing, cleared, lists, listsBytes, findsIn}
 use Rattle.listings.proofs.RefusingLaws.{named-only}
+use Rattle.disc.specs.Refusing.{Only, Any}
+use Rattle.vault.specs.AtHand.{counted, inFind, onFrom}
 
 -- ---- a listing is a read, and `list_bytes` of the bytes that it gave, after the read's sectors
-
--- a reply with another count
-abbrev pub counted : ℕ → Reply → Reply
-counted n r = record { answer = r .answer; count = n; length = r .length }
 
 module _ (image : List ℕ) (v : VolumeRecord) (icb : LongAd) (out work b : List ℕ) (n : ℕ) (h : ran (disc image) (reading v icb) ≡ record { outcome = answered b; count = n }) (fits : length b ≤ length work) where
   read : ran (disc image) (directoryBytes (v .mount) (length work) icb) ≡ record { outcome = answered b; count = n }
@@ -73,22 +65,15 @@ module _ (image : List ℕ) (v : VolumeRecord) (icb : LongAd) (out work b : List
 -- ---- a step of a lookup is a read of the directory, and `find_in` of its bytes
 
 module _ (d : Disc) (v : VolumeRecord) (work : ℕ) (matching : Matching) (c : Component) (cs : List Component) where
-  -- what the walk goes on with: it is refused, or the component isn't there, or it goes on from the entry that was found
-  abbrev pub onFrom : Named → Ran Sought
-  onFrom r =
-      pick (eqb (r .answer) 0)
-      (pick (r .found) (ran d (seeking matching (v .mount) work cs (r .icb) (r .directory))) (told (answered (lost c))))
-      (told (refused (named (r .answer))))
-
   taken : (n : ℕ) (o : Outcome (Option Entry))
-      → onward o n (λ x. ran d (orLost c x (λ e. seeking matching (v .mount) work cs (e .identifier .icb) (isDirectory (e .identifier))))) ≡ after n (onFrom (namedOf o))
+      → onward o n (λ x. ran d (orLost c x (λ e. seeking matching (v .mount) work cs (e .identifier .icb) (isDirectory (e .identifier))))) ≡ after n ((onFrom d v work matching c cs) (namedOf o))
   unfolding ran outcome asked
   taken n (answered none) = refl
   taken n (answered (some e)) = refl
-  taken n (refused why) = rw (ne-eqb (number why) 0 (refusal-numbered why), number-named why, add-zero)
+  taken n (refused why) = rw (ne-eqb (number why) 0 (refusal-numbered why), refusal-known why, add-zero)
 
   pub step-finds : (icb : LongAd) (b : List ℕ) (n : ℕ) → ran d (directoryBytes (v .mount) work icb) ≡ record { outcome = answered b; count = n }
-      → ran d (seeking matching (v .mount) work (c ∷ cs) icb true) ≡ after n (onFrom (findsIn v b (c .bytes) matching))
+      → ran d (seeking matching (v .mount) work (c ∷ cs) icb true) ≡ after n ((onFrom d v work matching c cs) (findsIn v b (c .bytes) matching))
   unfolding seeking entering
   step-finds icb b n h =
       ran-then d (entering matching (v .mount) work icb (c .bytes)) _
@@ -107,9 +92,6 @@ find-bare v bytes component matching = by (findIn (isChecked (v .mount)) matchin
     by (refused why) h = refl
 
 -- and every answer is in the table
-
-abbrev pub inFind : VolumeRecord → Matching → ℕ → Bool
-inFind v matching n = eqb n 0 || eqb n 2 || (eqb n 9 && third matching) || (eqb n 10 && isChecked (v .mount))
 
 pub find-listed : (v : VolumeRecord) (bytes component : List ℕ) (matching : Matching) → inFind v matching (findsIn v bytes component matching .answer) ≡ true
 unfolding Only

@@ -3,9 +3,7 @@ use mathlib.Core.Path.{_≡_, refl, ap, _∙_}
 use mathlib.Core.Bool.{Bool, true, false}
 use mathlib.Core.List.{List}
 use Prim.Native.Nat.{ℕ}
-use lib.Dec.{eqb}
 use borrow.Author.Tests.{ne-eqb}
-use Rattle.disc.specs.Choice.{pick}
 use Rattle.disc.specs.Refusals.{number}
 use Rattle.disc.specs.Ask.{Outcome, andThen}
 use Rattle.disc.specs.Ask.Outcome.{answered, refused}
@@ -13,26 +11,14 @@ use Rattle.disc.specs.Images.{disc}
 use Rattle.disc.specs.Ran.{ran}
 use Rattle.disc.specs.Counts.{reported}
 use Rattle.disc.proofs.RefusalLaws.{refusal-numbered}
+use Rattle.disc.proofs.RanLaws.{ran-known}
 use Rattle.volumes.specs.Openings.{opening, openedBy, openedOf}
-use Rattle.volumes.specs.declared.openings.How.{How}
-use Rattle.volumes.specs.declared.openings.Opened.{Opened}
 use Rattle.volumes.specs.declared.openings.VolumeRecord.{VolumeRecord}
-use Rattle.volumes.proofs.GuardLaws.{asChecked}
-use Rattle.directories.proofs.SpaceLaws.{ran-known}
 use Rattle.vault.specs.Calls.{opens}
 use Rattle.vault.specs.Public.Call.{opens as asOpen}
 use Rattle.vault.proofs.Promises.{checked}
-
--- the choice with the check, and without
-abbrev pub checkedBy : Bool → Bool → How
-checkedBy h maps = record { highest = h; checked = true; maps = maps }
-
-abbrev pub plainBy : Bool → Bool → How
-plainBy h maps = record { highest = h; checked = false; maps = maps }
-
--- an opening without the check, as it is with it: the volume says that it is checked
-abbrev pub asOpened : Opened → Opened
-asOpened o = record { answer = o .answer; count = o .count; volume = pick (eqb (o .answer) 0) (asChecked (o .volume)) (o .volume) }
+use Rattle.volumes.specs.Checks.{asChecked}
+use Rattle.vault.specs.Checks.{checkedBy, plainBy, asOpened}
 
 opened-as : (n : ℕ) (o : Outcome VolumeRecord) → openedBy n (andThen o (λ v. answered (asChecked v))) ≡ asOpened (openedBy n o)
 opened-as n (answered v) = refl

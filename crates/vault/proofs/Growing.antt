@@ -4,13 +4,11 @@ use mathlib.Core.Bool.{false}
 use mathlib.Core.List.{List, _∷_, _++_}
 use Prim.Native.Nat.{ℕ, _<_}
 use lib.ListN.{length, getD, drop}
-use lib.Dec.{eqb}
 use borrow.Author.Tests.{ne-eqb}
 use Rattle.disc.specs.Ask.{Ask, outcome}
 use Rattle.disc.specs.Images.{disc}
 use Rattle.disc.specs.Ran.{Ran, ran}
 use Rattle.disc.proofs.ImageLaws.{image-grown}
-use Rattle.disc.proofs.OnlyLaws.{isIo}
 use Rattle.volumes.specs.declared.openings.VolumeRecord.{VolumeRecord}
 use Rattle.listings.specs.declared.matchings.Matching.{Matching}
 use Rattle.cue_stacks.specs.Stacks.{items, replyIn}
@@ -20,6 +18,7 @@ use Rattle.vault.specs.Public.Call.{readsPath as asReadPath}
 use Rattle.vault.proofs.Promises.{io-1, grown}
 use Rattle.vault.proofs.Stacking.{left, all-stays, read-all-item}
 use Rattle.disc.proofs.GrownLaws.{grown-ran}
+use Rattle.disc.specs.Refusing.{isIo}
 
 -- a call is final on an image: whatever is added at the end, it leaves the same answer, count and memory
 abbrev pub Final : {R : Type 0} → (List ℕ → R) → List ℕ → Type 0

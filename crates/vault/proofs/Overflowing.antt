@@ -5,7 +5,7 @@ use mathlib.Core.Path.{_≡_, refl}
 use mathlib.Core.Bool.{true}
 use mathlib.Core.List.{List}
 use mathlib.Core.Logic.{inl}
-use Prim.Native.Nat.{ℕ, _+_}
+use Prim.Native.Nat.{ℕ}
 use native.Mathlib.Omega.{arith}
 use lib.ListN.{length}
 use Rattle.disc.specs.Counts.{reported}
@@ -15,19 +15,17 @@ use Rattle.disc.specs.Ran.{ran}
 use Rattle.disc.specs.declared.refusals.Refusal.the-variants.{NoWork}
 use Rattle.records.specs.declared.allocations.LongAd.{LongAd}
 use Rattle.listings.specs.Paths.{components}
-use Rattle.directories.specs.Lookups.{seeking, seekPath}
-use Rattle.directories.proofs.OverflowLaws.{Overflows, overflows-refused, refused-overflows}
+use Rattle.directories.specs.Lookups.{seekPath}
+use Rattle.directories.proofs.OverflowLaws.{overflows-refused, refused-overflows}
 use Rattle.listings.specs.declared.matchings.Matching.{Matching}
 use Rattle.volumes.specs.declared.openings.VolumeRecord.{VolumeRecord}
 use Rattle.vault.specs.Calls.{reading}
 use Rattle.vault.specs.Public.{way, leaves, answerOn}
 use Rattle.vault.specs.Public.Call.{measures}
 use Rattle.vault.proofs.Promises.{order, listed}
-use Rattle.vault.proofs.Along.{Walker, along, walk-refused, refused-walk}
-
--- a directory along the path exceeds the work space
-abbrev pub Exceeds : List ℕ → VolumeRecord → List ℕ → Matching → List ℕ → Type 0
-Exceeds image v path matching work = Overflows (disc image) matching (v .mount) (length work) (components path) (v .root)
+use Rattle.vault.proofs.Along.{walk-refused, refused-walk}
+use Rattle.vault.specs.Along.{Walker, along}
+use Rattle.vault.specs.Paths.{Exceeds, sectorsOfExcess}
 
 -- a read that needs no work space isn't refused so
 never-six : (image : List ℕ) (v : VolumeRecord) (icb : LongAd) → ran (disc image) (reading v icb) .outcome ≡ refused NoWork → ⊥
@@ -45,9 +43,6 @@ module _ (image : List ℕ) (v : VolumeRecord) (path : List ℕ) (matching : Mat
 
   -- ---- and always then, after the sectors of the way to the directory and of its read; all else is as a refusal has it
   module _ (o : Exceeds image v path matching work) where
-    abbrev pub sectorsOfExcess : ℕ
-    sectorsOfExcess = ran (disc image) (seeking matching (v .mount) (length work) (o .before) (v .root) true) .count + ran (disc image) (reading v (o .directory)) .count
-
-    pub exceeds-along : {A R : Type 0} (w : Walker A R) → leaves (along w v path matching work) image ≡ way (along w v path matching work) .bare 6 (reported sectorsOfExcess)
+    pub exceeds-along : {A R : Type 0} (w : Walker A R) → leaves (along w v path matching work) image ≡ way (along w v path matching work) .bare 6 (reported (sectorsOfExcess image v path matching work o))
     unfolding seekPath
-    exceeds-along w = walk-refused image v path matching work NoWork sectorsOfExcess (overflows-refused (disc image) matching (v .mount) (length work) (components path) (v .root) o) w
+    exceeds-along w = walk-refused image v path matching work NoWork (sectorsOfExcess image v path matching work o) (overflows-refused (disc image) matching (v .mount) (length work) (components path) (v .root) o) w

@@ -1,7 +1,7 @@
 -- The promises, each once over all calls that read an image. Assumes nothing.
 use mathlib.Core.Path.{_≡_, refl, ap, sym, _∙_}
-use mathlib.Core.Bool.{Bool, true, false, not, _||_, _&&_}
-use mathlib.Core.List.{List, [], _++_, map}
+use mathlib.Core.Bool.{Bool, true, false, not, _||_}
+use mathlib.Core.List.{List, _++_, map}
 use mathlib.Core.Logic.{_⊎_, inl, inr}
 use Prim.Native.Nat.{ℕ, min, _<_}
 use native.Mathlib.Omega.{arith}
@@ -10,31 +10,26 @@ use lib.Dec.{eqb, leb}
 use borrow.Author.Tests.{ne-eqb, eq-eqb}
 use Rattle.disc.specs.Choice.{pick}
 use Rattle.disc.specs.Counts.{reported}
-use Rattle.disc.specs.Places.{isChecked, unchecked}
+use Rattle.disc.specs.Places.{isChecked}
 use Rattle.disc.specs.Refusals.{number}
 use Rattle.disc.specs.Replies.{measuredBy}
-use Rattle.disc.specs.Ask.{Ask, Outcome, outcome, asked, then, ended, Agree}
-use Rattle.disc.specs.Ask.Ask.{done, refuse, ask}
+use Rattle.disc.specs.Ask.{Outcome, outcome, asked, Agree}
 use Rattle.disc.specs.Ask.Outcome.{answered, refused}
 use Rattle.disc.specs.Images.{disc}
-use Rattle.disc.specs.Ran.{Ran, ran, eachIn}
+use Rattle.disc.specs.Ran.{ran, eachIn}
 use Rattle.disc.specs.declared.refusals.Refusal.{Refusal}
 use Rattle.disc.specs.declared.refusals.Refusal.the-variants.{NoRoom, NoSlot}
 use Rattle.disc.specs.declared.replies.Reply.{Reply}
 use Rattle.disc.proofs.ImageLaws.{image-grown}
-use Rattle.disc.proofs.OnlyLaws.{Only, Refuses, Within, refuses-within, Any, isIo, anyMissing, refused-missing}
-use Rattle.disc.proofs.MarkedLaws.{isBad, anyWrong, parsed, Front, Guards, guards-bad, guards-outcome, guards-asked, guards-front}
-use Rattle.disc.proofs.GrownLaws.{grown-ran, Waits, refused-waits}
+use Rattle.disc.proofs.OnlyLaws.{refuses-within, refused-missing, only-weaker}
+use Rattle.disc.proofs.MarkedLaws.{guards-bad, guards-outcome, guards-asked, guards-front}
+use Rattle.disc.proofs.GrownLaws.{grown-ran, refused-waits}
 use Rattle.disc.proofs.RanLaws.{same-ran}
 use Rattle.disc.proofs.ReplyLaws.{reply-counts}
-use Rattle.tags.proofs.BodyLaws.{rightAt}
-use Rattle.volumes.specs.Openings.{opening, openedBy}
-use Rattle.volumes.specs.Labels.{labelling}
-use Rattle.volumes.specs.declared.openings.How.{How}
+use Rattle.volumes.specs.Openings.{openedBy}
 use Rattle.volumes.specs.declared.openings.VolumeRecord.{VolumeRecord}
-use Rattle.volumes.proofs.GuardLaws.{asChecked, opening-guards, labelling-guards}
+use Rattle.volumes.proofs.GuardLaws.{opening-guards, labelling-guards}
 use Rattle.files.proofs.GuardLaws.{bytes-guards, part-guards, extents-guards}
-use Rattle.listings.specs.Listings.{listing as listingIn}
 use Rattle.listings.proofs.GuardLaws.{listing-guards as listed-guards}
 use Rattle.directories.specs.Lookups.{Sought}
 use Rattle.directories.specs.Lookups.Sought.{reached, lost}
@@ -47,9 +42,13 @@ use Rattle.volumes.proofs.RefusingLaws.{opening-only, label-only}
 use Rattle.listings.proofs.RefusingLaws.{listed-only}
 use Rattle.directories.proofs.RefusingLaws.{listing-only, seek-only, lookup-only, path-only}
 use Rattle.shows.proofs.Promises.{showing-only}
-use Rattle.vault.specs.Calls.{reading, parting, extentListing, runListing, listing, showing, seeking, finding, pathReading}
-use Rattle.vault.specs.Public.{Way, byVolume, bySize, byIcb, byPart, byPlace, byBytes, byWork, byRow, byLost, byLostPlace, gives, says, Call, spec, tree, way, may, leaves, answerOn, countOn}
+use Rattle.vault.specs.Public.{Way, byVolume, bySize, byIcb, byPart, byPlace, byBytes, byWork, byRow, byLost, byLostPlace, gives, says, Call, spec, tree, way, may, leaves, answerOn, countOn, numberOf, lacking, exceeds}
 use Rattle.vault.specs.Public.Call.{opens, labels, reads, measures, parts, partsAt, extents, runs, lists, shows, finds, fails, failsAt, listsBytes, readsPath}
+use Rattle.disc.specs.Refusing.{Refuses, Within, Any, isIo}
+use Rattle.disc.specs.Lists.{Waits}
+use Rattle.disc.specs.Marks.{isBad, anyWrong, parsed, Front, Guards}
+use Rattle.tags.specs.Heads.{rightAt}
+use Rattle.vault.specs.Checks.{plain}
 
 -- ---- how each way tells
 
@@ -203,10 +202,6 @@ counts c image = tells c .counts (outcome (disc image) (tree c)) (length (asked 
 
 -- ---- the number: the refusal's, or that of what is given, so that 5 and 7 come after every other
 
-abbrev pub numberOf : {A R : Type 0} → Way A R → Outcome A → ℕ
-numberOf w (answered a) = gives w a
-numberOf w (refused why) = number why
-
 module _ {A R : Type 0} {w : Way A R} (t : Tells w) where
   number-told : (o : Outcome A) (n : ℕ) → w .answer (w .told (record { outcome = o; count = n })) ≡ numberOf w o
   number-told (answered a) n = t .answers a n
@@ -234,23 +229,13 @@ order c image = number-told (tells c) (outcome (disc image) (tree c)) _
 
 -- ---- a number that isn't in the call's row is never said by its questions
 
-weaker : {A : Type 0} {P Q : Refusal → Type 0} → ((why : Refusal) → P why → Q why) → (m : Ask A) → Only P Any m → Only Q Any m
-unfolding Only
-weaker h (done a) p = tt
-weaker h (refuse r) p = h r p
-weaker h (ask s k) p = λ b. weaker h (k b) (p b)
-
 pub never-by : {A R : Type 0} (c : Call A R) (k : ℕ) → says (spec c .row) k ≡ false → Refuses (λ why. number why ≡ k → ⊥) Any (tree c)
-never-by c k f = record { only = weaker (λ why p e. let z : says (spec c .row) k ≡ true = rw e at p in let w : _≡_ {A = ℕ} 0 1 = cc in omega arith) (tree c) (said-by c .only) }
+never-by c k f = record { only = only-weaker (λ why p e. let z : says (spec c .row) k ≡ true = rw e at p in let w : _≡_ {A = ℕ} 0 1 = cc in omega arith) (tree c) (said-by c .only) }
 
 -- ---- RULES 1.1 of 1: exactly when a sector of the list isn't wholly inside the image
 
 pub io-1 : {A R : Type 0} (c : Call A R) (image : List ℕ) → eqb (answerOn c image) 1 ≡ isIo (outcome (disc image) (tree c))
 io-1 c image = ap (λ n. eqb n 1) (order c image) ∙ io-told (tells c) (outcome (disc image) (tree c))
-
--- some sector of the list has a byte behind the image's end
-abbrev pub lacking : {A : Type 0} → List ℕ → Ask A → Bool
-lacking image call = anyMissing image (asked (disc image) call)
 
 pub missing : {A R : Type 0} (c : Call A R) (image : List ℕ) → eqb (answerOn c image) 1 ≡ lacking image (tree c)
 missing c image = io-1 c image ∙ refused-missing image (never-by c 1 refl)
@@ -283,7 +268,7 @@ listed {A} c image = rw (order c image) (in-table (outcome (disc image) (tree c)
     fourth false false false e p = p
 
     own : Refuses (λ why. may c (number why) ≡ true) Any (tree c)
-    own = record { only = weaker (λ why p. fourth (eqb (number why) 0) (eqb (number why) 1) (eqb (number why) (way c .last)) (says (spec c .row) (number why)) p) (tree c) (said-by c .only) }
+    own = record { only = only-weaker (λ why p. fourth (eqb (number why) 0) (eqb (number why) 1) (eqb (number why) (way c .last)) (says (spec c .row) (number why)) p) (tree c) (said-by c .only) }
 
     end : (t : Bool) → may c (pick t 0 (way c .last)) ≡ true
     end true = refl
@@ -298,10 +283,6 @@ unfolding ran
 sound c image h = rw (order c image, counts c image) (bare-told (tells c) (outcome (disc image) (tree c)) _ (rw (order c image) at h))
 
 -- ---- RULES 1.1 of 5 and 7: exactly when what would be given exceeds what was lent
-
-abbrev pub exceeds : {A R : Type 0} → Way A R → Outcome A → Bool
-exceeds w (answered a) = not (w .fits a)
-exceeds w (refused why) = false
 
 pub short : {A R : Type 0} (c : Call A R) → (way c .last ≡ 5) ⊎ (way c .last ≡ 7) → (image : List ℕ) → eqb (answerOn c image) (way c .last) ≡ exceeds (way c) (outcome (disc image) (tree c))
 unfolding Within
@@ -330,29 +311,6 @@ short {A} c h image =
     by-memory (refused why) w = ne-eqb (number why) (way c .last) w
 
 -- ---- RULES 3.23 to 3.25: the call without the check of bodies
-
-abbrev pub plainly : VolumeRecord → VolumeRecord
-plainly v = record { mount = unchecked (v .mount); root = v .root; label = v .label }
-
-abbrev pub unheeding : How → How
-unheeding how = record { highest = how .highest; checked = false; maps = how .maps }
-
-abbrev pub plain : {A R : Type 0} → Call A R → Ask A
-plain (opens how) = then (opening (unheeding how)) (λ v. done (asChecked v))
-plain (labels how out) = labelling (unheeding how)
-plain (reads v icb out) = reading (plainly v) icb
-plain (measures v icb) = reading (plainly v) icb
-plain (parts v icb) = parting (plainly v) icb
-plain (partsAt v icb) = parting (plainly v) icb
-plain (extents f v icb row) = extentListing (plainly v) icb
-plain (runs v icb row) = runListing (plainly v) icb
-plain (lists v icb out work) = listing (plainly v) (length work) icb
-plain (listsBytes v bytes out) = ended (listingIn (isChecked (plainly v .mount)) bytes)
-plain (shows v levels out work) = showing (plainly v) levels (length work)
-plain (finds v path matching work) = finding (plainly v) (length work) path matching
-plain (fails v path matching work) = seeking (plainly v) (length work) path matching
-plain (failsAt v path matching work) = seeking (plainly v) (length work) path matching
-plain (readsPath v path matching out work) = pathReading (plainly v) (length work) path matching
 
 -- where bodies are checked both calls are one tree, in which it is marked where a descriptor is parsed
 pub guards : {A R : Type 0} (c : Call A R) → spec c .row .ten ≡ true → Guards rightAt (tree c) (plain c)

@@ -14,7 +14,6 @@ use Rattle.disc.specs.Ran.{ran}
 use Rattle.disc.specs.Replies.{answerOf}
 use Rattle.disc.specs.declared.refusals.Refusal.{Refusal}
 use Rattle.disc.specs.declared.refusals.Refusal.the-variants.{Io, Malformed, NotBluray, Unsupported, NoRoom, NoWork, NoSlot, Ambiguous, BadCrc, TooDeep, TooMany, BadName, BadFiles, BadShelf}
-use Rattle.disc.proofs.PartLaws.{PartAt}
 use Rattle.records.specs.declared.allocations.LongAd.{LongAd}
 use Rattle.listings.specs.declared.matchings.Matching.{Matching}
 use Rattle.volumes.specs.declared.openings.VolumeRecord.{VolumeRecord}
@@ -25,6 +24,7 @@ use Rattle.directories.specs.Lookups.Sought.{reached, lost}
 use Rattle.directories.proofs.PlaceLaws.{failed-stands}
 use Rattle.directories.proofs.LookupLaws.{look-is}
 use Rattle.vault.specs.Calls.{seeking, lists, shows, readsPath, finds, fails, parts, failsAt, partsAt}
+use Rattle.disc.specs.Parts.{PartAt}
 
 -- ---- a contract is an equation of what the call leaves with a function of what it was lent: two results that meet it are equal
 

@@ -2,29 +2,28 @@
 use mathlib.Core.Path.{_≡_, refl, ap, sym, _∙_}
 use mathlib.Core.Bool.{Bool, true, false, _&&_}
 use mathlib.Core.List.{List, [], _∷_, _++_}
-use mathlib.Core.Logic.{_⊎_, inl, inr, ⊎-elim}
+use mathlib.Core.Logic.{⊎-elim}
 use mathlib.Core.Option.{Option, none, some}
-use Prim.Native.Nat.{ℕ, zero, suc, _+_, _-_, _*_, _/_, _≤_, _<_, min, max}
+use Prim.Native.Nat.{ℕ, zero, suc, _+_, _-_, _*_, _/_, _≤_, _<_, min}
 use native.Mathlib.Nat.{zero-add, add-zero}
 use native.Mathlib.Omega.{arith}
 use lib.ListN.{length, take}
-use lib.Dec.{eqb, leb, ltb}
+use lib.Dec.{eqb, leb}
 use borrow.Author.Tests.{eqb-true, eqb-false, le-leb, lt-leb, le-ltb}
 use Rattle.disc.specs.Choice.{pick}
 use Rattle.disc.specs.Refusals.{number}
 use Rattle.disc.specs.Counts.{reported}
 use Rattle.disc.specs.Replies.{replyBy}
-use Rattle.disc.specs.Ask.{Ask, Outcome, outcome, asked, Grown}
+use Rattle.disc.specs.Ask.{Outcome, outcome, asked}
 use Rattle.disc.specs.Ask.Ask.{done}
 use Rattle.disc.specs.Ask.Outcome.{answered, refused}
 use Rattle.disc.specs.Images.{disc, heldFrom, sectorsFor, isAnswered}
-use Rattle.disc.specs.Ran.{Ran, ran, onward, followed}
+use Rattle.disc.specs.Ran.{ran, onward}
 use Rattle.disc.specs.Places.{placed}
 use Rattle.disc.specs.declared.places.Mount.{Mount}
 use Rattle.disc.specs.declared.refusals.Refusal.the-variants.{Io, Unsupported, NoRoom}
-use Rattle.disc.proofs.ImageLaws.{split, image-grown}
+use Rattle.disc.proofs.ImageLaws.{split}
 use Rattle.disc.proofs.RanLaws.{ran-done, ran-then, never}
-use Rattle.disc.proofs.OnlyLaws.{Refuses, Any, isIo, anyMissing, ButIo, refused-missing}
 use Rattle.areas.specs.declared.AllocExtent.{AllocExtent}
 use Rattle.files.specs.Reads.{extentsBytes, visited}
 use Rattle.files.specs.Files.{File, Located, entryMount, embeddedBytes, fileAt, contentOf, fileBytes, extentsOf, fileExtents}
@@ -35,8 +34,11 @@ use Rattle.records.specs.declared.allocations.LongAd.{LongAd}
 use Rattle.volumes.specs.declared.openings.VolumeRecord.{VolumeRecord}
 use Rattle.vault.specs.Calls.{reading, extentListing, reads, extents}
 use Rattle.vault.specs.Public.Call.{reads as asRead, extents as asExtents}
-use Rattle.vault.proofs.Promises.{lacking, io-1, missing, counts}
-use Rattle.disc.proofs.GrownLaws.{Waits, waits-first, waits-next, waits-behind, refused-waits}
+use Rattle.vault.proofs.Promises.{io-1, missing, counts}
+use Rattle.disc.proofs.GrownLaws.{waits-first, waits-behind}
+use Rattle.disc.specs.Refusing.{isIo}
+use Rattle.disc.specs.Lists.{anyMissing, Waits}
+use Rattle.vault.specs.Public.{lacking}
 
 -- ---- the sectors of extents
 

@@ -1,11 +1,11 @@
 -- The calls of the library that read an image, each at its arguments and what it is lent, in one type: every promise is one theorem over it (proofs/Promises.antt).
 use Prim.Native.Nat.{ℕ}
-use mathlib.Core.Bool.{Bool, true, false, _||_, _&&_}
+use mathlib.Core.Bool.{Bool, true, false, _||_, _&&_, not}
 use mathlib.Core.List.{List, [], _∷_}
 use lib.ListN.{length}
 use lib.Dec.{eqb, leb}
 use Rattle.disc.specs.Choice.{pick}
-use Rattle.disc.specs.Ask.{Ask, ended}
+use Rattle.disc.specs.Ask.{Ask, ended, Outcome, asked}
 use Rattle.disc.specs.Images.{disc}
 use Rattle.disc.specs.Ran.{Ran, ran}
 use Rattle.disc.specs.Places.{isChecked}
@@ -28,6 +28,9 @@ use Rattle.volumes.specs.declared.openings.VolumeRecord.{VolumeRecord}
 use Rattle.directories.specs.Lookups.{Sought}
 use Rattle.directories.specs.Lookups.Sought.{reached, lost}
 use Rattle.vault.specs.Calls.{reading, parting, extentListing, runListing, listing, showing, seeking, finding, pathReading, Written, written, Worked, worked, Looked, looked, Lost, lost as lostBy, LostPlace, lostPlace, Parted, parted, PartedPlace, partedPlace, Rowed, rowed, cleared}
+use Rattle.disc.specs.Ask.Outcome.{answered, refused}
+use Rattle.disc.specs.Lists.{anyMissing}
+use Rattle.disc.specs.Refusals.{number}
 
 -- ---- how a call tells of a run
 
@@ -194,3 +197,15 @@ module _ {A R : Type 0} (c : Call A R) where
 abbrev pub among : ℕ → List ℕ → Bool
 among k [] = false
 among k (a ∷ rest) = eqb a k || among k rest
+
+abbrev pub numberOf : {A R : Type 0} → Way A R → Outcome A → ℕ
+numberOf w (answered a) = gives w a
+numberOf w (refused why) = number why
+
+-- some sector of the list has a byte behind the image's end
+abbrev pub lacking : {A : Type 0} → List ℕ → Ask A → Bool
+lacking image call = anyMissing image (asked (disc image) call)
+
+abbrev pub exceeds : {A R : Type 0} → Way A R → Outcome A → Bool
+exceeds w (answered a) = not (w .fits a)
+exceeds w (refused why) = false

@@ -1,15 +1,12 @@
 -- The choices as one number: which case the code is in, and what every number comes to. Assumes nothing.
 use Prim.Native.Nat.{ℕ, _/_, _≤_}
 use mathlib.Core.Path.{_≡_, refl, ap}
-use mathlib.Core.Bool.{Bool, true, false}
+use mathlib.Core.Bool.{true, false}
 use mathlib.Core.Option.{Option, none, some}
-use mathlib.Core.List.{List, []}
-use mathlib.Core.Logic.{inl}
+use mathlib.Core.List.{List}
 use native.Mathlib.Omega.{arith}
-use lib.Dec.{eqb}
 use borrow.Author.Tests.{ne-eqb}
 use Rattle.disc.specs.declared.replies.Reply.{Reply}
-use Rattle.records.specs.Allocations.{noLong}
 use Rattle.volumes.specs.Openings.{usual, noVolume}
 use Rattle.volumes.specs.Choices.{howOf, choiceOf}
 use Rattle.volumes.specs.declared.choices.Choice.{Choice}
@@ -17,11 +14,10 @@ use Rattle.volumes.specs.declared.choices.Choice.the-variants.{Known, Unknown}
 use Rattle.volumes.specs.declared.openings.How.{How}
 use Rattle.volumes.specs.declared.openings.Opened.{Opened}
 use Rattle.vault.specs.Calls.{opens, Written, labels}
-use Rattle.listings.specs.declared.matchings.Matching.the-variants.{CaseIgnored}
-use Rattle.vault.specs.Public.{Call, byVolume, byBytes, may}
+use Rattle.vault.specs.Public.{byVolume, byBytes}
 use Rattle.vault.specs.Public.Call.{opens as asOpen, labels as asLabel}
 use Rattle.vault.proofs.Promises.{listed, sound}
-use Rattle.vault_c.specs.Choosing.{opensBy, opensAs, labelsBy, labelsAs}
+use Rattle.vault_c.specs.Choosing.{opensBy, opensAs, labelsBy, labelsAs, mayBy}
 
 -- ---- the calls
 
@@ -85,11 +81,6 @@ module _ (image : List ℕ) (n : ℕ) (h : 8 ≤ n) where
   label-other out = ap (λ o. labelsBy image o out) (no-other n h)
 
 -- ---- whatever number is handed in, the answer is of the table, and a refusal has zeros and leaves the output as it came
-
--- the row of the choice; of none it is any row, for 4 is in each
-abbrev pub mayBy : {A R : Type 0} → (How → Call A R) → Option How → ℕ → Bool
-mayBy call (some how) k = may (call how) k
-mayBy call none k = eqb k 4
 
 module _ (image : List ℕ) where
   pub open-as-sound : (n : ℕ) → (mayBy asOpen (howOf n) (opensAs image n .answer) ≡ true)

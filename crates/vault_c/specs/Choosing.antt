@@ -7,6 +7,9 @@ use Rattle.volumes.specs.Choices.{howOf}
 use Rattle.volumes.specs.declared.openings.How.{How}
 use Rattle.volumes.specs.declared.openings.Opened.{Opened}
 use Rattle.vault.specs.Calls.{opens, Written, labels}
+use mathlib.Core.Bool.{Bool}
+use lib.Dec.{eqb}
+use Rattle.vault.specs.Public.{may, Call}
 
 -- ---- the calls: a number with a bit of no choice is refused by 4, and nothing is asked for
 
@@ -23,3 +26,8 @@ labelsBy image none out = record { reply = record { answer = 4; count = 0; lengt
 
 abbrev pub labelsAs : List ℕ → ℕ → List ℕ → Written
 labelsAs image n out = labelsBy image (howOf n) out
+
+-- the row of the choice; of none it is any row, for 4 is in each
+abbrev pub mayBy : {A R : Type 0} → (How → Call A R) → Option How → ℕ → Bool
+mayBy call (some how) k = may (call how) k
+mayBy call none k = eqb k 4

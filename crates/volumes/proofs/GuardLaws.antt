@@ -1,6 +1,6 @@
 -- Opening and the label with bodies checked are the same calls without, with each descriptor marked that is parsed: the anchor, those of the main
 -- sequence that aren't skipped by their id, and the file set descriptor. Assumes nothing.
-use mathlib.Core.Path.{_≡_, refl, ap, _∙_, fun-ext}
+use mathlib.Core.Path.{_≡_, refl, ap, _∙_}
 use mathlib.Core.Bool.{Bool, true, false, not}
 use mathlib.Core.List.{List, _∷_}
 use mathlib.Core.Option.{Option, none, some}
@@ -18,11 +18,11 @@ use Rattle.disc.specs.declared.places.Mount.{Mount}
 use Rattle.disc.specs.declared.refusals.Refusal.{Refusal}
 use Rattle.disc.specs.declared.refusals.Refusal.the-variants.{Malformed, NotBluray, Unsupported}
 use Rattle.disc.proofs.AskLaws.{then-then}
-use Rattle.disc.proofs.MarkedLaws.{ButBad, Guards, done-guards, refuse-guards, ask-guards, then-guards}
+use Rattle.disc.proofs.MarkedLaws.{done-guards, refuse-guards, ask-guards, then-guards}
 use Rattle.records.specs.Bytes.{u16at}
 use Rattle.tags.specs.Tags.{gated}
 use Rattle.tags.specs.declared.DescriptorTag.{DescriptorTag}
-use Rattle.tags.proofs.BodyLaws.{rightAt, gate-guards}
+use Rattle.tags.proofs.BodyLaws.{gate-guards}
 use Rattle.names.proofs.Promises.{field-refused}
 use Rattle.descriptors.specs.Volumes.{anchorAfter, readAnchor, primaryBehind, readPrimary, partitionAfter, readPartition, logicalBehind, readLogical}
 use Rattle.descriptors.specs.FileSets.{fileSetOf, readFileSet}
@@ -38,6 +38,9 @@ use Rattle.volumes.specs.Openings.{mountIn, startOfNumber, mapStarts, ea
 use Rattle.volumes.specs.Labels.{labelOf, labelling}
 use Rattle.volumes.proofs.MapLaws.{starts-same, mount-refuses, mount-says}
 use Rattle.volumes.proofs.Promises.{opened-made}
+use Rattle.disc.specs.Marks.{ButBad, Guards}
+use Rattle.tags.specs.Heads.{rightAt}
+use Rattle.volumes.specs.Checks.{checkedMount, asChecked}
 
 -- what is malformed has no wrong body
 but-malformed : {r : Refusal} → r ≡ Malformed → ButBad r
@@ -101,21 +104,6 @@ scan-guards zero at = done-guards _
 scan-guards (suc n) at = ask-guards at (λ b. turn-guards b (scan-guards n (at + 1)))
 
 -- ---- opening
-
--- a mount, and a volume, with bodies checked in every call
-abbrev pub checkedMount : Mount → Mount
-checkedMount m = record {
-  start = m .start;
-  partition = m .partition;
-  checked = 1;
-  maps = m .maps;
-  volumes = m .volumes;
-  numbers = m .numbers;
-  starts = m .starts;
-}
-
-abbrev pub asChecked : VolumeRecord → VolumeRecord
-asChecked v = record { mount = checkedMount (v .mount); root = v .root; label = v .label }
 
 -- a call that opens without the check, and says that bodies are checked
 abbrev marked : Ask VolumeRecord → Ask VolumeRecord

@@ -7,7 +7,7 @@ use Prim.Native.Nat.{ℕ, zero, suc, _+_, _-_, _*_, _≤_, _<_, min}
 use native.Mathlib.Nat.{add-sub-cancel-left, sub-zero, add-zero, zero-add}
 use native.Mathlib.Numerals.{add-one}
 use native.Mathlib.Omega.{arith}
-use lib.ListN.{length, getD, take, drop, replicate, set, length-set}
+use lib.ListN.{length, getD, take, drop, replicate, set}
 use lib.Seq.{sets}
 use lib.Dec.{eqb, ltb}
 use borrow.Author.Tests.{ne-eqb, lt-ltb, le-ltb, ltb-true, ltb-false}
@@ -36,6 +36,7 @@ use Rattle.volumes.specs.declared.mounts.MountRead.{MountRead}
 use Rattle.volumes.specs.declared.mounts.MapStart.{MapStart}
 use Rattle.volumes.specs.declared.mounts.MapStarts.{MapStarts}
 use Rattle.volumes.specs.declared.openings.How.{How}
+use Rattle.volumes.specs.Made.{Mapped}
 
 -- the return of `mount_in`
 pub mount-is : (check : Bool) (k : Kept) {n : ℕ} → n ≡ pick check 1 0
@@ -312,23 +313,6 @@ module _ (how : How) (ps : List Parsed) (k : Kept) where
   unmapped-mount h = sym (pick-no (Outcome Mount) (how .maps) (how .maps) (mappedMount how ps k) (answered (mountIn (how .checked) k)) _ refl h refl)
 
 -- ---- a mount through the maps
-
--- it has between one and four maps, all of type 1 and in a table that holds them, which is in the sector; of each its volume sequence number, its number
--- and the start of that number's partition; and its own partition is that of the file set's map
-pub record Mapped (how : How) (ps : List Parsed) (k : Kept) (m : Mount) : Type 0 where
-  pub counted : m .maps ≡ k .«map_count»
-  pub one : 1 ≤ m .maps
-  pub few : m .maps ≤ 4
-  pub table : 6 * m .maps ≤ k .«map_table_length»
-  pub sector : 440 + k .«map_table_length» ≤ 2048
-  pub plain : (i : ℕ) → i < m .maps → isPlainMap (mapIn k i) ≡ true
-  pub volume : (i : ℕ) → i < m .maps → getD (m .volumes) i 0 ≡ volumeOfMap (mapIn k i)
-  pub numbered : (i : ℕ) → i < m .maps → getD (m .numbers) i 0 ≡ numberOfMap (mapIn k i)
-  pub started : (i : ℕ) → i < m .maps → startOfNumber how ps (getD (m .numbers) i 0) ≡ some (getD (m .starts) i 0)
-  pub reference : fileSetRef k < m .maps
-  pub start-is : m .start ≡ getD (m .starts) (fileSetRef k) 0
-  pub partition-is : m .partition ≡ getD (m .numbers) (fileSetRef k) 0
-  pub checked-is : m .checked ≡ pick (how .checked) 1 0
 
 -- a place of a mount
 each-at : (n : ℕ) (f : ℕ → ℕ) (i : ℕ) → n ≤ 4 → i < n → getD (eachOf n f) i 0 ≡ f i

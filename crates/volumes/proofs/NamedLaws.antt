@@ -15,7 +15,7 @@ use Rattle.disc.specs.Places.{standing}
 use Rattle.disc.specs.declared.places.Mount.{Mount}
 use Rattle.disc.specs.declared.refusals.Refusal.{Refusal}
 use Rattle.disc.specs.declared.refusals.Refusal.the-variants.{Io, NotBluray, Unsupported}
-use Rattle.disc.proofs.OnlyLaws.{Only, only-then}
+use Rattle.disc.proofs.OnlyLaws.{only-then}
 use Rattle.disc.proofs.PickLaws.{pick-both}
 use Rattle.records.specs.Bytes.{u16at}
 use Rattle.names.specs.Names.{nameOf, nameOfField}
@@ -36,6 +36,7 @@ use Rattle.volumes.specs.Sequences.{nothing, Parsed, Order, orderOf, any
 use Rattle.volumes.specs.Sequences.Parsed.{primary, partition, logical}
 use Rattle.volumes.specs.Sequences.Says.{found, passed, over, fails}
 use Rattle.volumes.specs.Openings.{mountOf, fileSetIn, volumeIn, fileSetOn, mountingOf, mounting, anchored, opening}
+use Rattle.disc.specs.Refusing.{Only}
 
 -- ---- a tree that answers with nothing but what is Q
 

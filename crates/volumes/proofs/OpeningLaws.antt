@@ -2,7 +2,7 @@
 -- Assumes nothing.
 use mathlib.Core.Path.{_≡_, refl, ap, sym, _∙_}
 use mathlib.Core.Bool.{Bool, true, false}
-use mathlib.Core.List.{List, [], _∷_}
+use mathlib.Core.List.{List, _∷_}
 use mathlib.Core.Option.{Option, none, some}
 use Prim.Native.Nat.{ℕ, zero, suc, _+_, _-_, _*_, _/_, _<_, _≤_, _^_}
 use native.Mathlib.Omega.{arith}
@@ -48,6 +48,7 @@ use Rattle.volumes.specs.declared.mounts.MountRead.{MountRead}
 use Rattle.volumes.specs.declared.openings.VolumeRecord.{VolumeRecord}
 use Rattle.volumes.specs.declared.openings.Opened.{Opened}
 use Rattle.volumes.specs.declared.openings.How.{How}
+use Rattle.volumes.specs.Made.{mainLengthIn}
 
 -- the return of `no_volume`
 pub volume-none : {mount : Mount} {root : LongAd} → mount ≡ noMount → root ≡ noLong → record { mount = mount; root = root; label = replicate 32 0 } ≡ noVolume
@@ -337,11 +338,6 @@ module _ (image : List ℕ) (how : How) {m : ℕ} (g : m ≡ heldFrom image 256)
       there l u = omega (arith, z)
 
 -- ---- how many sectors
-
--- the length of the main sequence, as the sector of the anchor tells it: 0 where there is no anchor
-abbrev pub mainLengthIn : AnchorRead → ℕ
-mainLengthIn (AnAnchor a) = a .«main_volume_descriptor_sequence» .length
-mainLengthIn (NoAnchor r) = 0
 
 pub anchored-count : (d : Disc) (how : How) (x : AnchorRead) → ran d (anchored how x) .count ≤ 1 + mainLengthIn x / 2048
 anchored-count d how (AnAnchor a) =

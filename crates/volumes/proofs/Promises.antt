@@ -24,7 +24,7 @@ use Rattle.disc.specs.declared.refusals.Refusal.{Refusal}
 use Rattle.disc.specs.declared.refusals.Refusal.the-variants.{Io, NotBluray, Unsupported, NoRoom}
 use Rattle.disc.specs.declared.replies.Reply.{Reply}
 use Rattle.disc.proofs.PickLaws.{not-both, picked}
-use Rattle.disc.proofs.AskLaws.{askedBehind, asked-then}
+use Rattle.disc.proofs.AskLaws.{asked-then}
 use Rattle.disc.proofs.RanLaws.{ran-missing, ran-then, same-ran, never}
 use Rattle.disc.proofs.ReplyLaws.{replied-one, same-replied}
 use Rattle.descriptors.specs.Volumes.{readAnchor}
@@ -33,19 +33,22 @@ use Rattle.descriptors.specs.declared.file_sets.FileSetDescriptor.{FileSetDescr
 use Rattle.descriptors.specs.declared.partitions.PartitionDescriptor.{PartitionDescriptor}
 use Rattle.descriptors.specs.declared.anchors.AnchorRead.{AnchorRead}
 use Rattle.descriptors.specs.declared.anchors.AnchorRead.the-variants.{Read as AnAnchor, Refused as NoAnchor}
-use Rattle.volumes.specs.Sequences.{nothing, Parsed, Order, latest, highest, orderOf, anyPartition, keptOf, scan}
+use Rattle.volumes.specs.Sequences.{nothing, Parsed, Order, latest, highest, orderOf, anyPartition, keptOf}
 use Rattle.volumes.specs.Sequences.Parsed.{primary, partition, logical}
-use Rattle.volumes.specs.Openings.{noVolume, mountIn, startIn, startOfNumber, fileSetRef, mappedMount, mountOf, fileSetIn, volumeIn, fileSetAt, fileSetOn, mountingOf, mounting, anchored, opening, openedBy, openedOf}
+use Rattle.volumes.specs.Openings.{noVolume, mountIn, startIn, startOfNumber, fileSetRef, mappedMount, mountOf, fileSetIn, volumeIn, fileSetAt, fileSetOn, mountingOf, anchored, opening, openedBy, openedOf}
 use Rattle.volumes.specs.Labels.{labelOf, labelling}
 use Rattle.volumes.specs.declared.sequences.Kept.{Kept}
 use Rattle.volumes.specs.declared.openings.VolumeRecord.{VolumeRecord}
 use Rattle.volumes.specs.declared.openings.Opened.{Opened}
 use Rattle.volumes.specs.declared.openings.How.{How}
-use Rattle.volumes.proofs.OpeningLaws.{ask-count, mainLengthIn, anchored-count}
-use Rattle.volumes.proofs.MapLaws.{starts-same, unmapped-mount, Mapped, mapped-mount}
+use Rattle.volumes.proofs.OpeningLaws.{ask-count, anchored-count}
+use Rattle.volumes.proofs.MapLaws.{starts-same, unmapped-mount, mapped-mount}
 use Rattle.volumes.proofs.NamedLaws.{refused-before, opening-named}
-use Rattle.volumes.proofs.Prevailing.{Kind, kindOf, numberOf, hasOf, Keeps, Every, Prevails, highest-prevails, Rising, wantedIn, highest-wanted, latest-wanted, kept-number, rising-order}
-use Rattle.volumes.proofs.Prevailing.Kind.{primaries, partitions, logicals}
+use Rattle.volumes.proofs.Prevailing.{highest-prevails, wantedIn, highest-wanted, latest-wanted, kept-number, rising-order}
+use Rattle.disc.specs.Lists.{askedBehind}
+use Rattle.volumes.specs.Made.{Mapped, mainLength, sequenceIn, sequence, chosen, Sequenced, Mounted, Made, ownMounting}
+use Rattle.volumes.specs.Prevailing.{Kind, kindOf, numberOf, hasOf, Keeps, Every, Prevails, Rising}
+use Rattle.volumes.specs.Prevailing.Kind.{primaries, partitions, logicals}
 
 -- ---- a contract leaves one result
 
@@ -93,11 +96,6 @@ label-refuses how d e = refused-before d (opening how) labelOf (opening-named ho
 
 -- ---- how many sectors opening asks for
 
--- the length of the main sequence, as the sector of the anchor tells it, with bodies checked or not: 0 where there is none
-abbrev pub mainLength : Bool → Held → ℕ
-mainLength check (holds b) = mainLengthIn (readAnchor check b)
-mainLength check lacks = 0
-
 -- on any disc, at most 2 + main length div 2,048
 pub opening-count : (how : How) (d : Disc) → length (asked d (opening how)) ≤ 2 + mainLength (how .checked) (d 256) / 2048
 unfolding opening ran
@@ -131,19 +129,6 @@ opened-nothing how image h e = e ∙ ap openedOf (ran-missing (disc image) 256 (
 
 -- ---- the choice on opening
 
--- the anchor and the main sequence: no choice but that of checking goes into what is asked there, into what is refused there, or into the list of
--- descriptors
-abbrev pub sequenceIn : Bool → AnchorRead → Ask (List Parsed)
-sequenceIn check (NoAnchor r) = refuse r
-sequenceIn check (AnAnchor a) = scan check (a .«main_volume_descriptor_sequence» .length / 2048) (a .«main_volume_descriptor_sequence» .location)
-
-unfoldable pub sequence : Bool → Ask (List Parsed)
-sequence check = ask 256 (λ b. sequenceIn check (readAnchor check b))
-
--- what a choice makes of the list of descriptors
-abbrev pub chosen : How → List Parsed → Ask VolumeRecord
-chosen how ps = mounting how ps
-
 pub opening-is : (how : How) → opening how ≡ then (sequence (how .checked)) (chosen how)
 unfolding opening sequence then
 opening-is how = λ i. ask 256 (λ b. by (readAnchor (how .checked) b) i)
@@ -154,12 +139,6 @@ opening-is how = λ i. ask 256 (λ b. by (readAnchor (how .checked) b) i)
 
 opening-runs : (d : Disc) (how : How) → ran d (opening how) ≡ followed (ran d (sequence (how .checked))) (λ ps. ran d (chosen how ps))
 opening-runs d how = ap (ran d) (opening-is how) ∙ ran-then d (sequence (how .checked)) (chosen how)
-
--- the sectors up to and with the sequence are the same, whatever is chosen but for the checking; where they end in a refusal, all is
-pub record Sequenced (d : Disc) (how : How) : Type 0 where
-  pub asks : asked d (opening how) ≡ asked d (sequence (how .checked)) ++ askedBehind d (outcome d (sequence (how .checked))) (chosen how)
-  pub refuses : {why : Refusal} → outcome d (sequence (how .checked)) ≡ refused why
-      → (asked d (opening how) ≡ asked d (sequence (how .checked))) × (ran d (opening how) ≡ record { outcome = refused why; count = length (asked d (sequence (how .checked))) })
 
 pub scan-same : (d : Disc) (how : How) → Sequenced d how
 unfolding ran
@@ -226,12 +205,6 @@ module _ (d : Disc) (how how′ : How) (alike : how .checked ≡ how′ .checked
 
 -- ---- what an opened volume is made of
 
--- of what was kept, there being one of each kind
-pub record Mounted (how : How) (ps : List Parsed) (k : Kept) (v : VolumeRecord) : Type 0 where
-  pub has : (kind : Kind) → hasOf kind k ≡ true
-  pub mounted : mountOf how ps k ≡ answered (v .mount)
-  pub labelled : v .label ≡ k .label
-
 -- behind the checks of what was kept: how the volume is read, where the file set descriptor stands, its sector, and its parse
 module _ (how : How) (ps : List Parsed) (d : Disc) (k : Kept) {v : VolumeRecord} (all : (kind : Kind) → hasOf kind k ≡ true) where
   made-of : (m : Mount) → mountOf how ps k ≡ answered m → (x : Outcome FileSetDescriptor) → outcome d (ended (volumeIn m k x)) ≡ answered v → Mounted how ps k v
@@ -273,12 +246,6 @@ mounting-made how ps d k {v} = by (k .«has_primary») (k .«has_partition») (k
     by true false w x p q r e = never e
     by false u w x p q r e = never e
 
--- of a list of descriptors, by the order that was chosen
-pub record Made (d : Disc) (how : How) (v : VolumeRecord) : Type 0 where
-  pub parsed : List Parsed
-  pub scanned : outcome d (sequence (how .checked)) ≡ answered parsed
-  pub made : Mounted how parsed (keptOf (orderOf how) anyPartition nothing parsed) v
-
 pub opened-made : (d : Disc) (how : How) {v : VolumeRecord} → outcome d (opening how) ≡ answered v → Made d how v
 unfolding ran
 opened-made d how {v} e = by (outcome d (sequence (how .checked))) refl (sym (ap (λ (r : Ran VolumeRecord). r .outcome) (opening-runs d how)) ∙ e)
@@ -293,21 +260,6 @@ pub highest-opened : (check maps : Bool) (d : Disc) {v : VolumeRecord} (m : Made
 highest-opened check maps d m kind = highest-prevails kind (m .parsed) (m .made .has kind)
 
 -- ---- without maps nothing is changed
-
--- the original's opening behind the sequence: the file set descriptor's reference is compared with the number of the partition that was kept
-abbrev pub ownMounting : Bool → Kept → Ask VolumeRecord
-ownMounting check k =
-    pick (k .«has_primary»)
-    (pick (k .«has_partition»)
-    (pick (k .«has_logical»)
-    (pick (eqb (k .«block_size») 2048)
-    (pick (eqb (fileSetRef k) (k .«partition_number»))
-    (ask (k .«partition_start» + k .«file_set» .location .block) (λ b. ended (volumeIn (mountIn check k) k (readFileSet check b))))
-    (refuse Unsupported))
-    (refuse Unsupported))
-    (refuse NotBluray))
-    (refuse NotBluray))
-    (refuse NotBluray)
 
 module _ (how : How) (h : how .maps ≡ false) where
   own-file-set : (k : Kept) → fileSetOn (how .checked) k (mountIn (how .checked) k)

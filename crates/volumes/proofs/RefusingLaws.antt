@@ -2,7 +2,7 @@
 use mathlib.Core.Path.{_≡_, refl, sym, subst}
 use mathlib.Core.Bool.{Bool, true, false}
 use mathlib.Core.List.{List}
-use Prim.Native.Nat.{ℕ, zero, suc, _+_, _-_}
+use Prim.Native.Nat.{ℕ, zero, suc, _+_}
 use native.Mathlib.Omega.{arith}
 use lib.Dec.{eqb}
 use Rattle.disc.specs.declared.places.Mount.{Mount}
@@ -11,7 +11,7 @@ use Rattle.disc.specs.Ask.{Ask, Outcome, ended}
 use Rattle.disc.specs.Ask.Outcome.{answered, refused}
 use Rattle.disc.specs.declared.refusals.Refusal.{Refusal}
 use Rattle.disc.specs.declared.refusals.Refusal.the-variants.{Malformed, NotBluray, Unsupported, BadCrc}
-use Rattle.disc.proofs.OnlyLaws.{Refuses, done-only, refuse-only, ask-only, pick-only, then-only, Any, standing-only}
+use Rattle.disc.proofs.OnlyLaws.{done-only, refuse-only, ask-only, pick-only, then-only, standing-only}
 use Rattle.records.specs.Bytes.{u16at}
 use Rattle.names.proofs.Promises.{field-refused}
 use Rattle.descriptors.specs.Volumes.{readAnchor, readPartition, readPrimary, readLogical}
@@ -32,6 +32,7 @@ use Rattle.volumes.specs.Sequences.Says.{found, passed, over, fails}
 use Rattle.volumes.specs.Openings.{mountOf, fileSetIn, volumeIn, mountingOf, anchored, opening}
 use Rattle.volumes.proofs.MapLaws.{mount-refuses}
 use Rattle.volumes.specs.Labels.{labelOf, labelling}
+use Rattle.disc.specs.Refusing.{Refuses, Any}
 
 -- ---- opening, for any P that has 2, 3 and 4, and 10 where bodies are checked
 

@@ -3,4 +3,7 @@ pub mod Sequences
 pub mod Openings
 pub mod Choices
 pub mod Labels
+pub mod Checks
+pub mod Made
+pub mod Prevailing
 pub mod inner

@@ -11,9 +11,10 @@ use Rattle.areas.specs.Areas.{continuation, areaAt}
 use Rattle.areas.specs.Answers.{endingAnswer}
 use Rattle.disc.specs.declared.places.PartitionRef.the-variants.{Named}
 use Rattle.names.specs.Names.{nameOf, nameAnswer}
-use Rattle.tags.proofs.Table.{row, table}
+use Rattle.tags.proofs.Table.{table}
 use Rattle.areas.proofs.Table.{ends-worked, continues-worked}
 use Rattle.names.proofs.Promises.{worked}
+use Rattle.tags.specs.Heads.{row}
 
 -- each by its answer number and its values: tags, the short_ad, areas with no extent and how they end, names as UTF-8
 pub worked-table :

@@ -2,36 +2,27 @@
 use mathlib.Core.Path.{_≡_, refl, ap, sym, _∙_}
 use mathlib.Core.Bool.{Bool, true, false}
 use mathlib.Core.List.{List, [], _∷_, _++_, append-assoc}
-use mathlib.Core.Option.{some}
-use Prim.Native.Nat.{ℕ, zero, suc, _+_, _-_, _*_, _/_, _≤_, _<_, _^_}
+use Prim.Native.Nat.{ℕ, suc, _+_, _-_, _/_, _≤_, _<_, _^_}
 use native.Mathlib.Omega.{arith}
-use lib.ListN.{length, getD, take, drop, length-append, length-replicate}
+use lib.ListN.{length, take, drop, length-append, length-replicate}
 use lib.Seq.{take-append-seam}
 use lib.Dec.{eqb, ltb, lit<, lit≤}
-use borrow.Author.Tests.{eq-eqb, ne-eqb, lt-ltb, le-ltb, ltb-false, eqb-false}
+use borrow.Author.Tests.{ne-eqb, lt-ltb, le-ltb, ltb-false}
 use Rattle.disc.specs.Choice.{pick}
-use Rattle.disc.specs.Ask.{Outcome, andThen}
-use Rattle.disc.specs.Ask.Outcome.{answered, refused}
+use Rattle.disc.specs.Ask.Outcome.{answered}
 use Rattle.disc.proofs.PickLaws.{not-both}
-use Rattle.records.specs.Bytes.{byte, u32at}
 use Rattle.records.specs.Allocations.{longOf}
 use Rattle.records.proofs.Numbers.{u32-le32}
 use Rattle.tags.specs.Tags.{gated}
-use Rattle.names.specs.Names.{untilZero, utf8, encode, nameOf, sizeOf, lower, asIs, foldOf, sameName, isNamed}
-use Rattle.names.proofs.Promises.{same-reflexive, same-symmetric, same-lower}
+use Rattle.names.specs.Names.{untilZero, utf8, encode, nameOf}
 use Rattle.identifiers.specs.Identifiers.{nameAt, nameEnd, recordedName, nextAt, rounded, identifierOf, identifierSized, identifierNamed, readIdentifier}
-use Rattle.listings.specs.Entries.{Entry, entryIn, entryRead, isSkipped, nameIn, inFront, entriesFrom, entries as entriesOf}
-use Rattle.listings.specs.Listings.{recordHead, shown, records, listing, foldFor, foldIn, answersTo, allNamed, chosen, findIn}
-use Rattle.listings.specs.declared.matchings.Matching.{Matching}
-use Rattle.listings.specs.declared.matchings.Matching.the-variants.{CaseIgnored, AsWritten, Unambiguous}
-use Rattle.listings.proofs.Promises.{NoneAnswers}
-use Rattle.listings.proofs.MatchingLaws.{only-wins}
+use Rattle.listings.specs.Entries.{Entry, entryIn, entryRead, inFront, entriesFrom, entries as entriesOf}
 use Rattle.writers.specs.Layout.{zeros, tagFor, sealed, identifierSize, namesSize, summed, identifierBody, identifierAt, identifiers, directory}
-use Rattle.writers.specs.Refusing.{isPlain, allPlain, isGood, isAmong, areGood}
+use Rattle.writers.specs.Refusing.{isPlain, allPlain, areGood}
 use Rattle.writers.proofs.PourLaws.{sealed-long}
-use Rattle.writers.proofs.PartLaws.{Good, good-cons}
+use Rattle.writers.proofs.PartLaws.{good-cons}
 use Rattle.writers.proofs.SealLaws.{Seal, head-read}
-use Rattle.writers.proofs.OpeningLaws.{icbAt}
+use Rattle.writers.specs.Vaults.{icbAt}
 
 -- ---- a name that is recorded
 

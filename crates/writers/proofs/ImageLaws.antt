@@ -2,35 +2,28 @@
 use mathlib.Core.Path.{_≡_, refl, ap, sym, _∙_}
 use mathlib.Core.Bool.{Bool, true, false}
 use mathlib.Core.List.{List, [], _∷_, _++_, append-assoc}
-use Prim.Native.Nat.{ℕ, zero, suc, _+_, _-_, _*_, _/_, _≤_, _<_, _^_}
+use Prim.Native.Nat.{ℕ, suc, _+_, _-_, _*_, _≤_, _<_, _^_}
 use native.Mathlib.Omega.{arith}
 use lib.ListN.{length, getD, take, drop, length-append, length-replicate, length-drop}
-use lib.Seq.{length-take-le, getD-append-seam, drop-drop}
-use lib.Dec.{eqb, lit<, lit≤}
+use lib.Seq.{length-take-le, drop-drop}
+use lib.Dec.{eqb, lit<}
 use borrow.Author.Tests.{eqb-true, eqb-false}
 use Rattle.disc.specs.Choice.{pick}
 use Rattle.disc.specs.Ask.Held.{holds}
-use Rattle.disc.specs.Ask.Outcome.{answered, refused}
+use Rattle.disc.specs.Ask.Outcome.{answered}
 use Rattle.disc.specs.Ran.{Ran, ran}
 use Rattle.disc.specs.Images.{disc, sectorsFor, heldFrom}
 use Rattle.files.specs.Files.{fileBytes}
 use Rattle.volumes.specs.declared.openings.How.{How}
-use Rattle.writers.specs.Layout.{summed, blocksOf, total, partitionFor, identifierSize, namesSize, directorySize, zeros, joined, blanks, sector, sealed, entryBody, rootEntry, fileEntry, anchorAt, front, directory, directoryPart, entries, entriesPart, filesPart, image}
-use Rattle.writers.specs.Refusing.{areGood, areShort, sum}
+use Rattle.writers.specs.Layout.{summed, blocksOf, total, partitionFor, namesSize, directorySize, zeros, joined, blanks, sector, sealed, entryBody, rootEntry, fileEntry, anchorAt, front, directory, directoryPart, entries, entriesPart, filesPart, image}
+use Rattle.writers.specs.Refusing.{areShort, sum}
 use Rattle.writers.proofs.FileLaws.{blocks-few, short-cons}
 use Rattle.writers.proofs.PartLaws.{sizes-few, entries-count, directory-long}
-use Rattle.writers.proofs.SealLaws.{Seal, sector-long}
+use Rattle.writers.proofs.SealLaws.{sector-long}
 use Rattle.writers.proofs.SectorLaws.{Whole, whole-append, whole-blanks, whole-long, sector-at, run-at}
-use Rattle.writers.proofs.OpeningLaws.{mountFor, icbAt, entry-seal, front-whole, front-count, root-there}
+use Rattle.writers.proofs.OpeningLaws.{entry-seal, front-whole, front-count, root-there}
 use Rattle.writers.proofs.ReadLaws.{empty-read, file-read}
-
--- what isn't refused
-pub record Accepted (names : List (List ℕ)) (lengths staging : List ℕ) : Type 0 where
-  pub good : areGood names ≡ true
-  pub few : length names ≤ 64
-  pub alike : length names ≡ length lengths
-  pub short : areShort lengths ≡ true
-  pub staged : sum lengths ≤ length staging
+use Rattle.writers.specs.Vaults.{mountFor, icbAt, Accepted}
 
 -- ---- sums over joined lists
 

@@ -2,46 +2,39 @@
 use mathlib.Core.Path.{_≡_, refl, ap, sym, _∙_}
 use mathlib.Core.Bool.{Bool, true, false}
 use mathlib.Core.List.{List, [], _∷_, _++_}
-use mathlib.Core.Option.{Option, some}
-use Prim.Native.Nat.{ℕ, zero, suc, _+_, _-_, _*_, _/_, _≤_, _<_, _^_}
+use mathlib.Core.Option.{some}
+use Prim.Native.Nat.{ℕ, suc, _+_, _≤_}
 use native.Mathlib.Omega.{arith}
-use lib.ListN.{length, getD, take, drop}
-use lib.Dec.{eqb, ltb, leb, lit<, lit≤}
+use lib.ListN.{length}
 use borrow.Author.Tests.{le-ltb, le-leb}
 use Rattle.disc.specs.Choice.{pick}
-use Rattle.disc.specs.Ask.{Disc, Ask, Outcome, andThen, then, ended}
-use Rattle.disc.specs.Ask.Ask.{done}
-use Rattle.disc.specs.Ask.Outcome.{answered, refused}
-use Rattle.disc.specs.Ran.{Ran, ran, after}
+use Rattle.disc.specs.Ask.{Disc, ended}
+use Rattle.disc.specs.Ask.Outcome.{answered}
+use Rattle.disc.specs.Ran.{ran, after}
 use Rattle.disc.specs.Places.{isChecked}
 use Rattle.disc.specs.declared.places.Mount.{Mount}
 use Rattle.disc.proofs.PickLaws.{not-both}
-use Rattle.disc.proofs.RanLaws.{ran-done, ran-then, ran-ended}
+use Rattle.disc.proofs.RanLaws.{ran-done, ran-then}
 use Rattle.records.specs.declared.allocations.LongAd.{LongAd}
-use Rattle.names.specs.Names.{nameOf, lower, asIs, sameName, isNamed}
+use Rattle.names.specs.Names.{lower, asIs, sameName, isNamed}
 use Rattle.names.proofs.Promises.{same-reflexive, same-symmetric, same-lower}
 use Rattle.files.specs.Files.{fileBytes}
-use Rattle.listings.specs.Entries.{Entry, isSkipped, nameIn, entries as entriesOf}
-use Rattle.listings.specs.Listings.{recordHead, shown, records, listing, foldIn, answersTo, allNamed, chosen, findIn}
-use Rattle.listings.specs.Paths.{Component, front, behind, componentsFrom, components}
+use Rattle.listings.specs.Entries.{Entry, isSkipped, nameIn}
+use Rattle.listings.specs.Listings.{shown, records, listing, foldIn, answersTo, findIn}
+use Rattle.listings.specs.Paths.{front, behind, componentsFrom, components}
 use Rattle.listings.specs.declared.matchings.Matching.{Matching}
 use Rattle.listings.specs.declared.matchings.Matching.the-variants.{CaseIgnored, AsWritten, Unambiguous}
-use Rattle.listings.proofs.Promises.{NoneAnswers}
 use Rattle.listings.proofs.MatchingLaws.{only-wins}
 use Rattle.directories.specs.Directories.{within, directoryBytes, listingAt}
 use Rattle.directories.specs.Lookups.{entering, seeking, seekPath, icbOf, lookupOf, readPathOf}
 use Rattle.writers.specs.Layout.{summed, identifierSize, namesSize, directorySize, directory}
 use Rattle.writers.specs.Refusing.{allPlain, isAmong, areGood}
 use Rattle.writers.proofs.PartLaws.{Good, good-cons, directory-long}
-use Rattle.writers.proofs.OpeningLaws.{icbAt}
 use Rattle.writers.proofs.DirectoryLaws.{plain-cons, plain-name, entryFor, parentEntry, fileEntries, directory-entries}
+use Rattle.listings.specs.Matchings.{NoneAnswers}
+use Rattle.writers.specs.Vaults.{icbAt, listed}
 
 -- ---- the listing
-
--- a record for each name, in the given order: no directory, the ICB of its entry, the name's length and the name
-unfoldable pub listed : ℕ → List (List ℕ) → List ℕ
-listed i [] = []
-listed i (n ∷ ns) = (recordHead false (icbAt (16 + i)) (length n) ++ n) ++ listed (i + 1) ns
 
 files-listed : (i o : ℕ) (names : List (List ℕ)) → areGood names ≡ true → records (fileEntries i o names) ≡ listed i names
 unfolding records shown isSkipped nameIn fileEntries listed

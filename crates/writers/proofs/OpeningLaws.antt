@@ -1,31 +1,25 @@
 -- Opening the image, under every choice: what each descriptor of the front is read as, and what the call comes to. Assumes nothing.
-use mathlib.Core.Path.{_≡_, refl, ap, sym, _∙_}
+use mathlib.Core.Path.{_≡_, refl, ap, _∙_}
 use mathlib.Core.Bool.{Bool, true, false}
-use mathlib.Core.List.{List, [], _∷_, _++_, append-assoc}
-use Prim.Native.Nat.{ℕ, suc, _+_, _-_, _*_, _/_, _≤_, _<_, _^_}
+use mathlib.Core.List.{List, [], _∷_, _++_}
+use Prim.Native.Nat.{ℕ, suc, _+_, _<_, _^_}
 use native.Mathlib.Omega.{arith}
-use lib.ListN.{length, getD, take, drop, replicate, length-append}
-use lib.Dec.{eqb, lit<, lit≤}
-use Rattle.disc.specs.Choice.{pick}
-use Rattle.disc.specs.Ask.{Disc, Ask, Outcome, then, ended}
+use lib.ListN.{length, getD}
+use lib.Dec.{lit<, lit≤}
+use Rattle.disc.specs.Ask.{Disc, then, ended}
 use Rattle.disc.specs.Ask.Held.{holds}
 use Rattle.disc.specs.Ask.Ask.{done, ask}
-use Rattle.disc.specs.Ask.Outcome.{answered, refused}
+use Rattle.disc.specs.Ask.Outcome.{answered}
 use Rattle.disc.specs.Ran.{Ran, ran, after}
 use Rattle.disc.specs.Images.{disc}
 use Rattle.disc.specs.Places.{placed, startFor, mappedStart}
-use Rattle.disc.specs.declared.places.Mount.{Mount}
 use Rattle.disc.proofs.RanLaws.{ran-done, ran-there, ran-then}
-use Rattle.records.specs.Bytes.{le32}
-use Rattle.records.proofs.Numbers.{u32-le32}
-use Rattle.records.specs.declared.allocations.LongAd.{LongAd}
 use Rattle.tags.specs.Tags.{readHead, gated}
 use Rattle.tags.specs.declared.TagRead.the-variants.{Read as ATag}
 use Rattle.names.specs.Names.{nameOf, nameOfField, untilZero, utf8, encode}
-use Rattle.descriptors.specs.Volumes.{anchorAfter, anchorOf, readAnchor, primaryOf, primaryBehind, readPrimary, partitionOf, partitionAfter, readPartition, logicalOf, logicalBehind, readLogical}
+use Rattle.descriptors.specs.Volumes.{anchorAfter, readAnchor, primaryOf, primaryBehind, readPrimary, partitionOf, partitionAfter, readPartition, logicalOf, logicalBehind, readLogical}
 use Rattle.descriptors.specs.FileSets.{fileSetOf, readFileSet}
 use Rattle.descriptors.specs.declared.anchors.AnchorRead.the-variants.{Read as AnAnchor}
-use Rattle.descriptors.specs.declared.partitions.PartitionRead.the-variants.{Read as APartition}
 use Rattle.volumes.specs.Sequences.{nothing, Parsed, latest, anyPartition, keptOf, primaryIn, partitionIn, logicalIn, saysIn, scan}
 use Rattle.volumes.specs.Sequences.Parsed.{primary, partition, logical}
 use Rattle.volumes.specs.Sequences.Says.{found, passed, over}
@@ -33,10 +27,10 @@ use Rattle.volumes.specs.Openings.{volumeIn, mountingOf, mounting, opening, sta
 use Rattle.volumes.specs.Labels.{labelOf, labelling}
 use Rattle.volumes.specs.declared.sequences.Kept.{Kept}
 use Rattle.volumes.specs.declared.openings.How.{How}
-use Rattle.volumes.specs.declared.openings.VolumeRecord.{VolumeRecord}
-use Rattle.writers.specs.Layout.{zeros, recognitions, joined, blanks, sector, tagFor, sealed, dstring, label, primaryBody, infoBody, partitionBody, logicalBody, unallocatedBody, terminatingBody, integrityBody, anchorBody, fileSetBody, entryBody, rootEntry, anchorAt, sequence, recognitionPart, integrityPart, rootPart, front}
+use Rattle.writers.specs.Layout.{recognitions, joined, blanks, sector, tagFor, sealed, label, primaryBody, infoBody, partitionBody, logicalBody, unallocatedBody, terminatingBody, integrityBody, anchorBody, fileSetBody, entryBody, rootEntry, anchorAt, sequence, recognitionPart, integrityPart, rootPart, front}
 use Rattle.writers.proofs.SealLaws.{Seal, sector-long, sector-head}
 use Rattle.writers.proofs.SectorLaws.{Whole, whole-append, whole-blanks, sector-at}
+use Rattle.writers.specs.Vaults.{mountFor, icbAt, vaultFor, primarySector, partitionSector, logicalSector, fileSetSector}
 
 -- ---- the descriptors of the front are sealed: each has a listed id, and a body that a sector holds
 
@@ -143,37 +137,7 @@ front-count size files directory = refl
 
 -- ---- what a vault is opened as, by the choices
 
-abbrev pub mountFor : How → Mount
-mountFor how = record {
-  start = 272;
-  partition = 0;
-  checked = pick (how .checked) 1 0;
-  maps = pick (how .maps) 1 0;
-  volumes = pick (how .maps) 1 0 ∷ 0 ∷ 0 ∷ 0 ∷ [];
-  numbers = 0 ∷ 0 ∷ 0 ∷ 0 ∷ [];
-  starts = pick (how .maps) 272 0 ∷ 0 ∷ 0 ∷ 0 ∷ [];
-}
-
--- the ICB of the entry in a block
-abbrev pub icbAt : ℕ → LongAd
-icbAt block = record { length = 2048; «extent_type» = 0; location = record { block = block; «partition_ref» = 0 }; «implementation_use» = zeros 6 }
-
-abbrev pub vaultFor : How → VolumeRecord
-vaultFor how = record { mount = mountFor how; root = icbAt 2; label = dstring label 32 }
-
 -- ---- each descriptor as it is read
-
-abbrev pub primarySector : List ℕ
-primarySector = sector (sealed 1 32 primaryBody)
-
-abbrev pub partitionSector : ℕ → List ℕ
-partitionSector size = sector (sealed 5 34 (partitionBody size))
-
-abbrev pub logicalSector : List ℕ
-logicalSector = sector (sealed 6 35 logicalBody)
-
-abbrev pub fileSetSector : List ℕ
-fileSetSector = sector (sealed 256 0 fileSetBody)
 
 anchor-head : (check : Bool) → readHead check (anchorAt 256) 2 32 ≡ ATag (tagFor 2 256 anchorBody)
 unfolding anchorAt anchorBody

@@ -1,15 +1,14 @@
 -- Every tag of the image is in place by the reader's place check. Assumes nothing.
 use mathlib.Core.Path.{_≡_, refl, ap, sym, _∙_}
-use mathlib.Core.Bool.{Bool, true, false}
+use mathlib.Core.Bool.{true, false}
 use mathlib.Core.List.{List, [], _∷_, _++_, append-nil, append-assoc}
 use Prim.Native.Nat.{ℕ, zero, suc, _+_, _-_, _*_, _/_, _≤_, _<_, _^_}
 use native.Mathlib.Omega.{arith}
-use lib.ListN.{length, getD, drop, replicate, length-append, length-replicate}
+use lib.ListN.{length, getD, drop, length-append, length-replicate}
 use lib.Seq.{drop-at}
 use lib.Dec.{eqb, lit<, lit≤}
 use Rattle.disc.specs.Choice.{pick}
-use Rattle.disc.specs.Ask.{Held}
-use Rattle.disc.specs.Ask.Held.{holds, lacks}
+use Rattle.disc.specs.Ask.Held.{holds}
 use Rattle.disc.specs.Images.{disc, sectorsFor}
 use Rattle.disc.specs.declared.refusals.Refusal.{Refusal}
 use Rattle.disc.specs.declared.refusals.Refusal.the-variants.{Malformed}
@@ -25,11 +24,8 @@ use Rattle.writers.proofs.FileLaws.{files-long}
 use Rattle.writers.proofs.PourLaws.{sealed-long}
 use Rattle.writers.proofs.PartLaws.{good-cons, identifiers-long}
 use Rattle.writers.specs.Refusing.{areGood}
-use Rattle.writers.proofs.ImageLaws.{Accepted, summed-append, small, disk-front, disk-entries, behindFront, part-whole, part-count, front-long, directory-part-long, entries-part-long, few-files, few-blocks}
-
--- the tag at the front of sector n, if there is one, is in place: by its sector, or by its block of the partition
-abbrev pub Placed : ℕ → List ℕ → Type 0
-Placed n s = (t : DescriptorTag) → readTag s ≡ Read t → inPlace t n (n - 272) ≡ true
+use Rattle.writers.proofs.ImageLaws.{summed-append, small, disk-front, disk-entries, behindFront, part-whole, part-count, front-long, directory-part-long, entries-part-long, few-files, few-blocks}
+use Rattle.writers.specs.Vaults.{Accepted, Placed}
 
 no-tag : (n : ℕ) (s : List ℕ) {why : Refusal} → readTag s ≡ Refused why → Placed n s
 no-tag n s e t q = absurd (let z : _≡_ {A = ℕ} 0 1 = cc in omega arith)

@@ -1,19 +1,19 @@
 -- A file of the vault read by its ICB: its entry, its one extent, its bytes. Assumes nothing.
-use mathlib.Core.Path.{_≡_, refl, ap, sym, _∙_}
+use mathlib.Core.Path.{_≡_, refl, ap, _∙_}
 use mathlib.Core.Bool.{Bool, true, false, not}
 use mathlib.Core.List.{List, [], _∷_, _++_}
-use mathlib.Core.Option.{Option, none, some}
-use Prim.Native.Nat.{ℕ, suc, _+_, _-_, _*_, _/_, _%_, _≤_, _<_, _^_, min, max}
+use mathlib.Core.Option.{some}
+use Prim.Native.Nat.{ℕ, _+_, _*_, _/_, _%_, _≤_, _<_, _^_, min, max}
 use native.Mathlib.Omega.{arith}
-use lib.ListN.{length, getD, take, drop}
+use lib.ListN.{length, take, drop}
 use lib.Dec.{eqb, lit<, lit≤}
 use borrow.Author.Tests.{eq-eqb, ne-eqb, le-leb}
 use Rattle.disc.specs.Choice.{pick}
-use Rattle.disc.specs.Ask.{Disc, Ask, then, ended}
+use Rattle.disc.specs.Ask.{then}
 use Rattle.disc.specs.Ask.Held.{holds}
-use Rattle.disc.specs.Ask.Ask.{done, ask}
-use Rattle.disc.specs.Ask.Outcome.{answered, refused}
-use Rattle.disc.specs.Ran.{Ran, ran, after}
+use Rattle.disc.specs.Ask.Ask.{done}
+use Rattle.disc.specs.Ask.Outcome.{answered}
+use Rattle.disc.specs.Ran.{ran, after}
 use Rattle.disc.specs.Images.{disc, sectorsFor, heldFrom}
 use Rattle.disc.specs.Places.{placed, icbPlaced, icbStart, mappedStart, atEntry, isChecked}
 use Rattle.disc.specs.declared.places.Mount.{Mount}
@@ -22,8 +22,7 @@ use Rattle.disc.proofs.RanLaws.{ran-done, ran-there, ran-then}
 use Rattle.records.specs.Bytes.{le32, u32at, u64at}
 use Rattle.records.specs.Allocations.{shortOf}
 use Rattle.records.proofs.Numbers.{u32-le32}
-use Rattle.records.specs.declared.allocations.ShortAd.{ShortAd}
-use Rattle.areas.specs.Areas.{Area, extent, shortDescriptor, descriptorOf, descriptorAt, descriptors, sizeOf, areaAt, behind, ended as endedBy}
+use Rattle.areas.specs.Areas.{extent, shortDescriptor, descriptorOf, descriptorAt, descriptors, sizeOf, areaAt, behind, ended as endedBy}
 use Rattle.areas.specs.declared.AllocExtent.{AllocExtent}
 use Rattle.areas.specs.declared.AdEnding.the-variants.{End}
 use Rattle.tags.specs.Tags.{readHead}
@@ -32,16 +31,17 @@ use Rattle.entries.specs.IcbTags.{icbTagOf}
 use Rattle.entries.specs.FileEntries.{plainTail, entryOf, entryWith, entryBehind, entryAfter, readEntry}
 use Rattle.entries.specs.declared.«file_entries».FileEntry.{FileEntry}
 use Rattle.entries.specs.declared.«file_entries».EntryRead.the-variants.{Read}
-use Rattle.chains.specs.Chains.{continued, chain}
+use Rattle.chains.specs.Chains.{continued}
 use Rattle.files.specs.Reads.{extentsBytes}
-use Rattle.files.specs.Files.{Located, located, entryIn, entryAt, entryMount, chainOf, File, resolved, fileAt, contentOf, fileBytes}
+use Rattle.files.specs.Files.{Located, entryAt, entryMount, chainOf, resolved, fileAt, contentOf, fileBytes}
 use Rattle.files.specs.Files.File.{chained}
 use Rattle.files.specs.inner.Pieces.{restOf}
 use Rattle.files.proofs.PieceLaws.{weigh-held}
 use Rattle.volumes.specs.declared.openings.How.{How}
 use Rattle.writers.specs.Layout.{le64, sector, tagFor, sealed, entryBody}
 use Rattle.writers.proofs.SealLaws.{sector-head}
-use Rattle.writers.proofs.OpeningLaws.{mountFor, icbAt, entry-seal}
+use Rattle.writers.proofs.OpeningLaws.{entry-seal}
+use Rattle.writers.specs.Vaults.{mountFor, icbAt}
 
 -- ---- numbers
 

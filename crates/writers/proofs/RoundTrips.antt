@@ -1,24 +1,24 @@
 -- Each descriptor that is written, read by the reader's own definition: what was encoded comes back. Assumes nothing.
-use mathlib.Core.Path.{_≡_, refl, ap, sym, _∙_}
+use mathlib.Core.Path.{_≡_, refl, ap, _∙_}
 use mathlib.Core.Bool.{Bool, true, false}
-use mathlib.Core.List.{List, [], _∷_, _++_}
+use mathlib.Core.List.{List, _∷_, _++_}
 use Prim.Native.Nat.{ℕ, suc, _+_, _<_, _^_}
-use lib.ListN.{length, replicate}
+use lib.ListN.{length}
 use Rattle.disc.specs.Ask.{Disc, outcome}
 use Rattle.disc.specs.Ask.Held.{holds}
-use Rattle.disc.specs.Ask.Outcome.{answered, refused}
-use Rattle.disc.specs.Images.{disc}
+use Rattle.disc.specs.Ask.Outcome.{answered}
 use Rattle.records.proofs.Numbers.{u32-le32}
 use Rattle.descriptors.specs.Volumes.{partitionAfter, readPartition, readPrimary, readLogical}
-use Rattle.descriptors.specs.Recognition.{structureOf, identityOf, identified, nsr, other}
+use Rattle.descriptors.specs.Recognition.{structureOf, identityOf, identified, nsr}
 use Rattle.descriptors.specs.declared.partitions.PartitionRead.the-variants.{Read as APartition}
 use Rattle.descriptors.specs.declared.recognition.Structure.{Structure}
 use Rattle.descriptors.specs.declared.recognition.Structure.the-variants.{Beginning, Nsr, Terminating}
 use Rattle.probes.specs.Probes.{probedBy, probing, yes, probed}
 use Rattle.writers.specs.Layout.{zeros, recognition, joined, sector, tagFor, sealed, dstring, label, primaryBody, partitionBody, logicalBody, recognitionPart, sequence, integrityPart, rootPart, front, directorySize, total, partitionFor, image}
-use Rattle.writers.proofs.OpeningLaws.{icbAt, primarySector, partitionSector, logicalSector, primary-read, partition-head, logical-read, onDisc, at-front}
-use Rattle.writers.proofs.ImageLaws.{Accepted, disk-front, behindFront}
+use Rattle.writers.proofs.OpeningLaws.{primary-read, partition-head, logical-read, onDisc, at-front}
+use Rattle.writers.proofs.ImageLaws.{disk-front, behindFront}
 use lib.Dec.{lit<}
+use Rattle.writers.specs.Vaults.{icbAt, primarySector, partitionSector, logicalSector, Accepted}
 
 -- ---- the volume's descriptors; anchor and file set: `anchor-read` and `file-set-read` of OpeningLaws, entries: `entry-read` of ReadLaws, file identifiers: `identifier-read` of DirectoryLaws
 
