@@ -49,14 +49,14 @@ static void tags(void) {
     EXPECT(r.value.location == 0xdef01234);
 }
 
-/* Ids 1 to 9 go by the sector, 256 to 266 by the block, and others nowhere. */
+/* Ids 256 to 266 go by the block, and every other id by the sector. */
 static void places(void) {
     records_tag t = records_parse_tag(good_tag, 16).value;
     EXPECT(records_tag_in_place(t, 256, 7) && !records_tag_in_place(t, 7, 256) && !records_tag_in_place(t, 256 + ((uint64_t)1 << 32), 7));
     t.id = 261;
     EXPECT(records_tag_in_place(t, 7, 256) && !records_tag_in_place(t, 256, 7));
     t.id = 10;
-    EXPECT(!records_tag_in_place(t, 256, 256));
+    EXPECT(records_tag_in_place(t, 256, 7) && !records_tag_in_place(t, 7, 256));
 }
 
 /* ECMA-167 3/7.2.6 has an example: the CRC of 70 6A 77 is 3299. */

@@ -253,8 +253,8 @@ unsafe extern "C" {
     pub fn records_encode_tag(value: Tag) -> Encoded<16>;
 
     /// The place check: whether the tag's location is the number that it must be. `sector` and `block` are those that
-    /// hold the descriptor's first byte, counted from the disc's start and from its partition's. Ids 1 to 9 go by the
-    /// sector, 256 to 266 by the block, and a tag with any other id is in place nowhere.
+    /// hold the descriptor's first byte, counted from the disc's start and from its partition's. Ids 256 to 266 go by
+    /// the block, and every other id by the sector.
     pub fn records_tag_in_place(tag: Tag, sector: u64, block: u32) -> bool;
 
     /// The CRC of `bytes`, which a tag has of its descriptor's body: x^16 + x^12 + x^5 + 1, starting at 0, the highest

@@ -256,16 +256,15 @@ fn given<T: Flat>(mut input: &[u8]) -> T {
     T::take(&mut input)
 }
 
-/// The place check, which the original doesn't have, from the rule's words (docs/RULES.md, 9.7): ids 1 to 9 go by the sector, 256 to 266 by the
-/// block, and no other has a place.
+/// The place check, which the original doesn't have, from the rule's words (docs/RULES.md, 9.7): ids 256 to 266 go by the block, and every other
+/// id by the sector.
 fn in_place(mut given: &[u8]) -> Vec<u8> {
     let (tag, sector, block) = (Tag::take(&mut given), u64::take(&mut given), u32::take(&mut given));
     let stands = match tag.id {
-        1..=9 => Some(sector),
-        256..=266 => Some(block.into()),
-        _ => None,
+        256..=266 => block.into(),
+        _ => sector,
     };
-    flat(&u64::from(stands == Some(tag.location.into())))
+    flat(&u64::from(stands == u64::from(tag.location)))
 }
 
 /// The body check, which it doesn't have either, from the rule's words: as many bytes as the CRC length behind the 16 of the tag, and the

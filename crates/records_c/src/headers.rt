@@ -65,8 +65,7 @@ pub extern "C" fn records_encode_tag(value: DescriptorTag) -> TagBytes
 }
 
 // The place check: whether the tag's location is the number that it must be. `sector` and `block` are those that hold the descriptor's first
-// byte, counted from the disc's start and from its partition's. Ids 1 to 9 go by the sector, 256 to 266 by the block, and a tag with any
-// other id is in place nowhere.
+// byte, counted from the disc's start and from its partition's. Ids 256 to 266 go by the block, and every other id by the sector.
 #[no_mangle]
 pub extern "C" fn records_tag_in_place(tag: DescriptorTag, sector: u64, block: u32) -> bool
     ensures { λ r. ⌜ r ≡ inPlace tag sector block ⌝ }

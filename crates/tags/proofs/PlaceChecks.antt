@@ -1,56 +1,47 @@
 -- The place check: the returns of `is_in_place`, and what it comes to for a tag that the crossing places. Assumes nothing.
-use Prim.Native.Nat.{ℕ, _+_, _≤_}
+use Prim.Native.Nat.{ℕ, _+_, _≤_, _<_}
 use mathlib.Core.Path.{_≡_, refl, sym, _∙_}
-use mathlib.Core.Bool.{Bool, true, false, _||_}
+use mathlib.Core.Bool.{Bool, true, false, _&&_}
+use mathlib.Core.Logic.{_⊎_, inl, inr}
 use mathlib.Core.Option.{Option, none, some}
 use native.Mathlib.Omega.{arith}
 use lib.Dec.{eqb}
 use borrow.Author.Tests.{eq-eqb, eqb-true, le-leb, lt-leb}
-use Rattle.disc.proofs.PickLaws.{not-both}
 use Rattle.disc.specs.Choice.{pick}
 use Rattle.disc.specs.Places.{sectorOf, startFor, icbStart, crossing, placed, icbPlaced}
 use Rattle.disc.specs.declared.places.Mount.{Mount}
 use Rattle.disc.specs.declared.places.PartitionRef.the-variants.{Unnamed, Named}
-use Rattle.tags.specs.Tags.{ofVolume, ofPartition, listed, placeOf, isPlace, inPlace}
+use Rattle.tags.specs.Tags.{ofPartition, placeOf, inPlace}
 use Rattle.tags.specs.declared.DescriptorTag.{DescriptorTag}
 use Rattle.tags.specs.Heads.{Crossed}
 
 -- ---- the returns of `is_in_place`
 
-module _ (t : DescriptorTag) (sector block : ℕ) {v : Bool} (e : v ≡ ofVolume (t .id)) where
-  pub place-volume : v ≡ true → {r : Bool} → r ≡ eqb (t .location) sector → r ≡ inPlace t sector block
+module _ (t : DescriptorTag) (sector block : ℕ) {p : Bool} (e : p ≡ ofPartition (t .id)) where
+  pub place-partition : p ≡ true → {r : Bool} → r ≡ eqb (t .location) block → r ≡ inPlace t sector block
   unfolding inPlace placeOf
-  place-volume h k = rw (← e, h) k
+  place-partition h k = rw (← e, h) k
 
-  module _ (h : v ≡ false) {p : Bool} (f : p ≡ ofPartition (t .id)) where
-    pub place-partition : p ≡ true → {r : Bool} → r ≡ eqb (t .location) block → r ≡ inPlace t sector block
-    unfolding inPlace placeOf
-    place-partition g k = rw (← e, h, ← f, g) k
-
-    pub place-none : p ≡ false → false ≡ inPlace t sector block
-    unfolding inPlace placeOf
-    place-none g = rw (← e, h, ← f, g)
+  pub place-other : p ≡ false → {r : Bool} → r ≡ eqb (t .location) sector → r ≡ inPlace t sector block
+  unfolding inPlace placeOf
+  place-other h k = rw (← e, h) k
 
 -- ---- which number the location must be, by the id
 
+other-id : (id : ℕ) → (id < 256) ⊎ (266 < id) → ofPartition id ≡ false
+other-id id (inl l) = rw (lt-leb 256 id l)
+other-id id (inr h) = by (leb 256 id)
+  where
+    by : (b : Bool) → (b && leb id 266) ≡ false
+    by true = lt-leb id 266 h
+    by false = refl
+
 module _ (t : DescriptorTag) (sector block : ℕ) where
-  -- an id of 1 to 9: the sector's
-  module _ (l : 1 ≤ t .id) (h : t .id ≤ 9) where
-    its-sector : inPlace t sector block ≡ eqb (t .location) sector
-    unfolding inPlace placeOf
-    its-sector = simp (le-leb 1 (t .id) l, le-leb (t .id) 9 h)
-
-    pub sector-only : inPlace t sector block ≡ true → t .location ≡ sector
-    sector-only e = eqb-true (t .location) sector (sym its-sector ∙ e)
-
-    pub sector-enough : t .location ≡ sector → inPlace t sector block ≡ true
-    sector-enough e = its-sector ∙ eq-eqb (t .location) sector e
-
   -- an id of 256 to 266: the block's
   module _ (l : 256 ≤ t .id) (h : t .id ≤ 266) where
     its-block : inPlace t sector block ≡ eqb (t .location) block
     unfolding inPlace placeOf
-    its-block = simp (lt-leb (t .id) 9 (omega arith), le-leb 1 (t .id) (omega arith), le-leb 256 (t .id) l, le-leb (t .id) 266 h)
+    its-block = simp (le-leb 256 (t .id) l, le-leb (t .id) 266 h)
 
     pub block-only : inPlace t sector block ≡ true → t .location ≡ block
     block-only e = eqb-true (t .location) block (sym its-block ∙ e)
@@ -58,15 +49,17 @@ module _ (t : DescriptorTag) (sector block : ℕ) where
     pub block-enough : t .location ≡ block → inPlace t sector block ≡ true
     block-enough e = its-block ∙ eq-eqb (t .location) block e
 
--- any other id: in place nowhere
-pub place-unlisted : (t : DescriptorTag) → listed (t .id) ≡ false → (sector block : ℕ) → inPlace t sector block ≡ false
-unfolding inPlace placeOf
-place-unlisted t e sector block = by (ofVolume (t .id)) (ofPartition (t .id)) e
-  where
-    by : (v p : Bool) → (v || p) ≡ false → isPlace (t .location) (pick v (some sector) (pick p (some block) none)) ≡ false
-    by true p q = not-both (sym q)
-    by false true q = not-both (sym q)
-    by false false q = refl
+  -- any other id: the sector's
+  module _ (o : (t .id < 256) ⊎ (266 < t .id)) where
+    its-sector : inPlace t sector block ≡ eqb (t .location) sector
+    unfolding inPlace placeOf
+    its-sector = rw (other-id (t .id) o)
+
+    pub sector-only : inPlace t sector block ≡ true → t .location ≡ sector
+    sector-only e = eqb-true (t .location) sector (sym its-sector ∙ e)
+
+    pub sector-enough : t .location ≡ sector → inPlace t sector block ≡ true
+    sector-enough e = its-sector ∙ eq-eqb (t .location) sector e
 
 -- ---- a tag that the crossing places: block b of a partition that starts at `start` is sector start + b
 
@@ -75,7 +68,7 @@ module _ (m : Mount) (t : DescriptorTag) (block : ℕ) where
   crossed-at {start} {sector} e =
       record {
         of-partition = λ l h. (block-only t sector block l h, block-enough t sector block l h);
-        of-volume = λ l h. ((λ p. sector-only t sector block l h p ∙ e), (λ p. sector-enough t sector block l h (p ∙ sym e)));
+        of-other = λ o. ((λ p. sector-only t sector block o p ∙ e), (λ p. sector-enough t sector block o (p ∙ sym e)));
       }
 
   crossed-by : (o : Option ℕ) {start sector : ℕ} → o ≡ some start → crossing block o ≡ some sector → sector ≡ start + block

@@ -2,6 +2,7 @@
 use mathlib.Core.Bool.{Bool, true}
 use mathlib.Core.List.{List, _++_, [], _∷_}
 use mathlib.Core.Path.{_≡_}
+use mathlib.Core.Logic.{_⊎_}
 use Prim.Native.Nat.{ℕ, _≤_, _+_}
 use lib.ListN.{length, replicate}
 use Rattle.tags.specs.Tags.{tagOf, bodyRight, readTag, inPlace, encodeTag}
@@ -22,7 +23,7 @@ pub record Passed (check : Bool) (s : List ℕ) (id size : ℕ) (t : DescriptorT
 -- a place in a partition that starts at `start`, by its block and its sector: which of them a tag is compared with
 pub record Crossed (start : ℕ) (t : DescriptorTag) (block sector : ℕ) : Type 0 where
   pub of-partition : 256 ≤ t .id → t .id ≤ 266 → (inPlace t sector block ≡ true → t .location ≡ block) × (t .location ≡ block → inPlace t sector block ≡ true)
-  pub of-volume : 1 ≤ t .id → t .id ≤ 9
+  pub of-other : (t .id < 256) ⊎ (266 < t .id)
       → (inPlace t sector block ≡ true → t .location ≡ start + block) × (t .location ≡ start + block → inPlace t sector block ≡ true)
 
 -- a tag that was written, with whatever stands behind it

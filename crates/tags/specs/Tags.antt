@@ -2,7 +2,6 @@
 use Prim.Native.Nat.{ℕ, _+_, _%_}
 use mathlib.Core.Bool.{Bool, false, _&&_, _||_}
 use mathlib.Core.List.{List, _∷_, _++_}
-use mathlib.Core.Option.{Option, none, some}
 use lib.ListN.{length, take, drop}
 use lib.Dec.{leb, eqb}
 use Rattle.disc.specs.Choice.{pick}
@@ -64,19 +63,14 @@ encodeTag t = tagBytes t (checksum (tagBytes t 0))
 
 -- ---- the place check
 
--- the number that a tag's location must be (3/7.2.8, 4/7.2.8): the sector's for the descriptors of the volume structure (3/7.2.1), the logical
--- block's, in its partition, for those recorded in a partition (4/7.2.1), and none for an id that no rule lists
-unfoldable pub placeOf : ℕ → ℕ → ℕ → Option ℕ
-placeOf id sector block = pick (ofVolume id) (some sector) (pick (ofPartition id) (some block) none)
-
--- whether a location is the number that it must be
-abbrev pub isPlace : ℕ → Option ℕ → Bool
-isPlace location none = false
-isPlace location (some n) = eqb location n
+-- the number that a tag's location must be: the logical block's, in its partition, for an id of those recorded in a partition (4/7.2.8), and the
+-- sector's for every other id (3/7.2.8)
+unfoldable pub placeOf : ℕ → ℕ → ℕ → ℕ
+placeOf id sector block = pick (ofPartition id) block sector
 
 -- a tag is in place where its location is that number of the sector and the block that hold its first byte
 unfoldable pub inPlace : DescriptorTag → ℕ → ℕ → Bool
-inPlace t sector block = isPlace (t .location) (placeOf (t .id) sector block)
+inPlace t sector block = eqb (t .location) (placeOf (t .id) sector block)
 
 -- ---- the body
 

@@ -32,7 +32,7 @@ pub enum TagRead {
     Refused(Refusal),
 }
 
-// Whether an id is that of a descriptor of the volume structure, which goes by its sector.
+// Whether an id is that of a descriptor of the volume structure.
 fn is_of_volume(id: u16) -> bool
     ensures { λ r. ⌜ r ≡ ofVolume id ⌝ }
 {
@@ -191,13 +191,10 @@ impl DescriptorTag {
     pub fn is_in_place(self, sector: Sector, block: Block) -> bool
         ensures { λ r. ⌜ r ≡ inPlace self (sector .0) (block .0) ⌝ }
     {
-        if is_of_volume(self.id) {
-            return self.location as u64 == sector.0;
-        }
         if is_of_partition(self.id) {
             return self.location == block.0;
         }
-        false
+        self.location as u64 == sector.0
     }
 
     // The body check: whether the bytes at hand, of which this tag stands at the front, hold as many behind it as its CRC length says, and

@@ -2,6 +2,7 @@
 use mathlib.Core.Path.{_≡_, refl, ap, sym, _∙_}
 use mathlib.Core.Bool.{Bool, true, false}
 use mathlib.Core.List.{List, [], _∷_, _++_}
+use mathlib.Core.Logic.{inl}
 use Prim.Native.Nat.{ℕ, _+_, _-_, _≤_, _<_, _^_}
 use native.Mathlib.Omega.{arith}
 use lib.ListN.{length, take, drop, length-append, length-replicate}
@@ -71,7 +72,7 @@ module _ {id location : ℕ} (body : List ℕ) (h : Seal id location body) where
 
   -- it is in place: a descriptor of the volume in its sector, one of the partition in its block
   pub volume-placed : 1 ≤ id → id ≤ 9 → (block : ℕ) → inPlace (tagFor id location body) location block ≡ true
-  volume-placed k l block = sector-enough (tagFor id location body) location block k l refl
+  volume-placed k l block = sector-enough (tagFor id location body) location block (inl (omega (arith, l))) refl
 
   pub partition-placed : 256 ≤ id → id ≤ 266 → (at : ℕ) → inPlace (tagFor id location body) at location ≡ true
   partition-placed k l at = block-enough (tagFor id location body) at location k l refl
