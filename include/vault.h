@@ -40,17 +40,19 @@ typedef enum vault_answer {
     VAULT_IO = 1, /* A sector asked for isn't wholly inside the image. */
     VAULT_MALFORMED = 2, /* Too few bytes, or a descriptor, a tag, a name or a length that is not what it must be. */
     VAULT_NOT_BLURAY = 3, /* No volume, or no such path. */
-    /* A form that isn't read: another block size or partition, a compressed or unrecorded extent. */
+    /* A form that isn't read: another block size or partition, other partition maps than up to four of type 1, a
+     * compressed or unrecorded extent, a continuation of over 1,048,576 bytes; or a bit of no choice in `how`. */
     VAULT_UNSUPPORTED = 4,
     VAULT_NO_ROOM = 5, /* The answer has more bytes than `out` holds. */
-    VAULT_NO_WORK = 6, /* A directory has more bytes than `work` holds. */
-    VAULT_NO_SLOT = 7, /* There are more extents than slots. */
+    /* A directory has more bytes than `work` holds; in a show, than `work` has left behind the directories above it. */
+    VAULT_NO_WORK = 6,
+    VAULT_NO_SLOT = 7, /* There are more extents, or runs, than slots. */
     /* A component of the path matches two or more entries of its directory, and the choice of matching wants the
      * only one. */
     VAULT_AMBIGUOUS = 9,
     /* A descriptor that is checked has a wrong CRC, or a CRC length that passes the bytes at hand. */
     VAULT_BAD_CRC = 10,
-    /* A directory stands below the last level that was asked for, or that number is 0 or over 16. */
+    /* A directory is found at the last level that was asked for, or that number is 0 or over 16. */
     VAULT_TOO_DEEP = 11,
     VAULT_TOO_MANY = 12, /* There are more paths than places for their lengths, or than places for their answers. */
     /* A name of a vault that is to be written isn't one, or two are equal with ASCII case ignored. */
@@ -85,7 +87,9 @@ typedef enum vault_how {
      * number, and those of ICBs aren't looked at. */
     VAULT_MAPS = 2,
     /* A choice for `how`: of several primary volume, partition or logical volume descriptors the one with the
-     * highest volume descriptor sequence number counts, the later of equals. Without it the last one does. */
+     * highest volume descriptor sequence number counts, the later of equals. Without it the last one does. Partition
+     * descriptors are compared whatever their partition numbers; with VAULT_MAPS the start of a map's partition is
+     * by those of its own number alone, with this choice and without. */
     VAULT_HIGHEST = 4,
 } vault_how;
 
@@ -264,7 +268,7 @@ vault_reply vault_read_path(vault_volume volume, const uint8_t *image, size_t im
  * `lengths` and `answers` say how many bytes it has and its answer, as vault_read_path gives them for the room that
  * is left; one that is refused has length 0, takes no room, and the rest go on. So the answer is VAULT_DONE also
  * where every path was refused, with the count of all and in `length` the bytes of all. More paths than places in
- * either row are VAULT_TOO_MANY, and then nothing is read or written. */
+ * either row are VAULT_TOO_MANY: then no sector is asked for, and nothing is written but the zeros of `work`. */
 vault_reply vault_read_all(vault_volume volume, const uint8_t *image, size_t image_length, const uint8_t *paths,
                            size_t paths_length, vault_matching matching, uint8_t *out, size_t out_length,
                            uint64_t *lengths, size_t lengths_places, uint32_t *answers, size_t answers_places,
@@ -513,19 +517,19 @@ static inline const char *vault_answer_text(uint64_t answer) {
     case VAULT_NOT_BLURAY:
         return "No volume, or no such path";
     case VAULT_UNSUPPORTED:
-        return "A form that isn't read: another block size or partition, a compressed or unrecorded extent";
+        return "A form that isn't read: another block size or partition, other partition maps than up to four of type 1, a compressed or unrecorded extent, a continuation of over 1,048,576 bytes; or a bit of no choice in how";
     case VAULT_NO_ROOM:
         return "The answer has more bytes than out holds";
     case VAULT_NO_WORK:
-        return "A directory has more bytes than work holds";
+        return "A directory has more bytes than work holds; in a show, than work has left behind the directories above it";
     case VAULT_NO_SLOT:
-        return "There are more extents than slots";
+        return "There are more extents, or runs, than slots";
     case VAULT_AMBIGUOUS:
         return "A component of the path matches two or more entries of its directory, and the choice of matching wants the only one";
     case VAULT_BAD_CRC:
         return "A descriptor that is checked has a wrong CRC, or a CRC length that passes the bytes at hand";
     case VAULT_TOO_DEEP:
-        return "A directory stands below the last level that was asked for, or that number is 0 or over 16";
+        return "A directory is found at the last level that was asked for, or that number is 0 or over 16";
     case VAULT_TOO_MANY:
         return "There are more paths than places for their lengths, or than places for their answers";
     case VAULT_BAD_NAME:

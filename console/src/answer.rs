@@ -84,11 +84,12 @@ pub enum Refusal {
     Malformed,
     /// 3: no volume, or no such path.
     NotBluray,
-    /// 4: a form that isn't read.
+    /// 4: a form that isn't read: another block size or partition, other partition maps than up to four of type 1, a compressed or unrecorded
+    /// extent, a continuation of over 1,048,576 bytes.
     Unsupported,
     /// 5: the answer has more bytes than could be lent.
     NoRoom,
-    /// 6: a directory has more bytes than could be lent.
+    /// 6: a directory has more bytes than could be lent; in a show, more than could be lent behind the directories above it.
     NoWork,
     /// 7: there are more extents, or runs, than slots could be lent.
     NoSlot,
@@ -97,7 +98,7 @@ pub enum Refusal {
     /// 10: a descriptor has a wrong CRC, or a CRC length that passes the bytes at hand. Given where [`How::checked`](crate::How) was chosen
     /// alone.
     BadCrc,
-    /// 11: a directory stands below the last level that was asked for, or that number is 0 or over 16. Given by
+    /// 11: a directory is found at the last level that was asked for, or that number is 0 or over 16. Given by
     /// [`Vault::show`](crate::Vault::show) alone.
     TooDeep,
     /// 12: there are more paths in a list than places for their answers could be lent. Given by [`Vault::read_all`](crate::Vault::read_all)
@@ -172,14 +173,14 @@ impl fmt::Display for Refusal {
             Refusal::Malformed => "a descriptor, a name or a length on the disc is not what it must be: it is damaged, or isn't UDF",
             Refusal::NotBluray => "there is no volume, or nothing of that name",
             Refusal::Unsupported => {
-                "the disc has a form that isn't read: another block size or partition, a compressed or an unrecorded extent"
+                "the disc has a form that isn't read: another block size or partition, other maps, a compressed or an unrecorded extent"
             }
             Refusal::NoRoom => "the answer has more bytes than there is memory for",
-            Refusal::NoWork => "a directory has more bytes than there is memory for",
-            Refusal::NoSlot => "the file has more extents than there is memory for",
+            Refusal::NoWork => "a directory, with those above it in a show, has more bytes than there is memory for",
+            Refusal::NoSlot => "the file has more extents, or runs, than there is memory for",
             Refusal::Ambiguous => "two or more entries of a directory match one name of the path",
             Refusal::BadCrc => "a descriptor's body isn't the one that its tag has the CRC of: it is scratched, or was written so",
-            Refusal::TooDeep => "a directory stands below the last level that was asked for, or that number isn't 1 to 16",
+            Refusal::TooDeep => "a directory is found at the last level that was asked for, or that number isn't 1 to 16",
             Refusal::TooMany => "there are more paths than there is memory for their answers",
             Refusal::BadName => {
                 "a name of a vault is 1 to 127 bytes from 21 to 7E without the slash, and no two are equal with ASCII case ignored"

@@ -6,7 +6,8 @@ use strandlodge_sys::vault::{CHECKED, HIGHEST, MAPS};
 #[derive(Debug, Clone, Copy, Default, PartialEq, Eq, Hash)]
 pub struct How {
     /// Of several primary volume, partition or logical volume descriptors the one with the highest volume descriptor sequence number counts,
-    /// the later of equals. Else the last one does.
+    /// the later of equals. Else the last one does. Partition descriptors are compared whatever their partition numbers; with `maps` the start of
+    /// a map's partition is by those of its own number alone, with this choice and without.
     pub highest: bool,
     /// The body of each descriptor that is parsed, on opening and in every call on the volume, must have the CRC that its tag says; else the
     /// call is refused by 10, [`Refusal::BadCrc`](crate::Refusal::BadCrc). Else no body is looked at, as in the original.

@@ -33,19 +33,20 @@ pub const IO: u64 = 1;
 pub const MALFORMED: u64 = 2;
 /// No volume, or no such path.
 pub const NOT_BLURAY: u64 = 3;
-/// A form that isn't read: another block size or partition, a compressed or unrecorded extent.
+/// A form that isn't read: another block size or partition, other partition maps than up to four of type 1, a
+/// compressed or unrecorded extent, a continuation of over 1,048,576 bytes; or a bit of no choice in `how`.
 pub const UNSUPPORTED: u64 = 4;
 /// The answer has more bytes than `out` holds.
 pub const NO_ROOM: u64 = 5;
-/// A directory has more bytes than `work` holds.
+/// A directory has more bytes than `work` holds; in a show, than `work` has left behind the directories above it.
 pub const NO_WORK: u64 = 6;
-/// There are more extents than slots.
+/// There are more extents, or runs, than slots.
 pub const NO_SLOT: u64 = 7;
 /// A component of the path matches two or more entries of its directory, and the choice of matching wants the only one.
 pub const AMBIGUOUS: u64 = 9;
 /// A descriptor that is checked has a wrong CRC, or a CRC length that passes the bytes at hand.
 pub const BAD_CRC: u64 = 10;
-/// A directory stands below the last level that was asked for, or that number is 0 or over 16.
+/// A directory is found at the last level that was asked for, or that number is 0 or over 16.
 pub const TOO_DEEP: u64 = 11;
 /// There are more paths than places for their lengths, or than places for their answers.
 pub const TOO_MANY: u64 = 12;
@@ -73,7 +74,9 @@ pub const CHECKED: u32 = 1;
 /// of ICBs aren't looked at.
 pub const MAPS: u32 = 2;
 /// A choice for `how`: of several primary volume, partition or logical volume descriptors the one with the highest
-/// volume descriptor sequence number counts, the later of equals. Without it the last one does.
+/// volume descriptor sequence number counts, the later of equals. Without it the last one does. Partition descriptors
+/// are compared whatever their partition numbers; with VAULT_MAPS the start of a map's partition is by those of its own
+/// number alone, with this choice and without.
 pub const HIGHEST: u32 = 4;
 
 /// The bytes of a sector, and of a block.
@@ -465,7 +468,8 @@ unsafe extern "C" {
     /// `lengths` and `answers` say how many bytes it has and its answer, as vault_read_path gives them for the room
     /// that is left; one that is refused has length 0, takes no room, and the rest go on. So the answer is VAULT_DONE
     /// also where every path was refused, with the count of all and in `length` the bytes of all. More paths than
-    /// places in either row are VAULT_TOO_MANY, and then nothing is read or written.
+    /// places in either row are VAULT_TOO_MANY: then no sector is asked for, and nothing is written but the zeros of
+    /// `work`.
     pub fn vault_read_all(
         volume: Volume,
         image: *const u8,

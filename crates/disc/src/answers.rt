@@ -12,16 +12,17 @@ pub const MALFORMED: u64 = 2;
 // No volume, or no such path.
 pub const NOT_BLURAY: u64 = 3;
 
-// A form that isn't read: another block size or partition, a compressed or unrecorded extent.
+// A form that isn't read: another block size or partition, other partition maps than up to four of type 1, a compressed or unrecorded extent, a continuation
+// of over 1,048,576 bytes; or a bit of no choice in `how`.
 pub const UNSUPPORTED: u64 = 4;
 
 // The answer has more bytes than `out` holds.
 pub const NO_ROOM: u64 = 5;
 
-// A directory has more bytes than `work` holds.
+// A directory has more bytes than `work` holds; in a show, than `work` has left behind the directories above it.
 pub const NO_WORK: u64 = 6;
 
-// There are more extents than slots.
+// There are more extents, or runs, than slots.
 pub const NO_SLOT: u64 = 7;
 
 // A component of the path matches two or more entries of its directory, and the choice of matching wants the only one.
@@ -30,7 +31,7 @@ pub const AMBIGUOUS: u64 = 9;
 // A descriptor that is checked has a wrong CRC, or a CRC length that passes the bytes at hand.
 pub const BAD_CRC: u64 = 10;
 
-// A directory stands below the last level that was asked for, or that number is 0 or over 16.
+// A directory is found at the last level that was asked for, or that number is 0 or over 16.
 pub const TOO_DEEP: u64 = 11;
 
 // There are more paths than places for their lengths, or than places for their answers.

@@ -24,15 +24,15 @@ pub enum Refusal {
     Unsupported,
     // The answer has more bytes than the output holds.
     NoRoom,
-    // A directory's bytes exceed the work space.
+    // A directory's bytes exceed the work space; in a show, what the directories above it leave of it.
     NoWork,
-    // There are more extents than slots.
+    // There are more extents, or runs, than slots.
     NoSlot,
     // A component of the path matches two or more entries of its directory.
     Ambiguous,
     // A descriptor that is checked has a wrong body.
     BadCrc,
-    // A directory stands below the last level that was asked for.
+    // A directory is found at the last level that was asked for, or that number is 0 or over 16.
     TooDeep,
     // There are more paths than places for what each is answered.
     TooMany,

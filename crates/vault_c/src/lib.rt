@@ -64,7 +64,8 @@ pub const VAULT_CHECKED: u32 = CHECKED;
 pub const VAULT_MAPS: u32 = MAPS;
 
 // A choice for `how`: of several primary volume, partition or logical volume descriptors the one with the highest volume descriptor
-// sequence number counts, the later of equals. Without it the last one does.
+// sequence number counts, the later of equals. Without it the last one does. Partition descriptors are compared whatever their partition
+// numbers; with VAULT_MAPS the start of a map's partition is by those of its own number alone, with this choice and without.
 pub const VAULT_HIGHEST: u32 = HIGHEST;
 
 // The bytes of a sector, and of a block.
@@ -264,8 +265,8 @@ pub extern "C" fn vault_read_path(
 // Reads many files to `out`, one behind the other. `paths` has their paths with a zero byte between each two: n zeros make n + 1 paths, so that no bytes
 // are one path, and an empty path reads the root's bytes. Of each in turn `lengths` and `answers` say how many bytes it has and its answer, as vault_read_path
 // gives them for the room that is left; one that is refused has length 0, takes no room, and the rest go on. So the answer is VAULT_DONE also where every
-// path was refused, with the count of all and in `length` the bytes of all. More paths than places in either row are VAULT_TOO_MANY, and then nothing is
-// read or written.
+// path was refused, with the count of all and in `length` the bytes of all. More paths than places in either row are VAULT_TOO_MANY: then no sector is
+// asked for, and nothing is written but the zeros of `work`.
 #[no_mangle]
 pub extern "C" fn vault_read_all(
     volume: Volume,

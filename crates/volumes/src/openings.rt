@@ -31,7 +31,8 @@ use records::allocations::no_long;
 // The choices that are made on opening. Which descriptors count leaves no trace in the volume's record, which is what came out; that bodies are
 // checked and the maps stay in the record's mount.
 pub struct How {
-    // Of several descriptors of one kind the one with the highest sequence number counts, the later of equals; else the last one does.
+    // Of several descriptors of one kind the one with the highest sequence number counts, the later of equals; else the last one does. The start of a map's
+    // partition is by the partition descriptors of its number alone.
     pub highest: bool,
     // The bodies of descriptors are checked, on opening and in every call on the volume.
     pub checked: bool,

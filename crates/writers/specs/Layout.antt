@@ -99,7 +99,7 @@ dstring t n = 8 ∷ (t ++ zeros (n - 2 - length t) ++ (1 + length t) ∷ [])
 abbrev pub label : List ℕ
 label = 0x56 ∷ 0x41 ∷ 0x55 ∷ 0x4c ∷ 0x54 ∷ []
 
--- "386D438000000000VAULT": the stamp's seconds, eight more digits (UDF 2.2.2.5)
+-- "386D438000000000VAULT": the stamp's seconds, eight more digits; the same on every disc, where UDF 2.2.2.5 wants a value that isn't fixed
 abbrev pub setName : List ℕ
 setName = 0x33 ∷ 0x38 ∷ 0x36 ∷ 0x44 ∷ 0x34 ∷ 0x33 ∷ 0x38 ∷ 0x30 ∷ 0x30 ∷ 0x30 ∷ 0x30 ∷ 0x30 ∷ 0x30 ∷ 0x30 ∷ 0x30 ∷ 0x30 ∷ label
 
