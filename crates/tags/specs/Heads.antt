@@ -3,7 +3,7 @@ use mathlib.Core.Bool.{Bool, true}
 use mathlib.Core.List.{List, _++_, [], _∷_}
 use mathlib.Core.Path.{_≡_}
 use mathlib.Core.Logic.{_⊎_}
-use Prim.Native.Nat.{ℕ, _≤_, _+_}
+use Prim.Native.Nat.{ℕ, _+_, _≤_, _<_}
 use lib.ListN.{length, replicate}
 use Rattle.tags.specs.Tags.{tagOf, bodyRight, readTag, inPlace, encodeTag}
 use Rattle.tags.specs.declared.DescriptorTag.{DescriptorTag}

@@ -95,7 +95,10 @@ mod tests {
     fn the_number_is_the_status() {
         let failure = Failure::refused("a.img", Refused { why: Refusal::NoWork, sectors: 3 });
         assert_eq!(failure.status, 6);
-        assert_eq!(failure.says.unwrap(), "a.img: a directory, with those above it in a show, has more bytes than there is memory for (refusal 6)");
+        assert_eq!(
+            failure.says.unwrap(),
+            "a.img: a directory, with those above it in a show, has more bytes than there is memory for (refusal 6)"
+        );
     }
 
     #[test]
