@@ -8,6 +8,7 @@ pub mod Sectors
 pub mod Orders
 pub mod Exactly
 pub mod Soundness
+pub mod Fronts
 pub mod Measuring
 pub mod Running
 pub mod Overflowing
