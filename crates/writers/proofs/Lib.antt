@@ -14,4 +14,5 @@ pub mod LookupLaws
 pub mod ImageLaws
 pub mod Promises
 pub mod PlacedLaws
+pub mod DescriptorLaws
 pub mod RoundTrips

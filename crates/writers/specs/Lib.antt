@@ -2,4 +2,5 @@
 pub mod Layout
 pub mod Refusing
 pub mod Vaults
+pub mod Descriptors
 pub mod inner
