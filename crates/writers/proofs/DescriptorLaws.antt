@@ -131,8 +131,7 @@ entries-standing d i block [] h n e there = tt
 entries-standing d i block (l ∷ ls) h n e there =
     let z : n + 0 ≡ n = omega arith in
     let body : List ℕ = entryBody 5 0x1084 l (16 + i) (pick (eqb l 0) 0 block) in
-    let seal : Seal 261 (16 + i) body = entry-seal (16 + i) 5 0x1084 l (16 + i) (pick (eqb l 0) 0 block) (omega arith) in
-    (
+    let seal : Seal 261 (16 + i) body = entry-seal (16 + i) 5 0x1084 l (16 + i) (pick (eqb l 0) 0 block) (omega arith) in (
       partition-standing d body seal (lit≤ tt) (lit≤ tt) n (omega arith) (rw z at (there 0 (omega arith))),
       entries-standing d (i + 1) (block + sectorsFor l) ls (omega arith) (n + 1) (omega arith) (λ j k. let y : n + suc j ≡ n + 1 + j = omega arith in rw y at (there (suc j) (omega arith))),
     )
@@ -169,8 +168,7 @@ identifiers-all image i o (n ∷ ns) rest g h e =
     let split : drop (573440 + o) image ≡ it ++ others = e ∙ append-assoc it (identifiers (i + 1) (o + size) ns) rest in
     let long : length it ≡ size = sealed-long 257 (8 + o / 2048) (identifierBody 0 (16 + i) (8 ∷ n)) ∙ sizes (length n) l in
     let z : 573440 + (o + size) ≡ 573440 + o + size = omega arith in
-    let next : drop (573440 + (o + size)) image ≡ others = rw z (sym (drop-drop size (573440 + o) image) ∙ ap (drop size) split ∙ drop-at it others size long) in
-    (
+    let next : drop (573440 + (o + size)) image ≡ others = rw z (sym (drop-drop size (573440 + o) image) ∙ ap (drop size) split ∙ drop-at it others size long) in (
       identifying image o 0 (16 + i) (8 ∷ n) others (omega arith) (omega (arith, good .small)) split size (sizes (length n) l),
       identifiers-all image (i + 1) (o + size) ns rest (good .others) (omega arith) next,
     )

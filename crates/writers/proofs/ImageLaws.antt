@@ -161,7 +161,7 @@ module _ (names : List (List ℕ)) (lengths staging more : List ℕ) (h : Accept
     count : length lengths ≡ length before + suc (length after)
     count = ap length e ∙ length-append before (n ∷ after)
 
-    blocks : blocksOf lengths ≡ blocksOf before + (sectorsFor n + blocksOf after)
+    pub blocks : blocksOf lengths ≡ blocksOf before + (sectorsFor n + blocksOf after)
     unfolding summed
     blocks = ap blocksOf e ∙ summed-append sectorsFor before (n ∷ after)
 
@@ -169,7 +169,7 @@ module _ (names : List (List ℕ)) (lengths staging more : List ℕ) (h : Accept
     unfolding summed
     bytes = ap sum e ∙ summed-append (λ m. m) before (n ∷ after)
 
-    entry-there : disc disk (272 + (16 + length before)) ≡ holds (sector (fileEntry (length before) n at))
+    pub entry-there : disc disk (272 + (16 + length before)) ≡ holds (sector (fileEntry (length before) n at))
     unfolding entriesPart
     entry-there =
         let i : ℕ = length before in
@@ -211,10 +211,10 @@ module _ (names : List (List ℕ)) (lengths staging more : List ℕ) (h : Accept
         let r : 2048 * sectorsFor n - n ≤ length rest = rw (length-append, length-append, length-replicate) (omega arith) in
         omega (arith, l, ahead-long, content-long, r)
 
-    short : n < 2 ^ 30
+    pub short : n < 2 ^ 30
     short = omega (arith, short-in before n after (ap areShort (sym e) ∙ h .short))
 
-    near : 16 + length before < 2 ^ 32
+    pub near : 16 + length before < 2 ^ 32
     near = omega (arith, count, few-files)
 
     none : n ≡ 0 → _≡_ {A = Ran (List ℕ)} (record { outcome = answered []; count = 1 }) (record { outcome = answered content; count = 1 + sectorsFor n })

@@ -15,4 +15,5 @@ pub mod ImageLaws
 pub mod Promises
 pub mod PlacedLaws
 pub mod DescriptorLaws
+pub mod ExtentLaws
 pub mod RoundTrips

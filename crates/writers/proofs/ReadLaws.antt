@@ -131,11 +131,11 @@ module _ (location type permissions size unique block : ℕ) where
       high : size / 0x4000_0000 ≡ 0
       high = omega arith
 
-  area-one : size < 2 ^ 30 → block < 2 ^ 32 → (size ≡ 0 → ⊥) → areaAt 0 held 176 8 ≡ record { extents = extent size 0 block Unnamed ∷ []; ending = End }
+  pub area-one : size < 2 ^ 30 → block < 2 ^ 32 → (size ≡ 0 → ⊥) → areaAt 0 held 176 8 ≡ record { extents = extent size 0 block Unnamed ∷ []; ending = End }
   unfolding areaAt descriptors descriptorAt descriptorOf sizeOf
   area-one h k n = ap (λ a. behind (shortDescriptor a) (endedBy End)) (short-is h k) ∙ rw (ne-eqb size 0 n)
 
-  area-none : block < 2 ^ 32 → size ≡ 0 → areaAt 0 held 176 8 ≡ record { extents = []; ending = End }
+  pub area-none : block < 2 ^ 32 → size ≡ 0 → areaAt 0 held 176 8 ≡ record { extents = []; ending = End }
   unfolding areaAt descriptors descriptorAt descriptorOf sizeOf
   area-none k n = ap (λ a. behind (shortDescriptor a) (endedBy End)) (short-is (rw n (lit< tt)) k) ∙ rw (eq-eqb size 0 n)
 
@@ -165,7 +165,7 @@ module _ (location type permissions size unique block : ℕ) where
     unfolding entryOf icbTagOf plainTail sector sealed entryBody
     resolved-runs {es} e = ran-then (disc image) (chainOf m it) (λ xs. done (chained it xs)) ∙ rw (chain-runs e, ran-done)
 
-    file-runs : {es : List AllocExtent} → areaAt 0 held 176 8 ≡ record { extents = es; ending = End }
+    pub file-runs : {es : List AllocExtent} → areaAt 0 held 176 8 ≡ record { extents = es; ending = End }
         → ran (disc image) (fileAt m (icbAt location)) ≡ record { outcome = answered (chained it (es ++ [])); count = 1 }
     unfolding fileAt
     file-runs {es} e =
