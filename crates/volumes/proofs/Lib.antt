@@ -8,5 +8,6 @@ pub mod NamedLaws
 pub mod Prevailing
 pub mod ChoiceLaws
 pub mod Promises
+pub mod MappingLaws
 pub mod GuardLaws
 pub mod RefusingLaws
