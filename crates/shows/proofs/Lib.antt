@@ -1,5 +1,6 @@
 -- Laws of a tree's nodes and of the recursion that shows them.
 pub mod NodeLaws
+pub mod TreeLaws
 pub mod TallyLaws
 pub mod ShownLaws
 pub mod LevelLaws
@@ -8,4 +9,6 @@ pub mod ShowLaws
 pub mod GuardLaws
 pub mod MoreLaws
 pub mod Promises
+pub mod OneTree
+pub mod Trees
 pub mod Tallying
