@@ -132,3 +132,69 @@ module _ (d : Disc) (m : Mount) where
         steps = steps-front k (below k ns) (beyond k ns) (rw (two-parts k ns) at s);
         each = each-front k (below k ns) (beyond k ns) (below-deeper k ns) (beyond-starts k ns) (rw (two-parts k ns) at (f .each .1));
       }
+
+  others : {level : ℕ} {es : List Entry} {n : Node} {ns : List Node} → Forest level es (n ∷ ns) → Forest level (children level ns) (beyond (suc level) ns)
+  unfolding Deeper Steps Each
+  others {level} {n = n} {ns} f =
+      let k = suc level in
+      record {
+        are = sym (children-joined level (below k ns) (beyond k ns) (below-deeper k ns)) ∙ ap (children level) (sym (two-parts k ns));
+        deep = deeper-behind level (below k ns) (beyond k ns) (rw (two-parts k ns) at (f .deep .1));
+        steps = steps-back (n .level) level (below k ns) (beyond k ns) (beyond-starts k ns) (rw (two-parts k ns) at (f .steps .2));
+        each = each-back (below k ns) (beyond k ns) (rw (two-parts k ns) at (f .each .1));
+      }
+
+  part-lengths : (k : ℕ) (ns : List Node) → length ns ≡ length (below k ns) + length (beyond k ns)
+  part-lengths k ns = ap length (two-parts k ns) ∙ length-append (below k ns) (beyond k ns)
+
+  -- the entries under a node are one list
+  under-one : {level : ℕ} {es es′ : List Entry} {n n′ : Node} {ns ns′ : List Node} → n ≡ n′ → Forest level es (n ∷ ns) → Forest level es′ (n′ ∷ ns′)
+      → children (suc level) (below (suc level) ns) ≡ children (suc level) (below (suc level) ns′)
+  unfolding Each
+  under-one {level} {n = n} {n′} {ns} {ns′} e f g = by (isDirectory (n .entry .identifier)) refl
+    where
+      l : n .level ≡ suc level
+      l = first-level f
+
+      v : Under d m n ns′
+      v = rw (sym e) at (g .each .0)
+
+      by : (t : Bool) → isDirectory (n .entry .identifier) ≡ t → children (suc level) (below (suc level) ns) ≡ children (suc level) (below (suc level) ns′)
+      by true t = rw l at (entries-one (f .each .0 .directory t) (v .directory t))
+      by false t = rw l at (ap (children (n .level)) (f .each .0 .file t ∙ sym (v .file t)))
+
+  -- lists of fewer than so many nodes are one
+  abbrev One : ℕ → Type 0
+  One most = (level : ℕ) (es : List Entry) (ns ns′ : List Node) → length ns < most → Forest level es ns → Forest level es ns′ → ns ≡ ns′
+
+  one-more : (most : ℕ) → One most → One (suc most)
+  unfolding children
+  one-more most ih level es [] [] h f g = refl
+  one-more most ih level es [] (n ∷ ns) h f g = absurd (let z : n .entry ∷ children _ ns ≡ [] = first-child g ∙ sym (f .are) in let y : _≡_ {A = ℕ} 0 1 = cc in omega arith)
+  one-more most ih level es (n ∷ ns) [] h f g = absurd (let z : n .entry ∷ children _ ns ≡ [] = first-child f ∙ sym (g .are) in let y : _≡_ {A = ℕ} 0 1 = cc in omega arith)
+  one-more most ih level es (n ∷ ns) (n′ ∷ ns′) h f g =
+      let k = suc level in
+      let c : n .entry ∷ children level ns ≡ n′ .entry ∷ children level ns′ = first-child f ∙ sym (first-child g) in
+      let x : n .entry ≡ n′ .entry = cc in
+      let y : children level ns ≡ children level ns′ = cc in
+      let z : n ≡ n′ = same-node (first-level f ∙ sym (first-level g)) x in
+      let a : below k ns ≡ below k ns′ = ih k (children k (below k ns)) (below k ns) (below k ns′) (omega (arith, part-lengths k ns)) (inner f) (rw (sym (under-one z f g)) at (inner g)) in
+      let b : beyond k ns ≡ beyond k ns′ = ih level (children level ns) (beyond k ns) (beyond k ns′) (omega (arith, part-lengths k ns)) (others f) (rw (sym y) at (others g)) in
+      let w : ns ≡ ns′ = two-parts k ns ∙ rw (a, b) (sym (two-parts k ns′)) in
+      rw (z, w)
+
+  forest-one : (most : ℕ) → One most
+  forest-one zero = λ level es ns ns′ h f g. absurd (omega arith)
+  forest-one (suc most) = one-more most (forest-one most)
+
+  steps-deeper : (before : ℕ) (ns : List Node) → Steps before ns → Deeper 0 ns
+  unfolding Steps Deeper
+  steps-deeper before [] s = tt
+  steps-deeper before (n ∷ ns) s = (s .0, steps-deeper (n .level) ns (s .2))
+
+  -- nodes of one tree are the same nodes
+  pub tree-one : {root : LongAd} {ns ns′ : List Node} → TreeOf d m root ns → TreeOf d m root ns′ → ns ≡ ns′
+  tree-one {ns = ns} {ns′} t u = forest-one (suc (length ns)) 0 (children 0 ns) ns ns′ (omega arith) (whole t refl) (whole u (entries-one (u .roots) (t .roots)))
+    where
+      whole : {root : LongAd} {es : List Entry} {ns : List Node} → TreeOf d m root ns → children 0 ns ≡ es → Forest 0 es ns
+      whole {ns = ns} t e = record { are = e; deep = steps-deeper 0 ns (t .steps); steps = t .steps; each = each-of ns (t .each) }
