@@ -10,5 +10,6 @@ pub mod GuardLaws
 pub mod MoreLaws
 pub mod Promises
 pub mod OneTree
+pub mod WayLaws
 pub mod Trees
 pub mod Tallying

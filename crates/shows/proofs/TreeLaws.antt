@@ -6,7 +6,7 @@ use Prim.Native.Nat.{ℕ, zero, suc, _-_, _≤_, _<_}
 use native.Mathlib.Omega.{arith}
 use lib.ListN.{length}
 use lib.Dec.{eqb, leb, ltb}
-use borrow.Author.Tests.{eq-eqb, ne-eqb, lt-ltb, le-ltb, leb-true, ltb-true, ltb-false}
+use borrow.Author.Tests.{eq-eqb, ne-eqb, lt-ltb, le-ltb, le-leb, leb-true, ltb-true, ltb-false}
 use Rattle.disc.specs.Choice.{pick}
 use Rattle.disc.specs.Places.{isChecked}
 use Rattle.disc.specs.Ask.{Disc, Ask, Outcome, outcome, asked, then, ended}
@@ -22,6 +22,7 @@ use Rattle.identifiers.specs.Identifiers.{isDirectory}
 use Rattle.files.specs.Files.{fileBytes}
 use Rattle.listings.specs.Entries.{Entry, isSkipped, entries}
 use Rattle.directories.specs.Directories.{within, directoryBytes}
+use Rattle.directories.proofs.SpaceLaws.{ran-known}
 use Rattle.shows.specs.Shows.{Node, under, nodesOf, nodesAt}
 use Rattle.shows.specs.Nodes.{below, children, listed, EntriesOf, Under, Steps}
 
@@ -73,14 +74,19 @@ was-read d m work icb {b} e =
         record { read = rw z at h; fits = rw z at l }
     by a h false k q = never q
 
+-- and the other way round
+pub directory-fits : (d : Disc) (m : Mount) (work : ℕ) (icb : LongAd) {b : List ℕ} → outcome d (fileBytes m icb) ≡ answered b → length b ≤ work → ran d (directoryBytes m work icb) .outcome ≡ answered b
+unfolding directoryBytes within ran
+directory-fits d m work icb {b} e h = ap (λ (r : Ran (List ℕ)). r .outcome) (ran-known d (fileBytes m icb) (within work)) ∙ rw (e, le-leb (length b) work h)
+
 -- ---- how the nodes of a directory's entries are built: its entries are one level deeper than `level`
 
 pub data Built (d : Disc) (m : Mount) (work : ℕ) : ℕ → List Entry → List Node → Type 0 where
   no-entry : {level : ℕ} → Built d m work level [] []
-  skipped : {level : ℕ} {e : Entry} {es : List Entry} {ns : List Node} → isSkipped (e .identifier) ≡ true → Built d m work level es ns → Built d m work level (e ∷ es) ns
-  file : {level : ℕ} {e : Entry} {es : List Entry} {ns : List Node} → isSkipped (e .identifier) ≡ false → isDirectory (e .identifier) ≡ false → Built d m work level es ns
+  skip-entry : {level : ℕ} {e : Entry} {es : List Entry} {ns : List Node} → isSkipped (e .identifier) ≡ true → Built d m work level es ns → Built d m work level (e ∷ es) ns
+  file-entry : {level : ℕ} {e : Entry} {es : List Entry} {ns : List Node} → isSkipped (e .identifier) ≡ false → isDirectory (e .identifier) ≡ false → Built d m work level es ns
       → Built d m work level (e ∷ es) (record { level = suc level; entry = e } ∷ ns)
-  directory : {level : ℕ} {e : Entry} {es all : List Entry} {inner ns others : List Node} → isSkipped (e .identifier) ≡ false → isDirectory (e .identifier) ≡ true
+  directory-entry : {level : ℕ} {e : Entry} {es all : List Entry} {inner ns others : List Node} → isSkipped (e .identifier) ≡ false → isDirectory (e .identifier) ≡ true
       → Parsed d m work (e .identifier .icb) all → Built d m work (suc level) all inner → Built d m work level es ns → others ≡ inner ++ ns
       → Built d m work level (e ∷ es) (record { level = suc level; entry = e } ∷ others)
 
@@ -102,13 +108,13 @@ module _ (d : Disc) (m : Mount) (lent : ℕ) where
 
       turn : isSkipped (e .identifier) ≡ false → (t : Bool) → isDirectory (e .identifier) ≡ t → (inner others : List Node) → outcome d (pick t (inside (e .identifier .icb)) (done [])) ≡ answered inner
           → Built d m lent level es others → Built d m lent level (e ∷ es) (n ∷ (inner ++ others))
-      turn s true k inner others p b = let g = h (e .identifier .icb) inner p in directory s k (g .from) (g .built) b refl
-      turn s false k inner others p b = let z : inner ≡ [] = cc in rw z (file s k b)
+      turn s true k inner others p b = let g = h (e .identifier .icb) inner p in directory-entry s k (g .from) (g .built) b refl
+      turn s false k inner others p b = let z : inner ≡ [] = cc in rw z (file-entry s k b)
 
       by : (t : Bool) → isSkipped (e .identifier) ≡ t → ((more : List Node) → outcome d (nodesOf inside (suc level) es) ≡ answered more → Built d m lent level es more)
           → outcome d (pick t (nodesOf inside (suc level) es) (then (under inside e) (λ below. then (nodesOf inside (suc level) es) (λ others. done (n ∷ (below ++ others)))))) ≡ answered ns
           → Built d m lent level (e ∷ es) ns
-      by true s ih k = skipped s (ih ns k)
+      by true s ih k = skip-entry s (ih ns k)
       by false s ih k =
           let p = parts d (under inside e) (λ below. then (nodesOf inside (suc level) es) (λ others. done (n ∷ (below ++ others)))) k in
           let r = parts d (nodesOf inside (suc level) es) (λ others. done (n ∷ (p .a ++ others))) (p .second) in
@@ -214,35 +220,35 @@ each-split d m (y ∷ before) n behind x = each-split d m before n behind (x .1)
 -- ---- of what was built
 
 module _ {d : Disc} {m : Mount} {work : ℕ} where
-  built-deeper : {level : ℕ} {es : List Entry} {ns : List Node} → Built d m work level es ns → Deeper level ns
+  pub built-deeper : {level : ℕ} {es : List Entry} {ns : List Node} → Built d m work level es ns → Deeper level ns
   unfolding Deeper
   built-deeper no-entry = tt
-  built-deeper (skipped s b) = built-deeper b
-  built-deeper (file s k b) = (omega arith, built-deeper b)
-  built-deeper (directory {level} {inner = inner} {ns} s k p i b e) = (omega arith, rw e (deeper-joined level inner ns (deeper-less level inner (built-deeper i)) (built-deeper b)))
+  built-deeper (skip-entry s b) = built-deeper b
+  built-deeper (file-entry s k b) = (omega arith, built-deeper b)
+  built-deeper (directory-entry {level} {inner = inner} {ns} s k p i b e) = (omega arith, rw e (deeper-joined level inner ns (deeper-less level inner (built-deeper i)) (built-deeper b)))
 
   pub built-steps : {level : ℕ} {es : List Entry} {ns : List Node} → Built d m work level es ns → Steps level ns
   unfolding Steps
   built-steps no-entry = tt
-  built-steps (skipped s b) = built-steps b
-  built-steps (file {level} {ns = ns} s k b) = (omega arith, omega arith, steps-behind level (suc level) ns (omega arith) (built-steps b))
-  built-steps (directory {level} {inner = inner} {ns} s k p i b e) =
+  built-steps (skip-entry s b) = built-steps b
+  built-steps (file-entry {level} {ns = ns} s k b) = (omega arith, omega arith, steps-behind level (suc level) ns (omega arith) (built-steps b))
+  built-steps (directory-entry {level} {inner = inner} {ns} s k p i b e) =
       (omega arith, omega arith, rw e (steps-joined level (suc level) inner ns (omega arith) (built-steps i) (deeper-less level inner (built-deeper i)) (built-steps b)))
 
   pub built-children : {level : ℕ} {es : List Entry} {ns : List Node} → Built d m work level es ns → children level ns ≡ listed es
   unfolding children listed
   built-children no-entry = refl
-  built-children (skipped s b) = rw s (built-children b)
-  built-children (file {level} s k b) = rw (s, eq-eqb (suc level) (suc level) refl, built-children b)
-  built-children (directory {level} {inner = inner} {ns} s k p i b e) = rw (s, eq-eqb (suc level) (suc level) refl, e, children-joined level inner ns (built-deeper i), built-children b)
+  built-children (skip-entry s b) = rw s (built-children b)
+  built-children (file-entry {level} s k b) = rw (s, eq-eqb (suc level) (suc level) refl, built-children b)
+  built-children (directory-entry {level} {inner = inner} {ns} s k p i b e) = rw (s, eq-eqb (suc level) (suc level) refl, e, children-joined level inner ns (built-deeper i), built-children b)
 
   pub built-each : {level : ℕ} {es : List Entry} {ns : List Node} → Built d m work level es ns → Each d m ns
   unfolding Each
   built-each no-entry = tt
-  built-each (skipped s b) = built-each b
-  built-each (file {level} {ns = ns} s k b) =
+  built-each (skip-entry s b) = built-each b
+  built-each (file-entry {level} {ns = ns} s k b) =
       (record { directory = λ t. not-both (sym k ∙ t); file = λ t. none-below (suc level) (suc level) ns (omega arith) (steps-start level ns (built-steps b)) }, built-each b)
-  built-each (directory {level} {all = all} {inner} {ns} s k p i b e) =
+  built-each (directory-entry {level} {all = all} {inner} {ns} s k p i b e) =
       let z : below (suc level) (inner ++ ns) ≡ inner = below-stops (suc level) (suc level) inner ns (omega arith) (steps-start level ns (built-steps b)) ∙ all-below (suc level) inner (built-deeper i) in
       let w : children (suc level) (below (suc level) (inner ++ ns)) ≡ listed all = ap (children (suc level)) z ∙ built-children i in (
         record { directory = λ t. rw (e, w) (parsed-entries p); file = λ t. not-both (sym t ∙ k) },
