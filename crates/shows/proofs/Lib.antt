@@ -13,3 +13,4 @@ pub mod OneTree
 pub mod WayLaws
 pub mod Trees
 pub mod Tallying
+pub mod Summing

@@ -3,4 +3,5 @@ pub mod Shows
 pub mod Nodes
 pub mod Tallies
 pub mod Levels
+pub mod Sums
 pub mod inner
