@@ -3,3 +3,4 @@ pub mod ImageLaws
 pub mod ShelfLaws
 pub mod TotalLaws
 pub mod Promises
+pub mod Summing
