@@ -29,18 +29,18 @@ use Rattle.files.proofs.PieceLaws.{part-long, weigh-type, weigh-nowhere
 -- ---- an extent is refused, or held
 
 module _ (image : List ℕ) (m : Mount) (e : AllocExtent) (want : ℕ) where
-  record Off : Type 0 where
-    why : Refusal
-    n : ℕ
-    runs : (es : List AllocExtent) → restOf image m (e ∷ es) want ≡ record { outcome = refused why; count = n }
+  pub record Off : Type 0 where
+    pub why : Refusal
+    pub n : ℕ
+    pub runs : (es : List AllocExtent) → restOf image m (e ∷ es) want ≡ record { outcome = refused why; count = n }
 
-  abbrev On : ℕ → Type 0
+  abbrev pub On : ℕ → Type 0
   On at = HeldPiece image m e want (2048 * at) (sectorsRead (e .length) want) (min (e .length) want)
 
-  on : (y : There image m e want) → On (y .at)
+  pub on : (y : There image m e want) → On (y .at)
   on y = weigh-held image m e want (y .recorded) (y .stands) (y .held)
 
-  weighs : There image m e want ⊎ Off
+  pub weighs : There image m e want ⊎ Off
   weighs = typed (eqb (e .«extent_type») 0) refl
     where
       typed : (t : Bool) → eqb (e .«extent_type») 0 ≡ t → There image m e want ⊎ Off

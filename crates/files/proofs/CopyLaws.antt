@@ -28,7 +28,10 @@ use Rattle.files.specs.declared.pieces.Turn.the-variants.{Piece, Hop, Re
 use Rattle.files.specs.inner.Pieces.{beforeOutcome, inFront, restAt, PieceTurn, Turned}
 use Rattle.files.specs.inner.Passes.{Copied}
 use Rattle.chains.specs.inner.Walks.{left}
+use Rattle.disc.proofs.ByteLaws.{Bytes}
+use Rattle.files.specs.Turns.{turnAt}
 use Rattle.files.proofs.PieceLaws.{part-long}
+use Rattle.files.proofs.TurnLaws.{turned}
 use Rattle.files.proofs.BoundLaws.{few-bytes}
 
 -- ---- stores
@@ -92,13 +95,17 @@ module _ (image : List ℕ) (m : Mount) (kind want : ℕ) (out₀ : List ℕ) (c
     pub low : filled ≤ want
     pub wide : want < 2 ^ 64
     pub room : want ≤ length out₀
+    pub known : Bytes image
 
-  pub copy-starts : want < 2 ^ 64 → want ≤ length out₀ → Copying out₀ c₀ 0
-  copy-starts g k =
+  pub copy-starts : want < 2 ^ 64 → want ≤ length out₀ → Bytes image → Copying out₀ c₀ 0
+  copy-starts g k b =
       let z : want - 0 ≡ want = omega arith in
-      record { stores = λ a. record { same = rw z; answers = rw z a }; kept = refl; long = refl; low = omega arith; wide = g; room = k }
+      record { stores = λ a. record { same = rw z; answers = rw z a }; kept = refl; long = refl; low = omega arith; wide = g; room = k; known = b }
 
-  module _ (out : List ℕ) (c : ChainCursor) (filled : ℕ) (i : Copying out c filled) (t : Turn) (p : Turned image m kind c (want - filled) t) where
+  module _ (out : List ℕ) (c : ChainCursor) (filled : ℕ) (i : Copying out c filled) {t : Turn} (g : t ≡ turnAt image m kind c (want - filled)) where
+    p : Turned image m kind c (want - filled) t
+    p = turned image m kind c (want - filled) (i .known) g
+
     ended : (Answers → sets out filled [] ≡ sets out₀ 0 whole) → Copied (rest c₀ want) want out₀ out
     ended e = record { bytes = λ a. e a ∙ sets-front whole out₀ (omega (arith, whole-few a, i .room)); kept = i .kept }
 
@@ -122,6 +129,7 @@ module _ (image : List ℕ) (m : Mount) (kind want : ℕ) (out₀ : List ℕ) (c
           low = i .low;
           wide = i .wide;
           room = i .room;
+          known = i .known;
         }
 
     pub copy-hop-less : {c′ : ChainCursor} → t ≡ Hop c′ → weight c′ < weight c
@@ -197,4 +205,5 @@ module _ (image : List ℕ) (m : Mount) (kind want : ℕ) (out₀ : List ℕ) (c
           low = omega arith;
           wide = i .wide;
           room = i .room;
+          known = i .known;
         }

@@ -25,7 +25,10 @@ use Rattle.files.specs.Reads.{visited}
 use Rattle.files.specs.inner.Pieces.{inFront, joined, restAt, Lies, PieceTurn, HopTurn, EndTurn, Turned}
 use Rattle.files.specs.inner.Passes.{Came, sized, Measures}
 use Rattle.files.specs.inner.Passes.Came.{comes, stops}
+use Rattle.disc.proofs.ByteLaws.{Bytes}
+use Rattle.files.specs.Turns.{turnAt}
 use Rattle.files.proofs.PieceLaws.{part-long}
+use Rattle.files.proofs.TurnLaws.{turned}
 
 -- ---- what is measured, piece by piece
 
@@ -69,9 +72,10 @@ module _ (image : List ℕ) (m : Mount) (kind want : ℕ) (c₀ : ChainCursor) w
     pub fits : want < 2 ^ 64
     pub counts : count < 2 ^ 64
     pub deep : weight c₀ < 2 ^ 63
+    pub known : Bytes image
 
-  pub measure-starts : want < 2 ^ 64 → c₀ .left ≤ 2048 → c₀ .hops < 2 ^ 8 → Measuring c₀ 0 0 0
-  measure-starts k l h =
+  pub measure-starts : want < 2 ^ 64 → c₀ .left ≤ 2048 → c₀ .hops < 2 ^ 8 → Bytes image → Measuring c₀ 0 0 0
+  measure-starts k l h b =
       let z : want - 0 ≡ want = omega arith in
       record {
         rest = rw z;
@@ -80,9 +84,13 @@ module _ (image : List ℕ) (m : Mount) (kind want : ℕ) (c₀ : ChainCursor) w
         fits = k;
         counts = omega arith;
         deep = omega arith;
+        known = b;
       }
 
-  module _ (c : ChainCursor) (size count visits : ℕ) (i : Measuring c size count visits) (t : Turn) (p : Turned image m kind c (want - size) t) where
+  module _ (c : ChainCursor) (size count visits : ℕ) (i : Measuring c size count visits) {t : Turn} (g : t ≡ turnAt image m kind c (want - size)) where
+    p : Turned image m kind c (want - size) t
+    p = turned image m kind c (want - size) (i .known) g
+
     pub measure-end : t ≡ End → {r : Measured} → r ≡ Sized (record { size = size; count = count; visits = visits; behind = c }) → Measures image m kind c₀ want r
     unfolding sized visited
     measure-end e f =
@@ -117,6 +125,7 @@ module _ (image : List ℕ) (m : Mount) (kind want : ℕ) (c₀ : ChainCursor) w
             fits = i .fits;
             counts = i .counts;
             deep = i .deep;
+            known = i .known;
           }
 
       pub measure-hop-less : weight c′ < weight c
@@ -167,4 +176,5 @@ module _ (image : List ℕ) (m : Mount) (kind want : ℕ) (c₀ : ChainCursor) w
               fits = i .fits;
               counts = omega arith;
               deep = i .deep;
+              known = i .known;
             }

@@ -3,4 +3,7 @@ pub mod Reads
 pub mod Files
 pub mod Sizes
 pub mod Example
+pub mod ExtentSectors
+pub mod Begun
 pub mod inner
+pub mod Turns

@@ -1,7 +1,8 @@
 // The next piece of a file: what a cursor's next extent gives, looked for where it stands in the image.
 ghost use mathlib.Core.Path.{_≡_};
 ghost use Prim.Native.Nat.{_<_, _^_};
-ghost use Rattle.files.specs.inner.Pieces.{sectorsRead, weighedAt, Weighed, Turned};
+ghost use Rattle.files.specs.inner.Pieces.{sectorsRead, weighedAt};
+ghost use Rattle.files.specs.Turns.{weighedOf, turnAt};
 use areas::AllocExtent;
 use chains::cursors::ChainCursor;
 use chains::cursors::ChainStep;
@@ -63,7 +64,7 @@ fn weigh_at(image: &[u8], first: Sector, size: u32, want: u64) -> Piece
 
 // What an extent gives: it is recorded, and stands on this volume.
 fn weigh(image: &[u8], mount: Mount, e: AllocExtent, want: u64) -> Piece
-    ensures { λ r. ⌜ Weighed (now (image .entry)) mount e want r ⌝ }
+    ensures { λ r. ⌜ r ≡ weighedOf (now (image .entry)) mount e want ⌝ }
 {
     if e.extent_type != 0 {
         return Piece::Refused(Refusal::Unsupported, 0);
@@ -78,7 +79,7 @@ fn weigh(image: &[u8], mount: Mount, e: AllocExtent, want: u64) -> Piece
 
 // The next turn of a walk from c on, where `want` bytes are still wanted.
 pub fn next_piece(image: &[u8], mount: Mount, kind: u8, c: ChainCursor, want: u64) -> Turn
-    ensures { λ r. ⌜ Turned (now (image .entry)) mount kind c want r ⌝ }
+    ensures { λ r. ⌜ r ≡ turnAt (now (image .entry)) mount kind c want ⌝ }
 {
     match advance(image, mount, kind, c) {
         ChainStep::Ends => Turn::End,

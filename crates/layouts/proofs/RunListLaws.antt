@@ -35,7 +35,10 @@ use Rattle.files.specs.declared.resolves.Resolved.{Resolved}
 use Rattle.files.specs.declared.resolves.Resolved.the-variants.{Embedded, Chained, Refused as Unresolved}
 use Rattle.files.specs.Files.{entryMount, partOf}
 use Rattle.files.specs.Files.File.{embedded}
+use Rattle.disc.proofs.ByteLaws.{Bytes}
 use Rattle.files.specs.inner.Pieces.{PieceTurn, HopTurn, EndTurn, Turned}
+use Rattle.files.specs.Turns.{turnAt}
+use Rattle.files.proofs.TurnLaws.{turned}
 use Rattle.files.specs.inner.Passes.{Came, sizedBy, sized}
 use Rattle.files.specs.inner.Passes.Came.{comes, stops}
 use Rattle.files.specs.inner.Wholes.{embeddedIn, frontOf, EmbeddedFile, ChainedFile, Resolves}
@@ -79,37 +82,41 @@ module _ (image : List ℕ) (m : Mount) (kind want : ℕ) (c₀ : ChainCursor) w
     pub room : runs + weight c ≤ weight c₀
     pub deep : weight c₀ < 2 ^ 63
     pub counts : count < 2 ^ 64
+    pub known : Bytes image
 
-  pub count-starts : c₀ .left ≤ 2048 → c₀ .hops < 2 ^ 8 → Counting c₀ want 0 0
-  count-starts l h = record { rest = refl; room = omega arith; deep = omega arith; counts = omega arith }
+  pub count-starts : c₀ .left ≤ 2048 → c₀ .hops < 2 ^ 8 → Bytes image → Counting c₀ want 0 0
+  count-starts l h b = record { rest = refl; room = omega arith; deep = omega arith; counts = omega arith; known = b }
 
-  module _ (c : ChainCursor) (missing runs count : ℕ) (i : Counting c missing runs count) (t : Turn) (p : Turned image m kind c missing t) where
+  module _ (c : ChainCursor) (missing runs count : ℕ) (i : Counting c missing runs count) {t : Turn} (gave : t ≡ turnAt image m kind c missing) where
+    counted-turn : Turned image m kind c missing t
+    counted-turn = turned image m kind c missing (i .known) gave
+
     pub count-end : t ≡ End → countedBy (Counted runs count) ≡ whole
     unfolding sized
     count-end e =
-        let q : EndTurn image m kind c missing = rw e at p in
+        let q : EndTurn image m kind c missing = rw e at counted-turn in
         let n : reported (count + 0) ≡ count = omega (arith, i .counts) in
         (rw (turn-end image m kind c missing (q .list), n, add-zero) at (i .rest))
 
     pub count-refused : {a : Refusal} {n k : ℕ} → t ≡ Stopped a n → k ≡ reported (count + n) → countedBy (Refused a k) ≡ whole
     unfolding sized
     count-refused {a} {n} {k} e f =
-        let q : Turned image m kind c missing (Stopped a n) = rw e at p in
+        let q : Turned image m kind c missing (Stopped a n) = rw e at counted-turn in
         (rw (runs-refused image m (left image m kind c) missing q, ← f) at (i .rest))
 
     module _ {c′ : ChainCursor} (e : t ≡ Hop c′) where
       hops : HopTurn image m kind c missing c′
-      hops = rw e at p
+      hops = rw e at counted-turn
 
       pub count-hop : Counting c′ missing runs count
-      count-hop = record { rest = (rw (hops .list) at (i .rest)); room = omega (arith, i .room, hops .less); deep = i .deep; counts = i .counts }
+      count-hop = record { rest = (rw (hops .list) at (i .rest)); room = omega (arith, i .room, hops .less); deep = i .deep; counts = i .counts; known = i .known }
 
       pub count-hop-less : weight c′ < weight c
       count-hop-less = hops .less
 
     module _ {from n k : ℕ} {c′ : ChainCursor} (e : t ≡ Piece from n k c′) where
       turn : PieceTurn image m kind c missing from n k c′
-      turn = rw e at p
+      turn = rw e at counted-turn
 
       pub count-less : weight c′ < weight c
       count-less = turn .less
@@ -132,6 +139,7 @@ module _ (image : List ℕ) (m : Mount) (kind want : ℕ) (c₀ : ChainCursor) w
             room = omega (arith, i .room, turn .less);
             deep = i .deep;
             counts = omega arith;
+            known = i .known;
           }
 
 -- ---- the loop that finds the next run
@@ -150,34 +158,38 @@ before-none (refused r) = refl
 module _ (image : List ℕ) (m : Mount) (kind want : ℕ) (c₀ : ChainCursor) where
   pub record Walking (c : ChainCursor) : Type 0 where
     pub list : runsIn (runsAt image m kind c want .outcome) ≡ runsIn (runsAt image m kind c₀ want .outcome)
+    pub known : Bytes image
 
-  pub walk-starts : Walking c₀
-  walk-starts = record { list = refl }
+  pub walk-starts : Bytes image → Walking c₀
+  walk-starts b = record { list = refl; known = b }
 
-  module _ (c : ChainCursor) (w : Walking c) (t : Turn) (p : Turned image m kind c want t) where
+  module _ (c : ChainCursor) (w : Walking c) {t : Turn} (gave : t ≡ turnAt image m kind c want) where
+    walked-turn : Turned image m kind c want t
+    walked-turn = turned image m kind c want (w .known) gave
+
     pub walk-end : t ≡ End → {reply : Reply} {x y : ℕ} {l : Running} → l ≡ aloneBy m x y reply → RunsLeft image m kind c₀ want reply l
     walk-end e f =
-        let q : EndTurn image m kind c want = rw e at p in
+        let q : EndTurn image m kind c want = rw e at walked-turn in
         stands-empty image (sym (w .list) ∙ rw (turn-end image m kind c want (q .list))) (alone-says f)
 
     pub walk-refused : {a : Refusal} {n : ℕ} → t ≡ Stopped a n → {reply : Reply} {x y : ℕ} {l : Running} → l ≡ aloneBy m x y reply → RunsLeft image m kind c₀ want reply l
     walk-refused {a} {n} e f =
-        let q : Turned image m kind c want (Stopped a n) = rw e at p in
+        let q : Turned image m kind c want (Stopped a n) = rw e at walked-turn in
         stands-empty image (sym (w .list) ∙ rw (runs-refused image m (left image m kind c) want q)) (alone-says f)
 
     module _ {c′ : ChainCursor} (e : t ≡ Hop c′) where
       steps : HopTurn image m kind c want c′
-      steps = rw e at p
+      steps = rw e at walked-turn
 
       pub walk-hop : Walking c′
-      walk-hop = record { list = (rw (steps .list) at (w .list)) }
+      walk-hop = record { list = (rw (steps .list) at (w .list)); known = w .known }
 
       pub walk-hop-less : weight c′ < weight c
       walk-hop-less = steps .less
 
     module _ {from n k : ℕ} {c′ : ChainCursor} (e : t ≡ Piece from n k c′) where
       piece : PieceTurn image m kind c want from n k c′
-      piece = rw e at p
+      piece = rw e at walked-turn
 
       pub walk-less : weight c′ < weight c
       walk-less = piece .less
@@ -195,7 +207,7 @@ module _ (image : List ℕ) (m : Mount) (kind want : ℕ) (c₀ : ChainCursor) w
           let s : want - 0 ≡ want = omega arith in
           let l : 0 < want = omega arith in
           let q : runsAt image m kind c want ≡ joinedRuns (runHere from 0) n 0 want (runsAt image m kind c′ (want - 0)) = (rw z at (turn-piece image m kind c want piece)) in
-          record { list = sym (before-none (runsAt image m kind c′ want .outcome)) ∙ sym (ap (λ (x : Ran (List Run)). runsIn (x .outcome)) q ∙ rw (lt-leb want 0 l, s)) ∙ w .list }
+          record { list = sym (before-none (runsAt image m kind c′ want .outcome)) ∙ sym (ap (λ (x : Ran (List Run)). runsIn (x .outcome)) q ∙ rw (lt-leb want 0 l, s)) ∙ w .list; known = w .known }
 
       -- it has some
       module _ (z : k ≡ 0 → ⊥) (reply : Reply) where

@@ -37,4 +37,7 @@ copy-spec =
     (λ c. search copies)
     (λ c. search copies)
     (λ c. search copies)
-    (λ c. search copies))
+    (λ c.
+    let taken = c .before .before .before .before .before .before in
+    let on = taken .before .before in
+    copy-next _ _ _ _ _ _ _ _ _ (on .before .loop .inv) (on .next-piece .ensures) (taken .from .given .1) (c .before .before .before .copy-piece .ensures) (search needs)))

@@ -35,4 +35,6 @@ measure-spec =
     (λ c κs. search measures)
     (λ c. search measures)
     (λ c. search measures)
-    (λ c. search measures))
+    (λ c.
+    let on = c .before .before .before .before .before in
+    measure-next _ _ _ _ _ _ _ _ _ (on .before .loop .inv) (on .next-piece .ensures) (c .before .before .before .sectors .given .1) (c .before .add-counts2 .ensures) (search needs)))

@@ -33,4 +33,8 @@ count-runs-spec =
     (λ c. search counts)
     (λ c. search counts)
     (λ c. search counts)
-    (λ c. search counts))
+    (λ c.
+    let counted = c .before .before in
+    let taken = counted .before .before in
+    let on = taken .before .before in
+    count-next _ _ _ _ _ _ _ _ _ (on .before .loop .inv) (on .next-piece .ensures) (taken .sectors .given .1) (c .before .lesser .ensures) (counted .add-counts2 .ensures) (search needs)))

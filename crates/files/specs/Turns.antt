@@ -1,0 +1,43 @@
+-- A turn of a walk over a file's extents, by its cursor: what `next_piece` gives, case by case in its order.
+use Prim.Native.Nat.{ℕ}
+use mathlib.Core.List.{List}
+use mathlib.Core.Option.{Option, none, some}
+use lib.Dec.{eqb}
+use Rattle.disc.specs.Choice.{pick}
+use Rattle.disc.specs.Places.{placed}
+use Rattle.disc.specs.declared.places.Mount.{Mount}
+use Rattle.disc.specs.declared.refusals.Refusal.the-variants.{Unsupported}
+use Rattle.areas.specs.declared.AllocExtent.{AllocExtent}
+use Rattle.chains.specs.inner.Walks.{stepOf}
+use Rattle.chains.specs.declared.cursors.ChainCursor.{ChainCursor}
+use Rattle.chains.specs.declared.cursors.ChainStep.{ChainStep}
+use Rattle.chains.specs.declared.cursors.ChainStep.the-variants.{Takes, Hops, Ends}
+use Rattle.files.specs.inner.Pieces.{weighedAt}
+use Rattle.files.specs.declared.pieces.Piece.{Piece}
+use Rattle.files.specs.declared.pieces.Piece.the-variants.{Held, Refused}
+use Rattle.files.specs.declared.pieces.Turn.{Turn}
+use Rattle.files.specs.declared.pieces.Turn.the-variants.{Piece as APiece, Hop, Refused as Stopped, End}
+
+-- an extent of `size` bytes that may stand nowhere on the volume
+abbrev pub weighedIn : List ℕ → ℕ → ℕ → Option ℕ → Piece
+weighedIn image size want none = Refused Unsupported 0
+weighedIn image size want (some s) = weighedAt image s size want
+
+-- an extent: it is recorded, it stands on this volume, and its sectors are there (RULES 7.4, 7.5)
+abbrev pub weighedOf : List ℕ → Mount → AllocExtent → ℕ → Piece
+weighedOf image m e want = pick (eqb (e .«extent_type») 0) (weighedIn image (e .length) want (placed m (e .«partition_ref») (e .block .0))) (Refused Unsupported 0)
+
+-- an extent that was weighed, with the cursor behind it
+abbrev pub turnWith : ChainCursor → Piece → Turn
+turnWith next (Refused why n) = Stopped why n
+turnWith next (Held from n k) = APiece from n k next
+
+-- a step of the cursor
+abbrev pub turnBy : List ℕ → Mount → ℕ → ChainStep → Turn
+turnBy image m want Ends = End
+turnBy image m want (Hops next) = Hop next
+turnBy image m want (Takes e next) = turnWith next (weighedOf image m e want)
+
+-- the turn from c on, where `want` bytes are still wanted
+unfoldable pub turnAt : List ℕ → Mount → ℕ → ChainCursor → ℕ → Turn
+turnAt image m kind c want = turnBy image m want (stepOf image m kind c)
