@@ -20,4 +20,5 @@ pub mod Promises
 pub mod ReadPromises
 pub mod StillPromises
 pub mod EndPromises
+pub mod MomentLaws
 pub mod OneResult

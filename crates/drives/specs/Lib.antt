@@ -3,4 +3,5 @@ pub mod Feeds
 pub mod Openings
 pub mod FileFeeds
 pub mod Readings
+pub mod Moments
 pub mod inner
