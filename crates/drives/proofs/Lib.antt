@@ -21,4 +21,5 @@ pub mod ReadPromises
 pub mod StillPromises
 pub mod EndPromises
 pub mod MomentLaws
+pub mod SlotLaws
 pub mod OneResult
