@@ -22,4 +22,5 @@ pub mod StillPromises
 pub mod EndPromises
 pub mod MomentLaws
 pub mod SlotLaws
+pub mod AcceptedLaws
 pub mod OneResult

@@ -146,7 +146,7 @@ naming-first named (refuse r) f h = tt
 naming-first named (ask s k) f h = λ b. naming-first (λ more. named (b ++ more)) (k b) f h
 
 -- what holds no extent
-unfoldable Free : Feed → Type 0
+unfoldable pub Free : Feed → Type 0
 Free over = Unit {0}
 Free (stop r) = Unit {0}
 Free (name n f) = ⊥
@@ -154,7 +154,7 @@ Free (hold n f) = ⊥
 Free (put b f) = Free f
 Free (want s k) = (b : List ℕ) → Free (k b)
 
-free-none : (f : Feed) → Free f → (d : Disc) (named : ℕ) → heldMost named d f ≡ 0
+pub free-none : (f : Feed) → Free f → (d : Disc) (named : ℕ) → heldMost named d f ≡ 0
 unfolding Free heldMost
 free-none over h d named = refl
 free-none (stop r) h d named = refl
@@ -181,7 +181,7 @@ unfolding Free extentFeed
 extent-free zero at size missing f h = h missing
 extent-free (suc n) at size missing f h = λ b. pick-both Free (leb missing (length (take size b))) tt (extent-free n (at + 1) (size - 2048) (missing - length (take size b)) f h)
 
-extents-free : (m : Mount) (es : List AllocExtent) (missing : ℕ) → Free (extentsFeed m es missing)
+pub extents-free : (m : Mount) (es : List AllocExtent) (missing : ℕ) → Free (extentsFeed m es missing)
 unfolding Free extentsFeed
 extents-free m [] missing = tt
 extents-free m (e ∷ es) missing = pick-both Free (eqb (e .«extent_type») 0) (by (placed m (e .«partition_ref») (e .block .0)) (λ w. extents-free m es w)) tt
