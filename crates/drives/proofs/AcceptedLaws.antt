@@ -10,13 +10,14 @@ use lib.ListN.{length, take, length-append}
 use lib.Dec.{ltb, leb}
 use borrow.Author.Tests.{lt-ltb, ltb-true, ltb-false}
 use Rattle.disc.specs.Choice.{pick}
-use Rattle.disc.specs.Ask.{Disc, Held, Ask, Outcome, given, outcome, asked, then}
+use Rattle.disc.specs.Ask.{Disc, Held, Ask, Outcome, given, outcome, asked, then, andThen}
 use Rattle.disc.specs.Ask.Held.{holds, lacks}
 use Rattle.disc.specs.Ask.Ask.{done, refuse, ask}
 use Rattle.disc.specs.Ask.Outcome.{answered, refused}
 use Rattle.disc.specs.declared.places.Mount.{Mount}
 use Rattle.disc.specs.declared.refusals.Refusal.{Refusal}
 use Rattle.disc.specs.declared.refusals.Refusal.the-variants.{Malformed, NoSlot}
+use Rattle.disc.proofs.AskLaws.{askedBehind, asked-then, asked-done}
 use Rattle.disc.proofs.RanLaws.{never}
 use Rattle.disc.proofs.PickLaws.{not-both}
 use Rattle.areas.specs.declared.AllocExtent.{AllocExtent}
@@ -24,14 +25,14 @@ use Rattle.areas.specs.declared.AdContinuation.{AdContinuation}
 use Rattle.areas.specs.declared.AdEnding.{AdEnding}
 use Rattle.areas.specs.declared.AdEnding.the-variants.{End, Continuation, Refused}
 use Rattle.areas.specs.Areas.{Area}
-use Rattle.chains.specs.Chains.{nextArea}
+use Rattle.chains.specs.Chains.{nextArea, continued}
 use Rattle.drives.specs.Feeds.{Feed, naming, Grown, firstOf, behindFirst, within, wanted, heldMost, Short, shortOf}
 use Rattle.drives.specs.Feeds.Feed.{over, stop, name, hold, put, want}
 use Rattle.drives.specs.Feeds.Short.{enough, ofSlots, ofRoom}
 use Rattle.drives.specs.FileFeeds.{extentsFeed, joined, namedBy, chainFeed}
 use Rattle.drives.specs.Moments.{slotsBy, roomBy, Accepted, unlessRefused, areasFrom, areasBehind, extentsIn, sectorsIn}
 use Rattle.drives.proofs.MomentLaws.{later, slots-add, pathOf, Passes, Names, naming-passes, naming-names, naming-refused, naming-holds-none}
-use Rattle.drives.proofs.SlotLaws.{wholeArea, named-below, next-whole}
+use Rattle.drives.proofs.SlotLaws.{wholeArea, named-below, outcome-then, next-whole}
 use Rattle.drives.proofs.Promises.{Free, free-none, extents-free}
 
 -- ---- what holds no extent needs no slot
@@ -60,6 +61,12 @@ free-slots {A} d lost slots room gs (want s k) h e = by (d s) e (λ b g. free-sl
     by lacks e ih = not-slots e
 
 -- ---- the chain
+
+-- nothing is held of an area that is refused by itself
+abbrev pub heldBy : AdEnding → ℕ → ℕ
+heldBy (Refused r) n = 0
+heldBy End n = n
+heldBy (Continuation a) n = n
 
 -- 7 behind an area with which there are e extents: after the sectors of the first areas behind it
 pub record Crowds (base slots : ℕ) (gs : List Grown) (e : ℕ) (xs : List Accepted) (ns : List ℕ) : Type 0 where
@@ -117,11 +124,6 @@ module _ (d : Disc) (m : Mount) (kind missing : ℕ) where
       rw z (named-below kind (a .length) es p q)
 
   -- ---- the extents that are held are those of the areas
-
-  abbrev heldBy : AdEnding → ℕ → ℕ
-  heldBy (Refused r) n = 0
-  heldBy End n = n
-  heldBy (Continuation a) n = n
 
   free-held : (h : ℕ) (es : List AllocExtent) → h ≤ length es → max (max h (length es)) (heldMost 0 d (extentsFeed m es missing)) ≡ length es + 0
   free-held h es l = rw (free-none (extentsFeed m es missing) (extents-free m es missing) d 0) (omega arith)
@@ -270,3 +272,68 @@ module _ (d : Disc) (m : Mount) (kind missing : ℕ) where
           told (Refused r) h l = full-row es _ lost slots (omega arith)
           told End h l = on End h (λ r g. absurd (let z : _≡_ {A = ℕ} 0 1 = cc in omega arith)) l
           told (Continuation b) h l = on (Continuation b) h (λ r g. absurd (let z : _≡_ {A = ℕ} 0 1 = cc in omega arith)) l
+
+-- ---- a chain that is answered: its areas have its extents, and its sectors
+
+pub record Lists (d : Disc) (m : Mount) (kind n : ℕ) (how : AdEnding) (more : List AllocExtent) : Type 0 where
+  pub extents : extentsIn (areasBehind d m kind n how) ≡ more
+  pub sectors : sectorsIn (areasBehind d m kind n how) ≡ asked d (continued m kind n how)
+  pub closed : (r : Refusal) → how ≡ Refused r → ⊥
+
+pub kept : (how : AdEnding) (xs : List Accepted) → ((r : Refusal) → how ≡ Refused r → ⊥) → unlessRefused how xs ≡ xs
+kept (Refused r) xs c = absurd (c r refl)
+kept End xs c = refl
+kept (Continuation a) xs c = refl
+
+-- how an answered chain goes on behind a continuation
+record Onward (d : Disc) (m : Mount) (kind n : ℕ) (a : AdContinuation) (more : List AllocExtent) : Type 0 where
+  area : Area
+  rest : List AllocExtent
+  first : outcome d (nextArea m kind a) ≡ answered area
+  then-on : outcome d (continued m kind n (area .ending)) ≡ answered rest
+  joins : more ≡ area .extents ++ rest
+  list : asked d (continued m kind (suc n) (Continuation a)) ≡ asked d (nextArea m kind a) ++ asked d (continued m kind n (area .ending))
+
+onward : (d : Disc) (m : Mount) (kind n : ℕ) (a : AdContinuation) (more : List AllocExtent) → outcome d (continued m kind (suc n) (Continuation a)) ≡ answered more → Onward d m kind n a more
+unfolding continued outcome
+onward d m kind n a more e = by (outcome d (nextArea m kind a)) refl (sym (outcome-then d (nextArea m kind a) all) ∙ e)
+  where
+    all : Area → Ask (List AllocExtent)
+    all x = then (continued m kind n (x .ending)) (λ more. done (x .extents ++ more))
+
+    by : (o : Outcome Area) → outcome d (nextArea m kind a) ≡ o → andThen o (λ x. outcome d (all x)) ≡ answered more → Onward d m kind n a more
+    by (refused r) g q = never q
+    by (answered x) g q = told (outcome d (continued m kind n (x .ending))) refl (sym (outcome-then d (continued m kind n (x .ending)) (λ more. done (x .extents ++ more))) ∙ q)
+      where
+        told : (o : Outcome (List AllocExtent)) → outcome d (continued m kind n (x .ending)) ≡ o → andThen o (λ rest. answered (x .extents ++ rest)) ≡ answered more → Onward d m kind n a more
+        told (refused r) h q = never q
+        told (answered rest) h q =
+            let z : x .extents ++ rest ≡ more = cc in
+            record {
+              area = x;
+              rest = rest;
+              first = g;
+              then-on = h;
+              joins = sym z;
+              list = asked-then d (nextArea m kind a) all ∙ ap (λ o. asked d (nextArea m kind a) ++ askedBehind d o all) g ∙ ap (λ l. asked d (nextArea m kind a) ++ l) (asked-done d (continued m kind n (x .ending)) (λ more. x .extents ++ more));
+            }
+
+pub chain-lists : (d : Disc) (m : Mount) (kind n : ℕ) (how : AdEnding) (more : List AllocExtent) → outcome d (continued m kind n how) ≡ answered more → Lists d m kind n how more
+unfolding continued outcome asked areasBehind extentsIn sectorsIn
+chain-lists d m kind zero End more e = record { extents = cc; sectors = refl; closed = λ r g. absurd (let z : _≡_ {A = ℕ} 0 1 = cc in omega arith) }
+chain-lists d m kind zero (Refused r) more e = never e
+chain-lists d m kind zero (Continuation a) more e = never e
+chain-lists d m kind (suc n) End more e = record { extents = cc; sectors = refl; closed = λ r g. absurd (let z : _≡_ {A = ℕ} 0 1 = cc in omega arith) }
+chain-lists d m kind (suc n) (Refused r) more e = never e
+chain-lists d m kind (suc n) (Continuation a) more e =
+    let o = onward d m kind n a more e in
+    by o (chain-lists d m kind n (o .area .ending) (o .rest) (o .then-on))
+  where
+    by : (o : Onward d m kind n a more) → Lists d m kind n (o .area .ending) (o .rest) → Lists d m kind (suc n) (Continuation a) more
+    by o l =
+        let is = ap (λ x. areasFrom (asked d (nextArea m kind a)) x (λ how. areasBehind d m kind n how)) (o .first) ∙ kept (o .area .ending) _ (l .closed) in
+        record {
+          extents = ap extentsIn is ∙ ap (λ y. o .area .extents ++ y) (l .extents) ∙ sym (o .joins);
+          sectors = ap sectorsIn is ∙ ap (λ y. asked d (nextArea m kind a) ++ y) (l .sectors) ∙ sym (o .list);
+          closed = λ r g. absurd (let z : _≡_ {A = ℕ} 0 1 = cc in omega arith);
+        }

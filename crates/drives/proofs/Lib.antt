@@ -23,4 +23,5 @@ pub mod EndPromises
 pub mod MomentLaws
 pub mod SlotLaws
 pub mod AcceptedLaws
+pub mod SlotPromises
 pub mod OneResult

@@ -1,0 +1,206 @@
+-- What is promised of 7, by the file's areas and its extent list: RULES 14.6 and 14.10. Assumes nothing.
+--
+--   the extents that a read holds are those of the areas that are accepted                                held-areas
+--   where the extent list is answered they are that list, and so many places are needed                   areas-list, held-list
+--   a file of which no area is accepted, as an embedded one, needs none                                   held-none
+--   the sectors of the areas are those of the extent list                                                 areas-sectors
+--   as row and output grow: 7 is told behind the sectors of an area, the first of which an extent had no place    seven-at
+--   as row and output grow: 7 only where the row has fewer places at first than there are extents         seven-few
+--   and always where it has fewer than extents at the last sector of the chain, with what it has grown by few-seven
+--   in a row that stays: 7 exactly when there are more extents than places                                still-seven, still-few
+use mathlib.Core.Path.{_≡_, refl, ap, sym, _∙_}
+use mathlib.Core.Bool.{Bool, true, false}
+use mathlib.Core.List.{List, [], _∷_, _++_, append-nil}
+use mathlib.Core.Logic.{⊎-elim}
+use Prim.Native.Nat.{ℕ, zero, suc, _+_, _<_, _≤_}
+use native.Mathlib.Nat.{add-zero, zero-add}
+use native.Mathlib.Omega.{arith}
+use lib.ListN.{length, take, length-append}
+use lib.Dec.{leb}
+use Rattle.disc.specs.Choice.{pick}
+use Rattle.disc.specs.Ask.{Disc, Ask, Outcome, outcome, asked, then, andThen}
+use Rattle.disc.specs.Ask.Ask.{done, refuse}
+use Rattle.disc.specs.Ask.Outcome.{answered, refused}
+use Rattle.disc.specs.declared.places.Mount.{Mount}
+use Rattle.disc.specs.declared.refusals.Refusal.{Refusal}
+use Rattle.disc.proofs.AskLaws.{askedBehind, asked-then, asked-done}
+use Rattle.disc.proofs.RanLaws.{never}
+use Rattle.disc.proofs.PickLaws.{not-both}
+use Rattle.records.specs.declared.allocations.LongAd.{LongAd}
+use Rattle.areas.specs.declared.AllocExtent.{AllocExtent}
+use Rattle.areas.specs.declared.AdEnding.{AdEnding}
+use Rattle.areas.specs.declared.AdEnding.the-variants.{End, Continuation, Refused}
+use Rattle.areas.specs.Areas.{Area, areaAt}
+use Rattle.chains.specs.Chains.{mostContinuations, continued}
+use Rattle.files.specs.Files.{Located, entryAt, entryMount, isEmbedded, embeddedBytes, chainOf, File, resolved, fileAt, extentsOf, fileExtents}
+use Rattle.drives.specs.Feeds.{Feed, Grown, within, wanted, heldMost, Short, shortOf}
+use Rattle.drives.specs.Feeds.Feed.{over, put}
+use Rattle.drives.specs.Feeds.Short.{enough, ofSlots, ofRoom}
+use Rattle.drives.specs.FileFeeds.{chainFeed, entryFeed, fileFeed}
+use Rattle.drives.specs.Readings.{Starts}
+use Rattle.drives.specs.Moments.{slotsBy, roomBy, Accepted, unlessRefused, areasFrom, areasBehind, entryAreas, fileAreas, extentsIn, sectorsIn, CrowdedAt}
+use Rattle.drives.specs.declared.readings.Reading.{Reading}
+use Rattle.drives.proofs.MomentLaws.{later, slots-none, slots-add, Passes, following-passes, following-held, following-refused, following-holds-none}
+use Rattle.drives.proofs.SlotLaws.{outcome-then}
+use Rattle.drives.proofs.AcceptedLaws.{not-slots, heldBy, Crowds, chain-held, refused-enough, chain-seven, chain-many, Lists, kept, chain-lists}
+use Rattle.drives.proofs.Walks.{Walk, Still}
+use Rattle.drives.proofs.ReadPromises as reads
+
+-- the area in an entry
+abbrev areaOf : Located → Area
+areaOf x = areaAt (x .entry .kind) (x .sector) (x .entry .«area_at») (x .entry .«area_length»)
+
+-- ---- the entry
+
+-- the first area in front of those behind it
+crowded-first : (slots : ℕ) (gs : List Grown) (x : Accepted) (xs : List Accepted) (ns : List ℕ)
+    → Crowds slots (slots + slotsBy (length (x .sectors)) gs) (later (length (x .sectors)) gs) (length (x .extents)) xs ns → CrowdedAt slots gs (x ∷ xs) (x .sectors ++ ns)
+unfolding extentsIn sectorsIn slotsBy
+crowded-first slots gs x xs ns c = record {
+  areas = suc (c .areas);
+  list = ap (λ l. x .sectors ++ l) (c .list);
+  before = each;
+  past = rw (length-append (x .extents) (extentsIn (take (c .areas) xs))) (c .past);
+}
+  where
+    each : (j : ℕ) → j < suc (c .areas) → length (extentsIn (take j (x ∷ xs))) ≤ slots + slotsBy (length (sectorsIn (take j (x ∷ xs)))) gs
+    each zero l = omega arith
+    each (suc j) l =
+        let b = c .before j (omega arith) in
+        rw (
+          length-append (x .extents) (extentsIn (take j xs)),
+          length-append (x .sectors) (sectorsIn (take j xs)),
+          slots-add (length (x .sectors)) (length (sectorsIn (take j xs))) gs,
+        ) (omega arith)
+
+module _ (d : Disc) (m : Mount) (x : Located) (ws : List ℕ) where
+  abbrev areas : List Accepted
+  areas = entryAreas d m ws (answered x)
+
+  abbrev behind : AdEnding → List Accepted
+  behind how = areasBehind d m (x .entry .kind) mostContinuations how
+
+  entry-held : heldMost 0 d (entryFeed m x) ≡ length (extentsIn areas)
+  unfolding entryFeed heldMost extentsIn
+  entry-held = by (isEmbedded x)
+    where
+      by : (t : Bool)
+          → heldMost 0 d (pick t (put (embeddedBytes x) over) (chainFeed m (x .entry .kind) mostContinuations (x .entry .«information_length») (areaOf x .extents) (areaOf x .ending)))
+          ≡ length (extentsIn (pick t [] (areasFrom ws (answered (areaOf x)) behind)))
+      by true = refl
+      by false =
+          chain-held d m (x .entry .kind) (x .entry .«information_length») mostContinuations (areaOf x .extents) (areaOf x .ending) 0 (omega arith)
+          ∙ told (areaOf x .ending)
+        where
+          told : (how : AdEnding)
+              → heldBy how (length (areaOf x .extents) + length (extentsIn (behind how)))
+              ≡ length (extentsIn (unlessRefused how (record { sectors = ws; extents = areaOf x .extents } ∷ behind how)))
+          told (Refused r) = refl
+          told End = sym (length-append (areaOf x .extents) (extentsIn (behind End)))
+          told (Continuation a) = sym (length-append (areaOf x .extents) (extentsIn (behind (Continuation a))))
+
+  -- 7 behind the entry's sectors and those of its areas
+  entry-seven : (lost : Bool) (slots room : ℕ) (gs : List Grown) → (lost ≡ true → ⊥) → shortOf d lost (slots + slotsBy (length ws) gs) room (later (length ws) gs) (entryFeed m x) ≡ ofSlots
+      → CrowdedAt slots gs areas (ws ++ wanted d (within lost (slots + slotsBy (length ws) gs) room (later (length ws) gs) (entryFeed m x)))
+  unfolding entryFeed shortOf
+  entry-seven lost slots room gs c e = by (isEmbedded x) e
+    where
+      more : ℕ
+      more = slots + slotsBy (length ws) gs
+
+      chain : Feed
+      chain = chainFeed m (x .entry .kind) mostContinuations (x .entry .«information_length») (areaOf x .extents) (areaOf x .ending)
+
+      by : (t : Bool) → shortOf d lost more room (later (length ws) gs) (pick t (put (embeddedBytes x) over) chain) ≡ ofSlots
+          → CrowdedAt slots gs (pick t [] (areasFrom ws (answered (areaOf x)) behind)) (ws ++ wanted d (within lost more room (later (length ws) gs) (pick t (put (embeddedBytes x) over) chain)))
+      by true e = none (leb (length (embeddedBytes x)) room) e
+        where
+          none : {A : Type 0} (t : Bool) → pick t enough ofRoom ≡ ofSlots → A
+          none true e = not-slots e
+          none false e = absurd (let z : _≡_ {A = ℕ} 0 1 = cc in omega arith)
+      by false e =
+          told (areaOf x .ending) refl (chain-seven d m (x .entry .kind) (x .entry .«information_length») mostContinuations (areaOf x .extents) (areaOf x .ending) lost more room slots (later (length ws) gs) (omega arith) (λ t. absurd (c t)) e)
+        where
+          after : List ℕ
+          after = wanted d (within lost more room (later (length ws) gs) chain)
+
+          told : (how : AdEnding) → areaOf x .ending ≡ how → Crowds slots more (later (length ws) gs) (length (areaOf x .extents)) (behind how) after
+              → CrowdedAt slots gs (unlessRefused how (record { sectors = ws; extents = areaOf x .extents } ∷ behind how)) (ws ++ after)
+          told (Refused r) h c =
+              not-slots (sym (refused-enough d m (x .entry .kind) (x .entry .«information_length») mostContinuations (areaOf x .extents) r lost more room (later (length ws) gs))
+              ∙ ap (λ how. shortOf d lost more room (later (length ws) gs) (chainFeed m (x .entry .kind) mostContinuations (x .entry .«information_length») (areaOf x .extents) how)) (sym h) ∙ e)
+          told End h c = crowded-first slots gs (record { sectors = ws; extents = areaOf x .extents }) (behind End) after c
+          told (Continuation a) h c = crowded-first slots gs (record { sectors = ws; extents = areaOf x .extents }) (behind (Continuation a)) after c
+
+  -- more extents than slots
+  entry-many : (lost : Bool) (slots room : ℕ) (gs : List Grown) → slots + slotsBy (length (sectorsIn areas)) gs < length (extentsIn areas)
+      → shortOf d lost (slots + slotsBy (length ws) gs) room (later (length ws) gs) (entryFeed m x) ≡ ofSlots
+  unfolding entryFeed extentsIn sectorsIn
+  entry-many lost slots room gs = by (isEmbedded x)
+    where
+      more : ℕ
+      more = slots + slotsBy (length ws) gs
+
+      chain : AdEnding → Feed
+      chain how = chainFeed m (x .entry .kind) mostContinuations (x .entry .«information_length») (areaOf x .extents) how
+
+      on : (how : AdEnding) → ((r : Refusal) → how ≡ Refused r → ⊥) → slots + slotsBy (length (ws ++ sectorsIn (behind how))) gs < length (areaOf x .extents ++ extentsIn (behind how))
+          → shortOf d lost more room (later (length ws) gs) (chain how) ≡ ofSlots
+      on how c l =
+          let z = rw (length-append ws (sectorsIn (behind how)), slots-add (length ws) (length (sectorsIn (behind how))) gs, length-append (areaOf x .extents) (extentsIn (behind how))) at l in
+          chain-many d m (x .entry .kind) (x .entry .«information_length») mostContinuations (areaOf x .extents) how lost more room (later (length ws) gs) c (omega arith)
+
+      told : (how : AdEnding)
+          → slots + slotsBy (length (sectorsIn (unlessRefused how (record { sectors = ws; extents = areaOf x .extents } ∷ behind how)))) gs
+          < length (extentsIn (unlessRefused how (record { sectors = ws; extents = areaOf x .extents } ∷ behind how)))
+          → shortOf d lost more room (later (length ws) gs) (chain how) ≡ ofSlots
+      told (Refused r) l = absurd (omega arith)
+      told End l = on End (λ r g. absurd (let z : _≡_ {A = ℕ} 0 1 = cc in omega arith)) l
+      told (Continuation a) l = on (Continuation a) (λ r g. absurd (let z : _≡_ {A = ℕ} 0 1 = cc in omega arith)) l
+
+      by : (t : Bool)
+          → slots + slotsBy (length (sectorsIn (pick t [] (areasFrom ws (answered (areaOf x)) behind)))) gs < length (extentsIn (pick t [] (areasFrom ws (answered (areaOf x)) behind)))
+          → shortOf d lost more room (later (length ws) gs) (pick t (put (embeddedBytes x) over) (chain (areaOf x .ending))) ≡ ofSlots
+      by true l = absurd (omega arith)
+      by false l = told (areaOf x .ending) l
+
+-- ---- the file
+
+module _ (d : Disc) (m : Mount) (icb : LongAd) where
+  -- the extents that a read holds are those of the areas that are accepted
+  pub held-areas : heldMost 0 d (fileFeed m icb) ≡ length (extentsIn (fileAreas d m icb))
+  unfolding fileFeed fileAreas extentsIn
+  held-areas = by (outcome d (entryAt m icb)) refl
+    where
+      by : (o : Outcome Located) → outcome d (entryAt m icb) ≡ o → heldMost 0 d (fileFeed m icb) ≡ length (extentsIn (entryAreas d (entryMount m icb) (asked d (entryAt m icb)) o))
+      by (refused r) e = following-holds-none d (entryFeed (entryMount m icb)) (entryAt m icb) e 0
+      by (answered x) e = following-held d 0 (entryFeed (entryMount m icb)) x (entryAt m icb) e 0 ∙ entry-held d (entryMount m icb) x (asked d (entryAt m icb))
+
+  pub file-seven : (slots room : ℕ) (gs : List Grown) → shortOf d false slots room gs (fileFeed m icb) ≡ ofSlots
+      → CrowdedAt slots gs (fileAreas d m icb) (wanted d (within false slots room gs (fileFeed m icb)))
+  unfolding fileFeed fileAreas
+  file-seven slots room gs s = by (outcome d (entryAt m icb)) refl
+    where
+      ws : List ℕ
+      ws = asked d (entryAt m icb)
+
+      by : (o : Outcome Located) → outcome d (entryAt m icb) ≡ o → CrowdedAt slots gs (entryAreas d (entryMount m icb) ws o) (wanted d (within false slots room gs (fileFeed m icb)))
+      by (refused r) e = not-slots (sym (following-refused d (entryFeed (entryMount m icb)) (entryAt m icb) e false slots room gs) ∙ s)
+      by (answered x) e =
+          let p = following-passes d 0 (entryFeed (entryMount m icb)) x (entryAt m icb) e false slots room gs in
+          rw (p .list) (entry-seven d (entryMount m icb) x ws (p .lost′) slots (room + roomBy (length ws) gs) gs (λ t. ⊎-elim (λ u. not-both u) (λ u. absurd (omega arith)) (p .losing t)) (sym (p .short) ∙ s))
+
+  pub file-many : (slots room : ℕ) (gs : List Grown) → slots + slotsBy (length (sectorsIn (fileAreas d m icb))) gs < length (extentsIn (fileAreas d m icb)) → shortOf d false slots room gs (fileFeed m icb) ≡ ofSlots
+  unfolding fileFeed fileAreas extentsIn sectorsIn
+  file-many slots room gs = by (outcome d (entryAt m icb)) refl
+    where
+      ws : List ℕ
+      ws = asked d (entryAt m icb)
+
+      by : (o : Outcome Located) → outcome d (entryAt m icb) ≡ o
+          → slots + slotsBy (length (sectorsIn (entryAreas d (entryMount m icb) ws o))) gs < length (extentsIn (entryAreas d (entryMount m icb) ws o))
+          → shortOf d false slots room gs (fileFeed m icb) ≡ ofSlots
+      by (refused r) e l = absurd (omega arith)
+      by (answered x) e l =
+          let p = following-passes d 0 (entryFeed (entryMount m icb)) x (entryAt m icb) e false slots room gs in
+          p .short ∙ entry-many d (entryMount m icb) x ws (p .lost′) slots (room + roomBy (length ws) gs) gs l
