@@ -20,12 +20,15 @@ use Rattle.disc.specs.declared.refusals.Refusal.the-variants.{Malformed, NoSlot
 use Rattle.disc.proofs.AskLaws.{askedBehind, asked-then, asked-done}
 use Rattle.disc.proofs.RanLaws.{never}
 use Rattle.disc.proofs.PickLaws.{not-both}
+use Rattle.records.specs.declared.allocations.LongAd.{LongAd}
 use Rattle.areas.specs.declared.AllocExtent.{AllocExtent}
 use Rattle.areas.specs.declared.AdContinuation.{AdContinuation}
 use Rattle.areas.specs.declared.AdEnding.{AdEnding}
 use Rattle.areas.specs.declared.AdEnding.the-variants.{End, Continuation, Refused}
-use Rattle.areas.specs.Areas.{Area}
-use Rattle.chains.specs.Chains.{nextArea, continued}
+use Rattle.areas.specs.Areas.{Area, areaAt}
+use Rattle.chains.specs.Chains.{mostContinuations, nextArea, continued}
+use Rattle.files.specs.Files.{Located, entryAt, entryMount, isEmbedded, chainOf, File, resolved, fileAt}
+use Rattle.files.specs.Files.File.{embedded, chained}
 use Rattle.drives.specs.Feeds.{Feed, naming, Grown, firstOf, behindFirst, within, wanted, heldMost, Short, shortOf}
 use Rattle.drives.specs.Feeds.Feed.{over, stop, name, hold, put, want}
 use Rattle.drives.specs.Feeds.Short.{enough, ofSlots, ofRoom}
@@ -337,3 +340,44 @@ chain-lists d m kind (suc n) (Continuation a) more e =
           sectors = ap sectorsIn is ∙ ap (λ y. asked d (nextArea m kind a) ++ y) (l .sectors) ∙ sym (o .list);
           closed = λ r g. absurd (let z : _≡_ {A = ℕ} 0 1 = cc in omega arith);
         }
+
+-- ---- a file that was resolved
+
+-- the area in an entry
+abbrev pub areaOf : Located → Area
+areaOf x = areaAt (x .entry .kind) (x .sector) (x .entry .«area_at») (x .entry .«area_length»)
+
+-- embedded in its entry, or the extents of its area and of those behind it
+pub data FileIs (d : Disc) (m : Mount) (icb : LongAd) : File → Type 0 where
+  in-entry : (x : Located) → outcome d (entryAt m icb) ≡ answered x → isEmbedded x ≡ true → asked d (fileAt m icb) ≡ asked d (entryAt m icb) → FileIs d m icb (embedded x)
+  in-extents : (x : Located) (more : List AllocExtent) → outcome d (entryAt m icb) ≡ answered x → isEmbedded x ≡ false
+      → outcome d (continued (entryMount m icb) (x .entry .kind) mostContinuations (areaOf x .ending)) ≡ answered more
+      → asked d (fileAt m icb) ≡ asked d (entryAt m icb) ++ asked d (continued (entryMount m icb) (x .entry .kind) mostContinuations (areaOf x .ending))
+      → FileIs d m icb (chained x (areaOf x .extents ++ more))
+
+pub file-is : (d : Disc) (m : Mount) (icb : LongAd) (f : File) → outcome d (fileAt m icb) ≡ answered f → FileIs d m icb f
+unfolding fileAt outcome asked
+file-is d m icb f e = by (outcome d (entryAt m icb)) refl (sym (outcome-then d (entryAt m icb) (resolved (entryMount m icb))) ∙ e)
+  where
+    Asks : Located → Type 0
+    Asks x = asked d (fileAt m icb) ≡ asked d (entryAt m icb) ++ asked d (resolved (entryMount m icb) x)
+
+    by : (o : Outcome Located) → outcome d (entryAt m icb) ≡ o → andThen o (λ x. outcome d (resolved (entryMount m icb) x)) ≡ answered f → FileIs d m icb f
+    by (refused r) g q = never q
+    by (answered x) g q = told (isEmbedded x) refl q (asked-then d (entryAt m icb) (resolved (entryMount m icb)) ∙ ap (λ o. asked d (entryAt m icb) ++ askedBehind d o (resolved (entryMount m icb))) g)
+      where
+        rest : Ask (List AllocExtent)
+        rest = continued (entryMount m icb) (x .entry .kind) mostContinuations (areaOf x .ending)
+
+        told : (t : Bool) → isEmbedded x ≡ t → outcome d (pick t (done (embedded x)) (then (chainOf (entryMount m icb) x) (λ es. done (chained x es)))) ≡ answered f
+            → asked d (fileAt m icb) ≡ asked d (entryAt m icb) ++ asked d (pick t (done (embedded x)) (then (chainOf (entryMount m icb) x) (λ es. done (chained x es)))) → FileIs d m icb f
+        told true t q l = let z : embedded x ≡ f = cc in rw (← z) (in-entry x g t (l ∙ append-nil (asked d (entryAt m icb))))
+        told false t q l = ends (outcome d rest) refl (sym (outcome-then d rest (λ more. done (areaOf x .extents ++ more))))
+          where
+            ends : (o : Outcome (List AllocExtent)) → outcome d rest ≡ o → andThen o (λ more. answered (areaOf x .extents ++ more)) ≡ outcome d (chainOf (entryMount m icb) x) → FileIs d m icb f
+            ends (refused r) h k = never (ap (λ o. andThen o (λ es. answered (chained x es))) k ∙ sym (outcome-then d (chainOf (entryMount m icb) x) (λ es. done (chained x es))) ∙ q)
+            ends (answered more) h k =
+                let w = ap (λ o. andThen o (λ es. answered (chained x es))) k ∙ sym (outcome-then d (chainOf (entryMount m icb) x) (λ es. done (chained x es))) ∙ q in
+                let z : chained x (areaOf x .extents ++ more) ≡ f = cc in
+                rw (← z) (in-extents x more g t h
+                (l ∙ ap (λ y. asked d (entryAt m icb) ++ y) (asked-done d (chainOf (entryMount m icb) x) (λ es. chained x es) ∙ asked-done d rest (λ more. areaOf x .extents ++ more))))

@@ -30,7 +30,7 @@ use Rattle.records.specs.declared.allocations.LongAd.{LongAd}
 use Rattle.areas.specs.declared.AllocExtent.{AllocExtent}
 use Rattle.areas.specs.declared.AdEnding.{AdEnding}
 use Rattle.areas.specs.declared.AdEnding.the-variants.{End, Continuation, Refused}
-use Rattle.areas.specs.Areas.{Area, areaAt}
+use Rattle.areas.specs.Areas.{Area}
 use Rattle.chains.specs.Chains.{mostContinuations, continued}
 use Rattle.files.specs.Files.{Located, entryAt, entryMount, isEmbedded, embeddedBytes, chainOf, File, resolved, fileAt, extentsOf, fileExtents}
 use Rattle.drives.specs.Feeds.{Feed, Grown, within, wanted, heldMost, Short, shortOf}
@@ -42,13 +42,10 @@ use Rattle.drives.specs.Moments.{slotsBy, roomBy, Accepted, unlessRefuse
 use Rattle.drives.specs.declared.readings.Reading.{Reading}
 use Rattle.drives.proofs.MomentLaws.{later, slots-none, slots-add, Passes, following-passes, following-held, following-refused, following-holds-none}
 use Rattle.drives.proofs.SlotLaws.{outcome-then}
-use Rattle.drives.proofs.AcceptedLaws.{not-slots, heldBy, Crowds, chain-held, refused-enough, chain-seven, chain-many, Lists, kept, chain-lists}
+use Rattle.drives.proofs.AcceptedLaws.{not-slots, heldBy, Crowds, chain-held, refused-enough, chain-seven, chain-many, Lists, kept, chain-lists, areaOf, FileIs, file-is}
+use Rattle.drives.proofs.AcceptedLaws.FileIs.{in-entry, in-extents}
 use Rattle.drives.proofs.Walks.{Walk, Still}
 use Rattle.drives.proofs.ReadPromises as reads
-
--- the area in an entry
-abbrev areaOf : Located → Area
-areaOf x = areaAt (x .entry .kind) (x .sector) (x .entry .«area_at») (x .entry .«area_length»)
 
 -- ---- the entry
 
@@ -204,3 +201,47 @@ module _ (d : Disc) (m : Mount) (icb : LongAd) where
       by (answered x) e l =
           let p = following-passes d 0 (entryFeed (entryMount m icb)) x (entryAt m icb) e false slots room gs in
           p .short ∙ entry-many d (entryMount m icb) x ws (p .lost′) slots (room + roomBy (length ws) gs) gs l
+
+  -- ---- beside the extent list
+
+  -- a list that was answered is that of a file
+  record Resolves (es : List AllocExtent) : Type 0 where
+    file : File
+    is : outcome d (fileAt m icb) ≡ answered file
+    lists : extentsOf file ≡ es
+
+  resolves : {es : List AllocExtent} → outcome d (fileExtents m icb) ≡ answered es → Resolves es
+  unfolding fileExtents outcome
+  resolves {es} e = by (outcome d (fileAt m icb)) refl (sym (outcome-then d (fileAt m icb) (λ f. done (extentsOf f))) ∙ e)
+    where
+      by : (o : Outcome File) → outcome d (fileAt m icb) ≡ o → andThen o (λ f. answered (extentsOf f)) ≡ answered es → Resolves es
+      by (refused r) g q = never q
+      by (answered f) g q = record { file = f; is = g; lists = cc }
+
+  -- where it is answered the areas have the extents of the list
+  pub areas-list : {es : List AllocExtent} → outcome d (fileExtents m icb) ≡ answered es → extentsIn (fileAreas d m icb) ≡ es
+  unfolding fileAreas extentsIn
+  areas-list e = let p = resolves e in by (p .file) (file-is d m icb (p .file) (p .is)) ∙ p .lists
+    where
+      by : (f : File) → FileIs d m icb f → extentsIn (fileAreas d m icb) ≡ extentsOf f
+      by f (in-entry x g t l) = rw (g, t) refl
+      by f (in-extents x more g t h l) =
+          let y = chain-lists d (entryMount m icb) (x .entry .kind) mostContinuations (areaOf x .ending) more h in
+          rw (g, t, kept (areaOf x .ending) (record { sectors = asked d (entryAt m icb); extents = areaOf x .extents } ∷ areasBehind d (entryMount m icb) (x .entry .kind) mostContinuations (areaOf x .ending)) (y .closed))
+          (ap (λ z. areaOf x .extents ++ z) (y .extents))
+
+  -- and so many places are needed: none for an embedded file, whose list is empty
+  pub held-list : {es : List AllocExtent} → outcome d (fileExtents m icb) ≡ answered es → heldMost 0 d (fileFeed m icb) ≡ length es
+  held-list e = held-areas ∙ ap length (areas-list e)
+
+  -- of a file that has extents the areas have the sectors of the list
+  pub areas-sectors : {es : List AllocExtent} → outcome d (fileExtents m icb) ≡ answered es → 0 < length es → sectorsIn (fileAreas d m icb) ≡ asked d (fileExtents m icb)
+  unfolding fileAreas fileExtents sectorsIn
+  areas-sectors {es} e some = let p = resolves e in by (p .file) (p .lists) (file-is d m icb (p .file) (p .is)) ∙ sym (asked-done d (fileAt m icb) extentsOf)
+    where
+      by : (f : File) → extentsOf f ≡ es → FileIs d m icb f → sectorsIn (fileAreas d m icb) ≡ asked d (fileAt m icb)
+      by f q (in-entry x g t l) = absurd (let z : length es ≡ 0 = ap length (sym q) in omega arith)
+      by f q (in-extents x more g t h l) =
+          let y = chain-lists d (entryMount m icb) (x .entry .kind) mostContinuations (areaOf x .ending) more h in
+          rw (g, t, kept (areaOf x .ending) (record { sectors = asked d (entryAt m icb); extents = areaOf x .extents } ∷ areasBehind d (entryMount m icb) (x .entry .kind) mostContinuations (areaOf x .ending)) (y .closed))
+          (ap (λ z. asked d (entryAt m icb) ++ z) (y .sectors) ∙ sym l)
