@@ -24,4 +24,6 @@ pub mod MomentLaws
 pub mod SlotLaws
 pub mod AcceptedLaws
 pub mod SlotPromises
+pub mod ShareLaws
+pub mod MomentPromises
 pub mod OneResult

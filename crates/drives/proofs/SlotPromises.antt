@@ -38,13 +38,13 @@ use Rattle.drives.specs.Feeds.Feed.{over, put}
 use Rattle.drives.specs.Feeds.Short.{enough, ofSlots, ofRoom}
 use Rattle.drives.specs.FileFeeds.{chainFeed, entryFeed, fileFeed}
 use Rattle.drives.specs.Readings.{Starts}
-use Rattle.drives.specs.Moments.{slotsBy, roomBy, Accepted, unlessRefused, areasFrom, areasBehind, entryAreas, fileAreas, extentsIn, sectorsIn, CrowdedAt}
+use Rattle.drives.specs.Moments.{slotsBy, roomBy, Accepted, unlessRefused, areasFrom, areasBehind, entryAreas, fileAreas, extentsIn, sectorsIn, CrowdedAt, CrowdedStill}
 use Rattle.drives.specs.declared.readings.Reading.{Reading}
 use Rattle.drives.proofs.MomentLaws.{later, slots-none, slots-add, Passes, following-passes, following-held, following-refused, following-holds-none}
 use Rattle.drives.proofs.SlotLaws.{outcome-then}
 use Rattle.drives.proofs.AcceptedLaws.{not-slots, heldBy, Crowds, chain-held, refused-enough, chain-seven, chain-many, Lists, kept, chain-lists, areaOf, FileIs, file-is}
 use Rattle.drives.proofs.AcceptedLaws.FileIs.{in-entry, in-extents}
-use Rattle.drives.proofs.Walks.{Walk, Still}
+use Rattle.drives.proofs.Walks.{Walk, Still, still-walks}
 use Rattle.drives.proofs.ReadPromises as reads
 
 -- ---- the entry
@@ -245,3 +245,70 @@ module _ (d : Disc) (m : Mount) (icb : LongAd) where
           let y = chain-lists d (entryMount m icb) (x .entry .kind) mostContinuations (areaOf x .ending) more h in
           rw (g, t, kept (areaOf x .ending) (record { sectors = asked d (entryAt m icb); extents = areaOf x .extents } ∷ areasBehind d (entryMount m icb) (x .entry .kind) mostContinuations (areaOf x .ending)) (y .closed))
           (ap (λ z. asked d (entryAt m icb) ++ z) (y .sectors) ∙ sym l)
+
+-- ---- a walk, as row and output grow
+
+first-fewer : (k : ℕ) (xs : List Accepted) → length (extentsIn (take k xs)) ≤ length (extentsIn xs)
+unfolding extentsIn
+first-fewer zero xs = omega arith
+first-fewer (suc k) [] = omega arith
+first-fewer (suc k) (x ∷ xs) =
+    let l = first-fewer k xs in
+    rw (length-append (x .extents) (extentsIn (take k xs)), length-append (x .extents) (extentsIn xs)) (omega arith)
+
+module _ (d : Disc) (m : Mount) (icb : LongAd) {row₀ row row′ : List (List ℕ)} {out out′ ns taken : List ℕ} {gs : List Grown} {r q : Reading} (st : Starts (fileFeed m icb) row₀ row r)
+    (w : Walk d ns gs taken r row out q row′ out′) where
+  -- at which sector 7 is told: the last of an area's, with whose extents there are more than the row had places at first
+  pub seven-at : q .answer ≡ 7 → CrowdedAt (length row₀) gs (fileAreas d m icb) ns
+  seven-at e = rw (reads.came d m icb st w .list) (file-seven d m icb (length row₀) (length out) gs (reads.seven-short d m icb st w e))
+
+  -- 7 only where the areas have more extents than the row has places at first; and always where they have more than it has at the last sector of them
+  pub seven-few : q .answer ≡ 7 → length row₀ < length (extentsIn (fileAreas d m icb))
+  seven-few e = let c = seven-at e in let p = c .past in let l = first-fewer (c .areas) (fileAreas d m icb) in omega arith
+
+  pub few-seven : length row₀ + slotsBy (length (sectorsIn (fileAreas d m icb))) gs < length (extentsIn (fileAreas d m icb)) → q .answer ≡ 7
+  few-seven l = reads.short-seven d m icb st w (file-many d m icb (length row₀) (length out) gs l)
+
+  -- by the extent list, where it is answered
+  module _ {es : List AllocExtent} (e : outcome d (fileExtents m icb) ≡ answered es) where
+    pub seven-listed : q .answer ≡ 7 → length row₀ < length es
+    seven-listed a = rw (areas-list d m icb e) at (seven-few a)
+
+    pub listed-seven : length row₀ + slotsBy (length (asked d (fileExtents m icb))) gs < length es → q .answer ≡ 7
+    listed-seven l = few-seven (rw (areas-sectors d m icb e (omega arith), areas-list d m icb e) l)
+
+-- ---- a walk in which nothing grows
+
+module _ (d : Disc) (m : Mount) (icb : LongAd) {row₀ row row′ : List (List ℕ)} {out out′ ns : List ℕ} {r q : Reading} (st : Starts (fileFeed m icb) row₀ row r)
+    (still : Still d ns r row out q row′ out′) where
+  w : Walk d ns [] [] r row out q row′ out′
+  w = still-walks still (rw (st .filled) (omega arith))
+
+  -- 7 exactly when there are more extents than places, whether the extent list is answered or refused
+  pub still-seven : q .answer ≡ 7 → length row₀ < length (extentsIn (fileAreas d m icb))
+  still-seven e = seven-few d m icb st w e
+
+  pub still-few : length row₀ < length (extentsIn (fileAreas d m icb)) → q .answer ≡ 7
+  still-few l = few-seven d m icb st w (rw (slots-none (length (sectorsIn (fileAreas d m icb))), add-zero (length row₀)) l)
+
+  module _ {es : List AllocExtent} (e : outcome d (fileExtents m icb) ≡ answered es) where
+    pub still-listed-seven : q .answer ≡ 7 → length row₀ < length es
+    still-listed-seven a = seven-listed d m icb st w e a
+
+    pub still-listed-few : length row₀ < length es → q .answer ≡ 7
+    still-listed-few l = listed-seven d m icb st w e (rw (slots-none (length (asked d (fileExtents m icb))), add-zero (length row₀)) l)
+
+  -- the sectors wanted then
+  pub still-at : q .answer ≡ 7 → CrowdedStill (length row₀) (fileAreas d m icb) ns
+  unfolding extentsIn
+  still-at e = let c = seven-at d m icb st w e in by (c .areas) (c .list) (c .before) (c .past)
+    where
+      xs : List Accepted
+      xs = fileAreas d m icb
+
+      by : (k : ℕ) → ns ≡ sectorsIn (take k xs) → ((j : ℕ) → j < k → length (extentsIn (take j xs)) ≤ length row₀ + slotsBy (length (sectorsIn (take j xs))) []) → length row₀ < length (extentsIn (take k xs))
+          → CrowdedStill (length row₀) (fileAreas d m icb) ns
+      by zero l b p = absurd (omega arith)
+      by (suc k) l b p =
+          let f = b k (omega arith) in
+          record { areas = k; list = l; fits = rw (slots-none (length (sectorsIn (take k xs))), add-zero (length row₀)) at f; past = p }

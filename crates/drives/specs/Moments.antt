@@ -83,6 +83,13 @@ pub record CrowdedAt (slots : ℕ) (gs : List Grown) (xs : List Accepted) (ns : 
   pub before : (j : ℕ) → j < areas → length (extentsIn (take j xs)) ≤ slots + slotsBy (length (sectorsIn (take j xs))) gs
   pub past : slots < length (extentsIn (take areas xs))
 
+-- in a row that stays: with the last of these areas there are more extents than slots, and without it there aren't
+pub record CrowdedStill (slots : ℕ) (xs : List Accepted) (ns : List ℕ) : Type 0 where
+  pub areas : ℕ
+  pub list : ns ≡ sectorsIn (take (suc areas) xs)
+  pub fits : length (extentsIn (take areas xs)) ≤ slots
+  pub past : slots < length (extentsIn (take (suc areas) xs))
+
 -- ---- the bytes that each sector of a read's list brings (14.7)
 
 -- n sectors of an extent, of which `size` bytes count and `missing` are missing of the information length: 2,048 of each, and of the last what is left
