@@ -120,7 +120,7 @@ module _ (d : Disc) (m : Mount) (kind missing : ℕ) where
   abbrev next : ℕ → List AllocExtent → AdContinuation → Feed
   next n es a = naming (namedBy kind (a .length) es) (nextArea m kind a) (behind n es)
 
-  upto : (es : List AllocExtent) (a : AdContinuation) (x : Area) → outcome d (nextArea m kind a) ≡ answered x
+  pub upto : (es : List AllocExtent) (a : AdContinuation) (x : Area) → outcome d (nextArea m kind a) ≡ answered x
       → (p q : List ℕ) → p ++ q ≡ pathOf d (nextArea m kind a) → namedBy kind (a .length) es p ≤ length (joined es x)
   upto es a x e p q g =
       let z : x ≡ wholeArea kind (p ++ q) = next-whole d m kind a x e ∙ ap (wholeArea kind) (sym g) in

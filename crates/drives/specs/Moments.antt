@@ -15,7 +15,7 @@ use Rattle.areas.specs.declared.AdEnding.{AdEnding}
 use Rattle.areas.specs.declared.AdEnding.the-variants.{End, Continuation, Refused}
 use Rattle.areas.specs.Areas.{Area, areaAt}
 use Rattle.chains.specs.Chains.{mostContinuations, nextArea}
-use Rattle.files.specs.Files.{Located, entryAt, entryMount, isEmbedded, embeddedBytes, File}
+use Rattle.files.specs.Files.{Located, entryAt, entryMount, isEmbedded, embeddedBytes, File, fileAt}
 use Rattle.files.specs.Files.File.{embedded, chained}
 use Rattle.drives.specs.Feeds.{Grown, firstOf, behindFirst}
 
@@ -115,3 +115,16 @@ brought (n ∷ rest) = n + brought rest
 pub record FullAt (room : ℕ) (gs : List Grown) (shares : List ℕ) (n : ℕ) : Type 0 where
   pub before : (j : ℕ) → j < n → brought (take j shares) ≤ room + roomBy j gs
   pub past : room + roomBy n gs < brought (take n shares)
+
+-- 5 after the sectors ns, as the file's entry and chain resolve it
+pub record FiveAt (d : Disc) (m : Mount) (icb : LongAd) (room : ℕ) (gs : List Grown) (ns : List ℕ) : Type 0 where
+  pub file : File
+  pub resolves : outcome d (fileAt m icb) ≡ answered file
+  pub full : FullAt room gs (fileShares (length (asked d (fileAt m icb))) file) (length ns)
+
+-- in an output that stays: the last of these sectors holds the first byte that has no room
+pub record FiveStill (d : Disc) (m : Mount) (icb : LongAd) (room : ℕ) (ns : List ℕ) : Type 0 where
+  pub file : File
+  pub resolves : outcome d (fileAt m icb) ≡ answered file
+  pub fits : brought (take (length ns - 1) (fileShares (length (asked d (fileAt m icb))) file)) ≤ room
+  pub past : room < brought (take (length ns) (fileShares (length (asked d (fileAt m icb))) file))
