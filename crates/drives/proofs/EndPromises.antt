@@ -23,6 +23,7 @@ use Rattle.drives.specs.Feeds.{Feed, lent, branch, crowded, Settled, set
 use Rattle.drives.specs.Feeds.Feed.{over, stop, name, hold, put, want}
 use Rattle.drives.specs.Openings.{isWanting as isOpening, wantedSector as openingSector, treeOf as openingTree, Fed as OpeningFed}
 use Rattle.drives.specs.Readings.{feedOf, isWanting, wantedSector, leftOf, Fed}
+use Rattle.drives.specs.Steppers.{Lends, Step, Steps, OpeningStep, OpeningSteps}
 use Rattle.drives.specs.declared.openings.Opening.{Opening}
 use Rattle.drives.specs.declared.readings.Reading.{Reading}
 use Rattle.drives.proofs.OpeningLaws.{tree-asks}
@@ -115,24 +116,14 @@ read-ends r row = by (isWanting r) refl
         let q : settledIn false 0 0 (feedOf r row) .rest ≡ feedOf r row = ap (λ (x : Settled). x .rest) (want-quiet 0 0 (feedOf r row) (feed-wants r row)) in
         over-by (rw q at (finite (feedOf r row) false 0 0)) r row (rw w)
 
--- so there is a walk over every disc whose sectors can be lent, as those of an image can
-pub record Lends (d : Disc) (n : ℕ) : Type 0 where
-  pub slice : List ℕ
-  pub is : lent slice ≡ d n
-
-pub image-lends : (image : List ℕ) (n : ℕ) → Lends (disc image) n
-image-lends image n = ⊎-elim
+-- so there is a walk over every disc whose sectors can be lent, as those of an image can: a part of an image is a slice, and so is one without bytes
+pub image-lends : (Slice : List ℕ → Type 0) (image : List ℕ) → ((a n : ℕ) → Slice (take n (drop a image))) → Slice [] → (n : ℕ) → Lends Slice (disc image) n
+image-lends Slice image part none n = ⊎-elim
     (λ (h : 2048 * n + 2048 ≤ length image).
     let l : length (take 2048 (drop (2048 * n) image)) ≡ 2048 = length-take-le 2048 (drop (2048 * n) image) (rw length-drop (omega arith)) in
-    record { slice = take 2048 (drop (2048 * n) image); is = rw (eq-eqb (length (take 2048 (drop (2048 * n) image))) 2048 l) (sym (held image n h)) })
-    (λ (h : length image < 2048 * n + 2048). record { slice = []; is = sym (missing image n h) })
+    record { slice = take 2048 (drop (2048 * n) image); typed = part (2048 * n) 2048; is = rw (eq-eqb (length (take 2048 (drop (2048 * n) image))) 2048 l) (sym (held image n h)) })
+    (λ (h : length image < 2048 * n + 2048). record { slice = []; typed = none; is = sym (missing image n h) })
     (split (2048 * n + 2048) (length image))
-
-pub record Step (r : Reading) (s : List ℕ) (row : List (List ℕ)) (out : List ℕ) : Type 0 where
-  pub state : Reading
-  pub places : List (List ℕ)
-  pub output : List ℕ
-  pub fed : Fed r s row out state places output
 
 pub record Walked (d : Disc) (r : Reading) (row : List (List ℕ)) (out : List ℕ) : Type 0 where
   pub wanted : List ℕ
@@ -142,23 +133,23 @@ pub record Walked (d : Disc) (r : Reading) (row : List (List ℕ)) (out : List �
   pub walk : Still d wanted r row out state places output
 
 -- a step in front of a walk, over any of both: their parts are never written out
-walk-on : {d : Disc} {r : Reading} {s : List ℕ} {row : List (List ℕ)} {out : List ℕ} → isWanting r ≡ true → lent s ≡ d (wantedSector r) → (x : Step r s row out)
-    → Walked d (x .state) (x .places) (x .output) → Walked d r row out
+walk-on : {d : Disc} {State : Reading → Type 0} {Row : List (List ℕ) → Type 0} {Slice : List ℕ → Type 0} {r : Reading} {s : List ℕ} {row : List (List ℕ)} {out : List ℕ} → isWanting r ≡ true
+    → lent s ≡ d (wantedSector r) → (x : Step State Row Slice r s row out) → Walked d (x .state) (x .places) (x .output) → Walked d r row out
 walk-on {r = r} {s = s} w l x y =
     record { wanted = wantedSector r ∷ y .wanted; state = y .state; places = y .places; output = y .output; walk = steps s w l (x .fed) (y .walk) }
 
-walk-by : (d : Disc) → ((n : ℕ) → Lends d n) → ((r : Reading) (s : List ℕ) (row : List (List ℕ)) (out : List ℕ) → Step r s row out)
-    → {r : Reading} {row : List (List ℕ)} (out : List ℕ) → Over r row → Walked d r row out
-walk-by d lend step out (now w) = record { wanted = []; state = _; places = _; output = _; walk = ends w }
-walk-by d lend step out (later {r} {row} w h) =
-    let l = lend (wantedSector r) in
-    let x = step r (l .slice) row out in
-    let f : Fed r (l .slice) (row ++ []) out (x .state) (x .places) (x .output) = rw (append-nil row) (x .fed) in
-    walk-on w (l .is) x (walk-by d lend step (x .output) (h [] (r .length) (l .slice) out (x .state) (x .places) (x .output) (same refl) f))
+module _ (d : Disc) (State : Reading → Type 0) (Row : List (List ℕ) → Type 0) (Slice : List ℕ → Type 0) (lend : (n : ℕ) → Lends Slice d n) (step : Steps State Row Slice) where
+  walk-by : {r : Reading} {row : List (List ℕ)} (out : List ℕ) → Over r row → State r → Row row → Slice out → Walked d r row out
+  walk-by out (now w) p q o = record { wanted = []; state = _; places = _; output = _; walk = ends w }
+  walk-by out (later {r} {row} w h) p q o =
+      let l = lend (wantedSector r) in
+      let x = step r (l .slice) row out p (l .typed) q o in
+      let f : Fed r (l .slice) (row ++ []) out (x .state) (x .places) (x .output) = rw (append-nil row) (x .fed) in
+      walk-on w (l .is) x (walk-by (x .output) (h [] (r .length) (l .slice) out (x .state) (x .places) (x .output) (same refl) f) (x .typed .0) (x .typed .1) (x .typed .2))
 
-pub read-walks : (d : Disc) → ((n : ℕ) → Lends d n) → ((r : Reading) (s : List ℕ) (row : List (List ℕ)) (out : List ℕ) → Step r s row out)
-    → (r : Reading) (row : List (List ℕ)) (out : List ℕ) → Walked d r row out
-read-walks d lend step r row out = walk-by d lend step out (read-ends r row)
+  -- by the contract of `Reading::step`, from any state that a program can have
+  pub read-walks : (r : Reading) (row : List (List ℕ)) (out : List ℕ) → State r → Row row → Slice out → Walked d r row out
+  read-walks r row out p q o = walk-by out (read-ends r row) p q o
 
 -- ---- an opening
 
@@ -195,22 +186,20 @@ open-by (ask s k) o e = by (isOpening o) refl (λ b x q. open-by (k b) x q)
 pub opening-ends : (o : Opening) → Opened o
 opening-ends o = open-by (openingTree o) o refl
 
-pub record OpeningStep (o : Opening) (s : List ℕ) : Type 0 where
-  pub state : Opening
-  pub fed : OpeningFed o s state
-
 pub record OpeningWalked (d : Disc) (o : Opening) : Type 0 where
   pub wanted : List ℕ
   pub state : Opening
   pub walk : OpeningWalk d wanted o state
 
-opening-by : (d : Disc) → ((n : ℕ) → Lends d n) → ((o : Opening) (s : List ℕ) → OpeningStep o s) → {o : Opening} → Opened o → OpeningWalked d o
-opening-by d lend step (now w) = record { wanted = []; state = _; walk = opened w }
-opening-by d lend step (later {o} w h) =
-    let l = lend (openingSector o) in
-    let x = step o (l .slice) in
-    let y = opening-by d lend step (h (l .slice) (x .state) (x .fed)) in
-    record { wanted = _; state = y .state; walk = opens (l .slice) w (l .is) (x .fed) (y .walk) }
+module _ (d : Disc) (State : Opening → Type 0) (Slice : List ℕ → Type 0) (lend : (n : ℕ) → Lends Slice d n) (step : OpeningSteps State Slice) where
+  opening-by : {o : Opening} → Opened o → State o → OpeningWalked d o
+  opening-by (now w) p = record { wanted = []; state = _; walk = opened w }
+  opening-by (later {o} w h) p =
+      let l = lend (openingSector o) in
+      let x = step o (l .slice) p (l .typed) in
+      let y = opening-by (h (l .slice) (x .state) (x .fed)) (x .typed) in
+      record { wanted = _; state = y .state; walk = opens (l .slice) w (l .is) (x .fed) (y .walk) }
 
-pub opening-walks : (d : Disc) → ((n : ℕ) → Lends d n) → ((o : Opening) (s : List ℕ) → OpeningStep o s) → (o : Opening) → OpeningWalked d o
-opening-walks d lend step o = opening-by d lend step (opening-ends o)
+  -- by the contract of `Opening::step`, from any state that a program can have
+  pub opening-walks : (o : Opening) → State o → OpeningWalked d o
+  opening-walks o p = opening-by (opening-ends o) p

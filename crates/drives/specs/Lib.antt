@@ -4,4 +4,5 @@ pub mod Openings
 pub mod FileFeeds
 pub mod Readings
 pub mod Moments
+pub mod Steppers
 pub mod inner
