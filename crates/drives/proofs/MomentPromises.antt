@@ -22,7 +22,7 @@ use Rattle.disc.specs.declared.places.Mount.{Mount}
 use Rattle.disc.specs.declared.refusals.Refusal.{Refusal}
 use Rattle.disc.specs.declared.refusals.Refusal.the-variants.{Malformed, NoRoom, NoSlot}
 use Rattle.disc.proofs.RanLaws.{never}
-use Rattle.disc.proofs.AskLaws.{askedBehind, asked-then, asked-done}
+use Rattle.disc.proofs.AskLaws.{asked-then, asked-done}
 use Rattle.records.specs.declared.allocations.LongAd.{LongAd}
 use Rattle.areas.specs.declared.AllocExtent.{AllocExtent}
 use Rattle.areas.specs.declared.AdContinuation.{AdContinuation}
@@ -49,6 +49,7 @@ use Rattle.drives.proofs.ShareLaws.{Sized, AllSized, lent-sized, sized-
 use Rattle.drives.proofs.Walks.{Walk, Still, still-walks}
 use Rattle.drives.proofs.Walks.Walk.{ends, steps}
 use Rattle.drives.proofs.ReadPromises as reads
+use Rattle.disc.specs.Lists.{askedBehind}
 
 slots-not-room : {A : Type 0} → ofSlots ≡ ofRoom → A
 slots-not-room e = absurd (let z : _≡_ {A = ℕ} 0 1 = cc in omega arith)

@@ -23,7 +23,7 @@ use Rattle.disc.specs.Ask.Ask.{done, refuse}
 use Rattle.disc.specs.Ask.Outcome.{answered, refused}
 use Rattle.disc.specs.declared.places.Mount.{Mount}
 use Rattle.disc.specs.declared.refusals.Refusal.{Refusal}
-use Rattle.disc.proofs.AskLaws.{askedBehind, asked-then, asked-done}
+use Rattle.disc.proofs.AskLaws.{asked-then, asked-done}
 use Rattle.disc.proofs.RanLaws.{never}
 use Rattle.disc.proofs.PickLaws.{not-both}
 use Rattle.records.specs.declared.allocations.LongAd.{LongAd}
@@ -46,6 +46,7 @@ use Rattle.drives.proofs.AcceptedLaws.{not-slots, heldBy, Crowds, chain
 use Rattle.drives.proofs.AcceptedLaws.FileIs.{in-entry, in-extents}
 use Rattle.drives.proofs.Walks.{Walk, Still, still-walks}
 use Rattle.drives.proofs.ReadPromises as reads
+use Rattle.disc.specs.Lists.{askedBehind}
 
 -- ---- the entry
 

@@ -6,7 +6,6 @@ use mathlib.Core.Option.{Option, none, some}
 use Prim.Native.Nat.{ℕ}
 use lib.Dec.{eqb}
 use borrow.Author.Tests.{eq-eqb, ne-eqb, eqb-true, eqb-false}
-use Rattle.disc.proofs.ByteLaws.{Bytes}
 use Rattle.disc.specs.Choice.{pick}
 use Rattle.disc.specs.Places.{placed}
 use Rattle.disc.specs.declared.places.Mount.{Mount}
@@ -24,6 +23,7 @@ use Rattle.files.specs.declared.pieces.Turn.the-variants.{Piece as APiec
 use Rattle.files.specs.inner.Pieces.{weighedAt, Weighed, Turned}
 use Rattle.files.specs.Turns.{weighedIn, weighedOf, turnWith, turnBy, turnAt}
 use Rattle.files.proofs.PieceLaws.{weigh-type, weigh-nowhere, weigh-there, turn-end, turn-hop, turn-refused, turn-piece}
+use Rattle.disc.specs.Parts.{Bytes}
 
 -- ---- the returns of `weigh`
 

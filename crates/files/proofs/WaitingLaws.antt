@@ -18,13 +18,14 @@ use Rattle.disc.specs.declared.places.Mount.{Mount}
 use Rattle.disc.specs.declared.refusals.Refusal.the-variants.{Io, Unsupported}
 use Rattle.disc.proofs.ImageLaws.{split}
 use Rattle.disc.proofs.RanLaws.{ran-done}
-use Rattle.disc.proofs.OnlyLaws.{isIo, anyMissing}
-use Rattle.disc.proofs.GrownLaws.{Waits, waits-first, waits-behind}
+use Rattle.disc.proofs.GrownLaws.{waits-first, waits-behind}
 use Rattle.areas.specs.declared.AllocExtent.{AllocExtent}
 use Rattle.files.specs.Reads.{extentsBytes}
 use Rattle.files.specs.ExtentSectors.{run, extentSectors}
 use Rattle.files.specs.inner.Pieces.{sectorsRead, beforeOutcome, joined, restOf}
 use Rattle.files.proofs.PieceLaws.{weigh-type, weigh-nowhere, weigh-missing, weigh-held}
+use Rattle.disc.specs.Refusing.{isIo}
+use Rattle.disc.specs.Lists.{anyMissing, Waits}
 
 -- ---- a run of sectors
 

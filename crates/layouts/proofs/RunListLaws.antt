@@ -35,7 +35,6 @@ use Rattle.files.specs.declared.resolves.Resolved.{Resolved}
 use Rattle.files.specs.declared.resolves.Resolved.the-variants.{Embedded, Chained, Refused as Unresolved}
 use Rattle.files.specs.Files.{entryMount, partOf}
 use Rattle.files.specs.Files.File.{embedded}
-use Rattle.disc.proofs.ByteLaws.{Bytes}
 use Rattle.files.specs.inner.Pieces.{PieceTurn, HopTurn, EndTurn, Turned}
 use Rattle.files.specs.Turns.{turnAt}
 use Rattle.files.proofs.TurnLaws.{turned}
@@ -50,6 +49,7 @@ use Rattle.layouts.specs.declared.runs.Running.{Running}
 use Rattle.layouts.specs.inner.RunLists.{runsAt, runsIn, countedBy, RunFront, RunStands, RunsLeft, RunsPlanned, aloneBy, entryRun, EntryPlanned, chainRuns}
 use Rattle.layouts.proofs.ListLaws.{At, at, Fit, fit, reply-each, stored}
 use Rattle.layouts.proofs.RunLaws.{beforeRuns, joinedRuns, here-long, runs-refused, none-wanted, turn-end, turn-piece}
+use Rattle.disc.specs.Parts.{Bytes}
 
 -- ---- how many, piece by piece
 

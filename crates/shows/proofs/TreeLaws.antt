@@ -16,13 +16,12 @@ use Rattle.disc.specs.Ran.{Ran, ran, onward}
 use Rattle.disc.specs.declared.places.Mount.{Mount}
 use Rattle.disc.specs.declared.refusals.Refusal.the-variants.{NoWork}
 use Rattle.disc.proofs.PickLaws.{not-both}
-use Rattle.disc.proofs.RanLaws.{ran-then, never}
+use Rattle.disc.proofs.RanLaws.{ran-then, never, ran-known}
 use Rattle.records.specs.declared.allocations.LongAd.{LongAd}
 use Rattle.identifiers.specs.Identifiers.{isDirectory}
 use Rattle.files.specs.Files.{fileBytes}
 use Rattle.listings.specs.Entries.{Entry, isSkipped, entries}
 use Rattle.directories.specs.Directories.{within, directoryBytes}
-use Rattle.directories.proofs.SpaceLaws.{ran-known}
 use Rattle.shows.specs.Shows.{Node, under, nodesOf, nodesAt}
 use Rattle.shows.specs.Nodes.{below, children, listed, EntriesOf, Under, Steps}
 

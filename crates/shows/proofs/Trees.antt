@@ -13,7 +13,6 @@ use Rattle.disc.specs.Ask.Outcome.{answered}
 use Rattle.disc.specs.Images.{disc}
 use Rattle.disc.specs.declared.places.Mount.{Mount}
 use Rattle.disc.specs.declared.refusals.Refusal.the-variants.{TooDeep}
-use Rattle.disc.proofs.ByteLaws.{Bytes}
 use Rattle.disc.proofs.RanLaws.{never}
 use Rattle.records.specs.declared.allocations.LongAd.{LongAd}
 use Rattle.listings.specs.declared.matchings.Matching.the-variants.{AsWritten}
@@ -22,6 +21,7 @@ use Rattle.shows.specs.Shows.{Node, nodesAt, mostLevels, tree}
 use Rattle.shows.specs.Nodes.{TreeOf, wayFrom, wayTo, pathOf, Plain}
 use Rattle.shows.proofs.TreeLaws.{BuiltAt, built-at, built-children, built-steps, built-each, each-split, parsed-entries}
 use Rattle.shows.proofs.WayLaws.{built-way, way-found}
+use Rattle.disc.specs.Parts.{Bytes}
 
 module _ (d : Disc) (m : Mount) (levels work : ℕ) (root : LongAd) {ns : List Node} (e : outcome d (tree m levels work root) ≡ answered ns) where
   built : BuiltAt d m work 0 root ns

@@ -14,7 +14,6 @@ use Rattle.disc.specs.Images.{disc}
 use Rattle.disc.specs.Places.{isChecked}
 use Rattle.disc.specs.Ran.{Ran, ran}
 use Rattle.disc.specs.declared.places.Mount.{Mount}
-use Rattle.disc.proofs.ByteLaws.{Bytes}
 use Rattle.disc.proofs.PickLaws.{not-both}
 use Rattle.disc.proofs.RanLaws.{ran-done}
 use Rattle.records.specs.declared.allocations.LongAd.{LongAd}
@@ -28,17 +27,20 @@ use Rattle.listings.specs.Paths.{Component, front, behind, componentsFrom, comp
 use Rattle.listings.proofs.PathLaws.{behind-slashes, first-component}
 use Rattle.listings.specs.declared.matchings.Matching.the-variants.{AsWritten}
 use Rattle.listings.proofs.MatchingLaws.{answers-written}
-use Rattle.listings.proofs.Promises.{NoneAnswers, answers-folded}
+use Rattle.listings.proofs.Promises.{answers-folded}
 use Rattle.listings.proofs.RecordLaws.{each-read, each-at, named-answers}
 use Rattle.directories.specs.Directories.{within, directoryBytes}
 use Rattle.directories.specs.Lookups.{Sought, seeking, seekPath, lookupOf, icbOf}
 use Rattle.directories.specs.Lookups.Sought.{reached}
 use Rattle.directories.proofs.LookupLaws.{look-is}
-use Rattle.directories.proofs.PathLaws.{Takes, first-takes, seek-takes}
+use Rattle.directories.proofs.PathLaws.{first-takes, seek-takes}
 use Rattle.shows.specs.Shows.{Node}
 use Rattle.shows.specs.Nodes.{entered, wayFrom, wayTo, joined, nameAt, pathOf, Sayable, NoneNamed, OnceNamed, Plain, listed, EntriesOf}
 use Rattle.shows.proofs.TreeLaws.{Parsed, parsed-entries, directory-fits, Deeper, Built, built-deeper}
 use Rattle.shows.proofs.TreeLaws.Built.{no-entry, skip-entry, file-entry, directory-entry}
+use Rattle.disc.specs.Parts.{Bytes}
+use Rattle.listings.specs.Matchings.{NoneAnswers}
+use Rattle.directories.specs.Leads.{Takes}
 
 -- ---- the way
 

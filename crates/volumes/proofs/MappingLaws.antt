@@ -28,8 +28,9 @@ use Rattle.volumes.specs.Sequences.{nothing, Parsed, Order, orderOf, any
 use Rattle.volumes.specs.Sequences.Parsed.{primary, partition, logical}
 use Rattle.volumes.specs.Openings.{mapAt, mapIn, isPlainMap, numberOfMap, startIn, startOfNumber, startOfMap, startThen, startsFrom, mapStarts, eachOf, fileSetRef, mountBy, mountedBy, mappedMount, mountOf, fileSetIn, volumeIn, fileSetAt, fileSetOn, mountingOf, mounting, opening}
 use Rattle.volumes.specs.Mapping.{isNumbered, anyMap, Check, check, firstOf, keptChecks, mapChecks, mappedChecks, startOr, fileSetSector, refusalOf, isThere}
-use Rattle.volumes.proofs.MapLaws.{Mapped, mapped-mount}
-use Rattle.volumes.proofs.Promises.{sequence, chosen, opening-is, scan-same}
+use Rattle.volumes.proofs.MapLaws.{mapped-mount}
+use Rattle.volumes.proofs.Promises.{opening-is, scan-same}
+use Rattle.volumes.specs.Made.{Mapped, sequence, chosen}
 
 -- ---- the descriptors of a number
 

@@ -23,8 +23,9 @@ use Rattle.writers.proofs.DirectoryLaws.{identifier-seal}
 use Rattle.writers.proofs.SealLaws.{Seal, tag-read, body-right, volume-placed, partition-placed}
 use Rattle.writers.proofs.SectorLaws.{sector-at}
 use Rattle.writers.proofs.OpeningLaws.{primary-seal, info-seal, partition-seal, logical-seal, unallocated-seal, terminating-seal, integrity-seal, anchor-seal, file-set-seal, entry-seal, onDisc, at-front}
-use Rattle.writers.proofs.ImageLaws.{Accepted, disk-front, disk-entries, behindFront, part-whole, part-count, small, front-long, directory-part-long, few-files, few-blocks}
+use Rattle.writers.proofs.ImageLaws.{disk-front, disk-entries, behindFront, part-whole, part-count, small, front-long, directory-part-long, few-files, few-blocks}
 use Rattle.writers.proofs.PlacedLaws.{last-there, parent-there}
+use Rattle.writers.specs.Vaults.{Accepted}
 
 -- ---- a sealed descriptor in a sector of its own
 

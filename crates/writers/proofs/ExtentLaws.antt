@@ -23,9 +23,10 @@ use Rattle.files.specs.Files.{fileAt, extentsOf, fileExtents}
 use Rattle.volumes.specs.declared.openings.How.{How}
 use Rattle.writers.specs.Layout.{summed, blocksOf, total, partitionFor, directorySize, sector, sealed, entryBody, rootEntry, image}
 use Rattle.writers.specs.Descriptors.{blockOf, extentsFor}
-use Rattle.writers.proofs.OpeningLaws.{mountFor, icbAt, vaultFor, root-there}
+use Rattle.writers.proofs.OpeningLaws.{root-there}
 use Rattle.writers.proofs.ReadLaws.{area-one, area-none, file-runs}
-use Rattle.writers.proofs.ImageLaws.{Accepted, summed-append, behindFront, disk-front, small, few-blocks, blocks, entry-there, short, near}
+use Rattle.writers.proofs.ImageLaws.{summed-append, behindFront, disk-front, small, few-blocks, blocks, entry-there, short, near}
+use Rattle.writers.specs.Vaults.{mountFor, icbAt, vaultFor, Accepted}
 
 -- ---- an entry, as the layout has it
 
