@@ -21,35 +21,25 @@ use Rattle.disc.proofs.PickLaws.{pick-both}
 use Rattle.volumes.specs.declared.openings.VolumeRecord.{VolumeRecord}
 use Rattle.drives.specs.Feeds.{Feed, lent, branch, crowded, Settled, settledIn, fedBy}
 use Rattle.drives.specs.Feeds.Feed.{over, stop, name, hold, put, want}
-use Rattle.drives.specs.Openings.{isWanting as isOpening, wantedSector as openingSector, treeOf as openingTree, Fed as OpeningFed}
+use Rattle.drives.specs.Openings.{isWanting as isOpening, wantedSector as openingSector, treeOf as openingTree}
 use Rattle.drives.specs.Readings.{feedOf, isWanting, wantedSector, leftOf, Fed}
-use Rattle.drives.specs.Steppers.{Lends, Step, Steps, OpeningStep, OpeningSteps}
+use Rattle.drives.specs.Steppers.{Lends, Step, Steps, OpeningSteps}
 use Rattle.drives.specs.declared.openings.Opening.{Opening}
 use Rattle.drives.specs.declared.readings.Reading.{Reading}
 use Rattle.drives.proofs.OpeningLaws.{tree-asks}
 use Rattle.drives.proofs.SettleLaws.{settled-lost, want-quiet}
 use Rattle.drives.proofs.ArrivalLaws.{feed-wants}
-use Rattle.drives.proofs.GrownLaws.{withLength, length-free, left-grown}
+use Rattle.drives.proofs.GrownLaws.{length-free, left-grown}
 use Rattle.drives.proofs.WalkLaws.{WantsAt, left-at}
-use Rattle.drives.proofs.Promises.{Walk as OpeningWalk}
-use Rattle.drives.proofs.Promises.Walk.{ends as opened, steps as opens}
-use Rattle.drives.proofs.Walks.{Still, rest-is}
-use Rattle.drives.proofs.Walks.Still.{ends, steps}
+use Rattle.drives.proofs.Walks.{rest-is}
+use Rattle.drives.specs.Walks.{withLength, Lengthens, Over, Walked, Opened, OpeningWalked}
+use Rattle.drives.specs.Walks.OpeningWalk.{ends as opened, steps as opens}
+use Rattle.drives.specs.Walks.Still.{ends, steps}
+use Rattle.drives.specs.Walks.Lengthens.{same, inside}
+use Rattle.drives.specs.Walks.Over.{now, later}
+use Rattle.drives.specs.Walks.Opened.{now, later}
 
 -- ---- a read
-
--- the row may be lengthened where the extents that wait are in it, as those of a state that `start` and `step` give are
-pub data Lengthens (r : Reading) (row places : List (List ℕ)) : Type 0 where
-  same : places ≡ [] → Lengthens r row places
-  inside : r .scan .listed ≤ length row → Lengthens r row places
-
--- every sequence of slices that may be lent from here on comes to an end, whatever outputs are lent with them and whatever `length` is set to: the state has
--- ended, or does so behind whatever is lent next
-pub data Over : Reading → List (List ℕ) → Type 0 where
-  now : {r : Reading} {row : List (List ℕ)} → isWanting r ≡ false → Over r row
-  later : {r : Reading} {row : List (List ℕ)} → isWanting r ≡ true
-      → ((places : List (List ℕ)) (n : ℕ) (s out : List ℕ) (x : Reading) (row₁ : List (List ℕ)) (out₁ : List ℕ) → Lengthens r row places → Fed (withLength r n) s (row ++ places) out x row₁ out₁ → Over x row₁)
-      → Over r row
 
 -- a feed of which every branch ends, as every feed does, in whatever slots and room
 data Finite : Feed → Type 0 where
@@ -125,13 +115,6 @@ image-lends Slice image part none n = ⊎-elim
     (λ (h : length image < 2048 * n + 2048). record { slice = []; typed = none; is = sym (missing image n h) })
     (split (2048 * n + 2048) (length image))
 
-pub record Walked (d : Disc) (r : Reading) (row : List (List ℕ)) (out : List ℕ) : Type 0 where
-  pub wanted : List ℕ
-  pub state : Reading
-  pub places : List (List ℕ)
-  pub output : List ℕ
-  pub walk : Still d wanted r row out state places output
-
 -- a step in front of a walk, over any of both: their parts are never written out
 walk-on : {d : Disc} {State : Reading → Type 0} {Row : List (List ℕ) → Type 0} {Slice : List ℕ → Type 0} {r : Reading} {s : List ℕ} {row : List (List ℕ)} {out : List ℕ} → isWanting r ≡ true
     → lent s ≡ d (wantedSector r) → (x : Step State Row Slice r s row out) → Walked d (x .state) (x .places) (x .output) → Walked d r row out
@@ -152,10 +135,6 @@ module _ (d : Disc) (State : Reading → Type 0) (Row : List (List ℕ) → Type
   read-walks r row out p q o = walk-by out (read-ends r row) p q o
 
 -- ---- an opening
-
-pub data Opened : Opening → Type 0 where
-  now : {o : Opening} → isOpening o ≡ false → Opened o
-  later : {o : Opening} → isOpening o ≡ true → ((s : List ℕ) (x : Opening) → OpeningFed o s x → Opened x) → Opened o
 
 open-by : (t : Ask VolumeRecord) (o : Opening) → openingTree o ≡ t → Opened o
 unfolding branch
@@ -185,11 +164,6 @@ open-by (ask s k) o e = by (isOpening o) refl (λ b x q. open-by (k b) x q)
 
 pub opening-ends : (o : Opening) → Opened o
 opening-ends o = open-by (openingTree o) o refl
-
-pub record OpeningWalked (d : Disc) (o : Opening) : Type 0 where
-  pub wanted : List ℕ
-  pub state : Opening
-  pub walk : OpeningWalk d wanted o state
 
 module _ (d : Disc) (State : Opening → Type 0) (Slice : List ℕ → Type 0) (lend : (n : ℕ) → Lends Slice d n) (step : OpeningSteps State Slice) where
   opening-by : {o : Opening} → Opened o → State o → OpeningWalked d o

@@ -19,25 +19,7 @@ use Rattle.drives.specs.Feeds.Feed.{over}
 use Rattle.drives.specs.FileFeeds.{extentFeed, extentsFeed, joined, namedBy, entryFeed}
 use Rattle.drives.specs.Readings.{extentIn, extentsIn, headed, restOf, padded, behindArea, feedOf, isWanting, endTree, leftOf}
 use Rattle.drives.specs.declared.readings.Reading.{Reading}
-
--- the same state with another number of bytes at the output
-abbrev pub withLength : Reading → ℕ → Reading
-withLength r n = record {
-  phase = r .phase;
-  at = r .at;
-  left = r .left;
-  mount = r .mount;
-  kind = r .kind;
-  hops = r .hops;
-  missing = r .missing;
-  size = r .size;
-  next = r .next;
-  scan = r .scan;
-  body = r .body;
-  answer = r .answer;
-  count = r .count;
-  length = n;
-}
+use Rattle.drives.specs.Walks.{withLength}
 
 pub length-free : (r : Reading) (n : ℕ) (row : List (List ℕ)) → leftOf (withLength r n) row ≡ leftOf r row
 unfolding leftOf feedOf

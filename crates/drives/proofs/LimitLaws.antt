@@ -2,31 +2,27 @@
 use mathlib.Core.Path.{_≡_, refl, ap, sym, _∙_}
 use mathlib.Core.Bool.{Bool, true, false, _||_}
 use mathlib.Core.List.{List, [], _∷_, _++_, append-nil, append-assoc}
-use Prim.Native.Nat.{ℕ, zero, suc, _+_, _-_, _<_, _≤_, max}
+use Prim.Native.Nat.{ℕ, _+_, _-_, _<_, _≤_, max}
 use native.Mathlib.Nat.{add-zero}
 use native.Mathlib.Omega.{arith}
 use lib.ListN.{length, take, drop, length-append, take-append-drop}
-use lib.Seq.{take-all, take-append-le, take-append-add}
+use lib.Seq.{take-append-le, take-append-add}
 use lib.Dec.{ltb, leb}
 use borrow.Author.Tests.{lt-ltb, le-ltb, ltb-true, ltb-false, le-leb, leb-true, leb-false}
 use Rattle.disc.specs.Choice.{pick}
-use Rattle.disc.specs.Ask.{Disc, Held, Ask, Outcome, given, outcome, asked}
+use Rattle.disc.specs.Ask.{Disc, Held, given, outcome, asked}
 use Rattle.disc.specs.Ask.Held.{holds, lacks}
+use Rattle.disc.specs.Marks.{Front}
 use Rattle.disc.specs.Ask.Outcome.{answered, refused}
-use Rattle.disc.specs.declared.refusals.Refusal.{Refusal}
 use Rattle.disc.specs.declared.refusals.Refusal.the-variants.{Io, NoRoom, NoSlot}
 use Rattle.disc.proofs.PickLaws.{not-both}
 use Rattle.drives.specs.Feeds.{Feed, collected, Grown, firstOf, behindFirst, within, End, endOf, wanted, arrived, heldMost, Short, shortOf}
 use Rattle.drives.specs.Feeds.Feed.{over, stop, name, hold, put, want}
 use Rattle.drives.specs.Feeds.Short.{enough, ofSlots, ofRoom}
-use Rattle.drives.specs.Feeds.End.{answers, refuses}
+use Rattle.drives.specs.Feeds.End.{refuses}
+use Rattle.drives.specs.Told.{outcomeBy}
 
 -- ---- without limits a feed is the call that it collects
-
--- an outcome by how it ended and what had arrived
-abbrev pub outcomeBy : End → List ℕ → Outcome (List ℕ)
-outcomeBy answers b = answered b
-outcomeBy (refuses r) b = refused r
 
 pub collected-outcome : (d : Disc) (front : List ℕ) (f : Feed) → outcome d (collected front f) ≡ outcomeBy (endOf d f) (front ++ arrived d f)
 unfolding outcome collected endOf arrived
@@ -58,12 +54,9 @@ collected-asked d front (want s k) = ap (λ l. s ∷ l) (by (d s) (λ b. collect
 -- ---- within lent memory
 
 -- the sectors wanted are a front of those of the read
-pub record Front (a b : List ℕ) : Type 0 where
-  pub behind : List ℕ
-  pub joins : b ≡ a ++ behind
 
 front-none : (b : List ℕ) → Front [] b
-front-none b = record { behind = b; joins = refl }
+front-none b = record { rest = b; is = refl }
 
 pub within-front : (d : Disc) (lost : Bool) (slots room : ℕ) (gs : List Grown) (f : Feed) → Front (wanted d (within lost slots room gs f)) (wanted d f)
 unfolding within wanted
@@ -87,8 +80,8 @@ within-front d lost slots room gs (want s k) = by (d s) (λ b. within-front d lo
     cut b = within lost (slots + firstOf gs .slots) (room + firstOf gs .room) (behindFirst gs) (k b)
 
     by : (x : Held) → ((b : List ℕ) → Front (wanted d (cut b)) (wanted d (k b))) → Front (s ∷ given x (λ b. wanted d (cut b)) []) (s ∷ given x (λ b. wanted d (k b)) [])
-    by (holds b) ih = let p = ih b in record { behind = p .behind; joins = ap (λ l. s ∷ l) (p .joins) }
-    by lacks ih = record { behind = []; joins = refl }
+    by (holds b) ih = let p = ih b in record { rest = p .rest; is = ap (λ l. s ∷ l) (p .is) }
+    by lacks ih = record { rest = []; is = refl }
 
 -- the bytes that arrive are a front of those of the read
 pub within-arrived : (d : Disc) (lost : Bool) (slots room : ℕ) (gs : List Grown) (f : Feed) → Front (arrived d (within lost slots room gs f)) (arrived d f)
@@ -105,10 +98,10 @@ within-arrived d lost slots room gs (put b f) = by (leb (length b) room) (within
   where
     by : (t : Bool) → Front (arrived d (within lost slots (room - length b) gs f)) (arrived d f)
         → Front (arrived d (pick t (put b (within lost slots (room - length b) gs f)) (put (take room b) (stop NoRoom)))) (b ++ arrived d f)
-    by true ih = record { behind = ih .behind; joins = ap (λ x. b ++ x) (ih .joins) ∙ sym (append-assoc b (arrived d (within lost slots (room - length b) gs f)) (ih .behind)) }
+    by true ih = record { rest = ih .rest; is = ap (λ x. b ++ x) (ih .is) ∙ sym (append-assoc b (arrived d (within lost slots (room - length b) gs f)) (ih .rest)) }
     by false ih = record {
-      behind = drop room b ++ arrived d f;
-      joins = ap (λ x. x ++ arrived d f) (sym (take-append-drop room b)) ∙ append-assoc (take room b) (drop room b) (arrived d f) ∙ rw (append-nil (take room b));
+      rest = drop room b ++ arrived d f;
+      is = ap (λ x. x ++ arrived d f) (sym (take-append-drop room b)) ∙ append-assoc (take room b) (drop room b) (arrived d f) ∙ rw (append-nil (take room b));
     }
 within-arrived d lost slots room gs (want s k) = by (d s) (λ b. within-arrived d lost (slots + firstOf gs .slots) (room + firstOf gs .room) (behindFirst gs) (k b))
   where

@@ -6,7 +6,7 @@ use mathlib.Core.Path.{_≡_, refl, ap, sym, _∙_}
 use mathlib.Core.Bool.{Bool, true, false, _||_}
 use mathlib.Core.List.{List, [], _∷_, _++_, append-nil, append-assoc}
 use mathlib.Core.Option.{Option, none, some}
-use Prim.Native.Nat.{ℕ, zero, suc, _+_, _-_, _<_, _≤_}
+use Prim.Native.Nat.{ℕ, zero, suc, _+_, _-_, _<_}
 use native.Mathlib.Nat.{add-zero, zero-add}
 use native.Mathlib.Omega.{arith}
 use lib.ListN.{length, take, replicate, length-append}
@@ -15,17 +15,15 @@ use borrow.Author.Tests.{leb-false}
 use Rattle.disc.specs.Choice.{pick}
 use Rattle.disc.specs.Ask.{Disc, Held, Ask, Outcome, given, outcome, asked, then, andThen}
 use Rattle.disc.specs.Ask.Held.{holds, lacks}
-use Rattle.disc.specs.Ask.Ask.{done, refuse, ask}
+use Rattle.disc.specs.Ask.Ask.{done, refuse}
 use Rattle.disc.specs.Ask.Outcome.{answered, refused}
 use Rattle.disc.specs.Places.{icbPlaced, isChecked, standing as placing}
 use Rattle.disc.specs.declared.places.Mount.{Mount}
-use Rattle.disc.specs.declared.refusals.Refusal.{Refusal}
 use Rattle.disc.specs.declared.refusals.Refusal.the-variants.{Malformed, NoRoom, NoSlot}
 use Rattle.disc.proofs.RanLaws.{never}
 use Rattle.disc.proofs.AskLaws.{asked-then, asked-done}
 use Rattle.records.specs.declared.allocations.LongAd.{LongAd}
 use Rattle.areas.specs.declared.AllocExtent.{AllocExtent}
-use Rattle.areas.specs.declared.AdContinuation.{AdContinuation}
 use Rattle.areas.specs.declared.AdEnding.{AdEnding}
 use Rattle.areas.specs.declared.AdEnding.the-variants.{End, Continuation, Refused}
 use Rattle.areas.specs.Areas.{Area}
@@ -35,7 +33,7 @@ use Rattle.entries.specs.declared.«file_entries».EntryRead.the-variants.{Read
 use Rattle.chains.specs.Chains.{mostContinuations, nextArea, continued}
 use Rattle.files.specs.Files.{Located, entryAt, entryMount, isEmbedded, embeddedBytes, located, entryIn, chainOf, File, resolved, fileAt}
 use Rattle.files.specs.Files.File.{embedded, chained}
-use Rattle.drives.specs.Feeds.{Feed, naming, Grown, firstOf, within, wanted, Short, shortOf}
+use Rattle.drives.specs.Feeds.{Feed, naming, Grown, firstOf, within, wanted, shortOf}
 use Rattle.drives.specs.Feeds.Feed.{over, stop, put}
 use Rattle.drives.specs.Feeds.Short.{enough, ofSlots, ofRoom}
 use Rattle.drives.specs.FileFeeds.{extentsFeed, joined, namedBy, chainFeed, entryFeed, fileFeed}
@@ -45,11 +43,12 @@ use Rattle.drives.specs.declared.readings.Reading.{Reading}
 use Rattle.drives.proofs.MomentLaws.{later, room-none, Passes, naming-passes, naming-refused, following-passes, following-refused, full-first, full-zeros}
 use Rattle.drives.proofs.SlotLaws.{outcome-then}
 use Rattle.drives.proofs.AcceptedLaws.{upto, areaOf}
-use Rattle.drives.proofs.ShareLaws.{Sized, AllSized, lent-sized, sized-back, not-room, extents-tell}
-use Rattle.drives.proofs.Walks.{Walk, Still, still-walks}
-use Rattle.drives.proofs.Walks.Walk.{ends, steps}
+use Rattle.drives.proofs.ShareLaws.{AllSized, lent-sized, sized-back, not-room, extents-tell}
+use Rattle.drives.proofs.Walks.{still-walks}
 use Rattle.drives.proofs.ReadPromises as reads
 use Rattle.disc.specs.Lists.{askedBehind}
+use Rattle.drives.specs.Walks.{Walk, Still}
+use Rattle.drives.specs.Walks.Walk.{ends, steps}
 
 slots-not-room : {A : Type 0} → ofSlots ≡ ofRoom → A
 slots-not-room e = absurd (let z : _≡_ {A = ℕ} 0 1 = cc in omega arith)

@@ -31,35 +31,29 @@ use Rattle.files.specs.Files.{Located, entryAt, entryMount, isEmbedded, fileByt
 use Rattle.volumes.specs.Openings.{usual, opening, openedBy, openedOf}
 use Rattle.volumes.specs.declared.openings.VolumeRecord.{VolumeRecord}
 use Rattle.volumes.specs.declared.openings.Opened.{Opened}
+use Rattle.disc.specs.Marks.{Front}
 use Rattle.disc.specs.Ran.{ran}
 use Rattle.drives.specs.Feeds.{Feed, lent, branch, following, naming, Grown, within, endOf, wanted, arrived, heldMost, shortOf}
 use Rattle.drives.specs.Feeds.Feed.{over, stop, name, hold, put, want}
 use Rattle.drives.specs.Feeds.Short.{enough}
 use Rattle.drives.specs.FileFeeds.{extentFeed, standing, extentsFeed, namedBy, chainFeed, entryFeed, fileFeed}
-use Rattle.drives.specs.Openings.{isWanting, wantedSector, treeOf, behindWanted, saidOf, Stands, Fed}
+use Rattle.drives.specs.Openings.{isWanting, wantedSector, treeOf, behindWanted, saidOf, Stands}
 use Rattle.drives.specs.declared.openings.Opening.{Opening}
 use Rattle.drives.proofs.OpeningLaws.{tree-asks, ended-tree}
 use Rattle.drives.proofs.FeedLaws.{file-collected}
-use Rattle.drives.proofs.LimitLaws.{outcomeBy, collected-outcome, collected-asked, Front, within-front, never-short, Full, within-full, HoldsFirst, Crowded, within-crowded}
+use Rattle.drives.proofs.LimitLaws.{collected-outcome, collected-asked, within-front, never-short, Full, within-full, HoldsFirst, Crowded, within-crowded}
+use Rattle.drives.specs.Told.{outcomeBy, OpeningCame, Opens, OpensAlike}
+use Rattle.drives.specs.Walks.{OpeningWalk}
+use Rattle.drives.specs.Walks.OpeningWalk.{ends, steps}
 
 -- ---- the opening, over a disc
-
--- a walk: as long as a sector is wanted it is lent what the disc has of it, `ns` being the sectors that were wanted, in order
-pub data Walk (d : Disc) : List ℕ → Opening → Opening → Type 0 where
-  ends : {o : Opening} → isWanting o ≡ false → Walk d [] o o
-  steps : {o r q : Opening} {ns : List ℕ} (s : List ℕ) → isWanting o ≡ true → lent s ≡ d (wantedSector o) → Fed o s r → Walk d ns r q → Walk d (wantedSector o ∷ ns) o q
 
 said-count : (n : ℕ) (t : Ask VolumeRecord) → saidOf n t .count ≡ n
 said-count n (done v) = refl
 said-count n (refuse r) = refl
 said-count n (ask s k) = refl
 
--- what a walk comes to
-pub record Came (d : Disc) (t : Ask VolumeRecord) (ns : List ℕ) (m : ℕ) (q : Opening) : Type 0 where
-  pub list : ns ≡ asked d t
-  pub says : q .opened ≡ openedBy (reported (m + length ns)) (outcome d t)
-
-came-ended : (d : Disc) (m : ℕ) (o : Opening) → isWanting o ≡ false → (t : Ask VolumeRecord) → Stands t (reported m) o → Came d t [] m o
+came-ended : (d : Disc) (m : ℕ) (o : Opening) → isWanting o ≡ false → (t : Ask VolumeRecord) → Stands t (reported m) o → OpeningCame d t [] m o
 unfolding asked outcome
 came-ended d m o e (done v) p = record { list = refl; says = let z : m + 0 ≡ m = omega arith in rw z (p .says) }
 came-ended d m o e (refuse r) p = record { list = refl; says = let z : m + 0 ≡ m = omega arith in rw z (p .says) }
@@ -70,7 +64,7 @@ came-ended d m o e (ask s k) p = absurd (never (eqb (o .opened .answer) 0) (sym 
     never false q = let z : _≡_ {A = ℕ} 0 1 = cc in omega arith
 
 came-step : (d : Disc) (m : ℕ) (o r q : Opening) (ns s : List ℕ) (t : Ask VolumeRecord) → isWanting o ≡ true → lent s ≡ d (wantedSector o) → Stands t (reported m) o
-    → Came d (branch (lent s) (treeOf o)) ns (m + 1) q → Came d t (wantedSector o ∷ ns) m q
+    → OpeningCame d (branch (lent s) (treeOf o)) ns (m + 1) q → OpeningCame d t (wantedSector o ∷ ns) m q
 unfolding asked outcome branch
 came-step d m o r q ns s t w h p c =
     let e = tree-asks o w in
@@ -89,30 +83,20 @@ next-count : (n m : ℕ) → n ≡ reported m → reported (n + 1) ≡ reported 
 next-count n m e = omega arith
 
 -- walked to its end over a disc, the opening has wanted the sectors of its list in order, and says the answer, the count and the volume of the call
-pub walk-comes : {d : Disc} {ns : List ℕ} {o q : Opening} → Walk d ns o q → (m : ℕ) (t : Ask VolumeRecord) → Stands t (reported m) o → Came d t ns m q
+pub walk-comes : {d : Disc} {ns : List ℕ} {o q : Opening} → OpeningWalk d ns o q → (m : ℕ) (t : Ask VolumeRecord) → Stands t (reported m) o → OpeningCame d t ns m q
 walk-comes {d} (ends {o} e) m t p = came-ended d m o e t p
 walk-comes {d} (steps {o} {r} {q} {ns} s w h f rest) m t p =
     let c : o .opened .count ≡ reported m = ap (λ (x : Opened). x .count) (p .says) ∙ said-count (reported m) t in
     let z : reported (o .opened .count + 1) ≡ reported (m + 1) = next-count (o .opened .count) m c in
     came-step d m o r q ns s t w h p (walk-comes rest (m + 1) (branch (lent s) (treeOf o)) (rw z at (f .takes w)))
 
--- from the start: the sectors wanted are the opening's list in order, and what is said at the end is what the opening of that disc says
-pub record Opens (d : Disc) (ns : List ℕ) (q : Opening) : Type 0 where
-  pub list : ns ≡ asked d (opening usual)
-  pub says : q .opened ≡ openedOf (ran d (opening usual))
-
-pub opening-comes : {d : Disc} {ns : List ℕ} {o q : Opening} → Stands (opening usual) 0 o → Walk d ns o q → Opens d ns q
+pub opening-comes : {d : Disc} {ns : List ℕ} {o q : Opening} → Stands (opening usual) 0 o → OpeningWalk d ns o q → Opens d ns q
 unfolding ran
 opening-comes {d} p w =
     let c = walk-comes w 0 (opening usual) p in
     record { list = c .list; says = c .says ∙ ap (λ x. openedBy (reported x) (outcome d (opening usual))) (zero-add _ ∙ ap length (c .list)) }
 
--- discs that agree on the sectors wanted give the same list, answer, count and volume
-pub record OpensAlike (ns ns′ : List ℕ) (q q′ : Opening) : Type 0 where
-  pub list : ns ≡ ns′
-  pub says : q .opened ≡ q′ .opened
-
-pub openings-alike : {d e : Disc} {ns ns′ : List ℕ} {o q q′ : Opening} → Stands (opening usual) 0 o → Walk d ns o q → Walk e ns′ o q′ → Agree d e ns → OpensAlike ns ns′ q q′
+pub openings-alike : {d e : Disc} {ns ns′ : List ℕ} {o q q′ : Opening} → Stands (opening usual) 0 o → OpeningWalk d ns o q → OpeningWalk e ns′ o q′ → Agree d e ns → OpensAlike ns ns′ q q′
 openings-alike {d} {e} p v w a =
     let c = opening-comes p v in
     let g = opening-comes p w in

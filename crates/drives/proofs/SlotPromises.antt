@@ -10,43 +10,42 @@
 --   in a row that stays: 7 exactly when there are more extents than places                                still-seven, still-few
 use mathlib.Core.Path.{_≡_, refl, ap, sym, _∙_}
 use mathlib.Core.Bool.{Bool, true, false}
-use mathlib.Core.List.{List, [], _∷_, _++_, append-nil}
+use mathlib.Core.List.{List, [], _∷_, _++_}
 use mathlib.Core.Logic.{⊎-elim}
 use Prim.Native.Nat.{ℕ, zero, suc, _+_, _<_, _≤_}
-use native.Mathlib.Nat.{add-zero, zero-add}
+use native.Mathlib.Nat.{add-zero}
 use native.Mathlib.Omega.{arith}
 use lib.ListN.{length, take, length-append}
 use lib.Dec.{leb}
 use Rattle.disc.specs.Choice.{pick}
-use Rattle.disc.specs.Ask.{Disc, Ask, Outcome, outcome, asked, then, andThen}
-use Rattle.disc.specs.Ask.Ask.{done, refuse}
+use Rattle.disc.specs.Ask.{Disc, Outcome, outcome, asked, andThen}
+use Rattle.disc.specs.Ask.Ask.{done}
 use Rattle.disc.specs.Ask.Outcome.{answered, refused}
 use Rattle.disc.specs.declared.places.Mount.{Mount}
 use Rattle.disc.specs.declared.refusals.Refusal.{Refusal}
-use Rattle.disc.proofs.AskLaws.{asked-then, asked-done}
+use Rattle.disc.proofs.AskLaws.{asked-done}
 use Rattle.disc.proofs.RanLaws.{never}
 use Rattle.disc.proofs.PickLaws.{not-both}
 use Rattle.records.specs.declared.allocations.LongAd.{LongAd}
 use Rattle.areas.specs.declared.AllocExtent.{AllocExtent}
 use Rattle.areas.specs.declared.AdEnding.{AdEnding}
 use Rattle.areas.specs.declared.AdEnding.the-variants.{End, Continuation, Refused}
-use Rattle.areas.specs.Areas.{Area}
-use Rattle.chains.specs.Chains.{mostContinuations, continued}
-use Rattle.files.specs.Files.{Located, entryAt, entryMount, isEmbedded, embeddedBytes, chainOf, File, resolved, fileAt, extentsOf, fileExtents}
-use Rattle.drives.specs.Feeds.{Feed, Grown, within, wanted, heldMost, Short, shortOf}
+use Rattle.chains.specs.Chains.{mostContinuations}
+use Rattle.files.specs.Files.{Located, entryAt, entryMount, isEmbedded, embeddedBytes, File, fileAt, extentsOf, fileExtents}
+use Rattle.drives.specs.Feeds.{Feed, Grown, within, wanted, heldMost, shortOf}
 use Rattle.drives.specs.Feeds.Feed.{over, put}
 use Rattle.drives.specs.Feeds.Short.{enough, ofSlots, ofRoom}
 use Rattle.drives.specs.FileFeeds.{chainFeed, entryFeed, fileFeed}
 use Rattle.drives.specs.Readings.{Starts}
 use Rattle.drives.specs.Moments.{slotsBy, roomBy, Accepted, unlessRefused, areasFrom, areasBehind, entryAreas, fileAreas, extentsIn, sectorsIn, CrowdedAt, CrowdedStill}
 use Rattle.drives.specs.declared.readings.Reading.{Reading}
-use Rattle.drives.proofs.MomentLaws.{later, slots-none, slots-add, Passes, following-passes, following-held, following-refused, following-holds-none}
+use Rattle.drives.proofs.MomentLaws.{later, slots-none, slots-add, following-passes, following-held, following-refused, following-holds-none}
 use Rattle.drives.proofs.SlotLaws.{outcome-then}
-use Rattle.drives.proofs.AcceptedLaws.{not-slots, heldBy, Crowds, chain-held, refused-enough, chain-seven, chain-many, Lists, kept, chain-lists, areaOf, FileIs, file-is}
+use Rattle.drives.proofs.AcceptedLaws.{not-slots, heldBy, Crowds, chain-held, refused-enough, chain-seven, chain-many, kept, chain-lists, areaOf, FileIs, file-is}
 use Rattle.drives.proofs.AcceptedLaws.FileIs.{in-entry, in-extents}
-use Rattle.drives.proofs.Walks.{Walk, Still, still-walks}
+use Rattle.drives.proofs.Walks.{still-walks}
 use Rattle.drives.proofs.ReadPromises as reads
-use Rattle.disc.specs.Lists.{askedBehind}
+use Rattle.drives.specs.Walks.{Walk, Still}
 
 -- ---- the entry
 

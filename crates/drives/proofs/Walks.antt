@@ -18,35 +18,13 @@ use Rattle.drives.specs.Feeds.Feed.{over, stop}
 use Rattle.drives.specs.Feeds.End.{answers, refuses}
 use Rattle.drives.specs.Readings.{isWanting, wantedSector, leftOf, numberOf, putAt, Goes, zeroed, Fed}
 use Rattle.drives.specs.declared.readings.Reading.{Reading}
-use Rattle.drives.proofs.GrownLaws.{withLength, length-free, left-grown}
+use Rattle.drives.proofs.GrownLaws.{length-free, left-grown}
 use Rattle.drives.proofs.WalkLaws.{Feeds, left-at, fed-at, settles, put-fits, put-front, put-behind}
+use Rattle.drives.specs.Walks.{Moved, Walk, Still}
+use Rattle.drives.specs.Walks.Walk.{ends, steps}
+use Rattle.drives.specs.Walks.Still.{ends, steps}
 
 -- ---- walks
-
--- what a caller may do before a step: lengthen the row by places that hold anything, lengthen the output, and take the first of the bytes that have arrived
--- away and set `length` back, so that the others stand at the front. Nothing else of the state changes, and there is as much room as before, or more
-pub record Moved (g : Grown) (taken : List ℕ) (r : Reading) (row : List (List ℕ)) (out : List ℕ) (r′ : Reading) (row′ : List (List ℕ)) (out′ : List ℕ) : Type 0 where
-  pub places : List (List ℕ)
-  pub state : r′ ≡ withLength r (r′ .length)
-  pub longer : row′ ≡ row ++ places
-  pub slots : length places ≡ g .slots
-  pub kept : take (r .length) out ≡ taken ++ take (r′ .length) out′
-  pub inside : r′ .length ≤ length out′
-  pub room : length out′ - r′ .length ≡ length out - r .length + g .room
-
--- as long as a sector is wanted it is lent what the disc has of it, row and output having grown before each step as `gs` says; `ns` are the sectors that were
--- wanted, in order, and `taken` the bytes that were taken away, in order
-pub data Walk (d : Disc) : List ℕ → List Grown → List ℕ → Reading → List (List ℕ) → List ℕ → Reading → List (List ℕ) → List ℕ → Type 0 where
-  ends : {gs : List Grown} {r : Reading} {row : List (List ℕ)} {out : List ℕ} → isWanting r ≡ false → Walk d [] gs [] r row out r row out
-  steps : {gs : List Grown} {taken took ns : List ℕ} {r r₁ x q : Reading} {row row₁ row₂ row′ : List (List ℕ)} {out out₁ out₂ out′ : List ℕ} (s : List ℕ)
-      → isWanting r ≡ true → lent s ≡ d (wantedSector r) → Moved (firstOf gs) taken r row out r₁ row₁ out₁ → Fed r₁ s row₁ out₁ x row₂ out₂
-      → Walk d ns (behindFirst gs) took x row₂ out₂ q row′ out′ → Walk d (wantedSector r ∷ ns) gs (taken ++ took) r row out q row′ out′
-
--- the same with row and output the same ones, untouched between steps
-pub data Still (d : Disc) : List ℕ → Reading → List (List ℕ) → List ℕ → Reading → List (List ℕ) → List ℕ → Type 0 where
-  ends : {r : Reading} {row : List (List ℕ)} {out : List ℕ} → isWanting r ≡ false → Still d [] r row out r row out
-  steps : {r x q : Reading} {row row₁ row′ : List (List ℕ)} {out out₁ out′ ns : List ℕ} (s : List ℕ) → isWanting r ≡ true → lent s ≡ d (wantedSector r)
-      → Fed r s row out x row₁ out₁ → Still d ns x row₁ out₁ q row′ out′ → Still d (wantedSector r ∷ ns) r row out q row′ out′
 
 -- ---- what a walk comes to
 

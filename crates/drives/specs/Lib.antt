@@ -5,4 +5,6 @@ pub mod FileFeeds
 pub mod Readings
 pub mod Moments
 pub mod Steppers
+pub mod Told
+pub mod Walks
 pub mod inner

@@ -19,12 +19,12 @@ use Rattle.disc.proofs.ImageLaws.{split}
 use Rattle.records.specs.declared.allocations.LongAd.{LongAd}
 use Rattle.areas.specs.declared.AllocExtent.{AllocExtent}
 use Rattle.files.specs.Reads.{extentsBytes, visited}
-use Rattle.files.specs.Files.{Located, entryMount, File, fileAt, visitsOf, fileVisited, visitsIn}
+use Rattle.files.specs.Files.{Located, entryMount, File, fileAt, visitsOf, fileVisited}
 use Rattle.files.specs.Files.File.{embedded, chained}
-use Rattle.files.specs.Begun.{Begins}
-use Rattle.files.specs.inner.Pieces.{sectorsRead, beforeOutcome, joined, restOf, There}
+use Rattle.files.specs.Begun.{Begins, visits}
+use Rattle.files.specs.inner.Pieces.{sectorsRead, beforeOutcome, restOf, There}
 use Rattle.files.proofs.PieceLaws.{part-long}
-use Rattle.files.proofs.BoundLaws.{Off, On, on, weighs}
+use Rattle.files.proofs.BoundLaws.{Off, on, weighs}
 
 take-next : (n : ℕ) (e : AllocExtent) (es : List AllocExtent) → take (1 + n) (e ∷ es) ≡ e ∷ take n es
 take-next n e es = let z : 1 + n ≡ suc n = omega arith in rw z
@@ -165,18 +165,15 @@ module _ (image : List ℕ) (m : Mount) (es : List AllocExtent) (want : ℕ) whe
 -- ---- of a file: the E of the bound
 
 module _ (image : List ℕ) (m : Mount) (icb : LongAd) where
-  abbrev visits : ℕ
-  visits = visitsIn (ran (disc image) (fileVisited m icb) .outcome)
-
-  file-visits : {f : File} → ran (disc image) (fileAt m icb) .outcome ≡ answered f → visits ≡ visitsOf f
+  file-visits : {f : File} → ran (disc image) (fileAt m icb) .outcome ≡ answered f → (visits image m icb) ≡ visitsOf f
   unfolding fileVisited
   file-visits {f} h = rw (ran-then (disc image) (fileAt m icb) (λ g. done (visitsOf g)), h, ran-done)
 
   -- a chained file's is the number of extents that its read begins
   pub file-begins : {x : Located} {es : List AllocExtent} → ran (disc image) (fileAt m icb) .outcome ≡ answered (chained x es)
-      → Begins image (entryMount m icb) es (x .entry .«information_length») visits
+      → Begins image (entryMount m icb) es (x .entry .«information_length») (visits image m icb)
   file-begins {x} {es} h = rw (file-visits h) (visits-begin image (entryMount m icb) es (x .entry .«information_length»))
 
   -- an embedded one begins none
-  pub embedded-begins : {x : Located} → ran (disc image) (fileAt m icb) .outcome ≡ answered (embedded x) → visits ≡ 0
+  pub embedded-begins : {x : Located} → ran (disc image) (fileAt m icb) .outcome ≡ answered (embedded x) → (visits image m icb) ≡ 0
   embedded-begins h = file-visits h

@@ -1,6 +1,6 @@
 -- Every descriptor of the image stands where the table has it, and is sound to the reader. Assumes nothing.
 use mathlib.Core.Path.{_≡_, refl, ap, sym, _∙_}
-use mathlib.Core.Bool.{Bool, true, false}
+use mathlib.Core.Bool.{true, false}
 use mathlib.Core.List.{List, [], _∷_, _++_, append-assoc}
 use Prim.Native.Nat.{ℕ, zero, suc, _+_, _-_, _*_, _/_, _≤_, _<_, _^_}
 use native.Mathlib.Omega.{arith}
@@ -14,7 +14,7 @@ use Rattle.disc.specs.Images.{disc, sectorsFor}
 use Rattle.records.proofs.Numbers.{u32-le32}
 use Rattle.tags.specs.Tags.{inPlace}
 use Rattle.writers.specs.Layout.{summed, total, partitionFor, identifierSize, namesSize, directorySize, zeros, joined, blanks, sector, tagFor, sealed, primaryBody, infoBody, partitionBody, logicalBody, unallocatedBody, terminatingBody, integrityBody, anchorBody, fileSetBody, entryBody, identifierBody, identifierAt, identifiers, directoryPart, sequence, recognitionPart, integrityPart, rootPart, front, anchorAt, entries, entriesPart, image}
-use Rattle.writers.specs.Descriptors.{Slot, slot, sequenceSlots, entrySlots, slots, Sound, Standing, AllStanding, Identifying, AllIdentifying, Alike, Closed}
+use Rattle.writers.specs.Descriptors.{Slot, slot, sequenceSlots, entrySlots, slots, Standing, AllStanding, Identifying, AllIdentifying, Alike, Closed}
 use Rattle.writers.specs.Refusing.{areGood}
 use Rattle.writers.proofs.PourLaws.{sealed-long}
 use Rattle.writers.proofs.BodyLaws.{identifier-long}
@@ -25,7 +25,7 @@ use Rattle.writers.proofs.SectorLaws.{sector-at}
 use Rattle.writers.proofs.OpeningLaws.{primary-seal, info-seal, partition-seal, logical-seal, unallocated-seal, terminating-seal, integrity-seal, anchor-seal, file-set-seal, entry-seal, onDisc, at-front}
 use Rattle.writers.proofs.ImageLaws.{disk-front, disk-entries, behindFront, part-whole, part-count, small, front-long, directory-part-long, few-files, few-blocks}
 use Rattle.writers.proofs.PlacedLaws.{last-there, parent-there}
-use Rattle.writers.specs.Vaults.{Accepted}
+use Rattle.writers.specs.Vaults.{written, Accepted}
 
 -- ---- a sealed descriptor in a sector of its own
 
@@ -212,23 +212,20 @@ module _ (size files directory k : ℕ) (l : k < 16) where
 -- ---- the image, with whatever stands behind it
 
 module _ (names : List (List ℕ)) (lengths staging more : List ℕ) (h : Accepted names lengths staging) where
-  abbrev written : List ℕ
-  written = image names lengths staging ++ more
-
   abbrev size : ℕ
   size = partitionFor (total lengths)
 
   abbrev behindIt : List ℕ
   behindIt = behindFront names lengths staging more h
 
-  files-standing : AllStanding (disc written) (entrySlots 288 (length lengths))
+  files-standing : AllStanding (disc (written names lengths staging more)) (entrySlots 288 (length lengths))
   unfolding entriesPart
-  files-standing = entries-standing (disc written) 0 80 lengths (omega (arith, few)) 288 refl there
+  files-standing = entries-standing (disc (written names lengths staging more)) 0 80 lengths (omega (arith, few)) 288 refl there
     where
       few : length lengths ≤ 64
       few = few-files names lengths staging more h
 
-      there : (j : ℕ) → j < length lengths → disc written (288 + j) ≡ holds (getD (entries 0 80 lengths) j [])
+      there : (j : ℕ) → j < length lengths → disc (written names lengths staging more) (288 + j) ≡ holds (getD (entries 0 80 lengths) j [])
       there j k =
           let ahead : List ℕ = joined (front size (length names) (directorySize names)) ++ directoryPart names in
           let p : length ahead ≡ 2048 * 288 = length-append (joined (front size (length names) (directorySize names))) (directoryPart names) ∙ rw (front-long names lengths staging more h, directory-part-long names lengths staging more h) in
@@ -237,42 +234,42 @@ module _ (names : List (List ℕ)) (lengths staging more : List ℕ) (h : Accept
           rw (disk-entries names lengths staging more h) (sector-at ahead 288 p (entriesPart lengths) _ (part-whole lengths few) j w)
           ∙ ap holds (List·getD-append (entries 0 80 lengths) (blanks (64 - length lengths)) [] j v)
 
-  last-standing : Standing (disc written) (slot (total lengths - 1) 2)
+  last-standing : Standing (disc (written names lengths staging more)) (slot (total lengths - 1) 2)
   unfolding anchorAt
   last-standing =
       let seal : Seal 2 (total lengths - 1) anchorBody = anchor-seal (total lengths - 1) (omega (arith, few-blocks names lengths staging more h)) in
-      volume-standing (disc written) anchorBody seal (lit≤ tt) (lit≤ tt) (last-there names lengths staging more h)
+      volume-standing (disc (written names lengths staging more)) anchorBody seal (lit≤ tt) (lit≤ tt) (last-there names lengths staging more h)
 
-  front-standing : AllStanding (disc written) (sequenceSlots 32 ++ sequenceSlots 48 ++ slot 64 9 ∷ slot 65 8 ∷ slot 256 2 ∷ slot 272 256 ∷ slot 274 261 ∷ [])
+  front-standing : AllStanding (disc (written names lengths staging more)) (sequenceSlots 32 ++ sequenceSlots 48 ++ slot 64 9 ∷ slot 65 8 ∷ slot 256 2 ∷ slot 272 256 ∷ slot 274 261 ∷ [])
   front-standing = rw (disk-front names lengths staging more h) (
       all-append _ (sequenceSlots 32 ++ sequenceSlots 48) _ (all-append _ (sequenceSlots 32) (sequenceSlots 48)
       (main-standing size (length names) (directorySize names) behindIt) (reserve-standing size (length names) (directorySize names) behindIt))
       (others-standing size (length names) (directorySize names) behindIt))
 
   -- every descriptor of the table is there, and is sound
-  pub vault-descriptors : AllStanding (disc written) (slots (total lengths) (length lengths))
+  pub vault-descriptors : AllStanding (disc (written names lengths staging more)) (slots (total lengths) (length lengths))
   unfolding AllStanding
   vault-descriptors =
-      all-append (disc written) (sequenceSlots 32 ++ sequenceSlots 48 ++ slot 64 9 ∷ slot 65 8 ∷ slot 256 2 ∷ slot 272 256 ∷ slot 274 261 ∷ [])
+      all-append (disc (written names lengths staging more)) (sequenceSlots 32 ++ sequenceSlots 48 ++ slot 64 9 ∷ slot 65 8 ∷ slot 256 2 ∷ slot 272 256 ∷ slot 274 261 ∷ [])
       (entrySlots 288 (length lengths) ++ slot (total lengths - 1) 2 ∷ []) front-standing
-      (all-append (disc written) (entrySlots 288 (length lengths)) (slot (total lengths - 1) 2 ∷ []) files-standing (last-standing, tt))
+      (all-append (disc (written names lengths staging more)) (entrySlots 288 (length lengths)) (slot (total lengths - 1) 2 ∷ []) files-standing (last-standing, tt))
 
   -- and so is every identifier of the directory: the parent's at its front, and that of each name behind the one before it
-  pub vault-parent-identifier : Identifying written 0 40
+  pub vault-parent-identifier : Identifying (written names lengths staging more) 0 40
   unfolding identifierBody
-  vault-parent-identifier = identifying written 0 10 2 [] _ (lit< tt) (lit≤ tt) (parent-there names lengths staging more h) 40 refl
+  vault-parent-identifier = identifying (written names lengths staging more) 0 10 2 [] _ (lit< tt) (lit≤ tt) (parent-there names lengths staging more h) 40 refl
 
-  pub vault-identifiers : AllIdentifying written 40 names
+  pub vault-identifiers : AllIdentifying (written names lengths staging more) 40 names
   unfolding sealed identifierBody
   vault-identifiers =
       let parent : List ℕ = identifierAt 0 10 2 [] in
-      let at : drop (573440 + 40) written ≡ identifiers 0 40 names ++ _ = sym (drop-drop 40 573440 written) ∙ ap (drop 40) (parent-there names lengths staging more h) ∙ drop-at parent _ 40 refl in
-      identifiers-all written 0 40 names _ (h .good) (omega (arith, small names lengths staging more h)) at
+      let at : drop (573440 + 40) (written names lengths staging more) ≡ identifiers 0 40 names ++ _ = sym (drop-drop 40 573440 (written names lengths staging more)) ∙ ap (drop 40) (parent-there names lengths staging more h) ∙ drop-at parent _ 40 refl in
+      identifiers-all (written names lengths staging more) 0 40 names _ (h .good) (omega (arith, small names lengths staging more h)) at
 
   -- ---- what stands twice
 
   -- the reserve sequence is the main one but for the tags
-  pub vault-reserve : (k : ℕ) → k < 16 → Alike (disc written) (32 + k) (48 + k)
+  pub vault-reserve : (k : ℕ) → k < 16 → Alike (disc (written names lengths staging more)) (32 + k) (48 + k)
   vault-reserve k l = record {
     first = getD (sequence 32 size) k [];
     second = getD (sequence 48 size) k [];
@@ -282,7 +279,7 @@ module _ (names : List (List ℕ)) (lengths staging more : List ℕ) (h : Accept
   }
 
   -- and the last anchor is the first
-  pub vault-anchors : Alike (disc written) 256 (total lengths - 1)
+  pub vault-anchors : Alike (disc (written names lengths staging more)) 256 (total lengths - 1)
   unfolding front recognitionPart sequence integrityPart rootPart anchorAt sector sealed
   vault-anchors = record {
     first = anchorAt 256;
@@ -293,7 +290,7 @@ module _ (names : List (List ℕ)) (lengths staging more : List ℕ) (h : Accept
   }
 
   -- ---- the integrity descriptor says that the volume was closed, and how much is in it
-  pub vault-closed : Closed (disc written) (partitionFor (total lengths)) (length lengths)
+  pub vault-closed : Closed (disc (written names lengths staging more)) (partitionFor (total lengths)) (length lengths)
   unfolding front recognitionPart sequence integrityPart rootPart sector sealed integrityBody
   vault-closed = record {
     bytes = sector (sealed 9 64 (integrityBody size (length names)));
