@@ -290,7 +290,7 @@ module _ (d : Disc) (how : How) (h : how .maps ≡ true) {ps : List Parsed} (e :
   first = firstOf (mappedChecks how ps)
 
   -- where a check fails, opening is refused by the first that does, and has asked for the sectors of the sequence alone
-  pub mapped-refused : {r : Refusal} → first ≡ some r → (outcome d (opening how) ≡ refused r) × (asked d (opening how) ≡ asked d (sequence (how .checked)))
+  pub mapped-refused : {r : Refusal} → firstOf (mappedChecks how ps) ≡ some r → (outcome d (opening how) ≡ refused r) × (asked d (opening how) ≡ asked d (sequence (how .checked)))
   mapped-refused {r} q =
       let stop : chosen how ps ≡ refuse r = mounting-refused how ps k h q in (
         ap (outcome d) (opening-is how) ∙ then-outcome d (sequence (how .checked)) (chosen how) e ∙ ap (outcome d) stop ∙ refuse-outcome d r,
@@ -298,11 +298,11 @@ module _ (d : Disc) (how : How) (h : how .maps ≡ true) {ps : List Parsed} (e :
       )
 
   -- where none fails, it asks for the file set descriptor's sector besides
-  pub mapped-asks : first ≡ none → asked d (opening how) ≡ asked d (sequence (how .checked)) ++ fileSetSector how ps ∷ []
+  pub mapped-asks : firstOf (mappedChecks how ps) ≡ none → asked d (opening how) ≡ asked d (sequence (how .checked)) ++ fileSetSector how ps ∷ []
   mapped-asks q = scan-same d how .asks ∙ rw e (ap (λ l. asked d (sequence (how .checked)) ++ l) (mounting-asks how ps k h d q))
 
   -- so a refusal that comes before that sector is asked for is that of the first check that fails
-  pub mapped-only : {r : Refusal} → outcome d (opening how) ≡ refused r → asked d (opening how) ≡ asked d (sequence (how .checked)) → first ≡ some r
+  pub mapped-only : {r : Refusal} → outcome d (opening how) ≡ refused r → asked d (opening how) ≡ asked d (sequence (how .checked)) → firstOf (mappedChecks how ps) ≡ some r
   mapped-only {r} o a = by first refl
     where
       by : (x : Option Refusal) → first ≡ x → x ≡ some r
