@@ -12,7 +12,7 @@ use Rattle.volumes.specs.declared.sequences.Kept.{Kept}
 use Rattle.volumes.specs.declared.openings.How.{How}
 use Rattle.volumes.specs.Sequences.{nothing, Parsed, Order, latest, highest, orderOf, anyPartition, counts, replacing, prevailing, keptOf}
 use Rattle.volumes.specs.Sequences.Parsed.{primary, partition, logical}
-use Rattle.volumes.specs.Prevailing.{Kind, kindOf, numberOf, hasOf, Keeps, Every, Prevails, Rising}
+use Rattle.volumes.specs.Prevailing.{Kind, kindOf, numberOf, hasOf, Keeps, Every, Prevails, Rising, isWanted, wantedIn}
 use Rattle.volumes.specs.Prevailing.Kind.{primaries, partitions, logicals}
 
 -- ---- the kinds of descriptors, and what is kept of each
@@ -311,16 +311,6 @@ nothing-ready ps partitions e = not-both e
 nothing-ready ps logicals e = not-both e
 
 -- ---- which partition descriptors are wanted
-
-abbrev pub isWanted : (ℕ → Bool) → Parsed → Bool
-isWanted wanted (primary d) = true
-isWanted wanted (partition d) = wanted (d .«partition_number»)
-isWanted wanted (logical d) = true
-
--- a list without the partition descriptors of other numbers
-unfoldable pub wantedIn : (ℕ → Bool) → List Parsed → List Parsed
-wantedIn wanted [] = []
-wantedIn wanted (p ∷ ps) = pick (isWanted wanted p) (p ∷ wantedIn wanted ps) (wantedIn wanted ps)
 
 counts-wanted : (o : Order) (wanted : ℕ → Bool) (k : Kept) (p : Parsed) → counts o wanted k p ≡ pick (isWanted wanted p) (counts o anyPartition k p) false
 counts-wanted o wanted k (primary d) = refl

@@ -30,7 +30,6 @@ use Rattle.disc.proofs.ReplyLaws.{replied-one, same-replied}
 use Rattle.descriptors.specs.Volumes.{readAnchor}
 use Rattle.descriptors.specs.FileSets.{readFileSet}
 use Rattle.descriptors.specs.declared.file_sets.FileSetDescriptor.{FileSetDescriptor}
-use Rattle.descriptors.specs.declared.partitions.PartitionDescriptor.{PartitionDescriptor}
 use Rattle.descriptors.specs.declared.anchors.AnchorRead.{AnchorRead}
 use Rattle.descriptors.specs.declared.anchors.AnchorRead.the-variants.{Read as AnAnchor, Refused as NoAnchor}
 use Rattle.volumes.specs.Sequences.{nothing, Parsed, Order, latest, highest, orderOf, anyPartition, keptOf}
@@ -44,10 +43,10 @@ use Rattle.volumes.specs.declared.openings.How.{How}
 use Rattle.volumes.proofs.OpeningLaws.{ask-count, anchored-count}
 use Rattle.volumes.proofs.MapLaws.{starts-same, unmapped-mount, mapped-mount}
 use Rattle.volumes.proofs.NamedLaws.{refused-before, opening-named}
-use Rattle.volumes.proofs.Prevailing.{highest-prevails, wantedIn, highest-wanted, latest-wanted, kept-number, rising-order}
+use Rattle.volumes.proofs.Prevailing.{highest-prevails, highest-wanted, latest-wanted, kept-number, rising-order}
 use Rattle.disc.specs.Lists.{askedBehind}
-use Rattle.volumes.specs.Made.{Mapped, mainLength, sequenceIn, sequence, chosen, Sequenced, Mounted, Made, ownMounting}
-use Rattle.volumes.specs.Prevailing.{Kind, kindOf, numberOf, hasOf, Keeps, Every, Prevails, Rising}
+use Rattle.volumes.specs.Made.{Mapped, mainLength, sequenceIn, sequence, chosen, Sequenced, Mounted, Made, ownMounting, Started}
+use Rattle.volumes.specs.Prevailing.{Kind, kindOf, numberOf, hasOf, Keeps, Every, Prevails, Rising, wantedIn}
 use Rattle.volumes.specs.Prevailing.Kind.{primaries, partitions, logicals}
 
 -- ---- a contract leaves one result
@@ -291,18 +290,6 @@ module _ (how : How) (h : how .maps ≡ false) where
 -- the volume's record has the maps of the logical volume descriptor that prevails, each with the start of its number's partition (`Mapped`)
 pub opened-mapped : (how : How) → how .maps ≡ true → (d : Disc) {v : VolumeRecord} (m : Made d how v) → Mapped how (m .parsed) (keptOf (orderOf how) anyPartition nothing (m .parsed)) (v .mount)
 opened-mapped how h d m = mapped-mount how (m .parsed) (keptOf (orderOf how) anyPartition nothing (m .parsed)) h (m .made .mounted)
-
--- where the partition of a number starts is said by one of the descriptors of that number: those before it, without the descriptors of other partitions,
--- have numbers Before its own, and those behind it Behind it
-pub record Started (Before Behind : ℕ → ℕ → Type 0) (ps : List Parsed) (number start : ℕ) : Type 0 where
-  pub before : List Parsed
-  pub descriptor : PartitionDescriptor
-  pub behind : List Parsed
-  pub stands : wantedIn (eqb number) ps ≡ before ++ (partition descriptor ∷ behind)
-  pub numbered : descriptor .«partition_number» ≡ number
-  pub starts : descriptor .«partition_starting_location» ≡ start
-  pub over-before : Every partitions (λ n. Before n (descriptor .«volume_descriptor_sequence_number»)) before
-  pub over-behind : Every partitions (λ n. Behind n (descriptor .«volume_descriptor_sequence_number»)) behind
 
 module _ (Before Behind : ℕ → ℕ → Type 0) (ps : List Parsed) (number : ℕ) {start : ℕ} where
   started-by : (k : Kept) → Prevails Before Behind partitions (wantedIn (eqb number) ps) k → eqb number (k .«partition_number») ≡ true → k .«partition_start» ≡ start → Started Before Behind ps number start

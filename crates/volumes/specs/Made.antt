@@ -1,6 +1,6 @@
 -- Where the record of a volume comes from: the sequence, the descriptors that prevail, the mount.
 use mathlib.Core.Bool.{true, Bool}
-use mathlib.Core.List.{List, _++_}
+use mathlib.Core.List.{List, _++_, _∷_}
 use mathlib.Core.Option.{some}
 use mathlib.Core.Path.{_≡_}
 use Prim.Native.Nat.{_*_, _+_, _<_, _≤_, ℕ, _/_}
@@ -21,11 +21,14 @@ use Rattle.descriptors.specs.Volumes.{readAnchor}
 use Rattle.descriptors.specs.declared.anchors.AnchorRead.{AnchorRead}
 use Rattle.descriptors.specs.declared.anchors.AnchorRead.the-variants.{Refused as NoAnchor, Read as AnAnchor}
 use Rattle.volumes.specs.Openings.{fileSetRef, startOfNumber, numberOfMap, volumeOfMap, mapIn, isPlainMap, mounting, opening, mountOf, mountIn, volumeIn}
-use Rattle.volumes.specs.Prevailing.{Kind, hasOf}
+use Rattle.volumes.specs.Prevailing.{Kind, hasOf, wantedIn, Every}
 use Rattle.volumes.specs.Sequences.{Parsed, scan, keptOf, anyPartition, nothing, orderOf}
 use Rattle.volumes.specs.declared.openings.How.{How}
 use Rattle.volumes.specs.declared.openings.VolumeRecord.{VolumeRecord}
 use Rattle.volumes.specs.declared.sequences.Kept.{Kept}
+use Rattle.descriptors.specs.declared.partitions.PartitionDescriptor.{PartitionDescriptor}
+use Rattle.volumes.specs.Prevailing.Kind.{partitions}
+use Rattle.volumes.specs.Sequences.Parsed.{partition}
 
 -- it has between one and four maps, all of type 1 and in a table that holds them, which is in the sector; of each its volume sequence number, its number
 -- and the start of that number's partition; and its own partition is that of the file set's map
@@ -99,3 +102,15 @@ ownMounting check k =
     (refuse NotBluray))
     (refuse NotBluray))
     (refuse NotBluray)
+
+-- where the partition of a number starts is said by one of the descriptors of that number: those before it, without the descriptors of other partitions,
+-- have numbers Before its own, and those behind it Behind it
+pub record Started (Before Behind : ℕ → ℕ → Type 0) (ps : List Parsed) (number start : ℕ) : Type 0 where
+  pub before : List Parsed
+  pub descriptor : PartitionDescriptor
+  pub behind : List Parsed
+  pub stands : wantedIn (eqb number) ps ≡ before ++ (partition descriptor ∷ behind)
+  pub numbered : descriptor .«partition_number» ≡ number
+  pub starts : descriptor .«partition_starting_location» ≡ start
+  pub over-before : Every partitions (λ n. Before n (descriptor .«volume_descriptor_sequence_number»)) before
+  pub over-behind : Every partitions (λ n. Behind n (descriptor .«volume_descriptor_sequence_number»)) behind

@@ -6,6 +6,7 @@ use Prim.Native.Nat.{ℕ, _≤_}
 use Rattle.volumes.specs.Sequences.{Parsed}
 use Rattle.volumes.specs.Sequences.Parsed.{logical, primary, partition}
 use Rattle.volumes.specs.declared.sequences.Kept.{Kept}
+use Rattle.disc.specs.Choice.{pick}
 
 -- the three kinds
 pub data Kind : Type 0 where
@@ -68,3 +69,13 @@ pub record Prevails (Before Behind : ℕ → ℕ → Type 0) (kind : Kind) (ps :
 unfoldable pub Rising : List Parsed → Type 0
 Rising [] = Unit {0}
 Rising (p ∷ ps) = Every (kindOf p) (λ n. numberOf p ≤ n) ps × Rising ps
+
+abbrev pub isWanted : (ℕ → Bool) → Parsed → Bool
+isWanted wanted (primary d) = true
+isWanted wanted (partition d) = wanted (d .«partition_number»)
+isWanted wanted (logical d) = true
+
+-- a list without the partition descriptors of other numbers
+unfoldable pub wantedIn : (ℕ → Bool) → List Parsed → List Parsed
+wantedIn wanted [] = []
+wantedIn wanted (p ∷ ps) = pick (isWanted wanted p) (p ∷ wantedIn wanted ps) (wantedIn wanted ps)
