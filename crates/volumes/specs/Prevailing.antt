@@ -70,6 +70,7 @@ unfoldable pub Rising : List Parsed → Type 0
 Rising [] = Unit {0}
 Rising (p ∷ ps) = Every (kindOf p) (λ n. numberOf p ≤ n) ps × Rising ps
 
+-- a descriptor counts: of the partition descriptors those whose number is wanted
 abbrev pub isWanted : (ℕ → Bool) → Parsed → Bool
 isWanted wanted (primary d) = true
 isWanted wanted (partition d) = wanted (d .«partition_number»)
