@@ -2,20 +2,21 @@
 --
 --   the extents that a read holds are those of the areas that are accepted                                held-areas
 --   where the extent list is answered they are that list, and so many places are needed                   areas-list, held-list
---   a file of which no area is accepted, as an embedded one, needs none                                   held-none
---   the sectors of the areas are those of the extent list                                                 areas-sectors
---   as row and output grow: 7 is told behind the sectors of an area, the first of which an extent had no place    seven-at
---   as row and output grow: 7 only where the row has fewer places at first than there are extents         seven-few
---   and always where it has fewer than extents at the last sector of the chain, with what it has grown by few-seven
---   in a row that stays: 7 exactly when there are more extents than places                                still-seven, still-few
+--   an embedded file, or one whose entry is refused, needs none, and 7 can't come                         embedded-none, refused-none, none-seven
+--   7 only where the row has fewer places at first than there are extents                                 seven-few, seven-listed
+--   and always where it has fewer at the last sector of entry and chain                                   few-seven, listed-seven
+--   in a row that stays: exactly when it has fewer places than there are extents                          still-seven, still-few, still-listed-seven, still-listed-few
+--   7 is told at the last sector of an area                                                               seven-at, still-at
+--   where the list is answered the sectors wanted by then are a front of its sectors; if the area is the last of the chain, all of them    seven-front, seven-last
 use mathlib.Core.Path.{_≡_, refl, ap, sym, _∙_}
 use mathlib.Core.Bool.{Bool, true, false}
-use mathlib.Core.List.{List, [], _∷_, _++_}
+use mathlib.Core.List.{List, [], _∷_, _++_, append-assoc}
 use mathlib.Core.Logic.{⊎-elim}
 use Prim.Native.Nat.{ℕ, zero, suc, _+_, _<_, _≤_}
 use native.Mathlib.Nat.{add-zero}
 use native.Mathlib.Omega.{arith}
-use lib.ListN.{length, take, length-append}
+use lib.ListN.{length, take, drop, length-append}
+use lib.Seq.{take-all}
 use lib.Dec.{leb}
 use Rattle.disc.specs.Choice.{pick}
 use Rattle.disc.specs.Ask.{Disc, Outcome, outcome, asked, andThen}
@@ -44,6 +45,7 @@ use Rattle.drives.proofs.SlotLaws.{outcome-then}
 use Rattle.drives.proofs.AcceptedLaws.{not-slots, heldBy, Crowds, chain-held, refused-enough, chain-seven, chain-many, kept, chain-lists, areaOf, FileIs, file-is}
 use Rattle.drives.proofs.AcceptedLaws.FileIs.{in-entry, in-extents}
 use Rattle.drives.proofs.Walks.{still-walks}
+use Rattle.disc.specs.Marks.{Front}
 use Rattle.drives.proofs.ReadPromises as reads
 use Rattle.drives.specs.Walks.{Walk, Still}
 
@@ -173,6 +175,15 @@ module _ (d : Disc) (m : Mount) (icb : LongAd) where
       by (refused r) e = following-holds-none d (entryFeed (entryMount m icb)) (entryAt m icb) e 0
       by (answered x) e = following-held d 0 (entryFeed (entryMount m icb)) x (entryAt m icb) e 0 ∙ entry-held d (entryMount m icb) x (asked d (entryAt m icb))
 
+  -- an entry that is refused has no areas, and neither has an embedded file
+  pub refused-none : {r : Refusal} → outcome d (entryAt m icb) ≡ refused r → fileAreas d m icb ≡ []
+  unfolding fileAreas
+  refused-none e = rw e refl
+
+  pub embedded-none : {x : Located} → outcome d (entryAt m icb) ≡ answered x → isEmbedded x ≡ true → fileAreas d m icb ≡ []
+  unfolding fileAreas
+  embedded-none e t = rw (e, t) refl
+
   pub file-seven : (slots room : ℕ) (gs : List Grown) → shortOf d false slots room gs (fileFeed m icb) ≡ ofSlots
       → CrowdedAt slots gs (fileAreas d m icb) (wanted d (within false slots room gs (fileFeed m icb)))
   unfolding fileFeed fileAreas
@@ -256,6 +267,12 @@ first-fewer (suc k) (x ∷ xs) =
     let l = first-fewer k xs in
     rw (length-append (x .extents) (extentsIn (take k xs)), length-append (x .extents) (extentsIn xs)) (omega arith)
 
+areas-parts : (k : ℕ) (xs : List Accepted) → sectorsIn xs ≡ sectorsIn (take k xs) ++ sectorsIn (drop k xs)
+unfolding sectorsIn
+areas-parts zero xs = refl
+areas-parts (suc k) [] = refl
+areas-parts (suc k) (x ∷ xs) = ap (λ l. x .sectors ++ l) (areas-parts k xs) ∙ sym (append-assoc (x .sectors) (sectorsIn (take k xs)) (sectorsIn (drop k xs)))
+
 module _ (d : Disc) (m : Mount) (icb : LongAd) {row₀ row row′ : List (List ℕ)} {out out′ ns taken : List ℕ} {gs : List Grown} {r q : Reading} (st : Starts (fileFeed m icb) row₀ row r)
     (w : Walk d ns gs taken r row out q row′ out′) where
   -- at which sector 7 is told: the last of an area's, with whose extents there are more than the row had places at first
@@ -269,6 +286,11 @@ module _ (d : Disc) (m : Mount) (icb : LongAd) {row₀ row row′ : List (List �
   pub few-seven : length row₀ + slotsBy (length (sectorsIn (fileAreas d m icb))) gs < length (extentsIn (fileAreas d m icb)) → q .answer ≡ 7
   few-seven l = reads.short-seven d m icb st w (file-many d m icb (length row₀) (length out) gs l)
 
+  -- so it can't come where there are no areas
+  pub none-seven : fileAreas d m icb ≡ [] → q .answer ≡ 7 → ⊥
+  unfolding extentsIn
+  none-seven e a = let l = rw e at (seven-few a) in omega arith
+
   -- by the extent list, where it is answered
   module _ {es : List AllocExtent} (e : outcome d (fileExtents m icb) ≡ answered es) where
     pub seven-listed : q .answer ≡ 7 → length row₀ < length es
@@ -276,6 +298,18 @@ module _ (d : Disc) (m : Mount) (icb : LongAd) {row₀ row row′ : List (List �
 
     pub listed-seven : length row₀ + slotsBy (length (asked d (fileExtents m icb))) gs < length es → q .answer ≡ 7
     listed-seven l = few-seven (rw (areas-sectors d m icb e (omega arith), areas-list d m icb e) l)
+
+    listed-all : q .answer ≡ 7 → sectorsIn (fileAreas d m icb) ≡ asked d (fileExtents m icb)
+    listed-all a = areas-sectors d m icb e (let l = seven-listed a in omega arith)
+
+    -- the sectors wanted by then are a front of the list's; all of them, if the area is the last of the chain
+    pub seven-front : q .answer ≡ 7 → Front ns (asked d (fileExtents m icb))
+    seven-front a =
+        let c = seven-at a in
+        record { rest = sectorsIn (drop (c .areas) (fileAreas d m icb)); is = sym (listed-all a) ∙ areas-parts (c .areas) (fileAreas d m icb) ∙ ap (λ l. l ++ sectorsIn (drop (c .areas) (fileAreas d m icb))) (sym (c .list)) }
+
+    pub seven-last : (a : q .answer ≡ 7) → length (fileAreas d m icb) ≤ seven-at a .areas → ns ≡ asked d (fileExtents m icb)
+    seven-last a l = seven-at a .list ∙ ap sectorsIn (take-all (seven-at a .areas) (fileAreas d m icb) l) ∙ listed-all a
 
 -- ---- a walk in which nothing grows
 
