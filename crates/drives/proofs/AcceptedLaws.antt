@@ -17,7 +17,7 @@ use Rattle.disc.specs.Ask.Outcome.{answered, refused}
 use Rattle.disc.specs.declared.places.Mount.{Mount}
 use Rattle.disc.specs.declared.refusals.Refusal.{Refusal}
 use Rattle.disc.specs.declared.refusals.Refusal.the-variants.{Malformed, NoSlot}
-use Rattle.disc.proofs.AskLaws.{asked-then, asked-done}
+use Rattle.disc.proofs.AskLaws.{asked-then, asked-done, outcome-then}
 use Rattle.disc.proofs.RanLaws.{never}
 use Rattle.disc.proofs.PickLaws.{not-both}
 use Rattle.records.specs.declared.allocations.LongAd.{LongAd}
@@ -35,7 +35,7 @@ use Rattle.drives.specs.Feeds.Short.{enough, ofSlots, ofRoom}
 use Rattle.drives.specs.FileFeeds.{extentsFeed, joined, namedBy, chainFeed}
 use Rattle.drives.specs.Moments.{slotsBy, roomBy, Accepted, unlessRefused, areasFrom, areasBehind, extentsIn, sectorsIn}
 use Rattle.drives.proofs.MomentLaws.{later, slots-add, pathOf, Passes, Names, naming-passes, naming-names, naming-refused, naming-holds-none}
-use Rattle.drives.proofs.SlotLaws.{wholeArea, named-below, outcome-then, next-whole}
+use Rattle.drives.proofs.SlotLaws.{wholeArea, named-below, next-whole}
 use Rattle.drives.proofs.Promises.{Free, free-none, extents-free}
 use Rattle.disc.specs.Lists.{askedBehind}
 

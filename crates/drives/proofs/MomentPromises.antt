@@ -21,7 +21,7 @@ use Rattle.disc.specs.Places.{icbPlaced, isChecked, standing as placing}
 use Rattle.disc.specs.declared.places.Mount.{Mount}
 use Rattle.disc.specs.declared.refusals.Refusal.the-variants.{Malformed, NoRoom, NoSlot}
 use Rattle.disc.proofs.RanLaws.{never}
-use Rattle.disc.proofs.AskLaws.{asked-then, asked-done}
+use Rattle.disc.proofs.AskLaws.{asked-then, asked-done, outcome-then}
 use Rattle.records.specs.declared.allocations.LongAd.{LongAd}
 use Rattle.areas.specs.declared.AllocExtent.{AllocExtent}
 use Rattle.areas.specs.declared.AdEnding.{AdEnding}
@@ -41,7 +41,6 @@ use Rattle.drives.specs.Readings.{Starts}
 use Rattle.drives.specs.Moments.{slotsBy, roomBy, extentShares, fileShares, brought, FullAt, FiveAt, FiveStill}
 use Rattle.drives.specs.declared.readings.Reading.{Reading}
 use Rattle.drives.proofs.MomentLaws.{later, room-none, Passes, naming-passes, naming-refused, following-passes, following-refused, full-first, full-zeros}
-use Rattle.drives.proofs.SlotLaws.{outcome-then}
 use Rattle.drives.proofs.AcceptedLaws.{upto, areaOf}
 use Rattle.drives.proofs.ShareLaws.{AllSized, lent-sized, sized-back, not-room, extents-tell}
 use Rattle.drives.proofs.Walks.{still-walks}

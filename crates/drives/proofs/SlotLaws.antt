@@ -11,6 +11,7 @@ use lib.ListN.{length, getD, take, drop, replicate, length-append, length-drop, 
 use lib.Seq.{getD-take, getD-drop, length-take-le, take-take, take-append-le}
 use lib.Dec.{eqb, ltb, leb}
 use Rattle.disc.specs.Choice.{pick}
+use Rattle.disc.proofs.AskLaws.{outcome-then}
 use Rattle.disc.specs.Ask.{Disc, Held, Ask, Outcome, given, outcome, asked, then, andThen}
 use Rattle.disc.specs.Ask.Held.{holds, lacks}
 use Rattle.disc.specs.Ask.Ask.{done, refuse, ask}
@@ -147,17 +148,6 @@ named-below kind size es p q =
     more n h = omega arith
 
 -- ---- the bytes that a continuation was read from
-
-pub outcome-then : {A B : Type 0} (d : Disc) (t : Ask A) (f : A → Ask B) → outcome d (then t f) ≡ andThen (outcome d t) (λ a. outcome d (f a))
-unfolding outcome then
-outcome-then d (done a) f = refl
-outcome-then d (refuse r) f = refl
-outcome-then {A} {B} d (ask s k) f = by (d s) (λ b. outcome-then d (k b) f)
-  where
-    by : (x : Held) → ((b : List ℕ) → outcome d (then (k b) f) ≡ andThen (outcome d (k b)) (λ a. outcome d (f a)))
-        → given x (λ b. outcome d (then (k b) f)) (refused Io) ≡ andThen (given x (λ b. outcome d (k b)) (refused Io)) (λ a. outcome d (f a))
-    by (holds b) ih = ih b
-    by lacks ih = refl
 
 -- what asks for nothing has no bytes
 path-then : {A B : Type 0} (d : Disc) (t : Ask A) (f : A → Ask B) → ((a : A) → pathOf d (f a) ≡ []) → pathOf d (then t f) ≡ pathOf d t

@@ -24,7 +24,7 @@ use Rattle.disc.specs.Ask.Ask.{done}
 use Rattle.disc.specs.Ask.Outcome.{answered, refused}
 use Rattle.disc.specs.declared.places.Mount.{Mount}
 use Rattle.disc.specs.declared.refusals.Refusal.{Refusal}
-use Rattle.disc.proofs.AskLaws.{asked-done}
+use Rattle.disc.proofs.AskLaws.{asked-done, outcome-then}
 use Rattle.disc.proofs.RanLaws.{never}
 use Rattle.disc.proofs.PickLaws.{not-both}
 use Rattle.records.specs.declared.allocations.LongAd.{LongAd}
@@ -41,7 +41,6 @@ use Rattle.drives.specs.Readings.{Starts}
 use Rattle.drives.specs.Moments.{slotsBy, roomBy, Accepted, unlessRefused, areasFrom, areasBehind, entryAreas, fileAreas, extentsIn, sectorsIn, CrowdedAt, CrowdedStill}
 use Rattle.drives.specs.declared.readings.Reading.{Reading}
 use Rattle.drives.proofs.MomentLaws.{later, slots-none, slots-add, following-passes, following-held, following-refused, following-holds-none}
-use Rattle.drives.proofs.SlotLaws.{outcome-then}
 use Rattle.drives.proofs.AcceptedLaws.{not-slots, heldBy, Crowds, chain-held, refused-enough, chain-seven, chain-many, kept, chain-lists, areaOf, FileIs, file-is}
 use Rattle.drives.proofs.AcceptedLaws.FileIs.{in-entry, in-extents}
 use Rattle.drives.proofs.Walks.{still-walks}
