@@ -1,15 +1,18 @@
 -- What is promised of the sector at which a read by steps tells 5: RULES 14.7 and 14.10. Assumes nothing. SlotPromises has that of 7.
 --
 --   as row and output grow, the sectors wanted are those up to the first with which more bytes have come than there was room for    five-at
---   in an output that stays                                                                                                        still-five
+--   in an output that stays the last of them holds the first byte without room                                                     still-five
+--   the bytes that the sectors of an answered read bring add up to its bytes                                                       shares-all
 use mathlib.Core.Path.{_≡_, refl, ap, sym, _∙_}
 use mathlib.Core.Bool.{Bool, true, false, _||_}
 use mathlib.Core.List.{List, [], _∷_, _++_, append-nil, append-assoc}
+use mathlib.Core.Logic.{⊎-elim}
 use mathlib.Core.Option.{Option, none, some}
-use Prim.Native.Nat.{ℕ, zero, suc, _+_, _-_, _<_}
+use Prim.Native.Nat.{ℕ, zero, suc, _+_, _-_, _*_, _<_, _≤_}
 use native.Mathlib.Nat.{add-zero, zero-add}
 use native.Mathlib.Omega.{arith}
-use lib.ListN.{length, take, replicate, length-append}
+use lib.ListN.{length, take, drop, replicate, length-append, length-drop}
+use lib.Seq.{length-take-le}
 use lib.Dec.{eqb, ltb, leb}
 use borrow.Author.Tests.{leb-false}
 use Rattle.disc.specs.Choice.{pick}
@@ -17,9 +20,11 @@ use Rattle.disc.specs.Ask.{Disc, Held, Ask, Outcome, given, outcome, asked, the
 use Rattle.disc.specs.Ask.Held.{holds, lacks}
 use Rattle.disc.specs.Ask.Ask.{done, refuse}
 use Rattle.disc.specs.Ask.Outcome.{answered, refused}
+use Rattle.disc.specs.Images.{disc}
 use Rattle.disc.specs.Places.{icbPlaced, isChecked, standing as placing}
 use Rattle.disc.specs.declared.places.Mount.{Mount}
 use Rattle.disc.specs.declared.refusals.Refusal.the-variants.{Malformed, NoRoom, NoSlot}
+use Rattle.disc.proofs.ImageLaws.{split, held, missing as lacking}
 use Rattle.disc.proofs.RanLaws.{never}
 use Rattle.disc.proofs.AskLaws.{asked-then, asked-done, outcome-then}
 use Rattle.records.specs.declared.allocations.LongAd.{LongAd}
@@ -31,23 +36,28 @@ use Rattle.entries.specs.FileEntries.{readEntry}
 use Rattle.entries.specs.declared.«file_entries».EntryRead.{EntryRead}
 use Rattle.entries.specs.declared.«file_entries».EntryRead.the-variants.{Read, Refused as NoEntry}
 use Rattle.chains.specs.Chains.{mostContinuations, nextArea, continued}
-use Rattle.files.specs.Files.{Located, entryAt, entryMount, isEmbedded, embeddedBytes, located, entryIn, chainOf, File, resolved, fileAt}
+use Rattle.files.specs.Reads.{extentsBytes}
+use Rattle.files.specs.Files.{Located, entryAt, entryMount, isEmbedded, embeddedBytes, located, entryIn, chainOf, File, resolved, fileAt, contentOf, fileBytes}
 use Rattle.files.specs.Files.File.{embedded, chained}
-use Rattle.drives.specs.Feeds.{Feed, naming, Grown, firstOf, within, wanted, shortOf}
+use Rattle.drives.specs.Feeds.{Feed, naming, Grown, firstOf, within, End as Ending, endOf, wanted, arrived, Short, shortOf}
+use Rattle.drives.specs.Feeds.End.{answers, refuses}
 use Rattle.drives.specs.Feeds.Feed.{over, stop, put}
 use Rattle.drives.specs.Feeds.Short.{enough, ofSlots, ofRoom}
 use Rattle.drives.specs.FileFeeds.{extentsFeed, joined, namedBy, chainFeed, entryFeed, fileFeed}
 use Rattle.drives.specs.Readings.{Starts}
 use Rattle.drives.specs.Moments.{slotsBy, roomBy, extentShares, fileShares, brought, FullAt, FiveAt, FiveStill}
 use Rattle.drives.specs.declared.readings.Reading.{Reading}
+use Rattle.drives.proofs.FeedLaws.{collected-extents}
+use Rattle.drives.proofs.LimitLaws.{collected-outcome}
 use Rattle.drives.proofs.MomentLaws.{later, room-none, Passes, naming-passes, naming-refused, following-passes, following-refused, full-first, full-zeros}
 use Rattle.drives.proofs.AcceptedLaws.{upto, areaOf}
-use Rattle.drives.proofs.ShareLaws.{AllSized, lent-sized, sized-back, not-room, extents-tell}
+use Rattle.drives.proofs.ShareLaws.{Sized, AllSized, lent-sized, sized-back, not-room, extents-tell, extents-sum}
 use Rattle.drives.proofs.Walks.{still-walks}
 use Rattle.drives.proofs.ReadPromises as reads
 use Rattle.disc.specs.Lists.{askedBehind}
 use Rattle.drives.specs.Walks.{Walk, Still}
 use Rattle.drives.specs.Walks.Walk.{ends, steps}
+use Rattle.drives.specs.Told.{outcomeBy}
 
 slots-not-room : {A : Type 0} → ofSlots ≡ ofRoom → A
 slots-not-room e = absurd (let z : _≡_ {A = ℕ} 0 1 = cc in omega arith)
@@ -256,3 +266,45 @@ still-five d m icb {out = out} {ns = ns} st w e =
     least : (n : ℕ) (shares : List ℕ) → length out < brought (take n shares) → 0 < n
     least zero shares l = absurd (omega arith)
     least (suc n) shares l = omega arith
+
+-- ---- what the sectors bring is the file
+
+brought-zeros : (n : ℕ) (s : List ℕ) → brought (replicate n 0 ++ s) ≡ brought s
+unfolding brought
+brought-zeros zero s = refl
+brought-zeros (suc n) s = rw (zero-add (brought (replicate n 0 ++ s))) (brought-zeros n s)
+
+image-sized : (image : List ℕ) (ns : List ℕ) → AllSized (disc image) ns
+unfolding AllSized Sized
+image-sized image [] = tt
+image-sized image (n ∷ ns) = (one, image-sized image ns)
+  where
+    one : Sized (disc image n)
+    one = ⊎-elim
+        (λ (h : 2048 * n + 2048 ≤ length image). rw (held image n h) (length-take-le 2048 (drop (2048 * n) image) (rw length-drop (omega arith))))
+        (λ (h : length image < 2048 * n + 2048). rw (lacking image n h) tt)
+        (split (2048 * n + 2048) (length image))
+
+-- over an image, the shares of a read that is answered add up to its bytes, whatever number of sectors entry and chain have
+pub shares-all : (image : List ℕ) (m : Mount) (icb : LongAd) (f : File) (b : List ℕ) (n : ℕ) → outcome (disc image) (fileAt m icb) ≡ answered f → outcome (disc image) (fileBytes m icb) ≡ answered b
+    → brought (fileShares n f) ≡ length b
+unfolding fileBytes outcome brought
+shares-all image m icb f b n e g =
+    by f (ap (λ o. andThen o (λ y. outcome (disc image) (contentOf (entryMount m icb) y))) (sym e) ∙ sym (outcome-then (disc image) (fileAt m icb) (contentOf (entryMount m icb))) ∙ g)
+  where
+    d : Disc
+    d = disc image
+
+    by : (f : File) → outcome d (contentOf (entryMount m icb) f) ≡ answered b → brought (fileShares n f) ≡ length b
+    by (embedded x) q = let z : embeddedBytes x ≡ b = cc in add-zero (length (embeddedBytes x)) ∙ ap length z
+    by (chained x es) q = brought-zeros n (extentShares es (x .entry .«information_length»)) ∙ told (endOf d feed₀) refl (sym (collected-outcome d [] feed₀) ∙ ap (outcome d) (collected-extents (entryMount m icb) es (x .entry .«information_length») []) ∙ same)
+      where
+        feed₀ : Feed
+        feed₀ = extentsFeed (entryMount m icb) es (x .entry .«information_length»)
+
+        same : outcome d (then (extentsBytes (entryMount m icb) es (x .entry .«information_length»)) (λ b. done ([] ++ b))) ≡ answered b
+        same = outcome-then d (extentsBytes (entryMount m icb) es (x .entry .«information_length»)) (λ b. done ([] ++ b)) ∙ ap (λ o. andThen o (λ b. answered b)) q
+
+        told : (y : Ending) → endOf d feed₀ ≡ y → outcomeBy y (arrived d feed₀) ≡ answered b → brought (extentShares es (x .entry .«information_length»)) ≡ length b
+        told answers h k = let z : arrived d feed₀ ≡ b = cc in sym (extents-sum d (entryMount m icb) es (x .entry .«information_length») h (image-sized image (wanted d feed₀))) ∙ ap length z
+        told (refuses r) h k = never k
