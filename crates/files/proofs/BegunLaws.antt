@@ -21,7 +21,7 @@ use Rattle.areas.specs.declared.AllocExtent.{AllocExtent}
 use Rattle.files.specs.Reads.{extentsBytes, visited}
 use Rattle.files.specs.Files.{Located, entryMount, File, fileAt, visitsOf, fileVisited}
 use Rattle.files.specs.Files.File.{embedded, chained}
-use Rattle.files.specs.Begun.{Begins, visits}
+use Rattle.files.specs.Begun.{Begins}
 use Rattle.files.specs.inner.Pieces.{sectorsRead, beforeOutcome, restOf, There}
 use Rattle.files.proofs.PieceLaws.{part-long}
 use Rattle.files.proofs.BoundLaws.{Off, on, weighs}
@@ -165,15 +165,15 @@ module _ (image : List ℕ) (m : Mount) (es : List AllocExtent) (want : ℕ) whe
 -- ---- of a file: the E of the bound
 
 module _ (image : List ℕ) (m : Mount) (icb : LongAd) where
-  file-visits : {f : File} → ran (disc image) (fileAt m icb) .outcome ≡ answered f → (visits image m icb) ≡ visitsOf f
+  file-visits : {f : File} → ran (disc image) (fileAt m icb) .outcome ≡ answered f → visitsIn (ran (disc image) (fileVisited m icb) .outcome) ≡ visitsOf f
   unfolding fileVisited
   file-visits {f} h = rw (ran-then (disc image) (fileAt m icb) (λ g. done (visitsOf g)), h, ran-done)
 
   -- a chained file's is the number of extents that its read begins
   pub file-begins : {x : Located} {es : List AllocExtent} → ran (disc image) (fileAt m icb) .outcome ≡ answered (chained x es)
-      → Begins image (entryMount m icb) es (x .entry .«information_length») (visits image m icb)
+      → Begins image (entryMount m icb) es (x .entry .«information_length») (visitsIn (ran (disc image) (fileVisited m icb) .outcome))
   file-begins {x} {es} h = rw (file-visits h) (visits-begin image (entryMount m icb) es (x .entry .«information_length»))
 
   -- an embedded one begins none
-  pub embedded-begins : {x : Located} → ran (disc image) (fileAt m icb) .outcome ≡ answered (embedded x) → (visits image m icb) ≡ 0
+  pub embedded-begins : {x : Located} → ran (disc image) (fileAt m icb) .outcome ≡ answered (embedded x) → visitsIn (ran (disc image) (fileVisited m icb) .outcome) ≡ 0
   embedded-begins h = file-visits h

@@ -28,7 +28,7 @@ use Rattle.files.specs.declared.pieces.Turn.the-variants.{Piece, Hop, Re
 use Rattle.files.specs.inner.Pieces.{beforeOutcome, inFront, restAt, PieceTurn, Turned}
 use Rattle.files.specs.inner.Passes.{Copied}
 use Rattle.chains.specs.inner.Walks.{left}
-use Rattle.files.specs.Turns.{turnAt}
+use Rattle.files.specs.inner.Turns.{turnAt}
 use Rattle.files.proofs.PieceLaws.{part-long}
 use Rattle.files.proofs.TurnLaws.{turned}
 use Rattle.files.proofs.BoundLaws.{few-bytes}

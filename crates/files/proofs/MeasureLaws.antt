@@ -25,7 +25,7 @@ use Rattle.files.specs.Reads.{visited}
 use Rattle.files.specs.inner.Pieces.{inFront, joined, restAt, Lies, PieceTurn, HopTurn, EndTurn, Turned}
 use Rattle.files.specs.inner.Passes.{Came, sized, Measures}
 use Rattle.files.specs.inner.Passes.Came.{comes, stops}
-use Rattle.files.specs.Turns.{turnAt}
+use Rattle.files.specs.inner.Turns.{turnAt}
 use Rattle.files.proofs.PieceLaws.{part-long}
 use Rattle.files.proofs.TurnLaws.{turned}
 use Rattle.disc.specs.Parts.{Bytes}

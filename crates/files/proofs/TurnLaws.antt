@@ -8,6 +8,7 @@ use lib.Dec.{eqb}
 use borrow.Author.Tests.{eq-eqb, ne-eqb, eqb-true, eqb-false}
 use Rattle.disc.specs.Choice.{pick}
 use Rattle.disc.specs.Places.{placed}
+use Rattle.disc.specs.Replies.{answerOf}
 use Rattle.disc.specs.declared.places.Mount.{Mount}
 use Rattle.disc.specs.declared.refusals.Refusal.{Refusal}
 use Rattle.disc.specs.declared.refusals.Refusal.the-variants.{Unsupported}
@@ -20,8 +21,8 @@ use Rattle.files.specs.declared.pieces.Piece.{Piece}
 use Rattle.files.specs.declared.pieces.Piece.the-variants.{Held, Refused}
 use Rattle.files.specs.declared.pieces.Turn.{Turn}
 use Rattle.files.specs.declared.pieces.Turn.the-variants.{Piece as APiece, Hop, Refused as Stopped, End}
-use Rattle.files.specs.inner.Pieces.{weighedAt, Weighed, Turned}
-use Rattle.files.specs.Turns.{weighedIn, weighedOf, turnWith, turnBy, turnAt}
+use Rattle.files.specs.inner.Pieces.{weighedAt, restAt, Weighed, Turned}
+use Rattle.files.specs.inner.Turns.{weighedIn, weighedOf, turnWith, turnBy, turnAt, turnAnswer}
 use Rattle.files.proofs.PieceLaws.{weigh-type, weigh-nowhere, weigh-there, turn-end, turn-hop, turn-refused, turn-piece}
 use Rattle.disc.specs.Parts.{Bytes}
 
@@ -85,3 +86,15 @@ turned image m kind c want b {t} g = rw g (by (stepOf image m kind c) refl)
     by Ends p = turn-end image m kind c want p b refl
     by (Hops c′) p = turn-hop image m kind c want p b refl
     by (Takes e c′) p = piece e c′ p (weighedOf image m e want) (weighed image m e want)
+
+-- a turn that is refused has the number and the sectors of the whole read from there on
+pub turn-answers : (image : List ℕ) (m : Mount) (kind : ℕ) (c : ChainCursor) (want : ℕ) → Bytes image → (t : Turn) → t ≡ turnAt image m kind c want → (turnAnswer t .number ≡ 0 → ⊥)
+    → (turnAnswer t .number ≡ answerOf (restAt image m kind c want .outcome)) × (turnAnswer t .value .sectors ≡ restAt image m kind c want .count)
+turn-answers image m kind c want b t g h = by t (turned image m kind c want b g) h
+  where
+    by : (t : Turn) → Turned image m kind c want t → (turnAnswer t .number ≡ 0 → ⊥)
+        → (turnAnswer t .number ≡ answerOf (restAt image m kind c want .outcome)) × (turnAnswer t .value .sectors ≡ restAt image m kind c want .count)
+    by (APiece from n k next) p z = absurd (z refl)
+    by (Hop next) p z = absurd (z refl)
+    by (Stopped why n) p z = (rw p, rw p)
+    by End p z = absurd (z refl)

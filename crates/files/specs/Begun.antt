@@ -11,8 +11,6 @@ use Rattle.disc.specs.Images.{disc}
 use Rattle.disc.specs.declared.places.Mount.{Mount}
 use Rattle.areas.specs.declared.AllocExtent.{AllocExtent}
 use Rattle.files.specs.Reads.{extentsBytes}
-use Rattle.records.specs.declared.allocations.LongAd.{LongAd}
-use Rattle.files.specs.Files.{visitsIn, fileVisited}
 
 -- a read of `want` bytes begins the first n of the extents es
 pub record Begins (image : List ℕ) (m : Mount) (es : List AllocExtent) (want n : ℕ) : Type 0 where
@@ -25,7 +23,3 @@ pub record Begins (image : List ℕ) (m : Mount) (es : List AllocExtent) (want n
   -- for no byte it begins the first alone, if there is one
   pub first : want ≡ 0 → n ≡ min 1 (length es)
   pub few : n ≤ length es
-
--- how many extents a read of the file visits
-abbrev pub visits : List ℕ → Mount → LongAd → ℕ
-visits image m icb = visitsIn (ran (disc image) (fileVisited m icb) .outcome)

@@ -6,4 +6,3 @@ pub mod Example
 pub mod ExtentSectors
 pub mod Begun
 pub mod inner
-pub mod Turns

@@ -2,7 +2,7 @@
 ghost use mathlib.Core.Path.{_≡_};
 ghost use Prim.Native.Nat.{_<_, _^_};
 ghost use Rattle.files.specs.inner.Pieces.{sectorsRead, weighedAt};
-ghost use Rattle.files.specs.Turns.{weighedOf, turnAt};
+ghost use Rattle.files.specs.inner.Turns.{weighedOf, turnAt};
 use areas::AllocExtent;
 use chains::cursors::ChainCursor;
 use chains::cursors::ChainStep;

@@ -36,7 +36,7 @@ use Rattle.files.specs.declared.resolves.Resolved.the-variants.{Embedded, Chain
 use Rattle.files.specs.Files.{entryMount, partOf}
 use Rattle.files.specs.Files.File.{embedded}
 use Rattle.files.specs.inner.Pieces.{PieceTurn, HopTurn, EndTurn, Turned}
-use Rattle.files.specs.Turns.{turnAt}
+use Rattle.files.specs.inner.Turns.{turnAt}
 use Rattle.files.proofs.TurnLaws.{turned}
 use Rattle.files.specs.inner.Passes.{Came, sizedBy, sized}
 use Rattle.files.specs.inner.Passes.Came.{comes, stops}

@@ -4,6 +4,8 @@ use mathlib.Core.List.{List}
 use mathlib.Core.Option.{Option, none, some}
 use lib.Dec.{eqb}
 use Rattle.disc.specs.Choice.{pick}
+use Rattle.disc.specs.Refusals.{number}
+use Rattle.disc.specs.Replies.{Answer}
 use Rattle.disc.specs.Places.{placed}
 use Rattle.disc.specs.declared.places.Mount.{Mount}
 use Rattle.disc.specs.declared.refusals.Refusal.the-variants.{Unsupported}
@@ -41,3 +43,16 @@ turnBy image m want (Takes e next) = turnWith next (weighedOf image m e want)
 -- the turn from c on, where `want` bytes are still wanted
 unfoldable pub turnAt : List ℕ → Mount → ℕ → ChainCursor → ℕ → Turn
 turnAt image m kind c want = turnBy image m want (stepOf image m kind c)
+
+-- the answer number of a turn and its values: RULES 12.3
+pub record TurnValue : Type 0 where
+  pub from : ℕ
+  pub bytes : ℕ
+  pub sectors : ℕ
+  pub next : Option ChainCursor
+
+abbrev pub turnAnswer : Turn → Answer TurnValue
+turnAnswer (APiece from n k next) = record { number = 0; value = record { from = from; bytes = k; sectors = n; next = some next } }
+turnAnswer (Hop next) = record { number = 0; value = record { from = 0; bytes = 0; sectors = 0; next = some next } }
+turnAnswer (Stopped why n) = record { number = number why; value = record { from = 0; bytes = 0; sectors = n; next = none } }
+turnAnswer End = record { number = 0; value = record { from = 0; bytes = 0; sectors = 0; next = none } }
