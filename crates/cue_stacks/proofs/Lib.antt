@@ -3,3 +3,4 @@ pub mod ItemLaws
 pub mod StackLaws
 pub mod TurnLaws
 pub mod Promises
+pub mod SumLaws

@@ -1,3 +1,4 @@
 -- What the contracts cite: what a reader must believe, then what the private functions alone cite.
 pub mod Stacks
+pub mod Sums
 pub mod inner

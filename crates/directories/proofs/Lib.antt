@@ -3,6 +3,7 @@ pub mod PlaceLaws
 pub mod SpaceLaws
 pub mod ListLaws
 pub mod WalkLaws
+pub mod LeftLaws
 pub mod LookupLaws
 pub mod Promises
 pub mod PathLaws

@@ -79,7 +79,7 @@ module _ (path : List ℕ) (e : ℕ) {a : ℕ} (p : a ≡ e + slashes (drop e pa
   skipped : drop a path ≡ drop (slashes (drop e path)) (drop e path)
   skipped = rw (p, drop-drop)
 
-  same-components : componentsFrom a (drop a path) ≡ componentsFrom e (drop e path)
+  pub same-components : componentsFrom a (drop a path) ≡ componentsFrom e (drop e path)
   same-components = rw (skipped, p) (behind-slashes e (drop e path))
 
   none-left : slashes (drop a path) ≡ 0
@@ -122,7 +122,7 @@ module _ (d : Disc) (matching : Matching) (v : Mount) (work : ℕ) (path : List 
       (sym (ahead ∙ rw z (both (ap (λ n. record { answer = 0; count = n; icb = p .icb }) counts) refl))))
 
   module _ (h : p .from < length path) {end : ℕ} (k : end ≡ p .from + length (front (drop (p .from) path))) where
-    some-left : componentsFrom (p .from) (drop (p .from) path) ≡ record { bytes = front (drop (p .from) path); at = p .from } ∷ componentsFrom end (drop end path)
+    pub some-left : componentsFrom (p .from) (drop (p .from) path) ≡ record { bytes = front (drop (p .from) path); at = p .from } ∷ componentsFrom end (drop end path)
     some-left = first-component (p .from) (drop (p .from) path) (on .clean g) (rw length-drop (omega arith)) ∙ rw (drop-drop, ← k)
 
     end-within : end ≤ length path
@@ -131,7 +131,7 @@ module _ (d : Disc) (matching : Matching) (v : Mount) (work : ℕ) (path : List 
     further : p .from < end
     further = omega (arith, k, front-some (drop (p .from) path) (on .clean g) (rw length-drop (omega arith)))
 
-    component-is : take (end - p .from) (drop (p .from) path) ≡ front (drop (p .from) path)
+    pub component-is : take (end - p .from) (drop (p .from) path) ≡ front (drop (p .from) path)
     component-is = rw (k, add-sub-cancel-left) (front-is (drop (p .from) path))
 
     pub step-dead : p .directory ≡ false → {q : PathPlace} → q ≡ lostAt (p .count) (p .from) end → Steps d matching v work path p q

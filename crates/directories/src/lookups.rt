@@ -6,6 +6,7 @@ ghost use Rattle.disc.specs.Images.{disc};
 ghost use Rattle.disc.specs.Replies.{Replied};
 ghost use Rattle.disc.specs.declared.refusals.Refusal.the-variants.{NoRoom};
 ghost use Rattle.directories.specs.Lookups.{seekPath, lookupOf, readPathOf, foundOf, failedOf, failedReply};
+ghost use Rattle.directories.specs.inner.WorkSpaces.{pathLeaves};
 use crate::walks::walk;
 use disc::answers::DONE;
 use disc::counts::add_counts;
@@ -112,6 +113,7 @@ pub fn read_reached(
     work: &mut [u8],
 ) -> Reply
     ensures { λ r. ⌜ Replied NoRoom (ran (disc (now (image .entry))) (readPathOf matching mount (length (now (work .entry))) root (now (path .entry)))) (now (out .entry)) (now (out .exit)) r ⌝ }
+    ensures { λ _. ⌜ now (work .exit) ≡ pathLeaves (disc (now (image .entry))) matching mount root (now (path .entry)) (now (work .entry)) ⌝ }
 {
     let p = walk(image, mount, root, path, matching, work);
     if p.answer != DONE {

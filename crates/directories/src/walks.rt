@@ -5,6 +5,7 @@ ghost use lib.ListN.{length};
 ghost use Rattle.disc.specs.Ran.{ran};
 ghost use Rattle.disc.specs.Images.{disc};
 ghost use Rattle.directories.specs.Lookups.{entering};
+ghost use Rattle.directories.specs.inner.WorkSpaces.{readInto, pathLeaves, placeLeaves};
 ghost use Rattle.directories.specs.inner.Walks.{enteredOf, stoppedAt, lostAt, beyondOf, On, Steps, Walks};
 use crate::spaces::read_directory;
 use disc::answers::DONE;
@@ -48,6 +49,7 @@ fn enter(
     work: &mut [u8],
 ) -> Entered
     ensures { λ r. ⌜ r ≡ enteredOf (ran (disc (now (image .entry))) (entering matching mount (length (now (work .entry))) icb (now (component .entry)))) ⌝ }
+    ensures { λ _. ⌜ now (work .exit) ≡ readInto (disc (now (image .entry))) mount (now (work .entry)) icb ⌝ }
 {
     let read = read_directory(image, mount, icb, work);
     if read.answer != DONE {
@@ -120,6 +122,7 @@ fn step(
 ) -> PathPlace
     requires { ⌜ (p .going ≡ true) × On (now path) p ⌝ }
     ensures { λ q. ⌜ Steps (disc (now (image .entry))) matching mount (length (now (work .entry))) (now (path .entry)) p q ⌝ }
+    ensures { λ q. ⌜ placeLeaves (disc (now (image .entry))) matching mount (now (path .entry)) q (now (work .exit)) ≡ placeLeaves (disc (now (image .entry))) matching mount (now (path .entry)) p (now (work .entry)) ⌝ }
 {
     let icb = p.icb;
     let from = p.from;
@@ -145,6 +148,7 @@ pub(crate) fn walk(
     work: &mut [u8],
 ) -> PathPlace
     ensures { λ r. ⌜ Walks (disc (now (image .entry))) matching mount (length (now (work .entry))) root (now (path .entry)) r ⌝ }
+    ensures { λ _. ⌜ now (work .exit) ≡ pathLeaves (disc (now (image .entry))) matching mount root (now (path .entry)) (now (work .entry)) ⌝ }
 {
     let mut p = PathPlace {
         going: true,

@@ -40,8 +40,8 @@ module _ (image : List ℕ) (v : VolumeRecord) (paths : List ℕ) (matching : Ma
   run-stays more path room h =
       stays (λ r. r) (pathReading v (length work) path matching) image (sym (io-1 (asReadPath v path matching room work) image) ∙ ne-eqb _ 1 h) more
 
-  -- if no item is refused by 1, the whole call is final
-  pub read-all-grown : ((i : ℕ) → i < length (items paths) → getD (readsAll image v paths matching out lengths answers work .answers) i 0 ≡ 1 → ⊥)
+  -- if no item is refused by 1, the whole call is final: at 12, where none is read, whatever the row held
+  pub read-all-grown : (Enough paths lengths answers → (i : ℕ) → i < length (items paths) → getD (readsAll image v paths matching out lengths answers work .answers) i 0 ≡ 1 → ⊥)
       → Final (λ i. readsAll i v paths matching out lengths answers work) image
   read-all-grown none more = ap (allRead work) (all-stays 1 (run image) (run (image ++ more)) (λ p room h. run-stays more p room h) paths out lengths answers none)
 

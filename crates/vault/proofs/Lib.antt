@@ -18,6 +18,7 @@ pub mod Agreeing
 pub mod Prevailing
 pub mod Checking
 pub mod Stacking
+pub mod Summing
 pub mod Showing
 pub mod Growing
 pub mod Waiting

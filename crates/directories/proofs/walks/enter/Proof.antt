@@ -2,10 +2,11 @@
 use borrow.Author.Needs.{needs}
 use Rattle.directories.proofs.SpaceLaws.{reads-room}
 use Rattle.directories.proofs.WalkLaws.{enter-refused, enter-found}
+use Rattle.directories.proofs.LeftLaws.{reads-into}
 use Rattle.directories.proofs.walks.enter.Statement.{statement}
 use Rattle.directories.proofs.walks.enter.Tie as tie
 
-ruleset enters = (enter-refused, reads-room, enter-found, needs)
+ruleset enters = (enter-refused, reads-room, enter-found, reads-into, needs)
 
 pub enter-spec : {M : Type 1} → statement M
 enter-spec =
