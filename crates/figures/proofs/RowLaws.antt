@@ -74,18 +74,12 @@ pairs-at (n ∷ ns) (suc i) m h =
     rw (mul-suc, add-two) (sets-cons (reported n) (over n ∷ pairs ns) (suc (2 * i)) v ∙ ap (λ t. reported n ∷ t) (sets-cons (over n) (pairs ns) (2 * i) v)
     ∙ ap (λ t. reported n ∷ over n ∷ t) (pairs-at ns i m (omega arith)))
 
-module _ {s t : List ℕ} (ns : List ℕ) (at i m : ℕ) (e : s ≡ pairs ns) (a : at ≡ 2 * i) (h : i < length ns) (k : m ≤ most) where
-  pub sum-at : t ≡ sets s at (summed (getD s at 0) (getD s (at + 1) 0) m 0) → t ≡ pairs (set ns i (getD ns i 0 + m))
-  sum-at f =
-      let g : summed (reported (getD ns i 0)) (over (getD ns i 0)) m 0 ≡ reported (getD ns i 0 + m) ∷ over (getD ns i 0 + m) ∷ [] =
-      rw (reported-within m k, over-within m k) at (summed-is (getD ns i 0) m) in
-      f ∙ rw (e, a, pairs-number ns i, pairs-mark ns i, g) (pairs-at ns i (getD ns i 0 + m) h)
+module _ {s t : List ℕ} (ns : List ℕ) (at i m : ℕ) (e : s ≡ pairs ns) (a : at ≡ 2 * i) (h : i < length ns) where
+  pub sum-at : t ≡ sets s at (summed (getD s at 0) (getD s (at + 1) 0) (reported m) (over m)) → t ≡ pairs (set ns i (getD ns i 0 + m))
+  sum-at f = f ∙ rw (e, a, pairs-number ns i, pairs-mark ns i, summed-is (getD ns i 0) m) (pairs-at ns i (getD ns i 0 + m) h)
 
-  pub longer-at : t ≡ sets s at (greater (getD s at 0) (getD s (at + 1) 0) m 0) → t ≡ pairs (set ns i (max (getD ns i 0) m))
-  longer-at f =
-      let g : greater (reported (getD ns i 0)) (over (getD ns i 0)) m 0 ≡ reported (max (getD ns i 0) m) ∷ over (max (getD ns i 0) m) ∷ [] =
-      rw (reported-within m k, over-within m k) at (greater-is (getD ns i 0) m) in
-      f ∙ rw (e, a, pairs-number ns i, pairs-mark ns i) (ap (sets (pairs ns) (2 * i)) g ∙ pairs-at ns i (max (getD ns i 0) m) h)
+  pub longer-at : t ≡ sets s at (greater (getD s at 0) (getD s (at + 1) 0) (reported m) (over m)) → t ≡ pairs (set ns i (max (getD ns i 0) m))
+  longer-at f = f ∙ rw (e, a, pairs-number ns i, pairs-mark ns i) (ap (sets (pairs ns) (2 * i)) (greater-is (getD ns i 0) m) ∙ pairs-at ns i (max (getD ns i 0) m) h)
 
 -- two rows of sums with a greater one behind them
 pub pairs-added : (k : ℕ) (ms ns : List ℕ) (a b : ℕ) → length ms ≡ k → length ns ≡ k

@@ -4,7 +4,8 @@ ghost use mathlib.Core.List.{_++_};
 ghost use Prim.Native.Nat.{_+_, _*_, _≤_, max, min};
 ghost use lib.ListN.{length, getD, take, drop, replicate};
 ghost use lib.Seq.{sets};
-ghost use Rattle.figures.specs.Figures.{Adds, oneDirectory, oneFile, oneImage, summed, greater, placesAdded, sums, totalOf, totaled, totalAnswer};
+ghost use Rattle.figures.specs.Figures.{summed, greater, placesAdded, sums, totalOf, totaled, totalAnswer};
+ghost use Rattle.figures.specs.Placed.{withDirectory, withFile, withImage};
 use disc::answers::BAD_SHELF;
 use disc::answers::DONE;
 use disc::counts::lesser;
@@ -96,7 +97,7 @@ fn add_longer(place: &mut [u64], at: usize, more: u64, over: u64)
 
 // Adds a directory to the figures of a place. A slice of another length is no place, and stays as it came.
 pub fn add_directory(place: &mut [u64])
-    ensures { λ _. ⌜ Adds oneDirectory (now (place .entry)) (now (place .exit)) ⌝ }
+    ensures { λ _. ⌜ now (place .exit) ≡ withDirectory (now (place .entry)) ⌝ }
 {
     if place.len() != PLACE {
         return;
@@ -107,7 +108,7 @@ pub fn add_directory(place: &mut [u64])
 // Adds a file to the figures of a place.
 fn add_sizes(place: &mut [u64], answer: u64, bytes: u64, extents: u64, sectors: u64, chain: u64)
     requires { ⌜ (length (now place) ≡ 76) × (answer ≤ 15) ⌝ }
-    ensures { λ _. ⌜ Adds (oneFile answer bytes extents sectors chain) (now (place .entry)) (now (place .exit)) ⌝ }
+    ensures { λ _. ⌜ now (place .exit) ≡ withFile answer bytes extents sectors chain (now (place .entry)) ⌝ }
 {
     add_sum(place, FILES, 1, 0);
     add_sum(place, BYTES, bytes, 0);
@@ -119,7 +120,7 @@ fn add_sizes(place: &mut [u64], answer: u64, bytes: u64, extents: u64, sectors: 
 
 // Adds a file by its answer number and what reading it comes to; a number over 15, which none is, counts as 15.
 pub fn add_file(place: &mut [u64], answer: u64, bytes: u64, extents: u64, sectors: u64, chain: u64)
-    ensures { λ _. ⌜ Adds (oneFile (min answer 15) bytes extents sectors chain) (now (place .entry)) (now (place .exit)) ⌝ }
+    ensures { λ _. ⌜ now (place .exit) ≡ withFile (min answer 15) bytes extents sectors chain (now (place .entry)) ⌝ }
 {
     if place.len() != PLACE {
         return;
@@ -130,7 +131,7 @@ pub fn add_file(place: &mut [u64], answer: u64, bytes: u64, extents: u64, sector
 
 // Adds an image by its answer number, in the same way.
 pub fn add_image(place: &mut [u64], answer: u64)
-    ensures { λ _. ⌜ Adds (oneImage (min answer 15)) (now (place .entry)) (now (place .exit)) ⌝ }
+    ensures { λ _. ⌜ now (place .exit) ≡ withImage (min answer 15) (now (place .entry)) ⌝ }
 {
     if place.len() != PLACE {
         return;

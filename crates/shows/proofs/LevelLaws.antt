@@ -24,7 +24,6 @@ use Rattle.disc.proofs.RanLaws.{ran-then, ran-ended, never}
 use Rattle.disc.proofs.RefusalLaws.{refusal-numbered}
 use Rattle.records.specs.declared.allocations.LongAd.{LongAd}
 use Rattle.identifiers.specs.Identifiers.{isDirectory, nextAt}
-use Rattle.figures.specs.Figures.{Adds}
 use Rattle.listings.specs.Entries.{Entry, entryOf, entryRead, isSkipped, inFront, entries}
 use Rattle.listings.specs.Listings.{shown}
 use Rattle.listings.specs.inner.Passes.{tail, sizeOfListing}
@@ -36,11 +35,10 @@ use Rattle.directories.specs.inner.Spaces.{replyTo, Reads}
 use Rattle.directories.proofs.SpaceLaws.{reads-count, reads-bytes}
 use Rattle.shows.specs.Shows.{Node, nodesAt, nodeRecord}
 use Rattle.shows.specs.inner.Turns.{ownRecord, SeenGood, Noted, stoppedAt, Held, Lent, lent, Shown, opening, Opens, turnOf, Handles}
-use Rattle.shows.specs.Tallies.{ofEntry, ofNode}
+use Rattle.shows.specs.Placings.{entryPlaced, nodePlaced}
 use Rattle.shows.specs.declared.nodes.EntrySeen.{EntrySeen}
 use Rattle.shows.specs.declared.levels.ShowPlace.{ShowPlace}
 use Rattle.shows.proofs.NodeLaws.{record-long, own-none, own-record}
-use Rattle.shows.proofs.TallyLaws.{adds-same}
 use Rattle.shows.proofs.ShownLaws.{turn-skipped, turn-file, turn-directory, shown-none, shown-one, shown-held, joined-goes}
 
 -- ---- a directory read and parsed
@@ -194,7 +192,7 @@ module _ (d : Disc) (m : Mount) (left level : ℕ) (work : List ℕ) (n at : ℕ
     next-further = omega (arith, next-is, g .whole .head, g .whole .on)
 
     -- its own turn was shown, and the others stand behind it
-    handled : {q : ShowPlace} {tally : List ℕ} {l₂ : Lent} → (q .answer ≡ 0 → Held q) → Shown (ofNode d m) (ran d (turnOf (nodesAt m left (suc level) (length work - n)) level x)) p (lent out tally) q l₂
+    handled : {q : ShowPlace} {tally : List ℕ} {l₂ : Lent} → (q .answer ≡ 0 → Held q) → Shown (nodePlaced d m) (ran d (turnOf (nodesAt m left (suc level) (length work - n)) level x)) p (lent out tally) q l₂
         → Handles d m left level raw (length work - n) at p (lent out tally) (record { place = q; next = at + e .next }) l₂
     handled i s = record {
       further = next-further;
@@ -219,7 +217,7 @@ module _ (d : Disc) (m : Mount) (left level : ℕ) (work : List ℕ) (n at : ℕ
           handled (λ j. i) (shown-none i (turn-skipped d (nodesAt m left (suc level) (length work - n)) level x (skip-is ∙ s)) (lent out tally)
           (λ room. t .puts x (g .reads) (omega (arith, ap length o)) ∙ ap (sets out (p .size)) o) refl)
 
-      module _ (s : e .skipped ≡ false) {size : ℕ} (c : size ≡ reported (p .size + e .size)) {tally tally₁ : List ℕ} (a : Adds (ofEntry d m (e .directory) (e .icb)) tally tally₁) where
+      module _ (s : e .skipped ≡ false) {size : ℕ} (c : size ≡ reported (p .size + e .size)) (tally : List ℕ) {tally₁ : List ℕ} (a : tally₁ ≡ entryPlaced d m (e .directory) (e .icb) tally) where
         abbrev node : Node
         node = record { level = level; entry = x }
 
@@ -234,9 +232,9 @@ module _ (d : Disc) (m : Mount) (left level : ℕ) (work : List ℕ) (n at : ℕ
         icb-is : e .icb ≡ x .identifier .icb
         icb-is = ap (λ (v : EntrySeen). v .icb) (g .is)
 
-        own-shown : {r : Ran (List Node)} → r ≡ told (answered (node ∷ [])) → Shown (ofNode d m) r p (lent out tally) (record { answer = 0; count = p .count; size = size }) (lent out₁ tally₁)
+        own-shown : {r : Ran (List Node)} → r ≡ told (answered (node ∷ [])) → Shown (nodePlaced d m) r p (lent out tally) (record { answer = 0; count = p .count; size = size }) (lent out₁ tally₁)
         own-shown y = shown-one i y (c ∙ ap (λ v. reported (p .size + v)) size-is) (λ room. t .puts x (g .reads) (omega (arith, ap length own)) ∙ ap (sets out (p .size)) own)
-            (adds-same (ap (λ b. ofEntry d m b (e .icb)) (sym directory-is) ∙ ap (ofEntry d m (isDirectory (x .identifier))) icb-is) a)
+            (a ∙ ap (λ b. entryPlaced d m b (e .icb) tally) (sym directory-is) ∙ ap (λ i. entryPlaced d m (isDirectory (x .identifier)) i tally) icb-is)
 
         own-held : Held (record { answer = 0; count = p .count; size = size })
         own-held = record { going = refl; counted = i .counted; sized = omega arith }
@@ -246,10 +244,10 @@ module _ (d : Disc) (m : Mount) (left level : ℕ) (work : List ℕ) (n at : ℕ
 
         -- what stands under it was shown from the work space behind n on
         pub handle-directory : e .directory ≡ true → {q : ShowPlace} {l₂ : Lent}
-            → Shown (ofNode d m) (ran d (nodesAt m left (level + 1) (length (midOf n (length work - n) work)) (e .icb))) (record { answer = 0; count = p .count; size = size }) (lent out₁ tally₁) q l₂
+            → Shown (nodePlaced d m) (ran d (nodesAt m left (level + 1) (length (midOf n (length work - n) work)) (e .icb))) (record { answer = 0; count = p .count; size = size }) (lent out₁ tally₁) q l₂
             → Handles d m left level raw (length work - n) at p (lent out tally) (record { place = q; next = at + e .next }) l₂
         handle-directory f {q} {l₂} u =
             let l : length (midOf n (length work - n) work) ≡ length work - n = simp (length-take, length-drop) (omega arith) in
-            let y : Shown (ofNode d m) (ran d (nodesAt m left (suc level) (length work - n) (x .identifier .icb))) (record { answer = 0; count = p .count; size = size }) (lent out₁ tally₁) q l₂ =
+            let y : Shown (nodePlaced d m) (ran d (nodesAt m left (suc level) (length work - n) (x .identifier .icb))) (record { answer = 0; count = p .count; size = size }) (lent out₁ tally₁) q l₂ =
             rw (l, add-one level, icb-is) at u in
             handled (shown-held u) (rw (turn-directory d (nodesAt m left (suc level) (length work - n)) level x (skip-is ∙ s) (directory-is ∙ f)) (joined-goes (own-shown refl) y refl))

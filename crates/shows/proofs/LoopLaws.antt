@@ -18,13 +18,12 @@ use Rattle.disc.specs.declared.places.Mount.{Mount}
 use Rattle.disc.specs.declared.refusals.Refusal.the-variants.{TooDeep}
 use Rattle.disc.proofs.RanLaws.{ran-done, ran-refuse}
 use Rattle.records.specs.declared.allocations.LongAd.{LongAd}
-use Rattle.figures.specs.Figures.{Figures}
 use Rattle.listings.specs.Entries.{Entry, entries}
 use Rattle.listings.proofs.GuardLaws.{entries-unchecked}
 use Rattle.listings.proofs.WalkLaws.{at-end}
 use Rattle.shows.specs.Shows.{Node, nodesOf, nodesAt}
 use Rattle.shows.specs.inner.Turns.{stoppedAt, Held, Lent, Shown, opening, Opens, Handles}
-use Rattle.shows.specs.Tallies.{ofNode}
+use Rattle.shows.specs.Placings.{nodePlaced}
 use Rattle.shows.specs.declared.levels.ShowPlace.{ShowPlace}
 use Rattle.shows.specs.declared.levels.OpenedLevel.{OpenedLevel}
 use Rattle.shows.specs.declared.levels.EntryTurn.{EntryTurn}
@@ -33,29 +32,29 @@ use Rattle.shows.proofs.ShownLaws.{turn-joined, shown-none, shown-refus
 -- ---- the loop has come to `at`
 
 -- the entries that are left of those that were parsed
-pub record Going (d : Disc) (of : Node → Figures) (inside : LongAd → Ask (List Node)) (level : ℕ) (raw : List ℕ) (p₀ : ShowPlace) (l₀ : Lent) (es : List Entry) (p : ShowPlace) (l : Lent) (at : ℕ) : Type 0 where
+pub record Going (d : Disc) (of : Node → List ℕ → List ℕ) (inside : LongAd → Ask (List Node)) (level : ℕ) (raw : List ℕ) (p₀ : ShowPlace) (l₀ : Lent) (es : List Entry) (p : ShowPlace) (l : Lent) (at : ℕ) : Type 0 where
   pub left : List Entry
   pub are : entries false (drop at raw) ≡ answered left
   pub leads : (q : ShowPlace) (l′ : Lent) → Shown of (ran d (nodesOf inside level left)) p l q l′ → Shown of (ran d (nodesOf inside level es)) p₀ l₀ q l′
 
-pub record Listing (d : Disc) (of : Node → Figures) (inside : LongAd → Ask (List Node)) (level : ℕ) (raw : List ℕ) (p₀ : ShowPlace) (l₀ : Lent) (p : ShowPlace) (l : Lent) (at : ℕ) : Type 0 where
+pub record Listing (d : Disc) (of : Node → List ℕ → List ℕ) (inside : LongAd → Ask (List Node)) (level : ℕ) (raw : List ℕ) (p₀ : ShowPlace) (l₀ : Lent) (p : ShowPlace) (l : Lent) (at : ℕ) : Type 0 where
   pub held : Held p
   pub within : at ≤ length raw + 3
   pub goes : (es : List Entry) → entries false raw ≡ answered es → Going d of inside level raw p₀ l₀ es p l at
 
 -- all entries were shown: what the loop's returns say
-abbrev pub AllShown : Disc → (Node → Figures) → (LongAd → Ask (List Node)) → ℕ → List ℕ → ShowPlace → Lent → ShowPlace → Lent → Type 0
+abbrev pub AllShown : Disc → (Node → List ℕ → List ℕ) → (LongAd → Ask (List Node)) → ℕ → List ℕ → ShowPlace → Lent → ShowPlace → Lent → Type 0
 AllShown d of inside level raw p₀ l₀ q l′ = (es : List Entry) → entries false raw ≡ answered es → Shown of (ran d (nodesOf inside level es)) p₀ l₀ q l′
 
-pub list-starts : (d : Disc) (of : Node → Figures) (inside : LongAd → Ask (List Node)) (level : ℕ) (raw : List ℕ) (p : ShowPlace) (l : Lent) → Held p → Listing d of inside level raw p l p l 0
+pub list-starts : (d : Disc) (of : Node → List ℕ → List ℕ) (inside : LongAd → Ask (List Node)) (level : ℕ) (raw : List ℕ) (p : ShowPlace) (l : Lent) → Held p → Listing d of inside level raw p l p l 0
 list-starts d of inside level raw p l h = record { held = h; within = omega arith; goes = λ es are. record { left = es; are = are; leads = λ q l′ s. s } }
 
 module _ (d : Disc) (m : Mount) (below level : ℕ) (raw : List ℕ) (w : ℕ) (p₀ : ShowPlace) (l₀ : Lent) {p : ShowPlace} {l : Lent} {at : ℕ}
-    (i : Listing d (ofNode d m) (nodesAt m below (suc level) w) level raw p₀ l₀ p l at) where
+    (i : Listing d (nodePlaced d m) (nodesAt m below (suc level) w) level raw p₀ l₀ p l at) where
   abbrev inside : LongAd → Ask (List Node)
   inside = nodesAt m below (suc level) w
 
-  pub list-ends : length raw < at + 38 → AllShown d (ofNode d m) inside level raw p₀ l₀ p l
+  pub list-ends : length raw < at + 38 → AllShown d (nodePlaced d m) inside level raw p₀ l₀ p l
   unfolding nodesOf
   list-ends h es s =
       let g = i .goes es s in
@@ -64,7 +63,7 @@ module _ (d : Disc) (m : Mount) (below level : ℕ) (raw : List ℕ) (w : ℕ) (
       g .leads p l (rw z (shown-none (i .held) (ran-done d []) l (λ room. refl) refl))
 
   module _ {t : EntryTurn} {l′ : Lent} (h : Handles d m below level raw w at p l t l′) where
-    pub list-next : t .place .answer ≡ 0 → Listing d (ofNode d m) inside level raw p₀ l₀ (t .place) l′ (t .next)
+    pub list-next : t .place .answer ≡ 0 → Listing d (nodePlaced d m) inside level raw p₀ l₀ (t .place) l′ (t .next)
     list-next z = record {
       held = h .held z;
       within = h .near;
@@ -78,7 +77,7 @@ module _ (d : Disc) (m : Mount) (below level : ℕ) (raw : List ℕ) (w : ℕ) (
           };
     }
 
-    pub list-stops : (t .place .answer ≡ 0 → ⊥) → AllShown d (ofNode d m) inside level raw p₀ l₀ (t .place) l′
+    pub list-stops : (t .place .answer ≡ 0 → ⊥) → AllShown d (nodePlaced d m) inside level raw p₀ l₀ (t .place) l′
     list-stops z es s =
         let g = i .goes es s in
         let k = h .good (g .left) (g .are) in
@@ -87,7 +86,7 @@ module _ (d : Disc) (m : Mount) (below level : ℕ) (raw : List ℕ) (w : ℕ) (
 -- ---- the returns of `list_level`
 
 -- no level left
-pub level-none : {of : Node → Figures} (d : Disc) (m : Mount) (level : ℕ) (w : ℕ) (icb : LongAd) {left : ℕ} {p : ShowPlace} → Held p → left ≡ 0 → {a : ℕ} → a ≡ number TooDeep → {q : ShowPlace} → q ≡ stoppedAt a (p .count)
+pub level-none : {of : Node → List ℕ → List ℕ} (d : Disc) (m : Mount) (level : ℕ) (w : ℕ) (icb : LongAd) {left : ℕ} {p : ShowPlace} → Held p → left ≡ 0 → {a : ℕ} → a ≡ number TooDeep → {q : ShowPlace} → q ≡ stoppedAt a (p .count)
     → {l : Lent} → Shown of (ran d (nodesAt m left level w icb)) p l q l
 unfolding nodesAt
 level-none d m level w icb {p = p} h z k e =
@@ -102,7 +101,7 @@ module _ (d : Disc) (m : Mount) (icb : LongAd) {left : ℕ} (level : ℕ) (some 
       ap (λ n. nodesAt m n level (length work) icb) e
 
   -- the directory is refused
-  pub level-refused : (o .place .answer ≡ 0 → ⊥) → {of : Node → Figures} {l : Lent} → Shown of (ran d (nodesAt m left level (length work) icb)) p l (o .place) l
+  pub level-refused : (o .place .answer ≡ 0 → ⊥) → {of : Node → List ℕ → List ℕ} {l : Lent} → Shown of (ran d (nodesAt m left level (length work) icb)) p l (o .place) l
   level-refused n = let x = a .bad n in rw level-is (shown-refused (x .why) (x .n) (x .goes (λ b es. nodesOf (nodesAt m (left - 1) (suc level) (length work - length b)) level es)) (x .place))
 
   module _ (z : o .place .answer ≡ 0) where
@@ -113,7 +112,7 @@ module _ (d : Disc) (m : Mount) (icb : LongAd) {left : ℕ} (level : ℕ) (some 
     level-held h = rw (a .good z .place) (record { going = refl; counted = omega arith; sized = h })
 
     -- all its entries were shown
-    pub level-shown : length work₁ ≡ length work → {of : Node → Figures} {l : Lent} {q : ShowPlace} {l′ : Lent}
+    pub level-shown : length work₁ ≡ length work → {of : Node → List ℕ → List ℕ} {l : Lent} {q : ShowPlace} {l′ : Lent}
         → AllShown d of (nodesAt m (left - 1) (suc level) (length work₁ - o .length)) level (take (o .length) work₁) (o .place) l q l′
         → Shown of (ran d (nodesAt m left level (length work) icb)) p l q l′
     level-shown k s =
@@ -131,7 +130,7 @@ pub handles-same : {d : Disc} {m : Mount} {below level : ℕ} {raw raw₀ : List
 handles-same e f h = rw (e, f) at h
 
 -- no entry starts more than three bytes behind the directory's end
-pub list-fits : {d : Disc} {of : Node → Figures} {inside : LongAd → Ask (List Node)} {level : ℕ} (n : ℕ) (work : List ℕ) {p₀ : ShowPlace} {l₀ : Lent} {p : ShowPlace} {l : Lent} {at : ℕ}
+pub list-fits : {d : Disc} {of : Node → List ℕ → List ℕ} {inside : LongAd → Ask (List Node)} {level : ℕ} (n : ℕ) (work : List ℕ) {p₀ : ShowPlace} {l₀ : Lent} {p : ShowPlace} {l : Lent} {at : ℕ}
     → Listing d of inside level (take n work) p₀ l₀ p l at → n ≤ length work → (most : ℕ) → length work ≡ most → most * 1 < 2 ^ 63 → Fits w64 (at + 38)
 list-fits n work i h most e k = omega (arith, i .within, length-take n work)
 

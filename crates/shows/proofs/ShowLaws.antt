@@ -5,7 +5,7 @@ use mathlib.Core.List.{List, [], _∷_}
 use Prim.Native.Nat.{ℕ, _+_, _-_, _*_, _≤_, _<_, _^_}
 use native.Mathlib.Nat.{sub-zero}
 use native.Mathlib.Omega.{arith}
-use lib.ListN.{length, length-append, length-take, length-drop}
+use lib.ListN.{length, replicate, length-append, length-take, length-drop}
 use lib.Dec.{leb}
 use borrow.Author.Tests.{le-leb, lt-leb}
 use borrow.Rule.Slice.PartMut.{midOf, putMid}
@@ -16,7 +16,7 @@ use Rattle.disc.specs.Ask.{Disc, Outcome, outcome, andThen}
 use Rattle.disc.specs.Ask.Ask.{refuse}
 use Rattle.disc.specs.Ask.Outcome.{answered, refused}
 use Rattle.disc.specs.Ran.{Ran, ran}
-use Rattle.disc.specs.Replies.{Replied, answerOf}
+use Rattle.disc.specs.Replies.{Replied}
 use Rattle.disc.specs.declared.places.Mount.{Mount}
 use Rattle.disc.specs.declared.refusals.Refusal.the-variants.{NoRoom, TooDeep}
 use Rattle.disc.specs.declared.replies.Reply.{Reply}
@@ -25,10 +25,9 @@ use Rattle.disc.proofs.RanLaws.{ran-refuse, ran-known}
 use Rattle.disc.proofs.RefusalLaws.{refusal-numbered}
 use Rattle.disc.proofs.ReplyLaws.{reply-refused, reply-full, reply-done}
 use Rattle.records.specs.declared.allocations.LongAd.{LongAd}
-use Rattle.figures.specs.Figures.{Figures}
 use Rattle.shows.specs.Shows.{Node, nodesAt, mostLevels, tree, nodeRecords, showing}
 use Rattle.shows.specs.inner.Turns.{behindBy, lent, Shown}
-use Rattle.shows.specs.Tallies.{ofNode, Tallied}
+use Rattle.shows.specs.Placings.{nodePlaced, Tally, tallyBy, tallies}
 use Rattle.shows.specs.declared.levels.ShowPlace.{ShowPlace}
 
 -- before the first entry
@@ -90,7 +89,7 @@ module _ (d : Disc) (m : Mount) (w : ℕ) (root : LongAd) (levels : ℕ) where
 
     -- ---- measured, lent no output
 
-    module _ {of : Node → Figures} (out ys : List ℕ) {q : ShowPlace} {tally tally₁ : List ℕ} (s : Shown of R start (lent (midOf 0 (0 - 0) out) tally) q (lent ys tally₁)) (z : length (putMid 0 (0 - 0) out ys) ≡ length out) where
+    module _ {of : Node → List ℕ → List ℕ} (out ys : List ℕ) {q : ShowPlace} {tally tally₁ : List ℕ} (s : Shown of R start (lent (midOf 0 (0 - 0) out) tally) q (lent ys tally₁)) (z : length (putMid 0 (0 - 0) out ys) ≡ length out) where
       -- nothing was written
       as-came : putMid 0 (0 - 0) out ys ≡ out
       as-came = by ys z
@@ -148,14 +147,28 @@ module _ (d : Disc) (m : Mount) (w : ℕ) (root : LongAd) (levels : ℕ) where
             let r : ran d (showing m levels w root) ≡ record { outcome = answered text; count = R .count } = shown-is ∙ rw (x .are) in
             rw as-came (written text out r i j (x .count) y)
 
--- ---- the figures of a whole tree
+-- ---- a whole tree tallied
 
-pub tree-tallied : (d : Disc) (m : Mount) (w : ℕ) (root : LongAd) {out out′ tally tally′ : List ℕ} {q : ShowPlace}
-    → Shown (ofNode d m) (ran d (nodesAt m mostLevels 1 w root)) start (lent out tally) q (lent out′ tally′) → Tallied d m (ran d (tree m mostLevels w root) .outcome) tally tally′ (q .answer)
-tree-tallied d m w root {q = q} s =
-    let R = ran d (nodesAt m mostLevels 1 w root) in
-    rw (tree-within m w root mostLevels (omega arith) (omega arith)) (record { says = by (R .outcome) (R .count) (s .says); adds = s .adds })
-  where
-    by : (o : Outcome (List Node)) (n : ℕ) → q ≡ behindBy start o n → q .answer ≡ answerOf o
-    by (answered ns) n e = ap (λ (x : ShowPlace). x .answer) e
-    by (refused why) n e = ap (λ (x : ShowPlace). x .answer) e
+module _ (d : Disc) (m : Mount) (work : List ℕ) (root : LongAd) {out out′ : List ℕ} (tally : List ℕ) {tally′ : List ℕ} {q : ShowPlace}
+    (s : Shown (nodePlaced d m) (ran d (nodesAt m mostLevels 1 (length work) root)) start (lent out tally) q (lent out′ tally′)) where
+  abbrev N : Ran (List Node)
+  N = ran d (nodesAt m mostLevels 1 (length work) root)
+
+  tally-is : tallies d m root tally work ≡ tallyBy d m tally work (N .outcome)
+  tally-is = rw (tree-within m (length work) root mostLevels (omega arith) (omega arith))
+
+  pub tallied-refused : (q .answer ≡ 0 → ⊥) → {place work′ : List ℕ} → place ≡ replicate (length tally) 0 → work′ ≡ replicate (length work) 0
+      → _≡_ {A = Tally} (record { answer = q .answer; place = place; work = work′ }) (tallies d m root tally work)
+  tallied-refused h {place} {work′} e f = by (N .outcome) (s .says) ∙ sym tally-is
+    where
+      by : (o : Outcome (List Node)) → q ≡ behindBy start o (N .count) → _≡_ {A = Tally} (record { answer = q .answer; place = place; work = work′ }) (tallyBy d m tally work o)
+      by (answered ns) k = absurd (h (ap (λ (x : ShowPlace). x .answer) k))
+      by (refused why) k = rw (e, f, ap (λ (x : ShowPlace). x .answer) k)
+
+  pub tallied-done : q .answer ≡ 0 → {work′ : List ℕ} → work′ ≡ replicate (length work) 0
+      → _≡_ {A = Tally} (record { answer = 0; place = tally′; work = work′ }) (tallies d m root tally work)
+  tallied-done h {work′} f = by (N .outcome) refl (s .says) ∙ sym tally-is
+    where
+      by : (o : Outcome (List Node)) → N .outcome ≡ o → q ≡ behindBy start o (N .count) → _≡_ {A = Tally} (record { answer = 0; place = tally′; work = work′ }) (tallyBy d m tally work o)
+      by (answered ns) e k = rw (s .tallied ns e, f)
+      by (refused why) e k = absurd (refusal-numbered why (sym (ap (λ (x : ShowPlace). x .answer) k) ∙ h))

@@ -1,7 +1,7 @@
 -- Parts of the tree shown one behind another: places, records and figures. Assumes nothing.
 use mathlib.Core.Path.{_≡_, refl, sym, ap, _∙_}
 use mathlib.Core.Bool.{Bool, true, false}
-use mathlib.Core.List.{List, [], _∷_, _++_, map, append-nil, append-assoc, map-append}
+use mathlib.Core.List.{List, [], _∷_, _++_, append-nil, append-assoc}
 use Prim.Native.Nat.{ℕ, _+_, _≤_}
 use native.Mathlib.Nat.{zero-add}
 use native.Mathlib.Omega.{arith}
@@ -21,10 +21,9 @@ use Rattle.disc.proofs.RanLaws.{ran-done, ran-then, never}
 use Rattle.disc.proofs.RefusalLaws.{refusal-numbered}
 use Rattle.records.specs.declared.allocations.LongAd.{LongAd}
 use Rattle.identifiers.specs.Identifiers.{isDirectory}
-use Rattle.figures.specs.Figures.{Figures, Adds, addedTo}
-use Rattle.figures.proofs.FigureLaws.{addedTo-append}
 use Rattle.listings.specs.Entries.{Entry, isSkipped}
 use Rattle.shows.specs.Shows.{Node, under, nodesOf, nodeRecord, nodeRecords}
+use Rattle.shows.specs.Placings.{eachPlaced}
 use Rattle.shows.specs.inner.Turns.{stoppedAt, Held, behindBy, Lent, Shown, turnOf}
 use Rattle.shows.specs.declared.levels.ShowPlace.{ShowPlace}
 
@@ -100,10 +99,12 @@ pub records-one : (n : Node) → nodeRecords (n ∷ []) ≡ nodeRecord n
 unfolding nodeRecords
 records-one n = append-nil (nodeRecord n)
 
--- ---- figures behind each other
+-- ---- tallied behind each other
 
-figures-joined : (of : Node → Figures) (a b : List Node) (f : Figures) → addedTo f (map of (a ++ b)) ≡ addedTo (addedTo f (map of a)) (map of b)
-figures-joined of a b f = ap (addedTo f) (map-append of a b) ∙ addedTo-append f (map of a) (map of b)
+placed-joined : (of : Node → List ℕ → List ℕ) (a b : List Node) (s : List ℕ) → eachPlaced of (a ++ b) s ≡ eachPlaced of b (eachPlaced of a s)
+unfolding eachPlaced
+placed-joined of [] b s = refl
+placed-joined of (n ∷ a) b s = placed-joined of a b (of n s)
 
 -- ---- places
 
@@ -112,36 +113,36 @@ same-place : {a a′ c c′ s s′ : ℕ} → a ≡ a′ → c ≡ c′ → s �
 same-place e f g = rw (e, f, g)
 
 -- nothing shown
-pub shown-none : {of : Node → Figures} {p : ShowPlace} → Held p → {r : Ran (List Node)} → r ≡ told (answered []) → (l : Lent) {l′ : Lent} → (p .size ≤ length (l .out) → l′ .out ≡ l .out) → l′ .tally ≡ l .tally
+pub shown-none : {of : Node → List ℕ → List ℕ} {p : ShowPlace} → Held p → {r : Ran (List Node)} → r ≡ told (answered []) → (l : Lent) {l′ : Lent} → (p .size ≤ length (l .out) → l′ .out ≡ l .out) → l′ .tally ≡ l .tally
     → Shown of r p l p l′
-unfolding nodeRecords addedTo
+unfolding nodeRecords eachPlaced
 shown-none {p = p} h e l f g = rw e (record {
   says = same-place (h .going) (omega (arith, h .counted)) (omega (arith, h .sized));
   puts = λ ns k room b. let z : ns ≡ [] = cc in rw z (f (omega arith));
-  adds = λ ns k x y. let z : ns ≡ [] = cc in rw (z, g) y;
+  tallied = λ ns k. let z : ns ≡ [] = cc in rw z g;
 })
 
 -- one node shown
-pub shown-one : {of : Node → Figures} {p : ShowPlace} → Held p → {n : Node} {r : Ran (List Node)} → r ≡ told (answered (n ∷ [])) → {z : ℕ} → z ≡ reported (p .size + length (nodeRecord n)) → {l l′ : Lent}
-    → (p .size + length (nodeRecord n) ≤ length (l .out) → l′ .out ≡ sets (l .out) (p .size) (nodeRecord n)) → Adds (of n) (l .tally) (l′ .tally)
+pub shown-one : {of : Node → List ℕ → List ℕ} {p : ShowPlace} → Held p → {n : Node} {r : Ran (List Node)} → r ≡ told (answered (n ∷ [])) → {z : ℕ} → z ≡ reported (p .size + length (nodeRecord n)) → {l l′ : Lent}
+    → (p .size + length (nodeRecord n) ≤ length (l .out) → l′ .out ≡ sets (l .out) (p .size) (nodeRecord n)) → l′ .tally ≡ of n (l .tally)
     → Shown of r p l (record { answer = 0; count = p .count; size = z }) l′
-unfolding addedTo
+unfolding eachPlaced
 shown-one {of} {p} h {n} e q f g = rw e (record {
   says = same-place refl (omega (arith, h .counted)) (q ∙ rw (records-one n));
   puts = λ ns k room b.
       let z : ns ≡ n ∷ [] = cc in
       let w : nodeRecords ns ≡ nodeRecord n = ap nodeRecords z ∙ records-one n in
       rw w (f (rw w at room));
-  adds = λ ns k x y. let z : ns ≡ n ∷ [] = cc in rw z (g x y);
+  tallied = λ ns k. let z : ns ≡ n ∷ [] = cc in rw z g;
 })
 
 -- refused
-pub shown-refused : {of : Node → Figures} {p : ShowPlace} (why : Refusal) (n : ℕ) {r : Ran (List Node)} → r ≡ record { outcome = refused why; count = n } → {q : ShowPlace} → q ≡ stoppedAt (number why) (reported (p .count + n)) → {l l′ : Lent}
+pub shown-refused : {of : Node → List ℕ → List ℕ} {p : ShowPlace} (why : Refusal) (n : ℕ) {r : Ran (List Node)} → r ≡ record { outcome = refused why; count = n } → {q : ShowPlace} → q ≡ stoppedAt (number why) (reported (p .count + n)) → {l l′ : Lent}
     → Shown of r p l q l′
-shown-refused why n e f = rw e (record { says = f; puts = λ ns k. never k; adds = λ ns k. never k })
+shown-refused why n e f = rw e (record { says = f; puts = λ ns k. never k; tallied = λ ns k. never k })
 
 -- a place that isn't refused is held
-pub shown-held : {of : Node → Figures} {r : Ran (List Node)} {p : ShowPlace} {l : Lent} {q : ShowPlace} {l′ : Lent} → Shown of r p l q l′ → q .answer ≡ 0 → Held q
+pub shown-held : {of : Node → List ℕ → List ℕ} {r : Ran (List Node)} {p : ShowPlace} {l : Lent} {q : ShowPlace} {l′ : Lent} → Shown of r p l q l′ → q .answer ≡ 0 → Held q
 shown-held {r = r} {p} {q = q} s z = by (r .outcome) (s .says)
   where
     by : (o : Outcome (List Node)) → q ≡ behindBy p o (r .count) → Held q
@@ -149,11 +150,11 @@ shown-held {r = r} {p} {q = q} s z = by (r .outcome) (s .says)
     by (refused why) e = absurd (refusal-numbered why (sym (ap (λ (x : ShowPlace). x .answer) e) ∙ z))
 
 -- a part shown behind n sectors that were read for it
-pub shown-after : {of : Node → Figures} {r : Ran (List Node)} {p p₁ : ShowPlace} (n : ℕ) → p₁ ≡ record { answer = 0; count = reported (p .count + n); size = p .size } → {l : Lent} {q : ShowPlace} {l′ : Lent}
+pub shown-after : {of : Node → List ℕ → List ℕ} {r : Ran (List Node)} {p p₁ : ShowPlace} (n : ℕ) → p₁ ≡ record { answer = 0; count = reported (p .count + n); size = p .size } → {l : Lent} {q : ShowPlace} {l′ : Lent}
     → Shown of r p₁ l q l′ → Shown of (record { outcome = r .outcome; count = n + r .count }) p l q l′
 shown-after {of} {r} {p} n e {l} {q} {l′} s =
     let t : Shown of r (record { answer = 0; count = reported (p .count + n); size = p .size }) l q l′ = rw e at s in
-    record { says = t .says ∙ by (r .outcome); puts = t .puts; adds = t .adds }
+    record { says = t .says ∙ by (r .outcome); puts = t .puts; tallied = t .tallied }
   where
     by : (o : Outcome (List Node)) → behindBy (record { answer = 0; count = reported (p .count + n); size = p .size }) o (r .count) ≡ behindBy p o (n + r .count)
     by (answered ns) = same-place refl (omega arith) refl
@@ -161,14 +162,14 @@ shown-after {of} {r} {p} n e {l} {q} {l′} s =
 
 -- ---- one part behind another
 
-module _ {of : Node → Figures} {r : Ran (List Node)} {p : ShowPlace} {l : Lent} {q : ShowPlace} {l₁ : Lent} (s : Shown of r p l q l₁) where
+module _ {of : Node → List ℕ → List ℕ} {r : Ran (List Node)} {p : ShowPlace} {l : Lent} {q : ShowPlace} {l₁ : Lent} (s : Shown of r p l q l₁) where
   -- the first is refused
   pub joined-stops : (k : Ran (List Node)) → (q .answer ≡ 0 → ⊥) → Shown of (joined r k) p l q l₁
   joined-stops k n = by (r .outcome) (s .says)
     where
       by : (o : Outcome (List Node)) → q ≡ behindBy p o (r .count) → Shown of (onward o (r .count) (λ a. followed k (λ b. told (answered (a ++ b))))) p l q l₁
       by (answered a) e = absurd (n (ap (λ (x : ShowPlace). x .answer) e))
-      by (refused why) e = record { says = e; puts = λ ns h. never h; adds = λ ns h. never h }
+      by (refused why) e = record { says = e; puts = λ ns h. never h; tallied = λ ns h. never h }
 
   module _ {k : Ran (List Node)} {q′ : ShowPlace} {l₂ : Lent} (t : Shown of k q l₁ q′ l₂) where
     -- both answered
@@ -190,9 +191,9 @@ module _ {of : Node → Figures} {r : Ran (List Node)} {p : ShowPlace} {l : Lent
               let i : q .size ≡ p .size + length (nodeRecords a) = omega arith in
               let j : sets (l₁ .out) (q .size) (nodeRecords b) ≡ sets (l .out) (p .size) (nodeRecords (a ++ b)) = rw (i, x, records-joined a b) (sym (sets-append (nodeRecords a) (nodeRecords b) (l .out) (p .size))) in
               y ∙ j ∙ ap (λ m. sets (l .out) (p .size) (nodeRecords m)) (sym z);
-          adds = λ ns h x y.
+          tallied = λ ns h.
               let z : ns ≡ a ++ b = cc in
-              rw (z, figures-joined of a b x) (t .adds b g (addedTo x (map of a)) (s .adds a f x y));
+              t .tallied b g ∙ rw (z, s .tallied a f) (sym (placed-joined of a b (l .tally)));
         }
 
     pub joined-goes : q .answer ≡ 0 → Shown of (joined r k) p l q′ l₂

@@ -1,5 +1,5 @@
 -- What is proved of a tree's figures, from the definitions alone: their sectors are those that reading its files reports, each node is a file or a directory, and
--- each file has one answer number. Assumes nothing.
+-- each file has one answer number; and what is left of the place of a tree that was tallied. Assumes nothing.
 use mathlib.Core.Path.{_≡_, refl, sym, ap, _∙_}
 use mathlib.Core.Bool.{Bool, true, false}
 use mathlib.Core.List.{List, [], _∷_, _++_, map}
@@ -11,15 +11,19 @@ use Rattle.disc.specs.Counts.{reported}
 use Rattle.disc.specs.Ask.{Disc, Outcome}
 use Rattle.disc.specs.Ask.Outcome.{answered, refused}
 use Rattle.disc.specs.Ran.{ran}
+use Rattle.disc.specs.Refusals.{number}
 use Rattle.disc.specs.declared.places.Mount.{Mount}
+use Rattle.disc.specs.declared.refusals.Refusal.{Refusal}
 use Rattle.disc.proofs.RefusalLaws.{refusal-listed}
 use Rattle.records.specs.declared.allocations.LongAd.{LongAd}
 use Rattle.files.specs.Files.{fileBytes}
 use Rattle.figures.specs.Figures.{Figures, nothing, oneAt, oneFile, eachAdded, added, addedTo, Wide, Holds, sum}
 use Rattle.figures.proofs.FigureLaws.{zero-holds, added-wide}
 use Rattle.identifiers.specs.Identifiers.{isDirectory}
-use Rattle.shows.specs.Shows.{Node}
-use Rattle.shows.specs.Tallies.{fileBy, ofFile, ofEntry, ofNode, ofNodes, Tallied, readCounts}
+use Rattle.shows.specs.Shows.{Node, mostLevels, tree}
+use Rattle.shows.specs.Placings.{tallies}
+use Rattle.shows.specs.Tallies.{fileBy, ofFile, ofEntry, ofNode, ofNodes, readCounts}
+use Rattle.shows.proofs.TallyLaws.{nodes-hold}
 
 -- ---- a file is one file, with one answer number
 
@@ -123,11 +127,19 @@ module _ (d : Disc) (m : Mount) where
   unfolding sum
   files-by-answer ns = answers-to ns nothing (zero-holds .wide) refl
 
--- a tree that was tallied in a place of zeros leaves its own figures there
-pub tally-alone : {d : Disc} {m : Mount} {o : Outcome (List Node)} {after : List ℕ} {answer : ℕ} → Tallied d m o (replicate 76 0) after answer → {ns : List Node} → o ≡ answered ns → Holds (ofNodes d m ns) after
-tally-alone t e = t .adds _ e nothing zero-holds
+-- ---- the place of a tree that was tallied
 
--- what was answered, in a place that held figures, leaves one result; after a refusal nothing is said of the place
-pub tallied-one : {d : Disc} {m : Mount} {o : Outcome (List Node)} {before after after′ : List ℕ} {answer answer′ : ℕ} (ns : List Node) → o ≡ answered ns → (f : Figures) → Holds f before
-    → Tallied d m o before after answer → Tallied d m o before after′ answer′ → (answer ≡ answer′) × (after ≡ after′)
-tallied-one ns e f h p q = (p .says ∙ sym (q .says), p .adds ns e f h .is ∙ sym (q .adds ns e f h .is))
+module _ (d : Disc) (m : Mount) (root : LongAd) (work : List ℕ) where
+  -- where the tree is answered and the place held figures, those of its nodes are added to them
+  pub tally-holds : (before : List ℕ) {ns : List Node} → ran d (tree m mostLevels (length work) root) .outcome ≡ answered ns → (f : Figures) → Holds f before
+      → Holds (addedTo f (map (ofNode d m) ns)) (tallies d m root before work .place)
+  tally-holds before {ns} e f h = rw e (nodes-hold d m ns before f h)
+
+  -- so a place of zeros has its own figures
+  pub tally-alone : {ns : List Node} → ran d (tree m mostLevels (length work) root) .outcome ≡ answered ns → Holds (ofNodes d m ns) (tallies d m root (replicate 76 0) work .place)
+  tally-alone e = tally-holds (replicate 76 0) e nothing zero-holds
+
+  -- where it is refused, the answer is the refusal's number, and the place is all zero
+  pub tally-refused : (before : List ℕ) {why : Refusal} → ran d (tree m mostLevels (length work) root) .outcome ≡ refused why
+      → tallies d m root before work ≡ record { answer = number why; place = replicate (length before) 0; work = replicate (length work) 0 }
+  tally-refused before e = rw e

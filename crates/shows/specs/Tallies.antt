@@ -1,6 +1,5 @@
 -- The figures of a volume's tree: RULES 16.4.
 use Prim.Native.Nat.{ℕ}
-use mathlib.Core.Path.{_≡_}
 use mathlib.Core.Bool.{Bool}
 use mathlib.Core.List.{List, map, [], _∷_}
 use lib.ListN.{length}
@@ -10,13 +9,12 @@ use Rattle.disc.specs.Counts.{reported}
 use Rattle.disc.specs.Ask.{Disc, Outcome}
 use Rattle.disc.specs.Ask.Outcome.{answered, refused}
 use Rattle.disc.specs.Ran.{ran}
-use Rattle.disc.specs.Replies.{answerOf}
 use Rattle.disc.specs.declared.places.Mount.{Mount}
 use Rattle.records.specs.declared.allocations.LongAd.{LongAd}
 use Rattle.files.specs.Files.{fileBytes, fileExtents, fileHops}
 use Rattle.files.specs.Sizes.{lengthIn, numberIn}
 use Rattle.identifiers.specs.Identifiers.{isDirectory}
-use Rattle.figures.specs.Figures.{Figures, Holds, oneDirectory, oneFile, addedTo, allAdded}
+use Rattle.figures.specs.Figures.{Figures, oneDirectory, oneFile, allAdded}
 use Rattle.shows.specs.Shows.{Node}
 
 -- ---- of a file, output room taken as enough
@@ -41,11 +39,6 @@ ofNode d m n = ofEntry d m (isDirectory (n .entry .identifier)) (n .entry .ident
 
 abbrev pub ofNodes : Disc → Mount → List Node → Figures
 ofNodes d m ns = allAdded (map (ofNode d m) ns)
-
--- a tree was tallied in a place: its answer number, and where it is answered its nodes' figures behind those that stood there
-pub record Tallied (d : Disc) (m : Mount) (o : Outcome (List Node)) (before after : List ℕ) (answer : ℕ) : Type 0 where
-  pub says : answer ≡ answerOf o
-  pub adds : (ns : List Node) → o ≡ answered ns → (f : Figures) → Holds f before → Holds (addedTo f (map (ofNode d m) ns)) after
 
 -- the counts that reading the files among the nodes reports
 unfoldable pub readCounts : Disc → Mount → List Node → List ℕ

@@ -1,7 +1,7 @@
 // What an entry of the tree adds to the figures of its image.
+ghost use mathlib.Core.Path.{_≡_};
 ghost use Rattle.disc.specs.Images.{disc};
-ghost use Rattle.figures.specs.Figures.{Adds};
-ghost use Rattle.shows.specs.Tallies.{ofFile, ofEntry};
+ghost use Rattle.shows.specs.Placings.{filePlaced, entryPlaced};
 use disc::places::Mount;
 use figures::PLACE;
 use figures::add_directory;
@@ -11,7 +11,7 @@ use records::allocations::LongAd;
 
 // The file at icb, which is found, and what reading it comes to.
 fn tally_file(image: &[u8], mount: Mount, icb: LongAd, tally: &mut [u64])
-    ensures { λ _. ⌜ Adds (ofFile (disc (now (image .entry))) mount icb) (now (tally .entry)) (now (tally .exit)) ⌝ }
+    ensures { λ _. ⌜ now (tally .exit) ≡ filePlaced (disc (now (image .entry))) mount icb (now (tally .entry)) ⌝ }
 {
     let s = size_file(image, mount, icb);
     let r = s.reply;
@@ -26,7 +26,7 @@ pub(crate) fn tally_entry(
     icb: LongAd,
     tally: &mut [u64],
 )
-    ensures { λ _. ⌜ Adds (ofEntry (disc (now (image .entry))) mount directory icb) (now (tally .entry)) (now (tally .exit)) ⌝ }
+    ensures { λ _. ⌜ now (tally .exit) ≡ entryPlaced (disc (now (image .entry))) mount directory icb (now (tally .entry)) ⌝ }
 {
     if tally.len() != PLACE {
         return;

@@ -6,8 +6,8 @@ ghost use Rattle.disc.specs.Ran.{ran};
 ghost use Rattle.disc.specs.Images.{disc};
 ghost use Rattle.disc.specs.Replies.{Replied};
 ghost use Rattle.disc.specs.declared.refusals.Refusal.the-variants.{NoRoom};
-ghost use Rattle.shows.specs.Shows.{tree, mostLevels, showing};
-ghost use Rattle.shows.specs.Tallies.{Tallied};
+ghost use Rattle.shows.specs.Shows.{showing};
+ghost use Rattle.shows.specs.Placings.{tallies};
 use crate::levels::ShowPlace;
 use crate::levels::list_level;
 use disc::answers::DONE;
@@ -16,6 +16,7 @@ use disc::places::Mount;
 use disc::refusals::Refusal;
 use disc::replies::Reply;
 use disc::replies::refusal;
+use figures::clear_figures;
 use records::allocations::LongAd;
 
 // The most levels that can be asked for.
@@ -115,7 +116,7 @@ pub fn show(
 }
 
 // The figures of the whole tree from the directory at root, at 16 levels, added to those of a place; the answer is that of the tree, and where it is refused
-// nothing is said of the place. What was read last is left in the work space.
+// the place is all zero. The work space is all zero on return.
 pub fn tally_tree(
     image: &[u8],
     mount: Mount,
@@ -123,7 +124,7 @@ pub fn tally_tree(
     tally: &mut [u64],
     work: &mut [u8],
 ) -> u64
-    ensures { λ r. ⌜ Tallied (disc (now (image .entry))) mount (ran (disc (now (image .entry))) (tree mount mostLevels (length (now (work .entry))) root) .outcome) (now (tally .entry)) (now (tally .exit)) r ⌝ }
+    ensures { λ r. ⌜ record { answer = r; place = now (tally .exit); work = now (work .exit) } ≡ tallies (disc (now (image .entry))) mount root (now (tally .entry)) (now (work .entry)) ⌝ }
 {
     let start = ShowPlace {
         answer: DONE,
@@ -142,5 +143,10 @@ pub fn tally_tree(
         &mut none[0..0],
         tally,
     );
-    tallied.answer
+    clear(work);
+    if tallied.answer != DONE {
+        clear_figures(tally);
+        return tallied.answer;
+    }
+    DONE
 }

@@ -11,7 +11,6 @@ use Rattle.disc.specs.Ask.Outcome.{answered, refused}
 use Rattle.disc.specs.Ran.{ran}
 use Rattle.disc.specs.Refusals.{number}
 use Rattle.disc.specs.Counts.{reported}
-use Rattle.disc.specs.Replies.{answerOf}
 use Rattle.disc.specs.declared.places.Mount.{Mount}
 use Rattle.disc.specs.declared.refusals.Refusal.the-variants.{Unsupported}
 use Rattle.disc.proofs.RanLaws.{ran-refuse}
@@ -23,10 +22,14 @@ use Rattle.volumes.specs.declared.choices.Choice.the-variants.{Known, Unknown}
 use Rattle.volumes.specs.declared.openings.How.{How}
 use Rattle.volumes.specs.declared.openings.Opened.{Opened}
 use Rattle.volumes.specs.declared.openings.VolumeRecord.{VolumeRecord}
-use Rattle.figures.specs.Figures.{Wide, Holds, Adds, nothing, oneAt, oneImage, added, eachAdded}
-use Rattle.figures.proofs.FigureLaws.{zero-holds, added-wide, addedTo-wide}
+use Rattle.figures.specs.Figures.{Wide, Holds, nothing, oneAt, oneImage, added, eachAdded}
+use Rattle.figures.specs.Placed.{withImage}
+use Rattle.figures.proofs.AddLaws.{image-adds}
+use Rattle.figures.proofs.FigureLaws.{zero-holds, holds-long, added-wide, addedTo-wide}
 use Rattle.shows.specs.Shows.{Node, tree, mostLevels}
-use Rattle.shows.specs.Tallies.{ofNode, ofNodes, Tallied}
+use Rattle.shows.specs.Placings.{nodePlaced, eachPlaced, Tally, tallyBy, tallies}
+use Rattle.shows.specs.Tallies.{ofNode, ofNodes}
+use Rattle.shows.proofs.TallyLaws.{nodes-hold}
 use Rattle.surveys.specs.Surveys.{treeBy, volumeBy, ofImage}
 
 -- ---- the opening
@@ -58,11 +61,13 @@ module _ (n : ℕ) (h : n ≤ 15) where
   unfolding eachAdded
   none-added = rw (each-zeros (oneAt n) 16 one-long)
 
-  pub one-counted : (s : List ℕ) {t u : List ℕ} → length s ≡ 76 → t ≡ replicate (length s) 0 → Adds (oneImage (min n 15)) t u → Holds (oneImage n) u
-  one-counted s {t} e f adds =
+  -- in a place of zeros
+  pub one-counted : (s : List ℕ) {t u : List ℕ} → length s ≡ 76 → t ≡ replicate (length s) 0 → u ≡ withImage (min n 15) t → Holds (oneImage n) u
+  one-counted s {t} e f g =
       let z : Holds nothing t = rw (f, e) zero-holds in
       let k : min n 15 ≡ n = omega arith in
-      rw (k, none-added) at (adds nothing z)
+      let w : Holds (added nothing (oneImage n)) (withImage n t) = image-adds n h t nothing z in
+      rw (g, k) (rw none-added at w)
 
 -- ---- an image has a count for each answer number
 
@@ -80,13 +85,6 @@ image-wide how work image = volume-wide (disc image) work (ran (disc image) (ope
 
 -- ---- the place of an image
 
-answer-small : {A : Type 0} (o : Outcome A) → answerOf o ≤ 15
-answer-small (answered a) = omega arith
-answer-small (refused why) = refusal-listed why
-
-pub tree-small : {d : Disc} {m : Mount} {o : Outcome (List Node)} {s t : List ℕ} {a : ℕ} → Tallied d m o s t a → a ≤ 15
-tree-small {o = o} p = rw (p .says) (answer-small o)
-
 module _ (image : List ℕ) (how : Choice) {r : Opened} (q : r ≡ openedOf (ran (disc image) (openingBy how))) where
   pub opening-small : r .answer ≤ 15
   opening-small = rw q (by (reported (ran (disc image) (openingBy how) .count)) (ran (disc image) (openingBy how) .outcome))
@@ -95,13 +93,14 @@ module _ (image : List ℕ) (how : Choice) {r : Opened} (q : r ≡ openedOf (ran
       by n (answered v) = omega arith
       by n (refused why) = refusal-listed why
 
-  pub opening-refused : (work : ℕ) → (r .answer ≡ 0 → ⊥) → {s : List ℕ} → Holds (oneImage (r .answer)) s → Holds (ofImage how work image) s
+  -- refused, and counted in a place of zeros
+  pub opening-refused : (work : ℕ) → (r .answer ≡ 0 → ⊥) → (b : List ℕ) {s t : List ℕ} → length b ≡ 76 → s ≡ replicate (length b) 0 → t ≡ withImage (min (r .answer) 15) s → Holds (ofImage how work image) t
   unfolding ofImage
-  opening-refused work h {s} p = by (reported (ran (disc image) (openingBy how) .count)) (ran (disc image) (openingBy how) .outcome) q
+  opening-refused work h b {s} {t} l z e = by (reported (ran (disc image) (openingBy how) .count)) (ran (disc image) (openingBy how) .outcome) q (one-counted (r .answer) opening-small b l z e)
     where
-      by : (n : ℕ) (o : Outcome VolumeRecord) → r ≡ openedBy n o → Holds (volumeBy (disc image) work o) s
-      by n (answered v) e = absurd (h (rw e))
-      by n (refused why) e = rw (ap (λ x. x .answer) e) at p
+      by : (n : ℕ) (o : Outcome VolumeRecord) → r ≡ openedBy n o → Holds (oneImage (r .answer)) t → Holds (volumeBy (disc image) work o) t
+      by n (answered v) e p = absurd (h (rw e))
+      by n (refused why) e p = rw (ap (λ x. x .answer) e) at p
 
   opened-is : r .answer ≡ 0 → ran (disc image) (openingBy how) .outcome ≡ answered (r .volume)
   opened-is h = by (reported (ran (disc image) (openingBy how) .count)) (ran (disc image) (openingBy how) .outcome) q
@@ -110,23 +109,26 @@ module _ (image : List ℕ) (how : Choice) {r : Opened} (q : r ≡ openedOf (ran
       by n (answered v) e = rw e
       by n (refused why) e = absurd (refusal-numbered why (sym (ap (λ x. x .answer) e) ∙ h))
 
-  module _ (work : ℕ) (h : r .answer ≡ 0) {s t : List ℕ} {a : ℕ}
-      (p : Tallied (disc image) (r .volume .mount) (ran (disc image) (tree (r .volume .mount) mostLevels work (r .volume .root)) .outcome) s t a) where
-    pub tree-refused : (a ≡ 0 → ⊥) → {u : List ℕ} → Holds (oneImage a) u → Holds (ofImage how work image) u
-    unfolding ofImage
-    tree-refused k {u} w = rw (opened-is h) (by (ran (disc image) (tree (r .volume .mount) mostLevels work (r .volume .root)) .outcome) (p .says))
-      where
-        by : (o : Outcome (List Node)) → a ≡ answerOf o → Holds (treeBy (disc image) (r .volume .mount) o) u
-        by (answered ns) e = absurd (k e)
-        by (refused why) e = rw e at w
+  -- opened, its tree tallied in a place of zeros, and counted
+  pub tree-counted : (work : List ℕ) → r .answer ≡ 0 → (b : List ℕ) {s t u w : List ℕ} {a : ℕ} → length b ≡ 76 → s ≡ replicate (length b) 0
+      → _≡_ {A = Tally} (record { answer = a; place = t; work = w }) (tallies (disc image) (r .volume .mount) (r .volume .root) s work)
+      → u ≡ withImage (min a 15) t → Holds (ofImage how (length work) image) u
+  unfolding ofImage
+  tree-counted work h b {s} {t} {u} {w} {a} l z p e = rw (opened-is h) (by (ran (disc image) (tree (r .volume .mount) mostLevels (length work) (r .volume .root)) .outcome) refl p)
+    where
+      held : Holds nothing s
+      held = rw (z, l) zero-holds
 
-    pub tree-counted : (b : List ℕ) → a ≡ 0 → length b ≡ 76 → s ≡ replicate (length b) 0 → {u : List ℕ} → Adds (oneImage (min 0 15)) t u → Holds (ofImage how work image) u
-    unfolding ofImage
-    tree-counted b k l z {u} adds =
-        let y : Holds nothing s = rw (z, l) zero-holds in
-        rw (opened-is h) (by (ran (disc image) (tree (r .volume .mount) mostLevels work (r .volume .root)) .outcome) (p .says)
-        (λ ns e. adds (ofNodes (disc image) (r .volume .mount) ns) (p .adds ns e nothing y)))
-      where
-        by : (o : Outcome (List Node)) → a ≡ answerOf o → ((ns : List Node) → o ≡ answered ns → Holds (added (ofNodes (disc image) (r .volume .mount) ns) (oneImage 0)) u) → Holds (treeBy (disc image) (r .volume .mount) o) u
-        by (answered ns) e f = f ns refl
-        by (refused why) e f = absurd (refusal-numbered why (sym e ∙ k))
+      long : length s ≡ 76
+      long = holds-long held
+
+      by : (o : Outcome (List Node)) → ran (disc image) (tree (r .volume .mount) mostLevels (length work) (r .volume .root)) .outcome ≡ o → _≡_ {A = Tally} (record { answer = a; place = t; work = w }) (tallyBy (disc image) (r .volume .mount) s work o)
+          → Holds (treeBy (disc image) (r .volume .mount) o) u
+      by (answered ns) k g =
+          let x : a ≡ 0 = ap (λ (y : Tally). y .answer) g in
+          let v : t ≡ eachPlaced (nodePlaced (disc image) (r .volume .mount)) ns s = ap (λ (y : Tally). y .place) g in
+          rw (e, x, v) (image-adds 0 (omega arith) (eachPlaced (nodePlaced (disc image) (r .volume .mount)) ns s) (ofNodes (disc image) (r .volume .mount) ns) (nodes-hold (disc image) (r .volume .mount) ns s nothing held))
+      by (refused why) k g =
+          let x : a ≡ number why = ap (λ (y : Tally). y .answer) g in
+          let v : t ≡ replicate (length s) 0 = ap (λ (y : Tally). y .place) g in
+          one-counted (number why) (refusal-listed why) s long v (rw (sym x) e)

@@ -5,7 +5,7 @@ ghost use lib.ListN.{length};
 ghost use lib.Dec.{leb};
 ghost use Rattle.disc.specs.Images.{disc};
 ghost use Rattle.disc.specs.Ran.{ran};
-ghost use Rattle.figures.specs.Figures.{Holds, oneImage, sum};
+ghost use Rattle.figures.specs.Figures.{Holds, sum};
 ghost use Rattle.volumes.specs.Choices.{openingBy};
 ghost use Rattle.volumes.specs.Openings.{openedOf};
 ghost use Rattle.surveys.specs.Surveys.{ofImage, surveys};
@@ -35,35 +35,22 @@ fn open_by(image: &[u8], how: Choice) -> Opened
     }
 }
 
-// An image that is refused counts under its number, and has no other figure.
-fn count_refused(place: &mut [u64], answer: u64)
-    requires { ⌜ (length (now place) ≡ 76) × (answer ≤ 15) ⌝ }
-    ensures { λ _. ⌜ Holds (oneImage answer) (now (place .exit)) ⌝ }
-{
-    clear_figures(place);
-    add_image(place, answer);
-}
-
-// The figures of an image in a place; what was read last is left in the work space.
+// The figures of an image in a place: one that is refused counts under its number, and has no other figure. The work space is all zero behind a tree, and is else as it came.
 fn survey_image(image: &[u8], how: Choice, place: &mut [u64], work: &mut [u8])
     requires { ⌜ length (now place) ≡ 76 ⌝ }
     ensures { λ _. ⌜ Holds (ofImage how (length (now (work .entry))) (now (image .entry))) (now (place .exit)) ⌝ }
 {
+    clear_figures(place);
     let opened = open_by(image, how);
     if opened.answer != DONE {
-        count_refused(place, opened.answer);
+        add_image(place, opened.answer);
         return;
     }
-    clear_figures(place);
     let v = opened.volume;
     let mount = v.mount;
     let root = v.root;
     let answer = tally_tree(image, mount, root, place, work);
-    if answer != DONE {
-        count_refused(place, answer);
-        return;
-    }
-    add_image(place, DONE);
+    add_image(place, answer);
 }
 
 // Whether the lengths, added up as true numbers, don't pass so many bytes.

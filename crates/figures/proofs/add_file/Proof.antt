@@ -1,8 +1,7 @@
 -- `figures::add_file` meets its contract: in a place, under its answer number. Assumes nothing.
 use Prim.Native.Nat.{min}
 use borrow.Author.Needs.{needs}
-use Rattle.figures.specs.Figures.{oneFile}
-use Rattle.figures.proofs.AddLaws.{unheld}
+use Rattle.figures.proofs.AddLaws.{no-file}
 use Rattle.figures.proofs.add_file.Statement.{statement}
 use Rattle.figures.proofs.add_file.Tie as tie
 
@@ -10,7 +9,7 @@ use Rattle.figures.proofs.add_file.Tie as tie
 kept : tie.Need-returns
 kept c =
     let a = c .before .before .args in
-    unheld (oneFile (min (a .answer) 15) (a .bytes) (a .extents) (a .sectors) (a .chain)) (c .if1 .taken)
+    no-file (c .if1 .taken) (min (a .answer) 15) (a .bytes) (a .extents) (a .sectors) (a .chain)
 
 pub add-file-spec : {M : Type 1} → statement M
 add-file-spec =

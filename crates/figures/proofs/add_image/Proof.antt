@@ -2,15 +2,14 @@
 use Prim.Native.Nat.{min}
 use native.Mathlib.Omega.{arith}
 use borrow.Author.Needs.{needs}
-use Rattle.figures.specs.Figures.{oneImage}
-use Rattle.figures.proofs.AddLaws.{unheld, image-added}
+use Rattle.figures.proofs.AddLaws.{no-image, image-placed}
 use Rattle.figures.proofs.add_image.Statement.{statement}
 use Rattle.figures.proofs.add_image.Tie as tie
 
 pub add-image-spec : {M : Type 1} → statement M
 add-image-spec =
     tie.close (tie.spec
-    (λ c. unheld (oneImage (min (c .before .before .args .answer) 15)) (c .if1 .taken))
+    (λ c. no-image (c .if1 .taken) (min (c .before .before .args .answer) 15))
     (λ c κs. search needs)
     (λ c. search needs)
     (λ c. search needs)
@@ -19,4 +18,4 @@ add-image-spec =
     (λ c.
     let added = c .before .before in
     let under = added .before .before .lesser .ensures in
-    rw (← under) (image-added _ (omega (arith, under)) (added .add-sum .ensures))))
+    rw (← under) (image-placed _ _ (added .before .before .before .if1 .left) (added .add-sum .ensures))))

@@ -1,6 +1,6 @@
 -- `figures::add_sizes` meets its contract: six figures, one behind another. Assumes nothing.
 use borrow.Author.Needs.{needs}
-use Rattle.figures.proofs.AddLaws.{file-added}
+use Rattle.figures.proofs.AddLaws.{file-placed}
 use Rattle.figures.proofs.add_sizes.Statement.{statement}
 use Rattle.figures.proofs.add_sizes.Tie as tie
 
@@ -14,7 +14,7 @@ added c =
     let bytes = extents .before .before .before .before in
     let files = bytes .before .before .before .before in
     let start = files .before .before .before in
-    file-added _ _ _ _ _ (start .pre .1) (search needs) (search needs) (search needs) (search needs) (files .add-sum .ensures) (bytes .add-sum2 .ensures) (extents .add-sum3 .ensures) (sectors .add-sum4 .ensures) (answer .add-sum5 .ensures) (chain .add-longer .ensures)
+    file-placed _ _ _ _ _ _ (start .pre .0) (search needs) (search needs) (search needs) (search needs) (files .add-sum .ensures) (bytes .add-sum2 .ensures) (extents .add-sum3 .ensures) (sectors .add-sum4 .ensures) (answer .add-sum5 .ensures) (chain .add-longer .ensures)
 
 pub add-sizes-spec : {M : Type 1} → statement M
 add-sizes-spec =

@@ -2,7 +2,7 @@
 use Prim.Native.Nat.{ℕ, suc, _+_, _≤_, _<_}
 use mathlib.Core.Path.{_≡_}
 use mathlib.Core.Bool.{false}
-use mathlib.Core.List.{List, [], _∷_, map}
+use mathlib.Core.List.{List, [], _∷_}
 use lib.ListN.{length, take, drop}
 use lib.Seq.{sets}
 use Rattle.disc.specs.Choice.{pick}
@@ -21,11 +21,10 @@ use Rattle.identifiers.specs.Identifiers.{readIdentifier, identifierRead, isDir
 use Rattle.identifiers.specs.inner.Wholes.{Whole}
 use Rattle.identifiers.specs.declared.FileIdentifierDescriptor.{FileIdentifierDescriptor}
 use Rattle.identifiers.specs.declared.IdentifierRead.{IdentifierRead}
-use Rattle.figures.specs.Figures.{Figures, Holds, addedTo}
 use Rattle.listings.specs.Entries.{Entry, entryOf, entryRead, isSkipped, entries}
 use Rattle.directories.specs.Directories.{directoryBytes}
 use Rattle.shows.specs.Shows.{Node, under, nodesAt, nodeRecord, nodeRecords}
-use Rattle.shows.specs.Tallies.{ofNode}
+use Rattle.shows.specs.Placings.{nodePlaced, eachPlaced}
 use Rattle.shows.specs.declared.nodes.EntrySeen.{EntrySeen}
 use Rattle.shows.specs.declared.levels.ShowPlace.{ShowPlace}
 use Rattle.shows.specs.declared.levels.OpenedLevel.{OpenedLevel}
@@ -96,12 +95,12 @@ pub record Lent : Type 0 where
 abbrev pub lent : List ℕ → List ℕ → Lent
 lent out tally = record { out = out; tally = tally }
 
--- a part of the tree was shown: the place behind it, its records where they have room, and what its nodes add to the figures that were tallied
-pub record Shown (of : Node → Figures) (r : Ran (List Node)) (p : ShowPlace) (before : Lent) (q : ShowPlace) (after : Lent) : Type 0 where
+-- a part of the tree was shown: the place behind it, its records where they have room, and the place with its nodes in it
+pub record Shown (of : Node → List ℕ → List ℕ) (r : Ran (List Node)) (p : ShowPlace) (before : Lent) (q : ShowPlace) (after : Lent) : Type 0 where
   pub says : q ≡ behindBy p (r .outcome) (r .count)
   pub puts : (ns : List Node) → r .outcome ≡ answered ns → p .size + length (nodeRecords ns) ≤ length (before .out) → length (before .out) ≤ 0xffff_ffff_ffff_ffff
       → after .out ≡ sets (before .out) (p .size) (nodeRecords ns)
-  pub adds : (ns : List Node) → r .outcome ≡ answered ns → (f : Figures) → Holds f (before .tally) → Holds (addedTo f (map of ns)) (after .tally)
+  pub tallied : (ns : List Node) → r .outcome ≡ answered ns → after .tally ≡ eachPlaced of ns (before .tally)
 
 -- ---- a directory read and parsed
 
@@ -143,7 +142,7 @@ pub record Handled (d : Disc) (m : Mount) (left level : ℕ) (raw : List ℕ) (w
   pub others : List Entry
   pub all : es ≡ first ∷ others
   pub are : entries false (drop (t .next) raw) ≡ answered others
-  pub shows : Shown (ofNode d m) (ran d (turnOf (nodesAt m left (suc level) work) level first)) p before (t .place) after
+  pub shows : Shown (nodePlaced d m) (ran d (turnOf (nodesAt m left (suc level) work) level first)) p before (t .place) after
 
 -- so it is where the bytes are as they were parsed; whatever they are, the next entry starts further on
 pub record Handles (d : Disc) (m : Mount) (left level : ℕ) (raw : List ℕ) (work at : ℕ) (p : ShowPlace) (before : Lent) (t : EntryTurn) (after : Lent) : Type 0 where

@@ -11,7 +11,7 @@ use borrow.Rule.Slice.PartMut.{take-put}
 use lib.ListN.{length, take}
 use Rattle.disc.specs.Images.{disc}
 use Rattle.shows.specs.Shows.{nodesAt}
-use Rattle.shows.specs.Tallies.{ofNode}
+use Rattle.shows.specs.Placings.{nodePlaced}
 use Rattle.shows.specs.inner.Turns.{lent}
 use Rattle.shows.proofs.LevelLaws.{handle-bad, next-fits, handle-skipped, handle-file, handle-directory}
 use Rattle.shows.proofs.LoopLaws.{Listing, list-starts, list-ends, list-next, list-stops, level-none, level-refused, level-fits, level-held, level-shown, handles-same, list-fits, list-over}
@@ -60,7 +60,7 @@ list-level-below t =
 -- whatever shows the rest of the entries from here shows the whole directory
 abbrev list-level-Inv-loop : list-level-lts.InvT-loop
 list-level-Inv-loop image mount level left work₀ out₀ tally₀ below n q₀ at₀ work out tally q at =
-    Listing (disc image) (ofNode (disc image) mount) (nodesAt mount below (suc level) (length work₀ - n)) level (take n work₀) q₀ (lent out₀ tally₀) q (lent out tally) at
+    Listing (disc image) (nodePlaced (disc image) mount) (nodesAt mount below (suc level) (length work₀ - n)) level (take n work₀) q₀ (lent out₀ tally₀) q (lent out tally) at
     × (take n work ≡ take n work₀) × (length work ≡ length work₀) × (length out ≡ length out₀) × (length tally ≡ length tally₀) × (n ≤ length work₀)
 
 abbrev list-level-μ-loop : list-level-lts.MeasureT-loop
@@ -132,7 +132,7 @@ pub +handle-entry+list-level-spec : {M : Type 1} → statement M
     let seen = good .before .before .before .before in
     let s = seen .before .before .before .before .before .before .before .before in (
       handle-file _ _ _ _ _ _ _ (s .pre .1 .0) (s .pre .1 .1) _ (seen .put-node .ensures) (good .if1 .left) (s .pre .1 .3) (sized .before .if2 .left) (sized .add-counts .ensures)
-          (told .tally-entry .ensures) (not-true _ (c .if3 .taken)),
+          _ (told .tally-entry .ensures) (not-true _ (c .if3 .taken)),
       refl,
     ))
     -- add-deeper
@@ -174,7 +174,7 @@ pub +handle-entry+list-level-spec : {M : Type 1} → statement M
     let seen = good .before .before .before .before in
     let s = seen .before .before .before .before .before .before .before .before in (
       handle-directory _ _ _ _ _ _ _ (s .pre .1 .0) (s .pre .1 .1) _ (seen .put-node .ensures) (good .if1 .left) (s .pre .1 .3) (sized .before .if2 .left) (sized .add-counts .ensures)
-          (told .tally-entry .ensures) (not-false _ (live .if3 .left)) (called .list-level .ensures),
+          _ (told .tally-entry .ensures) (not-false _ (live .if3 .left)) (called .list-level .ensures),
       take-put (s .args .n) (length (now (s .args .work)) - s .args .n) (now (s .args .work)) (called .list-level .last .1 .1 .1 .1 .1 .1 .0) (s .pre .1 .1),
     )))
     λ t. list-level-lts.spec (

@@ -1,6 +1,6 @@
 -- `shows::tallies::tally_file` meets its contract: what the file's sizes tell of it. Assumes nothing.
 use borrow.Author.Needs.{needs}
-use Rattle.shows.proofs.TallyLaws.{file-added}
+use Rattle.shows.proofs.TallyLaws.{file-left}
 use Rattle.shows.proofs.tallies.tally_file.Statement.{statement}
 use Rattle.shows.proofs.tallies.tally_file.Tie as tie
 
@@ -10,4 +10,4 @@ tally-file-spec =
     (λ c κs. search needs)
     (λ c κs. search needs)
     (λ c. search needs)
-    (λ c. search (file-added, needs)))
+    (λ c. search (file-left, needs)))

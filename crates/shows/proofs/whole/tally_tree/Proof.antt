@@ -1,6 +1,7 @@
--- `shows::whole::tally_tree` meets its contract: the recursion lent no output. Assumes nothing.
+-- `shows::whole::tally_tree` meets its contract: the recursion lent no output, the work space cleared, and the place too where the tree is refused. Assumes nothing.
 use borrow.Author.Needs.{needs}
-use Rattle.shows.proofs.ShowLaws.{tree-tallied}
+use Rattle.disc.proofs.MoveLaws.{zeros-of}
+use Rattle.shows.proofs.ShowLaws.{tallied-refused, tallied-done}
 use Rattle.shows.proofs.whole.tally_tree.Statement.{statement}
 use Rattle.shows.proofs.whole.tally_tree.Tie as tie
 
@@ -12,6 +13,11 @@ tally-tree-spec =
     (λ c. search needs)
     (λ c. search needs)
     (λ c κs. search needs)
+    (λ c κs. search needs)
+    (λ c κs. search needs)
     (λ c. search needs)
     (λ c. search needs)
-    (λ c. search (tree-tallied, needs)))
+    (λ c. search (tallied-refused, zeros-of, needs))
+    (λ c. search needs)
+    (λ c. search needs)
+    (λ c. search (tallied-done, zeros-of, needs)))
