@@ -28,23 +28,10 @@ use Rattle.listings.specs.declared.matchings.Matching.{Matching}
 use Rattle.directories.specs.Lookups.{lookupOf, readPathOf}
 use Rattle.directories.proofs.Promises.{empty-path}
 use Rattle.cue_stacks.specs.Stacks.{item, itemsBehind, items, Stack, stacked, Stacked, onFront, laid, readAllOf, askedByEach, askedByAll}
-use Rattle.cue_stacks.proofs.StackLaws.{total, Alone, alone, lengths-many, answers-many, lengths-total, filled-fits, out-long, out-behind, count-is, stack-same, asked-same}
+use Rattle.cue_stacks.proofs.StackLaws.{Alone, alone, lengths-many, answers-many, lengths-total, filled-fits, out-long, out-behind, count-is, stack-same, asked-same}
+use Rattle.cue_stacks.specs.Items.{total, zeros, NoZeros, joined, None, startOf, Holds, Enough}
 
 -- ---- the items are the bytes between the zeros, and no others
-
-abbrev pub zeros : List ℕ → ℕ
-zeros [] = 0
-zeros (b ∷ s) = pick (eqb b 0) (suc (zeros s)) (zeros s)
-
--- none of them has a zero
-abbrev pub NoZeros : List (List ℕ) → Type 0
-NoZeros [] = Unit {0}
-NoZeros (p ∷ ps) = (zeros p ≡ 0) × NoZeros ps
-
--- with a zero between each two
-abbrev pub joined : List ℕ → List (List ℕ) → List ℕ
-joined p [] = p
-joined p (q ∷ ps) = p ++ 0 ∷ joined q ps
 
 -- n zeros make n + 1 items
 pub items-many : (s : List ℕ) → length (items s) ≡ suc (zeros s)
@@ -117,11 +104,6 @@ empty-item d matching v work root = ran-then d (lookupOf matching v work root []
 
 -- ---- one item alone: what a refusal and an answer come to in the room that is left
 
--- a refused item has length 0, and leaves the room as it is
-pub record None (room after : List ℕ) (reply : Reply) : Type 0 where
-  pub length : reply .length ≡ 0
-  pub leaves : after ≡ room
-
 pub refused-none : {r : Ran (List ℕ)} {room after : List ℕ} {reply : Reply} → Replied NoRoom r room after reply → (reply .answer ≡ 0 → ⊥) → None room after reply
 refused-none {r} {room} {after} {reply} e h = by (r .outcome) (e .says) (e .leaves)
   where
@@ -140,16 +122,6 @@ refused-none {r} {room} {after} {reply} e h = by (r .outcome) (e .says) (e .leav
 front-stays : (written row : List ℕ) (n : ℕ) → length written ≡ n → drop n (onFront written row) ≡ drop n row
 front-stays written row n e = drop-at written (drop (length written) row) n e ∙ rw e
 
--- where the bytes of the item at i start: behind those of the items before it
-abbrev pub startOf : Stacked → ℕ → ℕ
-startOf left i = total (take i (left .lengths))
-
--- the item at i is answered, and its bytes stand, as a reply and an output say
-pub record Holds (left : Stacked) (i : ℕ) (reply : Reply) (after : List ℕ) : Type 0 where
-  pub answer : getD (left .answers) i 0 ≡ reply .answer
-  pub length : getD (left .lengths) i 0 ≡ reply .length
-  pub bytes : take (reply .length) (drop (startOf left i) (left .out)) ≡ take (reply .length) after
-
 -- so it is where the item is as it is read alone
 laid-holds : (lengths answers : List ℕ) (s : Stack) (i : ℕ) → i < length (s .lengths) → i < length (s .answers) → {out : List ℕ} {r : Ran (List ℕ)} → Alone s i (total (take i (s .lengths))) out r
     → {after : List ℕ} {reply : Reply} → Replied NoRoom r (drop (startOf (laid lengths answers s) i) out) after reply → Holds (laid lengths answers s) i reply after
@@ -162,82 +134,75 @@ laid-holds lengths answers s i h k {out} {r} a {after} {reply} e =
       bytes = rw (q, f .says, f .leaves) (a .bytes);
     }
 
--- a place in both rows for each item
-abbrev pub Enough : List ℕ → List ℕ → List ℕ → Type 0
-Enough paths lengths answers = length (items paths) ≤ min (length lengths) (length answers)
-
 module _ (read : List ℕ → Ran (List ℕ)) (paths out lengths answers : List ℕ) where
-  abbrev S : Stacked
-  S = readAllOf read paths out lengths answers
-
   abbrev whole : Stack
   whole = stacked read out (items paths)
 
-  all-done : Enough paths lengths answers → S ≡ laid lengths answers whole
+  all-done : Enough paths lengths answers → (readAllOf read paths out lengths answers) ≡ laid lengths answers whole
   unfolding readAllOf
   all-done h = rw (le-leb _ _ h)
 
   -- more items than places are 12: count 0, and nothing is written
   pub too-many : min (length lengths) (length answers) < length (items paths)
-      → S ≡ record { reply = record { answer = 12; count = 0; length = 0 }; out = out; lengths = lengths; answers = answers }
+      → (readAllOf read paths out lengths answers) ≡ record { reply = record { answer = 12; count = 0; length = 0 }; out = out; lengths = lengths; answers = answers }
   unfolding readAllOf
   too-many h = rw (lt-leb _ _ h)
 
   -- else the answer is 0, whatever the items are answered
-  pub enough : Enough paths lengths answers → S .reply .answer ≡ 0
+  pub enough : Enough paths lengths answers → (readAllOf read paths out lengths answers) .reply .answer ≡ 0
   enough h = rw (all-done h)
 
   -- so it is 12 exactly when there are more items than places
-  pub twelve-when : S .reply .answer ≡ 12 → min (length lengths) (length answers) < length (items paths)
+  pub twelve-when : (readAllOf read paths out lengths answers) .reply .answer ≡ 12 → min (length lengths) (length answers) < length (items paths)
   twelve-when e = ⊎-elim
       (λ (h : Enough paths lengths answers). absurd (omega (arith, enough h)))
       (λ (h : min (length lengths) (length answers) < length (items paths)). h)
       (split (length (items paths)) (min (length lengths) (length answers)))
 
   either : (P : Stacked → Type 0) → (Enough paths lengths answers → P (laid lengths answers whole))
-      → P (record { reply = record { answer = 12; count = 0; length = 0 }; out = out; lengths = lengths; answers = answers }) → P S
+      → P (record { reply = record { answer = 12; count = 0; length = 0 }; out = out; lengths = lengths; answers = answers }) → P (readAllOf read paths out lengths answers)
   either P f g = ⊎-elim
       (λ (h : Enough paths lengths answers). rw (all-done h) (f h))
       (λ (h : min (length lengths) (length answers) < length (items paths)). rw (too-many h) g)
       (split (length (items paths)) (min (length lengths) (length answers)))
 
-  pub zero-or-twelve : (S .reply .answer ≡ 0) ⊎ (S .reply .answer ≡ 12)
+  pub zero-or-twelve : ((readAllOf read paths out lengths answers) .reply .answer ≡ 0) ⊎ ((readAllOf read paths out lengths answers) .reply .answer ≡ 12)
   zero-or-twelve = either (λ l. (l .reply .answer ≡ 0) ⊎ (l .reply .answer ≡ 12)) (λ h. inl refl) (inr refl)
 
   -- lent memory has the length that it came with
-  pub out-kept : length (S .out) ≡ length out
+  pub out-kept : length ((readAllOf read paths out lengths answers) .out) ≡ length out
   out-kept = either (λ l. length (l .out) ≡ length out) (λ h. out-long read out (items paths)) refl
 
-  pub lengths-kept : length (S .lengths) ≡ length lengths
+  pub lengths-kept : length ((readAllOf read paths out lengths answers) .lengths) ≡ length lengths
   lengths-kept = either (λ l. length (l .lengths) ≡ length lengths)
       (λ h. rw (length-append, length-drop, lengths-many) (omega arith)) refl
 
-  pub answers-kept : length (S .answers) ≡ length answers
+  pub answers-kept : length ((readAllOf read paths out lengths answers) .answers) ≡ length answers
   answers-kept = either (λ l. length (l .answers) ≡ length answers)
       (λ h. rw (length-append, length-drop, answers-many) (omega arith)) refl
 
   -- behind what is written it is as it came
-  pub out-stays : drop (S .reply .length) (S .out) ≡ drop (S .reply .length) out
+  pub out-stays : drop ((readAllOf read paths out lengths answers) .reply .length) ((readAllOf read paths out lengths answers) .out) ≡ drop ((readAllOf read paths out lengths answers) .reply .length) out
   out-stays = either (λ l. drop (l .reply .length) (l .out) ≡ drop (l .reply .length) out) (λ h. out-behind read out (items paths)) refl
 
-  pub lengths-stay : drop (length (items paths)) (S .lengths) ≡ drop (length (items paths)) lengths
+  pub lengths-stay : drop (length (items paths)) ((readAllOf read paths out lengths answers) .lengths) ≡ drop (length (items paths)) lengths
   lengths-stay = either (λ l. drop (length (items paths)) (l .lengths) ≡ drop (length (items paths)) lengths)
       (λ h. front-stays (whole .lengths) lengths (length (items paths)) (lengths-many read out (items paths))) refl
 
-  pub answers-stay : drop (length (items paths)) (S .answers) ≡ drop (length (items paths)) answers
+  pub answers-stay : drop (length (items paths)) ((readAllOf read paths out lengths answers) .answers) ≡ drop (length (items paths)) answers
   answers-stay = either (λ l. drop (length (items paths)) (l .answers) ≡ drop (length (items paths)) answers)
       (λ h. front-stays (whole .answers) answers (length (items paths)) (answers-many read out (items paths))) refl
 
   -- the reply's length is the sum of the items' lengths, and at most the output's
-  pub length-total : Enough paths lengths answers → S .reply .length ≡ total (take (length (items paths)) (S .lengths))
+  pub length-total : Enough paths lengths answers → (readAllOf read paths out lengths answers) .reply .length ≡ total (take (length (items paths)) ((readAllOf read paths out lengths answers) .lengths))
   length-total h = rw (all-done h, take-at (whole .lengths) (drop (length (whole .lengths)) lengths) (length (items paths)) (lengths-many read out (items paths)), lengths-total)
 
-  pub length-fits : S .reply .length ≤ length out
+  pub length-fits : (readAllOf read paths out lengths answers) .reply .length ≤ length out
   length-fits = either (λ l. l .reply .length ≤ length out) (λ h. filled-fits read out (items paths)) (omega arith)
 
   -- each item is answered as its path alone is, read into the output from its start on as that came
   pub each-item : Enough paths lengths answers → (before : List (List ℕ)) (p : List ℕ) (behind : List (List ℕ)) → items paths ≡ before ++ p ∷ behind
-      → {after : List ℕ} {reply : Reply} → Replied NoRoom (read p) (drop (startOf S (length before)) out) after reply → Holds S (length before) reply after
+      → {after : List ℕ} {reply : Reply} → Replied NoRoom (read p) (drop (startOf (readAllOf read paths out lengths answers) (length before)) out) after reply → Holds (readAllOf read paths out lengths answers) (length before) reply after
   each-item h before p behind e {after} {reply} r =
       let a : Alone whole (length before) (total (take (length before) (whole .lengths))) out (read p) = rw e (alone read out before p behind) in
       let k : length before < length (items paths) = omega (arith, ap length e, length-append before (p ∷ behind)) in

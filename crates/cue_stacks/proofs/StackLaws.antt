@@ -20,6 +20,7 @@ use Rattle.disc.specs.declared.replies.Reply.{Reply}
 use Rattle.disc.proofs.AskLaws.{agree-front, agree-back, same-asked}
 use Rattle.disc.proofs.RanLaws.{same-ran}
 use Rattle.cue_stacks.specs.Stacks.{replyIn, roomLeft, Stack, onTop, stacked, askedByEach}
+use Rattle.cue_stacks.specs.Items.{total}
 
 -- ---- one item in its room
 
@@ -76,11 +77,6 @@ module _ (room : List ℕ) (r : Ran (List ℕ)) where
   behind-bytes n rest = rw front-long at (drop-append-add (take size left) rest n)
 
 -- ---- all of them
-
--- the sum of a row
-abbrev pub total : List ℕ → ℕ
-total [] = 0
-total (n ∷ row) = n + total row
 
 -- the item at i, whose bytes start at `at`, is as it is read alone into the room from there on
 pub record Alone (s : Stack) (i at : ℕ) (room : List ℕ) (r : Ran (List ℕ)) : Type 0 where

@@ -9,7 +9,7 @@ use Rattle.disc.specs.Counts.{reported}
 use Rattle.disc.specs.Ran.{Ran}
 use Rattle.cue_stacks.specs.Stacks.{items, roomLeft, stacked, readAllOf}
 use Rattle.cue_stacks.specs.Sums.{countAlone, summed}
-use Rattle.cue_stacks.proofs.Promises.{Enough}
+use Rattle.cue_stacks.specs.Items.{Enough}
 
 -- of two rows of items behind each other
 pub summed-joined : (f : List ℕ → ℕ) (ps qs : List (List ℕ)) → summed f (ps ++ qs) ≡ summed f ps + summed f qs

@@ -307,8 +307,8 @@ module _ (d : Disc) (m : Mount) (icb : LongAd) {row₀ row row′ : List (List �
         let c = seven-at a in
         record { rest = sectorsIn (drop (c .areas) (fileAreas d m icb)); is = sym (listed-all a) ∙ areas-parts (c .areas) (fileAreas d m icb) ∙ ap (λ l. l ++ sectorsIn (drop (c .areas) (fileAreas d m icb))) (sym (c .list)) }
 
-    pub seven-last : (a : q .answer ≡ 7) → length (fileAreas d m icb) ≤ seven-at a .areas → ns ≡ asked d (fileExtents m icb)
-    seven-last a l = seven-at a .list ∙ ap sectorsIn (take-all (seven-at a .areas) (fileAreas d m icb) l) ∙ listed-all a
+    pub seven-last : q .answer ≡ 7 → (c : CrowdedAt (length row₀) gs (fileAreas d m icb) ns) → length (fileAreas d m icb) ≤ c .areas → ns ≡ asked d (fileExtents m icb)
+    seven-last a c l = c .list ∙ ap sectorsIn (take-all (c .areas) (fileAreas d m icb) l) ∙ listed-all a
 
 -- ---- a walk in which nothing grows
 

@@ -19,7 +19,7 @@ use Rattle.disc.proofs.ImageLaws.{split}
 use Rattle.records.specs.declared.allocations.LongAd.{LongAd}
 use Rattle.areas.specs.declared.AllocExtent.{AllocExtent}
 use Rattle.files.specs.Reads.{extentsBytes, visited}
-use Rattle.files.specs.Files.{Located, entryMount, File, fileAt, visitsOf, fileVisited}
+use Rattle.files.specs.Files.{Located, entryMount, File, fileAt, visitsOf, fileVisited, visitsIn}
 use Rattle.files.specs.Files.File.{embedded, chained}
 use Rattle.files.specs.Begun.{Begins}
 use Rattle.files.specs.inner.Pieces.{sectorsRead, beforeOutcome, restOf, There}

@@ -12,17 +12,14 @@ use Rattle.disc.proofs.ImageLaws.{image-grown}
 use Rattle.volumes.specs.declared.openings.VolumeRecord.{VolumeRecord}
 use Rattle.listings.specs.declared.matchings.Matching.{Matching}
 use Rattle.cue_stacks.specs.Stacks.{items, replyIn}
-use Rattle.cue_stacks.proofs.Promises.{startOf, Holds, Enough}
 use Rattle.vault.specs.Calls.{pathReading, Worked, readsPath, allRead, readsAll}
 use Rattle.vault.specs.Public.Call.{readsPath as asReadPath}
 use Rattle.vault.proofs.Promises.{io-1, grown}
-use Rattle.vault.proofs.Stacking.{left, all-stays, read-all-item}
+use Rattle.vault.proofs.Stacking.{all-stays, read-all-item}
 use Rattle.disc.proofs.GrownLaws.{grown-ran}
 use Rattle.disc.specs.Refusing.{isIo}
-
--- a call is final on an image: whatever is added at the end, it leaves the same answer, count and memory
-abbrev pub Final : {R : Type 0} → (List ℕ → R) → List ℕ → Type 0
-Final call image = (more : List ℕ) → call (image ++ more) ≡ call image
+use Rattle.vault.specs.Stacks.{left, Final}
+use Rattle.cue_stacks.specs.Items.{startOf, Holds, Enough}
 
 -- whatever is told by a run that lacked no sector is the same
 stays : {A R : Type 0} (told : Ran A → R) (call : Ask A) (image : List ℕ) → isIo (outcome (disc image) call) ≡ false → Final (λ i. told (ran (disc i) call)) image

@@ -12,10 +12,10 @@ use Rattle.listings.specs.declared.matchings.Matching.{Matching}
 use Rattle.volumes.specs.declared.openings.VolumeRecord.{VolumeRecord}
 use Rattle.cue_stacks.specs.Stacks.{items}
 use Rattle.cue_stacks.specs.Sums.{summed}
-use Rattle.cue_stacks.proofs.Promises.{startOf, Enough}
 use Rattle.cue_stacks.proofs.SumLaws.{all-sums, item-sums}
 use Rattle.vault.specs.Calls.{pathReading, readsPath, readsAll}
-use Rattle.vault.proofs.Stacking.{left}
+use Rattle.vault.specs.Stacks.{left}
+use Rattle.cue_stacks.specs.Items.{startOf, Enough}
 
 module _ (image : List ℕ) (v : VolumeRecord) (paths : List ℕ) (matching : Matching) (out lengths answers work : List ℕ) where
   -- a read by a path counts the same in any room

@@ -18,6 +18,7 @@ use Rattle.disc.specs.Ask.{Outcome, outcome, asked}
 use Rattle.disc.specs.Ask.Ask.{done}
 use Rattle.disc.specs.Ask.Outcome.{answered, refused}
 use Rattle.disc.specs.Images.{disc, heldFrom, sectorsFor, isAnswered}
+use Rattle.disc.specs.Refusing.{isIo}
 use Rattle.disc.specs.Ran.{ran, onward}
 use Rattle.disc.specs.Places.{placed}
 use Rattle.disc.specs.declared.places.Mount.{Mount}
@@ -42,21 +43,17 @@ use Rattle.disc.specs.Lists.{Waits}
 -- ---- a read by ICB
 
 module _ (image : List ℕ) (v : VolumeRecord) (icb : LongAd) where
-  -- how the file's descriptors are read
-  abbrev pub own : Mount
-  own = entryMount (v .mount) icb
-
   -- where the extents are listed and the read is refused by 1, it waits for the sector of these at the count of the read less that of the list
   module _ {es : List AllocExtent} (h : outcome (disc image) (extentListing v icb) ≡ answered es) where
     file-waits : (o : Outcome File) (n : ℕ) → onward o n (λ f. ran (disc image) (done (extentsOf f))) .outcome ≡ answered es
-        → isIo (onward o n (λ f. ran (disc image) (contentOf own f)) .outcome) ≡ true
-        → Waits image (extentSectors own es) (onward o n (λ f. ran (disc image) (contentOf own f)) .count - onward o n (λ f. ran (disc image) (done (extentsOf f))) .count)
+        → isIo (onward o n (λ f. ran (disc image) (contentOf (entryMount (v .mount) icb) f)) .outcome) ≡ true
+        → Waits image (extentSectors (entryMount (v .mount) icb) es) (onward o n (λ f. ran (disc image) (contentOf (entryMount (v .mount) icb) f)) .count - onward o n (λ f. ran (disc image) (done (extentsOf f))) .count)
     file-waits (refused r) n p q = never p
     file-waits (answered (embedded x)) n p q = absurd (let z = rw (ran-done {A = List ℕ} (disc image) (embeddedBytes x)) at q in let w : _≡_ {A = ℕ} 0 1 = cc in omega arith)
     file-waits (answered (chained x l)) n p q =
         let a : answered l ≡ answered es = rw (ran-done {A = List AllocExtent} (disc image) l) at p in
         let e : l ≡ es = cc in
-        rw (ran-done {A = List AllocExtent} (disc image) l, less n (restOf image own l (x .entry .«information_length») .count), ← e) (extents-wait image own l (x .entry .«information_length») q)
+        rw (ran-done {A = List AllocExtent} (disc image) l, less n (restOf image (entryMount (v .mount) icb) l (x .entry .«information_length») .count), ← e) (extents-wait image (entryMount (v .mount) icb) l (x .entry .«information_length») q)
       where
         less : (n k : ℕ) → n + k - (n + 0) ≡ k
         less n k = omega arith
@@ -65,16 +62,16 @@ module _ (image : List ℕ) (v : VolumeRecord) (icb : LongAd) where
     unfolding ran
     listed-runs = h
 
-    runs-wait : isIo (ran (disc image) (reading v icb) .outcome) ≡ true → Waits image (extentSectors own es) (ran (disc image) (reading v icb) .count - ran (disc image) (extentListing v icb) .count)
+    runs-wait : isIo (ran (disc image) (reading v icb) .outcome) ≡ true → Waits image (extentSectors (entryMount (v .mount) icb) es) (ran (disc image) (reading v icb) .count - ran (disc image) (extentListing v icb) .count)
     unfolding fileBytes fileExtents
     runs-wait q =
-        let r = ran-then (disc image) (fileAt (v .mount) icb) (contentOf own) in
+        let r = ran-then (disc image) (fileAt (v .mount) icb) (contentOf (entryMount (v .mount) icb)) in
         let x = ran-then (disc image) (fileAt (v .mount) icb) (λ f. done (extentsOf f)) in
         rw (r, x) (file-waits (ran (disc image) (fileAt (v .mount) icb) .outcome) (ran (disc image) (fileAt (v .mount) icb) .count) (rw x at listed-runs) (rw r at q))
 
     pub read-waits-at : {A : Type 0} (f : AllocExtent → A) (out : List ℕ) (row : List A)
         → reads image v icb out .reply .answer ≡ 1 → reads image v icb out .reply .count < 0xffff_ffff_ffff_ffff
-        → Waits image (extentSectors own es) (reads image v icb out .reply .count - extents f image v icb row .reply .count)
+        → Waits image (extentSectors (entryMount (v .mount) icb) es) (reads image v icb out .reply .count - extents f image v icb row .reply .count)
     unfolding ran
     read-waits-at f out row a b =
         let n = reported (length (asked (disc image) (reading v icb))) in
@@ -96,8 +93,8 @@ module _ (image : List ℕ) (v : VolumeRecord) (icb : LongAd) where
     read-ends : Ended (ran (disc image) (reading v icb) .outcome)
     unfolding fileBytes
     read-ends =
-        let r = ran-then (disc image) (fileAt (v .mount) icb) (contentOf own) in
-        rw (r, file-runs) (extents-end image own es (x .entry .«information_length»))
+        let r = ran-then (disc image) (fileAt (v .mount) icb) (contentOf (entryMount (v .mount) icb)) in
+        rw (r, file-runs) (extents-end image (entryMount (v .mount) icb) es (x .entry .«information_length»))
 
     pub read-ready : (out : List ℕ) → (reads image v icb out .reply .answer ≡ 4 → ⊥) → ((b : List ℕ) → outcome (disc image) (reading v icb) ≡ answered b → length b ≤ length out)
         → reads image v icb out .reply .answer ≡ pick (lacking image (reading v icb)) 1 0
