@@ -12,23 +12,13 @@ use Rattle.disc.specs.Choice.{pick}
 use Rattle.disc.specs.Refusals.{number}
 use Rattle.disc.specs.Ask.{Outcome}
 use Rattle.disc.specs.Ask.Outcome.{answered, refused}
-use Rattle.disc.specs.Images.{disc}
-use Rattle.disc.specs.Ran.{Ran, ran, eachIn}
-use Rattle.disc.specs.Places.{isChecked}
+use Rattle.disc.specs.Ran.{Ran, eachIn}
 use Rattle.disc.specs.Replies.{replyBy, leftBy}
 use Rattle.disc.specs.declared.refusals.Refusal.{Refusal}
 use Rattle.disc.specs.declared.refusals.Refusal.the-variants.{NoRoom, NoSlot}
 use Rattle.disc.specs.declared.replies.Reply.{Reply}
 use Rattle.disc.proofs.RefusalLaws.{refusal-numbered}
-use Rattle.areas.specs.declared.AllocExtent.{AllocExtent}
-use Rattle.records.specs.declared.allocations.LongAd.{LongAd}
-use Rattle.layouts.specs.Runs.{pairOf}
-use Rattle.listings.specs.Listings.{listing as listingIn}
-use Rattle.listings.specs.declared.matchings.Matching.{Matching}
-use Rattle.volumes.specs.Labels.{labelling}
-use Rattle.volumes.specs.declared.openings.How.{How}
-use Rattle.volumes.specs.declared.openings.VolumeRecord.{VolumeRecord}
-use Rattle.vault.specs.Calls.{reading, extentListing, runListing, listing, showing, pathReading, labels, reads, lists, listsBytes, shows, readsPath, extents, runs}
+use Rattle.vault.specs.Public.{byBytes, byWork, byRow}
 use Rattle.vault.specs.Fronts.{Fronted}
 
 -- ---- any call of that kind
@@ -62,36 +52,14 @@ fronted {A} full lent n (answered b) = by (leb (length b) (length lent)) refl
     by true e = over-it b lent n (leb-true (length b) (length lent) e)
     by false e = not-it (answered b) lent full n
 
--- ---- the calls
+-- ---- the three ways in which a call writes: `spec` says which call goes which way
 
-module _ (image : List ℕ) (v : VolumeRecord) (out : List ℕ) where
-  pub label-front : (how : How) → Fronted (ran (disc image) (labelling how) .outcome) out (labels image how out .reply) (labels image how out .out)
-  label-front how = fronted NoRoom out _ (ran (disc image) (labelling how) .outcome)
+pub bytes-front : (out : List ℕ) (r : Ran (List ℕ)) → Fronted (r .outcome) out (byBytes out .told r .reply) (byBytes out .told r .out)
+bytes-front out r = fronted NoRoom out _ (r .outcome)
 
-  pub read-front : (icb : LongAd) → Fronted (ran (disc image) (reading v icb) .outcome) out (reads image v icb out .reply) (reads image v icb out .out)
-  read-front icb = fronted NoRoom out _ (ran (disc image) (reading v icb) .outcome)
+pub work-front : (out work : List ℕ) (r : Ran (List ℕ)) → Fronted (r .outcome) out (byWork out work .told r .reply) (byWork out work .told r .out)
+work-front out work r = fronted NoRoom out _ (r .outcome)
 
-  pub list-bytes-front : (bytes : List ℕ) → Fronted (listingIn (isChecked (v .mount)) bytes) out (listsBytes v bytes out .reply) (listsBytes v bytes out .out)
-  list-bytes-front bytes = fronted NoRoom out _ (listingIn (isChecked (v .mount)) bytes)
-
-  module _ (work : List ℕ) where
-    pub list-front : (icb : LongAd)
-        → Fronted (ran (disc image) (listing v (length work) icb) .outcome) out (lists image v icb out work .reply) (lists image v icb out work .out)
-    list-front icb = fronted NoRoom out _ (ran (disc image) (listing v (length work) icb) .outcome)
-
-    pub show-front : (levels : ℕ)
-        → Fronted (ran (disc image) (showing v levels (length work)) .outcome) out (shows image v levels out work .reply) (shows image v levels out work .out)
-    show-front levels = fronted NoRoom out _ (ran (disc image) (showing v levels (length work)) .outcome)
-
-    pub read-path-front : (path : List ℕ) (matching : Matching)
-        → Fronted (ran (disc image) (pathReading v (length work) path matching) .outcome) out (readsPath image v path matching out work .reply) (readsPath image v path matching out work .out)
-    read-path-front path matching = fronted NoRoom out _ (ran (disc image) (pathReading v (length work) path matching) .outcome)
-
--- the rows: of what each extent's slot holds, and of the runs
-pub extents-front : {B : Type 0} (f : AllocExtent → B) (image : List ℕ) (v : VolumeRecord) (icb : LongAd) (row : List B)
-    → Fronted (eachIn f (ran (disc image) (extentListing v icb) .outcome)) row (extents f image v icb row .reply) (extents f image v icb row .row)
-extents-front f image v icb row = fronted NoSlot row _ (eachIn f (ran (disc image) (extentListing v icb) .outcome))
-
-pub runs-front : (image : List ℕ) (v : VolumeRecord) (icb : LongAd) (row : List (List ℕ))
-    → Fronted (eachIn pairOf (ran (disc image) (runListing v icb) .outcome)) row (runs image v icb row .reply) (runs image v icb row .row)
-runs-front image v icb row = fronted NoSlot row _ (eachIn pairOf (ran (disc image) (runListing v icb) .outcome))
+-- a row: of what each extent's or run's slot holds
+pub row-front : {E B : Type 0} (f : E → B) (row : List B) (r : Ran (List E)) → Fronted (eachIn f (r .outcome)) row (byRow f row .told r .reply) (byRow f row .told r .row)
+row-front f row r = fronted NoSlot row _ (eachIn f (r .outcome))
