@@ -180,7 +180,7 @@ identifiers-all image i o (n ∷ ns) rest g h e =
 -- ---- the two sequences
 
 -- what stands behind others
-skipped : (xs ys : List (List ℕ)) (k : ℕ) → getD (xs ++ ys) (length xs + k) [] ≡ getD ys k []
+pub skipped : (xs ys : List (List ℕ)) (k : ℕ) → getD (xs ++ ys) (length xs + k) [] ≡ getD ys k []
 skipped [] ys k = let z : 0 + k ≡ k = omega arith in rw z
 skipped (x ∷ xs) ys k = let z : suc (length xs) + k ≡ suc (length xs + k) = omega arith in rw z (skipped xs ys k)
 

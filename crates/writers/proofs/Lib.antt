@@ -15,5 +15,6 @@ pub mod ImageLaws
 pub mod Promises
 pub mod PlacedLaws
 pub mod DescriptorLaws
+pub mod BlankLaws
 pub mod ExtentLaws
 pub mod RoundTrips

@@ -1,6 +1,6 @@
 -- Which descriptors an image has that was written, and what each is to a reader: RULES 15.11 and 15.12, from the tables of docs/LAYOUT.md, with no word of
 -- how `Layout` puts the image together.
-use Prim.Native.Nat.{ℕ, zero, suc, _+_, _-_, _*_, _/_}
+use Prim.Native.Nat.{ℕ, zero, suc, _+_, _-_, _*_, _/_, _<_}
 use mathlib.Core.Path.{_≡_}
 use mathlib.Core.Bool.{true}
 use mathlib.Core.List.{List, [], _∷_, _++_}
@@ -66,6 +66,28 @@ pub record Standing (d : Disc) (x : Slot) : Type 0 where
 unfoldable pub AllStanding : Disc → List Slot → Type 0
 AllStanding d [] = Unit {0}
 AllStanding d (x ∷ xs) = Standing d x × AllStanding d xs
+
+-- ---- the sectors that hold nothing
+
+-- so many sectors from one on
+pub record Span : Type 0 where
+  pub first : ℕ
+  pub count : ℕ
+
+abbrev pub span : ℕ → ℕ → Span
+span first count = record { first = first; count = count }
+
+-- of an image of so many sectors and files, whose bytes take so many: all that hold neither a slot, the recognition sequence (16 to 18), the directory (280 to
+-- 287) nor a file's bytes (from 352 on)
+abbrev pub blankSpans : ℕ → ℕ → ℕ → List Span
+blankSpans total files blocks =
+    span 0 16 ∷ span 19 13 ∷ span 38 10 ∷ span 54 10 ∷ span 66 190 ∷ span 257 15 ∷ span 273 1 ∷ span 275 5 ∷ span (288 + files) (64 - files) ∷
+    span (352 + blocks) (total - 353 - blocks) ∷ []
+
+-- every sector of every span is there, and is zeros
+unfoldable pub AllBlank : Disc → List Span → Type 0
+AllBlank d [] = Unit {0}
+AllBlank d (x ∷ xs) = ((k : ℕ) → k < x .count → d (x .first + k) ≡ holds (replicate 2048 0)) × AllBlank d xs
 
 -- ---- the file identifiers: docs/LAYOUT.md 1, the directory's bytes begin in sector 280
 
