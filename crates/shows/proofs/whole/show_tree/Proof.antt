@@ -1,4 +1,5 @@
 -- `shows::whole::show_tree` meets its contract: a number of levels that is 0 or over 16 is refused at once. Assumes nothing.
+use native.Mathlib.Omega.{arith}
 use borrow.Author.Needs.{needs}
 use Rattle.shows.proofs.ShowLaws.{show-zero, show-over}
 use Rattle.shows.proofs.whole.show_tree.Statement.{statement}
@@ -12,7 +13,7 @@ show-tree-spec =
     (λ c. search (show-zero, needs))
     (λ c κs. search needs)
     (λ c κs. search needs)
-    (λ c. search (show-over, needs))
+    (λ c. show-over _ _ _ _ _ (omega (arith, c .before .before .if2 .taken)) (c .before .number2 .ensures) (c .refusal2 .ensures) _)
     (λ c. search needs)
     (λ c κs. search needs)
     (λ c. search needs)
