@@ -15,8 +15,9 @@ use Rattle.writers.proofs.PartLaws.{entries-count}
 use Rattle.writers.proofs.FileLaws.{files-long}
 use Rattle.writers.proofs.SectorLaws.{sector-at, whole-blanks}
 use Rattle.writers.proofs.OpeningLaws.{onDisc, at-front, front-count}
-use Rattle.writers.proofs.ImageLaws.{Accepted, disk-front, disk-entries, behindFront, part-whole, part-count, front-long, directory-part-long, entries-part-long, few-files}
+use Rattle.writers.proofs.ImageLaws.{disk-front, disk-entries, behindFront, part-whole, part-count, front-long, directory-part-long, entries-part-long, few-files}
 use Rattle.writers.proofs.DescriptorLaws.{skipped}
+use Rattle.writers.specs.Vaults.{written, Accepted}
 
 -- zeros that stand behind others in a list of sectors
 blank-behind : (ahead : List (List ℕ)) (c : ℕ) (rest : List (List ℕ)) (a k : ℕ) → length ahead ≡ a → k < c → getD (ahead ++ (blanks c ++ rest)) (a + k) [] ≡ zeros 2048
@@ -72,13 +73,10 @@ all-append d (x ∷ xs) ys h k = (h .0, all-append d xs ys (h .1) k)
 -- ---- the image, with whatever stands behind it
 
 module _ (names : List (List ℕ)) (lengths staging more : List ℕ) (h : Accepted names lengths staging) where
-  abbrev written : List ℕ
-  written = image names lengths staging ++ more
-
   abbrev head : List ℕ
   head = joined (front (partitionFor (total lengths)) (length names) (directorySize names)) ++ directoryPart names
 
-  entries-blank : (k : ℕ) → k < 64 - length lengths → disc written (288 + length lengths + k) ≡ holds (replicate 2048 0)
+  entries-blank : (k : ℕ) → k < 64 - length lengths → disc (written names lengths staging more) (288 + length lengths + k) ≡ holds (replicate 2048 0)
   unfolding entriesPart
   entries-blank k l =
       let few : length lengths ≤ 64 = few-files names lengths staging more h in
@@ -106,11 +104,11 @@ module _ (names : List (List ℕ)) (lengths staging more : List ℕ) (h : Accept
         files-long lengths staging (h .staged),
       ) (omega arith)
 
-  disk-left : written ≡ ahead ++ (joined (blanks left) ++ (anchorAt (total lengths - 1) ++ more))
+  disk-left : (written names lengths staging more) ≡ ahead ++ (joined (blanks left) ++ (anchorAt (total lengths - 1) ++ more))
   unfolding image
   disk-left = rw (zeros-joined left) (simp append-assoc)
 
-  left-blank : (k : ℕ) → k < left → disc written (352 + blocksOf lengths + k) ≡ holds (replicate 2048 0)
+  left-blank : (k : ℕ) → k < left → disc (written names lengths staging more) (352 + blocksOf lengths + k) ≡ holds (replicate 2048 0)
   left-blank k l =
       let w : k < length (blanks left) = omega (arith, length-replicate left (zeros 2048)) in
       rw disk-left (sector-at ahead (352 + blocksOf lengths) ahead-long (blanks left) _ (whole-blanks left) k w ∙ ap holds (getD-replicate left k (zeros 2048) [] l))
@@ -119,7 +117,7 @@ module _ (names : List (List ℕ)) (lengths staging more : List ℕ) (h : Accept
   pub vault-blank : AllBlank (disc (image names lengths staging ++ more)) (blankSpans (total lengths) (length lengths) (blocksOf lengths))
   unfolding AllBlank
   vault-blank =
-      all-append (disc written) (span 0 16 ∷ span 19 13 ∷ span 38 10 ∷ span 54 10 ∷ span 66 190 ∷ span 257 15 ∷ span 273 1 ∷ span 275 5 ∷ [])
+      all-append (disc (written names lengths staging more)) (span 0 16 ∷ span 19 13 ∷ span 38 10 ∷ span 54 10 ∷ span 66 190 ∷ span 257 15 ∷ span 273 1 ∷ span 275 5 ∷ [])
       (span (288 + length lengths) (64 - length lengths) ∷ span (352 + blocksOf lengths) left ∷ [])
       (rw (disk-front names lengths staging more h) (front-blank (partitionFor (total lengths)) (length names) (directorySize names) (behindFront names lengths staging more h)))
       (entries-blank, (left-blank, tt))
