@@ -32,9 +32,9 @@ abbrev pub Marking : VolumeRecord → Matching → List ℕ → Type 0
 Marking v matching work = (p : List ℕ) → Guards rightAt (alone v matching work p) (alone (plainly v) matching work p)
 
 -- a descriptor that an item's read without the check parses has a wrong body
-abbrev pub wrongAmong : List ℕ → {v : VolumeRecord} {matching : Matching} {work : List ℕ} → Marking v matching work → List (List ℕ) → Bool
-wrongAmong image marks [] = false
-wrongAmong image marks (p ∷ ps) = anyWrong rightAt (parsed (disc image) (marks p .tree)) || wrongAmong image marks ps
+abbrev pub wrongAmong : List ℕ → (v : VolumeRecord) (matching : Matching) (work : List ℕ) → Marking v matching work → List (List ℕ) → Bool
+wrongAmong image v matching work marks [] = false
+wrongAmong image v matching work marks (p ∷ ps) = anyWrong rightAt (parsed (disc image) (marks p .tree)) || wrongAmong image v matching work marks ps
 
 -- a call is final on an image: whatever is added at the end, it leaves the same answer, count and memory
 abbrev pub Final : {R : Type 0} → (List ℕ → R) → List ℕ → Type 0
