@@ -1,5 +1,5 @@
 -- RULES 8.29 and 8.32, of the call that reads many files: its count is the sum of what each read by a path counts alone, held at 2^64 - 1. Assumes nothing.
-use mathlib.Core.Path.{_≡_, refl, ap, sym, _∙_}
+use mathlib.Core.Path.{_≡_, sym, _∙_}
 use mathlib.Core.List.{List, _∷_, _++_}
 use Prim.Native.Nat.{ℕ, _+_, min}
 use lib.ListN.{length, drop}

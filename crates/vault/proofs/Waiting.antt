@@ -11,7 +11,6 @@ use lib.ListN.{length, take}
 use lib.Dec.{eqb, leb}
 use borrow.Author.Tests.{eqb-true, eqb-false, le-leb, lt-leb, le-ltb}
 use Rattle.disc.specs.Choice.{pick}
-use Rattle.disc.specs.Refusals.{number}
 use Rattle.disc.specs.Counts.{reported}
 use Rattle.disc.specs.Replies.{replyBy}
 use Rattle.disc.specs.Ask.{Outcome, outcome, asked}
