@@ -71,15 +71,17 @@ pub fn is_zero(b: &[u8]) -> bool
     true
 }
 
-// Room for an image of 512 sectors.
+// Room for an image of 512 sectors: zeros.
 pub fn mebibyte() -> [u8; 1048576]
     ensures { λ r. ⌜ 1048576 ≡ length r ⌝ }
+    ensures { λ r. ⌜ r ≡ replicate 1048576 0 ⌝ }
 {
     [0; 1048576]
 }
 
 pub fn two_mebibytes() -> [u8; 2097152]
     ensures { λ r. ⌜ 2097152 ≡ length r ⌝ }
+    ensures { λ r. ⌜ r ≡ replicate 2097152 0 ⌝ }
 {
     [0; 2097152]
 }
