@@ -11,3 +11,4 @@ pub mod Promises
 pub mod MappingLaws
 pub mod GuardLaws
 pub mod RefusingLaws
+pub mod ChosenLaws
