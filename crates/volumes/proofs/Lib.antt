@@ -12,3 +12,4 @@ pub mod MappingLaws
 pub mod GuardLaws
 pub mod RefusingLaws
 pub mod ChosenLaws
+pub mod LabelRefusals
