@@ -3,6 +3,7 @@ pub mod ByteLaws
 pub mod PickLaws
 pub mod RefusalLaws
 pub mod PlaceLaws
+pub mod NamedPlaces
 pub mod AskLaws
 pub mod RanLaws
 pub mod CountLaws
