@@ -12,3 +12,4 @@ pub mod CaseLaws
 pub mod MatchingLaws
 pub mod GuardLaws
 pub mod RefusingLaws
+pub mod MissingLaws
