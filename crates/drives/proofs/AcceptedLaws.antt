@@ -33,7 +33,7 @@ use Rattle.drives.specs.Feeds.{Feed, naming, Grown, firstOf, behindFirst
 use Rattle.drives.specs.Feeds.Feed.{over, stop, name, hold, put, want}
 use Rattle.drives.specs.Feeds.Short.{enough, ofSlots, ofRoom}
 use Rattle.drives.specs.FileFeeds.{extentsFeed, joined, namedBy, chainFeed}
-use Rattle.drives.specs.Moments.{slotsBy, roomBy, Accepted, unlessRefused, areasFrom, areasBehind, extentsIn, sectorsIn}
+use Rattle.drives.specs.Moments.{slotsBy, roomBy, Accepted, unlessRefused, areasFrom, areasBehind, extentsNamed, sectorsAsked}
 use Rattle.drives.proofs.MomentLaws.{later, slots-add, pathOf, Passes, Names, naming-passes, naming-names, naming-refused, naming-holds-none}
 use Rattle.drives.proofs.SlotLaws.{wholeArea, named-below, next-whole}
 use Rattle.drives.proofs.Promises.{Free, free-none, extents-free}
@@ -75,33 +75,33 @@ heldBy (Continuation a) n = n
 -- 7 behind an area with which there are e extents: after the sectors of the first areas behind it
 pub record Crowds (base slots : ℕ) (gs : List Grown) (e : ℕ) (xs : List Accepted) (ns : List ℕ) : Type 0 where
   pub areas : ℕ
-  pub list : ns ≡ sectorsIn (take areas xs)
-  pub before : (j : ℕ) → j < areas → e + length (extentsIn (take j xs)) ≤ slots + slotsBy (length (sectorsIn (take j xs))) gs
-  pub past : base < e + length (extentsIn (take areas xs))
+  pub list : ns ≡ sectorsAsked (take areas xs)
+  pub before : (j : ℕ) → j < areas → e + length (extentsNamed (take j xs)) ≤ slots + slotsBy (length (sectorsAsked (take j xs))) gs
+  pub past : base < e + length (extentsNamed (take areas xs))
 
 -- an area that is behind one: of its extents x there are e before
 crowds-on : (base slots : ℕ) (gs : List Grown) (es : List AllocExtent) (x : Accepted) (xs : List Accepted) (ns : List ℕ) → length es ≤ slots
     → Crowds base (slots + slotsBy (length (x .sectors)) gs) (later (length (x .sectors)) gs) (length (es ++ x .extents)) xs ns → Crowds base slots gs (length es) (x ∷ xs) (x .sectors ++ ns)
-unfolding extentsIn sectorsIn slotsBy
+unfolding extentsNamed sectorsAsked slotsBy
 crowds-on base slots gs es x xs ns h c = record {
   areas = suc (c .areas);
   list = ap (λ l. x .sectors ++ l) (c .list);
   before = each;
-  past = rw (length-append (x .extents) (extentsIn (take (c .areas) xs))) (sum (c .past));
+  past = rw (length-append (x .extents) (extentsNamed (take (c .areas) xs))) (sum (c .past));
 }
   where
-    sum : base < length (es ++ x .extents) + length (extentsIn (take (c .areas) xs)) → base < length es + (length (x .extents) + length (extentsIn (take (c .areas) xs)))
+    sum : base < length (es ++ x .extents) + length (extentsNamed (take (c .areas) xs)) → base < length es + (length (x .extents) + length (extentsNamed (take (c .areas) xs)))
     sum l = let q = length-append es (x .extents) in omega arith
 
-    each : (j : ℕ) → j < suc (c .areas) → length es + length (extentsIn (take j (x ∷ xs))) ≤ slots + slotsBy (length (sectorsIn (take j (x ∷ xs)))) gs
+    each : (j : ℕ) → j < suc (c .areas) → length es + length (extentsNamed (take j (x ∷ xs))) ≤ slots + slotsBy (length (sectorsAsked (take j (x ∷ xs)))) gs
     each zero l = rw (add-zero (length es), add-zero slots) h
     each (suc j) l =
         let b = c .before j (omega arith) in
         let q = length-append es (x .extents) in
         rw (
-          length-append (x .extents) (extentsIn (take j xs)),
-          length-append (x .sectors) (sectorsIn (take j xs)),
-          slots-add (length (x .sectors)) (length (sectorsIn (take j xs))) gs,
+          length-append (x .extents) (extentsNamed (take j xs)),
+          length-append (x .sectors) (sectorsAsked (take j xs)),
+          slots-add (length (x .sectors)) (length (sectorsAsked (take j xs))) gs,
         ) (omega arith)
 
 -- more extents than slots where they are accepted
@@ -133,8 +133,8 @@ module _ (d : Disc) (m : Mount) (kind missing : ℕ) where
   free-held h es l = rw (free-none (extentsFeed m es missing) (extents-free m es missing) d 0) (omega arith)
 
   pub chain-held : (n : ℕ) (es : List AllocExtent) (how : AdEnding) (h : ℕ) → h ≤ length es
-      → heldMost h d (chainFeed m kind n missing es how) ≡ heldBy how (length es + length (extentsIn (areasBehind d m kind n how)))
-  unfolding chainFeed areasBehind heldMost extentsIn
+      → heldMost h d (chainFeed m kind n missing es how) ≡ heldBy how (length es + length (extentsNamed (areasBehind d m kind n how)))
+  unfolding chainFeed areasBehind heldMost extentsNamed
   chain-held zero es (Refused r) h l = refl
   chain-held zero es End h l = free-held h es l
   chain-held zero es (Continuation a) h l = omega arith
@@ -143,23 +143,23 @@ module _ (d : Disc) (m : Mount) (kind missing : ℕ) where
   chain-held (suc n) es (Continuation a) h l = by (outcome d (nextArea m kind a)) refl (λ x. chain-held n (joined es x) (x .ending))
     where
       by : (o : Outcome Area) → outcome d (nextArea m kind a) ≡ o
-          → ((x : Area) (h : ℕ) → h ≤ length (joined es x) → heldMost h d (behind n es x) ≡ heldBy (x .ending) (length (joined es x) + length (extentsIn (areasBehind d m kind n (x .ending)))))
-          → max (max h (length es)) (heldMost 0 d (next n es a)) ≡ length es + length (extentsIn (areasFrom (asked d (nextArea m kind a)) o (λ how. areasBehind d m kind n how)))
+          → ((x : Area) (h : ℕ) → h ≤ length (joined es x) → heldMost h d (behind n es x) ≡ heldBy (x .ending) (length (joined es x) + length (extentsNamed (areasBehind d m kind n (x .ending)))))
+          → max (max h (length es)) (heldMost 0 d (next n es a)) ≡ length es + length (extentsNamed (areasFrom (asked d (nextArea m kind a)) o (λ how. areasBehind d m kind n how)))
       by (refused r) e ih = rw (naming-holds-none d (behind n es) (nextArea m kind a) (namedBy kind (a .length) es) e 0) (omega arith)
       by (answered x) e ih =
           let p = naming-names d (length (joined es x)) (behind n es) x (nextArea m kind a) (namedBy kind (a .length) es) (upto es a x e) e 0 in
           told (x .ending) (p .same ∙ ih x (p .most) (let q = p .below in omega arith))
         where
-          told : (how : AdEnding) → heldMost 0 d (next n es a) ≡ heldBy how (length (joined es x) + length (extentsIn (areasBehind d m kind n how)))
+          told : (how : AdEnding) → heldMost 0 d (next n es a) ≡ heldBy how (length (joined es x) + length (extentsNamed (areasBehind d m kind n how)))
               → max (max h (length es)) (heldMost 0 d (next n es a))
-              ≡ length es + length (extentsIn (unlessRefused how (record { sectors = asked d (nextArea m kind a); extents = x .extents } ∷ areasBehind d m kind n how)))
+              ≡ length es + length (extentsNamed (unlessRefused how (record { sectors = asked d (nextArea m kind a); extents = x .extents } ∷ areasBehind d m kind n how)))
           told (Refused r) q = rw q (omega arith)
           told End q =
               let i = length-append es (x .extents) in
-              rw (q, length-append (x .extents) (extentsIn (areasBehind d m kind n End))) (omega arith)
+              rw (q, length-append (x .extents) (extentsNamed (areasBehind d m kind n End))) (omega arith)
           told (Continuation c) q =
               let i = length-append es (x .extents) in
-              rw (q, length-append (x .extents) (extentsIn (areasBehind d m kind n (Continuation c)))) (omega arith)
+              rw (q, length-append (x .extents) (extentsNamed (areasBehind d m kind n (Continuation c)))) (omega arith)
 
   -- ---- 7 behind the sectors of the areas
 
@@ -168,7 +168,7 @@ module _ (d : Disc) (m : Mount) (kind missing : ℕ) where
       → (length es ≤ slots → shortOf d false slots room gs f ≡ ofSlots → Crowds base slots gs (length es) xs (wanted d (within false slots room gs f)))
       → (t : Bool) → (lost || ltb slots (length es)) ≡ t → pick t ofSlots (shortOf d false slots room gs f) ≡ ofSlots
       → Crowds base slots gs (length es) xs (wanted d (pick t (stop NoSlot) (within false slots room gs f)))
-  unfolding wanted extentsIn sectorsIn
+  unfolding wanted extentsNamed sectorsAsked
   at-hold es xs f lost slots room base gs i q rest true t e = record { areas = 0; list = refl; before = λ j l. absurd (omega arith); past = told lost t q }
     where
       told : (lost : Bool) → (lost || ltb slots (length es)) ≡ true → (lost ≡ true → base < length es) → base < length es + 0
@@ -231,9 +231,9 @@ module _ (d : Disc) (m : Mount) (kind missing : ℕ) where
   -- ---- and more extents than slots are 7
 
   pub chain-many : (n : ℕ) (es : List AllocExtent) (how : AdEnding) (lost : Bool) (slots room : ℕ) (gs : List Grown) → ((r : Refusal) → how ≡ Refused r → ⊥)
-      → slots + slotsBy (length (sectorsIn (areasBehind d m kind n how))) gs < length es + length (extentsIn (areasBehind d m kind n how))
+      → slots + slotsBy (length (sectorsAsked (areasBehind d m kind n how))) gs < length es + length (extentsNamed (areasBehind d m kind n how))
       → shortOf d lost slots room gs (chainFeed m kind n missing es how) ≡ ofSlots
-  unfolding chainFeed areasBehind shortOf extentsIn sectorsIn slotsBy
+  unfolding chainFeed areasBehind shortOf extentsNamed sectorsAsked slotsBy
   chain-many zero es (Refused r) lost slots room gs c l = absurd (c r refl)
   chain-many zero es End lost slots room gs c l = full-row es _ lost slots (omega arith)
   chain-many zero es (Continuation a) lost slots room gs c l = full-row es _ lost slots (omega arith)
@@ -250,10 +250,10 @@ module _ (d : Disc) (m : Mount) (kind missing : ℕ) where
 
       Behind : Area → Type 0
       Behind x = (lost : Bool) (slots room : ℕ) (gs : List Grown) → ((r : Refusal) → x .ending ≡ Refused r → ⊥)
-          → slots + slotsBy (length (sectorsIn (areasBehind d m kind n (x .ending)))) gs < length (joined es x) + length (extentsIn (areasBehind d m kind n (x .ending)))
+          → slots + slotsBy (length (sectorsAsked (areasBehind d m kind n (x .ending)))) gs < length (joined es x) + length (extentsNamed (areasBehind d m kind n (x .ending)))
           → shortOf d lost slots room gs (behind n es x) ≡ ofSlots
 
-      by : (o : Outcome Area) → outcome d (nextArea m kind a) ≡ o → slots + slotsBy (length (sectorsIn (areas o))) gs < length es + length (extentsIn (areas o)) → ((x : Area) → Behind x)
+      by : (o : Outcome Area) → outcome d (nextArea m kind a) ≡ o → slots + slotsBy (length (sectorsAsked (areas o))) gs < length es + length (extentsNamed (areas o)) → ((x : Area) → Behind x)
           → pick (lost || ltb slots (length es)) ofSlots (shortOf d false slots room gs (next n es a)) ≡ ofSlots
       by (refused r) e l ih = full-row es _ lost slots (omega arith)
       by (answered x) e l ih = told (x .ending) refl l
@@ -262,16 +262,16 @@ module _ (d : Disc) (m : Mount) (kind missing : ℕ) where
           p = naming-passes d (length (joined es x)) (behind n es) x (nextArea m kind a) (namedBy kind (a .length) es) (upto es a x e) e false slots room gs
 
           on : (how : AdEnding) → x .ending ≡ how → ((r : Refusal) → how ≡ Refused r → ⊥)
-              → slots + slotsBy (length (ws ++ sectorsIn (areasBehind d m kind n how))) gs < length es + length (x .extents ++ extentsIn (areasBehind d m kind n how))
+              → slots + slotsBy (length (ws ++ sectorsAsked (areasBehind d m kind n how))) gs < length es + length (x .extents ++ extentsNamed (areasBehind d m kind n how))
               → pick (lost || ltb slots (length es)) ofSlots (shortOf d false slots room gs (next n es a)) ≡ ofSlots
           on how h c l =
               let i = length-append es (x .extents) in
-              let z = rw (length-append ws (sectorsIn (areasBehind d m kind n how)), slots-add (length ws) (length (sectorsIn (areasBehind d m kind n how))) gs, length-append (x .extents) (extentsIn (areasBehind d m kind n how))) at l in
+              let z = rw (length-append ws (sectorsAsked (areasBehind d m kind n how)), slots-add (length ws) (length (sectorsAsked (areasBehind d m kind n how))) gs, length-append (x .extents) (extentsNamed (areasBehind d m kind n how))) at l in
               slots-short (lost || ltb slots (length es)) (p .short ∙ ih x (p .lost′) _ _ _ (λ r g. c r (sym h ∙ g)) (rw h (omega arith)))
 
           told : (how : AdEnding) → x .ending ≡ how
-              → slots + slotsBy (length (sectorsIn (unlessRefused how (record { sectors = ws; extents = x .extents } ∷ areasBehind d m kind n how)))) gs
-              < length es + length (extentsIn (unlessRefused how (record { sectors = ws; extents = x .extents } ∷ areasBehind d m kind n how)))
+              → slots + slotsBy (length (sectorsAsked (unlessRefused how (record { sectors = ws; extents = x .extents } ∷ areasBehind d m kind n how)))) gs
+              < length es + length (extentsNamed (unlessRefused how (record { sectors = ws; extents = x .extents } ∷ areasBehind d m kind n how)))
               → pick (lost || ltb slots (length es)) ofSlots (shortOf d false slots room gs (next n es a)) ≡ ofSlots
           told (Refused r) h l = full-row es _ lost slots (omega arith)
           told End h l = on End h (λ r g. absurd (let z : _≡_ {A = ℕ} 0 1 = cc in omega arith)) l
@@ -280,8 +280,8 @@ module _ (d : Disc) (m : Mount) (kind missing : ℕ) where
 -- ---- a chain that is answered: its areas have its extents, and its sectors
 
 pub record Lists (d : Disc) (m : Mount) (kind n : ℕ) (how : AdEnding) (more : List AllocExtent) : Type 0 where
-  pub extents : extentsIn (areasBehind d m kind n how) ≡ more
-  pub sectors : sectorsIn (areasBehind d m kind n how) ≡ asked d (continued m kind n how)
+  pub extents : extentsNamed (areasBehind d m kind n how) ≡ more
+  pub sectors : sectorsAsked (areasBehind d m kind n how) ≡ asked d (continued m kind n how)
   pub closed : (r : Refusal) → how ≡ Refused r → ⊥
 
 pub kept : (how : AdEnding) (xs : List Accepted) → ((r : Refusal) → how ≡ Refused r → ⊥) → unlessRefused how xs ≡ xs
@@ -323,7 +323,7 @@ onward d m kind n a more e = by (outcome d (nextArea m kind a)) refl (sym (outco
             }
 
 pub chain-lists : (d : Disc) (m : Mount) (kind n : ℕ) (how : AdEnding) (more : List AllocExtent) → outcome d (continued m kind n how) ≡ answered more → Lists d m kind n how more
-unfolding continued outcome asked areasBehind extentsIn sectorsIn
+unfolding continued outcome asked areasBehind extentsNamed sectorsAsked
 chain-lists d m kind zero End more e = record { extents = cc; sectors = refl; closed = λ r g. absurd (let z : _≡_ {A = ℕ} 0 1 = cc in omega arith) }
 chain-lists d m kind zero (Refused r) more e = never e
 chain-lists d m kind zero (Continuation a) more e = never e
@@ -337,8 +337,8 @@ chain-lists d m kind (suc n) (Continuation a) more e =
     by o l =
         let is = ap (λ x. areasFrom (asked d (nextArea m kind a)) x (λ how. areasBehind d m kind n how)) (o .first) ∙ kept (o .area .ending) _ (l .closed) in
         record {
-          extents = ap extentsIn is ∙ ap (λ y. o .area .extents ++ y) (l .extents) ∙ sym (o .joins);
-          sectors = ap sectorsIn is ∙ ap (λ y. asked d (nextArea m kind a) ++ y) (l .sectors) ∙ sym (o .list);
+          extents = ap extentsNamed is ∙ ap (λ y. o .area .extents ++ y) (l .extents) ∙ sym (o .joins);
+          sectors = ap sectorsAsked is ∙ ap (λ y. asked d (nextArea m kind a) ++ y) (l .sectors) ∙ sym (o .list);
           closed = λ r g. absurd (let z : _≡_ {A = ℕ} 0 1 = cc in omega arith);
         }
 

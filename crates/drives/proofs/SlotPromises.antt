@@ -38,7 +38,7 @@ use Rattle.drives.specs.Feeds.Feed.{over, put}
 use Rattle.drives.specs.Feeds.Short.{enough, ofSlots, ofRoom}
 use Rattle.drives.specs.FileFeeds.{chainFeed, entryFeed, fileFeed}
 use Rattle.drives.specs.Readings.{Starts}
-use Rattle.drives.specs.Moments.{slotsBy, roomBy, Accepted, unlessRefused, areasFrom, areasBehind, entryAreas, fileAreas, extentsIn, sectorsIn, CrowdedAt, CrowdedStill}
+use Rattle.drives.specs.Moments.{slotsBy, roomBy, Accepted, unlessRefused, areasFrom, areasBehind, entryAreas, fileAreas, extentsNamed, sectorsAsked, CrowdedAt, CrowdedStill}
 use Rattle.drives.specs.declared.readings.Reading.{Reading}
 use Rattle.drives.proofs.MomentLaws.{later, slots-none, slots-add, following-passes, following-held, following-refused, following-holds-none}
 use Rattle.drives.proofs.AcceptedLaws.{not-slots, heldBy, Crowds, chain-held, refused-enough, chain-seven, chain-many, kept, chain-lists, areaOf, FileIs, file-is}
@@ -53,22 +53,22 @@ use Rattle.drives.specs.Walks.{Walk, Still}
 -- the first area in front of those behind it
 crowded-first : (slots : ℕ) (gs : List Grown) (x : Accepted) (xs : List Accepted) (ns : List ℕ)
     → Crowds slots (slots + slotsBy (length (x .sectors)) gs) (later (length (x .sectors)) gs) (length (x .extents)) xs ns → CrowdedAt slots gs (x ∷ xs) (x .sectors ++ ns)
-unfolding extentsIn sectorsIn slotsBy
+unfolding extentsNamed sectorsAsked slotsBy
 crowded-first slots gs x xs ns c = record {
   areas = suc (c .areas);
   list = ap (λ l. x .sectors ++ l) (c .list);
   before = each;
-  past = rw (length-append (x .extents) (extentsIn (take (c .areas) xs))) (c .past);
+  past = rw (length-append (x .extents) (extentsNamed (take (c .areas) xs))) (c .past);
 }
   where
-    each : (j : ℕ) → j < suc (c .areas) → length (extentsIn (take j (x ∷ xs))) ≤ slots + slotsBy (length (sectorsIn (take j (x ∷ xs)))) gs
+    each : (j : ℕ) → j < suc (c .areas) → length (extentsNamed (take j (x ∷ xs))) ≤ slots + slotsBy (length (sectorsAsked (take j (x ∷ xs)))) gs
     each zero l = omega arith
     each (suc j) l =
         let b = c .before j (omega arith) in
         rw (
-          length-append (x .extents) (extentsIn (take j xs)),
-          length-append (x .sectors) (sectorsIn (take j xs)),
-          slots-add (length (x .sectors)) (length (sectorsIn (take j xs))) gs,
+          length-append (x .extents) (extentsNamed (take j xs)),
+          length-append (x .sectors) (sectorsAsked (take j xs)),
+          slots-add (length (x .sectors)) (length (sectorsAsked (take j xs))) gs,
         ) (omega arith)
 
 module _ (d : Disc) (m : Mount) (x : Located) (ws : List ℕ) where
@@ -78,24 +78,24 @@ module _ (d : Disc) (m : Mount) (x : Located) (ws : List ℕ) where
   abbrev behind : AdEnding → List Accepted
   behind how = areasBehind d m (x .entry .kind) mostContinuations how
 
-  entry-held : heldMost 0 d (entryFeed m x) ≡ length (extentsIn areas)
-  unfolding entryFeed heldMost extentsIn
+  entry-held : heldMost 0 d (entryFeed m x) ≡ length (extentsNamed areas)
+  unfolding entryFeed heldMost extentsNamed
   entry-held = by (isEmbedded x)
     where
       by : (t : Bool)
           → heldMost 0 d (pick t (put (embeddedBytes x) over) (chainFeed m (x .entry .kind) mostContinuations (x .entry .«information_length») (areaOf x .extents) (areaOf x .ending)))
-          ≡ length (extentsIn (pick t [] (areasFrom ws (answered (areaOf x)) behind)))
+          ≡ length (extentsNamed (pick t [] (areasFrom ws (answered (areaOf x)) behind)))
       by true = refl
       by false =
           chain-held d m (x .entry .kind) (x .entry .«information_length») mostContinuations (areaOf x .extents) (areaOf x .ending) 0 (omega arith)
           ∙ told (areaOf x .ending)
         where
           told : (how : AdEnding)
-              → heldBy how (length (areaOf x .extents) + length (extentsIn (behind how)))
-              ≡ length (extentsIn (unlessRefused how (record { sectors = ws; extents = areaOf x .extents } ∷ behind how)))
+              → heldBy how (length (areaOf x .extents) + length (extentsNamed (behind how)))
+              ≡ length (extentsNamed (unlessRefused how (record { sectors = ws; extents = areaOf x .extents } ∷ behind how)))
           told (Refused r) = refl
-          told End = sym (length-append (areaOf x .extents) (extentsIn (behind End)))
-          told (Continuation a) = sym (length-append (areaOf x .extents) (extentsIn (behind (Continuation a))))
+          told End = sym (length-append (areaOf x .extents) (extentsNamed (behind End)))
+          told (Continuation a) = sym (length-append (areaOf x .extents) (extentsNamed (behind (Continuation a))))
 
   -- 7 behind the entry's sectors and those of its areas
   entry-seven : (lost : Bool) (slots room : ℕ) (gs : List Grown) → (lost ≡ true → ⊥) → shortOf d lost (slots + slotsBy (length ws) gs) room (later (length ws) gs) (entryFeed m x) ≡ ofSlots
@@ -131,9 +131,9 @@ module _ (d : Disc) (m : Mount) (x : Located) (ws : List ℕ) where
           told (Continuation a) h c = crowded-first slots gs (record { sectors = ws; extents = areaOf x .extents }) (behind (Continuation a)) after c
 
   -- more extents than slots
-  entry-many : (lost : Bool) (slots room : ℕ) (gs : List Grown) → slots + slotsBy (length (sectorsIn areas)) gs < length (extentsIn areas)
+  entry-many : (lost : Bool) (slots room : ℕ) (gs : List Grown) → slots + slotsBy (length (sectorsAsked areas)) gs < length (extentsNamed areas)
       → shortOf d lost (slots + slotsBy (length ws) gs) room (later (length ws) gs) (entryFeed m x) ≡ ofSlots
-  unfolding entryFeed extentsIn sectorsIn
+  unfolding entryFeed extentsNamed sectorsAsked
   entry-many lost slots room gs = by (isEmbedded x)
     where
       more : ℕ
@@ -142,22 +142,22 @@ module _ (d : Disc) (m : Mount) (x : Located) (ws : List ℕ) where
       chain : AdEnding → Feed
       chain how = chainFeed m (x .entry .kind) mostContinuations (x .entry .«information_length») (areaOf x .extents) how
 
-      on : (how : AdEnding) → ((r : Refusal) → how ≡ Refused r → ⊥) → slots + slotsBy (length (ws ++ sectorsIn (behind how))) gs < length (areaOf x .extents ++ extentsIn (behind how))
+      on : (how : AdEnding) → ((r : Refusal) → how ≡ Refused r → ⊥) → slots + slotsBy (length (ws ++ sectorsAsked (behind how))) gs < length (areaOf x .extents ++ extentsNamed (behind how))
           → shortOf d lost more room (later (length ws) gs) (chain how) ≡ ofSlots
       on how c l =
-          let z = rw (length-append ws (sectorsIn (behind how)), slots-add (length ws) (length (sectorsIn (behind how))) gs, length-append (areaOf x .extents) (extentsIn (behind how))) at l in
+          let z = rw (length-append ws (sectorsAsked (behind how)), slots-add (length ws) (length (sectorsAsked (behind how))) gs, length-append (areaOf x .extents) (extentsNamed (behind how))) at l in
           chain-many d m (x .entry .kind) (x .entry .«information_length») mostContinuations (areaOf x .extents) how lost more room (later (length ws) gs) c (omega arith)
 
       told : (how : AdEnding)
-          → slots + slotsBy (length (sectorsIn (unlessRefused how (record { sectors = ws; extents = areaOf x .extents } ∷ behind how)))) gs
-          < length (extentsIn (unlessRefused how (record { sectors = ws; extents = areaOf x .extents } ∷ behind how)))
+          → slots + slotsBy (length (sectorsAsked (unlessRefused how (record { sectors = ws; extents = areaOf x .extents } ∷ behind how)))) gs
+          < length (extentsNamed (unlessRefused how (record { sectors = ws; extents = areaOf x .extents } ∷ behind how)))
           → shortOf d lost more room (later (length ws) gs) (chain how) ≡ ofSlots
       told (Refused r) l = absurd (omega arith)
       told End l = on End (λ r g. absurd (let z : _≡_ {A = ℕ} 0 1 = cc in omega arith)) l
       told (Continuation a) l = on (Continuation a) (λ r g. absurd (let z : _≡_ {A = ℕ} 0 1 = cc in omega arith)) l
 
       by : (t : Bool)
-          → slots + slotsBy (length (sectorsIn (pick t [] (areasFrom ws (answered (areaOf x)) behind)))) gs < length (extentsIn (pick t [] (areasFrom ws (answered (areaOf x)) behind)))
+          → slots + slotsBy (length (sectorsAsked (pick t [] (areasFrom ws (answered (areaOf x)) behind)))) gs < length (extentsNamed (pick t [] (areasFrom ws (answered (areaOf x)) behind)))
           → shortOf d lost more room (later (length ws) gs) (pick t (put (embeddedBytes x) over) (chain (areaOf x .ending))) ≡ ofSlots
       by true l = absurd (omega arith)
       by false l = told (areaOf x .ending) l
@@ -166,11 +166,11 @@ module _ (d : Disc) (m : Mount) (x : Located) (ws : List ℕ) where
 
 module _ (d : Disc) (m : Mount) (icb : LongAd) where
   -- the extents that a read holds are those of the areas that are accepted
-  pub held-areas : heldMost 0 d (fileFeed m icb) ≡ length (extentsIn (fileAreas d m icb))
-  unfolding fileFeed fileAreas extentsIn
+  pub held-areas : heldMost 0 d (fileFeed m icb) ≡ length (extentsNamed (fileAreas d m icb))
+  unfolding fileFeed fileAreas extentsNamed
   held-areas = by (outcome d (entryAt m icb)) refl
     where
-      by : (o : Outcome Located) → outcome d (entryAt m icb) ≡ o → heldMost 0 d (fileFeed m icb) ≡ length (extentsIn (entryAreas d (entryMount m icb) (asked d (entryAt m icb)) o))
+      by : (o : Outcome Located) → outcome d (entryAt m icb) ≡ o → heldMost 0 d (fileFeed m icb) ≡ length (extentsNamed (entryAreas d (entryMount m icb) (asked d (entryAt m icb)) o))
       by (refused r) e = following-holds-none d (entryFeed (entryMount m icb)) (entryAt m icb) e 0
       by (answered x) e = following-held d 0 (entryFeed (entryMount m icb)) x (entryAt m icb) e 0 ∙ entry-held d (entryMount m icb) x (asked d (entryAt m icb))
 
@@ -197,15 +197,15 @@ module _ (d : Disc) (m : Mount) (icb : LongAd) where
           let p = following-passes d 0 (entryFeed (entryMount m icb)) x (entryAt m icb) e false slots room gs in
           rw (p .list) (entry-seven d (entryMount m icb) x ws (p .lost′) slots (room + roomBy (length ws) gs) gs (λ t. ⊎-elim (λ u. not-both u) (λ u. absurd (omega arith)) (p .losing t)) (sym (p .short) ∙ s))
 
-  pub file-many : (slots room : ℕ) (gs : List Grown) → slots + slotsBy (length (sectorsIn (fileAreas d m icb))) gs < length (extentsIn (fileAreas d m icb)) → shortOf d false slots room gs (fileFeed m icb) ≡ ofSlots
-  unfolding fileFeed fileAreas extentsIn sectorsIn
+  pub file-many : (slots room : ℕ) (gs : List Grown) → slots + slotsBy (length (sectorsAsked (fileAreas d m icb))) gs < length (extentsNamed (fileAreas d m icb)) → shortOf d false slots room gs (fileFeed m icb) ≡ ofSlots
+  unfolding fileFeed fileAreas extentsNamed sectorsAsked
   file-many slots room gs = by (outcome d (entryAt m icb)) refl
     where
       ws : List ℕ
       ws = asked d (entryAt m icb)
 
       by : (o : Outcome Located) → outcome d (entryAt m icb) ≡ o
-          → slots + slotsBy (length (sectorsIn (entryAreas d (entryMount m icb) ws o))) gs < length (extentsIn (entryAreas d (entryMount m icb) ws o))
+          → slots + slotsBy (length (sectorsAsked (entryAreas d (entryMount m icb) ws o))) gs < length (extentsNamed (entryAreas d (entryMount m icb) ws o))
           → shortOf d false slots room gs (fileFeed m icb) ≡ ofSlots
       by (refused r) e l = absurd (omega arith)
       by (answered x) e l =
@@ -229,11 +229,11 @@ module _ (d : Disc) (m : Mount) (icb : LongAd) where
       by (answered f) g q = record { file = f; is = g; lists = cc }
 
   -- where it is answered the areas have the extents of the list
-  pub areas-list : {es : List AllocExtent} → outcome d (fileExtents m icb) ≡ answered es → extentsIn (fileAreas d m icb) ≡ es
-  unfolding fileAreas extentsIn
+  pub areas-list : {es : List AllocExtent} → outcome d (fileExtents m icb) ≡ answered es → extentsNamed (fileAreas d m icb) ≡ es
+  unfolding fileAreas extentsNamed
   areas-list e = let p = resolves e in by (p .file) (file-is d m icb (p .file) (p .is)) ∙ p .lists
     where
-      by : (f : File) → FileIs d m icb f → extentsIn (fileAreas d m icb) ≡ extentsOf f
+      by : (f : File) → FileIs d m icb f → extentsNamed (fileAreas d m icb) ≡ extentsOf f
       by f (in-entry x g t l) = rw (g, t) refl
       by f (in-extents x more g t h l) =
           let y = chain-lists d (entryMount m icb) (x .entry .kind) mostContinuations (areaOf x .ending) more h in
@@ -245,11 +245,11 @@ module _ (d : Disc) (m : Mount) (icb : LongAd) where
   held-list e = held-areas ∙ ap length (areas-list e)
 
   -- of a file that has extents the areas have the sectors of the list
-  pub areas-sectors : {es : List AllocExtent} → outcome d (fileExtents m icb) ≡ answered es → 0 < length es → sectorsIn (fileAreas d m icb) ≡ asked d (fileExtents m icb)
-  unfolding fileAreas fileExtents sectorsIn
+  pub areas-sectors : {es : List AllocExtent} → outcome d (fileExtents m icb) ≡ answered es → 0 < length es → sectorsAsked (fileAreas d m icb) ≡ asked d (fileExtents m icb)
+  unfolding fileAreas fileExtents sectorsAsked
   areas-sectors {es} e some = let p = resolves e in by (p .file) (p .lists) (file-is d m icb (p .file) (p .is)) ∙ sym (asked-done d (fileAt m icb) extentsOf)
     where
-      by : (f : File) → extentsOf f ≡ es → FileIs d m icb f → sectorsIn (fileAreas d m icb) ≡ asked d (fileAt m icb)
+      by : (f : File) → extentsOf f ≡ es → FileIs d m icb f → sectorsAsked (fileAreas d m icb) ≡ asked d (fileAt m icb)
       by f q (in-entry x g t l) = absurd (let z : length es ≡ 0 = ap length (sym q) in omega arith)
       by f q (in-extents x more g t h l) =
           let y = chain-lists d (entryMount m icb) (x .entry .kind) mostContinuations (areaOf x .ending) more h in
@@ -258,19 +258,19 @@ module _ (d : Disc) (m : Mount) (icb : LongAd) where
 
 -- ---- a walk, as row and output grow
 
-first-fewer : (k : ℕ) (xs : List Accepted) → length (extentsIn (take k xs)) ≤ length (extentsIn xs)
-unfolding extentsIn
+first-fewer : (k : ℕ) (xs : List Accepted) → length (extentsNamed (take k xs)) ≤ length (extentsNamed xs)
+unfolding extentsNamed
 first-fewer zero xs = omega arith
 first-fewer (suc k) [] = omega arith
 first-fewer (suc k) (x ∷ xs) =
     let l = first-fewer k xs in
-    rw (length-append (x .extents) (extentsIn (take k xs)), length-append (x .extents) (extentsIn xs)) (omega arith)
+    rw (length-append (x .extents) (extentsNamed (take k xs)), length-append (x .extents) (extentsNamed xs)) (omega arith)
 
-areas-parts : (k : ℕ) (xs : List Accepted) → sectorsIn xs ≡ sectorsIn (take k xs) ++ sectorsIn (drop k xs)
-unfolding sectorsIn
+areas-parts : (k : ℕ) (xs : List Accepted) → sectorsAsked xs ≡ sectorsAsked (take k xs) ++ sectorsAsked (drop k xs)
+unfolding sectorsAsked
 areas-parts zero xs = refl
 areas-parts (suc k) [] = refl
-areas-parts (suc k) (x ∷ xs) = ap (λ l. x .sectors ++ l) (areas-parts k xs) ∙ sym (append-assoc (x .sectors) (sectorsIn (take k xs)) (sectorsIn (drop k xs)))
+areas-parts (suc k) (x ∷ xs) = ap (λ l. x .sectors ++ l) (areas-parts k xs) ∙ sym (append-assoc (x .sectors) (sectorsAsked (take k xs)) (sectorsAsked (drop k xs)))
 
 module _ (d : Disc) (m : Mount) (icb : LongAd) {row₀ row row′ : List (List ℕ)} {out out′ ns taken : List ℕ} {gs : List Grown} {r q : Reading} (st : Starts (fileFeed m icb) row₀ row r)
     (w : Walk d ns gs taken r row out q row′ out′) where
@@ -279,15 +279,15 @@ module _ (d : Disc) (m : Mount) (icb : LongAd) {row₀ row row′ : List (List �
   seven-at e = rw (reads.came d m icb st w .list) (file-seven d m icb (length row₀) (length out) gs (reads.seven-short d m icb st w e))
 
   -- 7 only where the areas have more extents than the row has places at first; and always where they have more than it has at the last sector of them
-  pub seven-few : q .answer ≡ 7 → length row₀ < length (extentsIn (fileAreas d m icb))
+  pub seven-few : q .answer ≡ 7 → length row₀ < length (extentsNamed (fileAreas d m icb))
   seven-few e = let c = seven-at e in let p = c .past in let l = first-fewer (c .areas) (fileAreas d m icb) in omega arith
 
-  pub few-seven : length row₀ + slotsBy (length (sectorsIn (fileAreas d m icb))) gs < length (extentsIn (fileAreas d m icb)) → q .answer ≡ 7
+  pub few-seven : length row₀ + slotsBy (length (sectorsAsked (fileAreas d m icb))) gs < length (extentsNamed (fileAreas d m icb)) → q .answer ≡ 7
   few-seven l = reads.short-seven d m icb st w (file-many d m icb (length row₀) (length out) gs l)
 
   -- so it can't come where there are no areas
   pub none-seven : fileAreas d m icb ≡ [] → q .answer ≡ 7 → ⊥
-  unfolding extentsIn
+  unfolding extentsNamed
   none-seven e a = let l = rw e at (seven-few a) in omega arith
 
   -- by the extent list, where it is answered
@@ -298,17 +298,17 @@ module _ (d : Disc) (m : Mount) (icb : LongAd) {row₀ row row′ : List (List �
     pub listed-seven : length row₀ + slotsBy (length (asked d (fileExtents m icb))) gs < length es → q .answer ≡ 7
     listed-seven l = few-seven (rw (areas-sectors d m icb e (omega arith), areas-list d m icb e) l)
 
-    listed-all : q .answer ≡ 7 → sectorsIn (fileAreas d m icb) ≡ asked d (fileExtents m icb)
+    listed-all : q .answer ≡ 7 → sectorsAsked (fileAreas d m icb) ≡ asked d (fileExtents m icb)
     listed-all a = areas-sectors d m icb e (let l = seven-listed a in omega arith)
 
     -- the sectors wanted by then are a front of the list's; all of them, if the area is the last of the chain
     pub seven-front : q .answer ≡ 7 → Front ns (asked d (fileExtents m icb))
     seven-front a =
         let c = seven-at a in
-        record { rest = sectorsIn (drop (c .areas) (fileAreas d m icb)); is = sym (listed-all a) ∙ areas-parts (c .areas) (fileAreas d m icb) ∙ ap (λ l. l ++ sectorsIn (drop (c .areas) (fileAreas d m icb))) (sym (c .list)) }
+        record { rest = sectorsAsked (drop (c .areas) (fileAreas d m icb)); is = sym (listed-all a) ∙ areas-parts (c .areas) (fileAreas d m icb) ∙ ap (λ l. l ++ sectorsAsked (drop (c .areas) (fileAreas d m icb))) (sym (c .list)) }
 
     pub seven-last : q .answer ≡ 7 → (c : CrowdedAt (length row₀) gs (fileAreas d m icb) ns) → length (fileAreas d m icb) ≤ c .areas → ns ≡ asked d (fileExtents m icb)
-    seven-last a c l = c .list ∙ ap sectorsIn (take-all (c .areas) (fileAreas d m icb) l) ∙ listed-all a
+    seven-last a c l = c .list ∙ ap sectorsAsked (take-all (c .areas) (fileAreas d m icb) l) ∙ listed-all a
 
 -- ---- a walk in which nothing grows
 
@@ -318,11 +318,11 @@ module _ (d : Disc) (m : Mount) (icb : LongAd) {row₀ row row′ : List (List �
   w = still-walks still (rw (st .filled) (omega arith))
 
   -- 7 exactly when there are more extents than places, whether the extent list is answered or refused
-  pub still-seven : q .answer ≡ 7 → length row₀ < length (extentsIn (fileAreas d m icb))
+  pub still-seven : q .answer ≡ 7 → length row₀ < length (extentsNamed (fileAreas d m icb))
   still-seven e = seven-few d m icb st w e
 
-  pub still-few : length row₀ < length (extentsIn (fileAreas d m icb)) → q .answer ≡ 7
-  still-few l = few-seven d m icb st w (rw (slots-none (length (sectorsIn (fileAreas d m icb))), add-zero (length row₀)) l)
+  pub still-few : length row₀ < length (extentsNamed (fileAreas d m icb)) → q .answer ≡ 7
+  still-few l = few-seven d m icb st w (rw (slots-none (length (sectorsAsked (fileAreas d m icb))), add-zero (length row₀)) l)
 
   module _ {es : List AllocExtent} (e : outcome d (fileExtents m icb) ≡ answered es) where
     pub still-listed-seven : q .answer ≡ 7 → length row₀ < length es
@@ -333,15 +333,15 @@ module _ (d : Disc) (m : Mount) (icb : LongAd) {row₀ row row′ : List (List �
 
   -- the sectors wanted then
   pub still-at : q .answer ≡ 7 → CrowdedStill (length row₀) (fileAreas d m icb) ns
-  unfolding extentsIn
+  unfolding extentsNamed
   still-at e = let c = seven-at d m icb st w e in by (c .areas) (c .list) (c .before) (c .past)
     where
       xs : List Accepted
       xs = fileAreas d m icb
 
-      by : (k : ℕ) → ns ≡ sectorsIn (take k xs) → ((j : ℕ) → j < k → length (extentsIn (take j xs)) ≤ length row₀ + slotsBy (length (sectorsIn (take j xs))) []) → length row₀ < length (extentsIn (take k xs))
+      by : (k : ℕ) → ns ≡ sectorsAsked (take k xs) → ((j : ℕ) → j < k → length (extentsNamed (take j xs)) ≤ length row₀ + slotsBy (length (sectorsAsked (take j xs))) []) → length row₀ < length (extentsNamed (take k xs))
           → CrowdedStill (length row₀) (fileAreas d m icb) ns
       by zero l b p = absurd (omega arith)
       by (suc k) l b p =
           let f = b k (omega arith) in
-          record { areas = k; list = l; fits = rw (slots-none (length (sectorsIn (take k xs))), add-zero (length row₀)) at f; past = p }
+          record { areas = k; list = l; fits = rw (slots-none (length (sectorsAsked (take k xs))), add-zero (length row₀)) at f; past = p }

@@ -67,28 +67,28 @@ unfoldable pub fileAreas : Disc → Mount → LongAd → List Accepted
 fileAreas d m icb = entryAreas d (entryMount m icb) (asked d (entryAt m icb)) (outcome d (entryAt m icb))
 
 -- their extents, and their sectors
-unfoldable pub extentsIn : List Accepted → List AllocExtent
-extentsIn [] = []
-extentsIn (x ∷ xs) = x .extents ++ extentsIn xs
+unfoldable pub extentsNamed : List Accepted → List AllocExtent
+extentsNamed [] = []
+extentsNamed (x ∷ xs) = x .extents ++ extentsNamed xs
 
-unfoldable pub sectorsIn : List Accepted → List ℕ
-sectorsIn [] = []
-sectorsIn (x ∷ xs) = x .sectors ++ sectorsIn xs
+unfoldable pub sectorsAsked : List Accepted → List ℕ
+sectorsAsked [] = []
+sectorsAsked (x ∷ xs) = x .sectors ++ sectorsAsked xs
 
 -- 7 after the sectors ns: they are those of the first n areas. With these there are more extents than slots at the start; and with fewer areas there are as
 -- many slots as extents by then, or more
 pub record CrowdedAt (slots : ℕ) (gs : List Grown) (xs : List Accepted) (ns : List ℕ) : Type 0 where
   pub areas : ℕ
-  pub list : ns ≡ sectorsIn (take areas xs)
-  pub before : (j : ℕ) → j < areas → length (extentsIn (take j xs)) ≤ slots + slotsBy (length (sectorsIn (take j xs))) gs
-  pub past : slots < length (extentsIn (take areas xs))
+  pub list : ns ≡ sectorsAsked (take areas xs)
+  pub before : (j : ℕ) → j < areas → length (extentsNamed (take j xs)) ≤ slots + slotsBy (length (sectorsAsked (take j xs))) gs
+  pub past : slots < length (extentsNamed (take areas xs))
 
 -- in a row that stays: with the last of these areas there are more extents than slots, and without it there aren't
 pub record CrowdedStill (slots : ℕ) (xs : List Accepted) (ns : List ℕ) : Type 0 where
   pub areas : ℕ
-  pub list : ns ≡ sectorsIn (take (suc areas) xs)
-  pub fits : length (extentsIn (take areas xs)) ≤ slots
-  pub past : slots < length (extentsIn (take (suc areas) xs))
+  pub list : ns ≡ sectorsAsked (take (suc areas) xs)
+  pub fits : length (extentsNamed (take areas xs)) ≤ slots
+  pub past : slots < length (extentsNamed (take (suc areas) xs))
 
 -- ---- the bytes that each sector of a read's list brings (14.7)
 
