@@ -11,6 +11,7 @@ pub mod EntryLaws
 pub mod StepLaws
 pub mod BranchLaws
 pub mod ReadLaws
+pub mod StartLaws
 pub mod LimitLaws
 pub mod RefusalLaws
 pub mod GrownLaws

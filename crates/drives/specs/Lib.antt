@@ -7,4 +7,5 @@ pub mod Moments
 pub mod Steppers
 pub mod Told
 pub mod Walks
+pub mod Beginnings
 pub mod inner

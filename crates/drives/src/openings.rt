@@ -6,6 +6,7 @@ ghost use Prim.Native.Nat.{_+_, _<_};
 ghost use Rattle.volumes.specs.Sequences.{nothing};
 ghost use Rattle.volumes.specs.Openings.{usual, opening, mountIn, anchored, noVolume};
 ghost use Rattle.drives.specs.Openings.{isWanting, wantedSector, mountingFrom, scanning, behindSector, behindWanted, Fed, Stands};
+ghost use Rattle.drives.specs.Beginnings.{atAnchor};
 use descriptors::anchors::AnchorRead;
 use descriptors::anchors::AnchorVolumeDescriptorPointer;
 use disc::answers::DONE;
@@ -161,6 +162,7 @@ impl Opening {
     // Before the anchor.
     pub fn start() -> Opening
         ensures { λ r. ⌜ Stands (opening usual) 0 r ⌝ }
+        ensures { λ r. ⌜ r ≡ atAnchor ⌝ }
     {
         wanting(AT_ANCHOR, ANCHOR, 0, nothing_kept(), 0)
     }

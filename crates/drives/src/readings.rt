@@ -6,6 +6,7 @@ ghost use lib.ListN.{length};
 ghost use Rattle.disc.specs.Choice.{pick};
 ghost use Rattle.drives.specs.FileFeeds.{fileFeed};
 ghost use Rattle.drives.specs.Readings.{isSound, isWanting, wantedSector, zeroed, Fed, Starts};
+ghost use Rattle.drives.specs.Beginnings.{startOf};
 ghost use Rattle.drives.specs.inner.Arrivals.{beginning, wantedBehind, Arrives};
 use crate::arrivals::take_extent;
 use crate::bodies::take_head;
@@ -179,6 +180,7 @@ impl Reading {
     // Before the file entry, if the ICB has a length and a place. The row is zeroed.
     pub fn start(volume: VolumeRecord, icb: LongAd, row: &mut [[u32; 4]]) -> Reading
         ensures { λ r. ⌜ Starts (fileFeed (volume .mount) icb) (now (row .entry)) (now (row .exit)) r ⌝ }
+        ensures { λ r. ⌜ (r ≡ startOf (volume .mount) icb) × (now (row .exit) ≡ zeroed (now (row .entry))) ⌝ }
     {
         clear_row(row);
         let place = icb.location;

@@ -17,7 +17,8 @@ ghost use Rattle.volumes.specs.Openings.{usual, opening};
 ghost use Rattle.listings.specs.Listings.{matchingOf};
 ghost use Rattle.drives.specs.FileFeeds.{fileFeed};
 ghost use Rattle.drives.specs.Openings.{isWanting as isOpeningWanting, wantedSector as wantedOnOpening, Fed as FedOnOpening, Stands};
-ghost use Rattle.drives.specs.Readings.{isWanting, wantedSector, Fed, Starts};
+ghost use Rattle.drives.specs.Readings.{isWanting, wantedSector, zeroed, Fed, Starts};
+ghost use Rattle.drives.specs.Beginnings.{atAnchor, startOf};
 ghost use Rattle.vault.specs.Calls.{listsBytes, findsIn, nextComponent};
 use disc::replies::Reply;
 use drives::openings::Opening;
@@ -33,6 +34,7 @@ use vault::volume::Volume;
 #[no_mangle]
 pub extern "C" fn vault_opening_start() -> Opening
     ensures { λ r. ⌜ Stands (opening usual) 0 r ⌝ }
+    ensures { λ r. ⌜ r ≡ atAnchor ⌝ }
 {
     Opening::start()
 }
@@ -68,6 +70,7 @@ pub extern "C" fn vault_opening_step(opening: Opening, sector: &[u8]) -> Opening
 #[no_mangle]
 pub extern "C" fn vault_reading_start(volume: Volume, icb: LongAd, row: &mut [[u32; 4]]) -> Reading
     ensures { λ r. ⌜ Starts (fileFeed (volume .0 .mount) icb) (now (row .entry)) (now (row .exit)) r ⌝ }
+    ensures { λ r. ⌜ (r ≡ startOf (volume .0 .mount) icb) × (now (row .exit) ≡ zeroed (now (row .entry))) ⌝ }
 {
     Reading::start(volume.0, icb, row)
 }

@@ -1,9 +1,10 @@
 use borrow.Author.Needs.{needs}
 use Rattle.drives.proofs.ReadLaws.{start-short, start-nowhere, start-at}
+use Rattle.drives.proofs.StartLaws.{short-is, nowhere-is, placed-is}
 use Rattle.drives.proofs.readings.Reading.start.Statement.{statement}
 use Rattle.drives.proofs.readings.Reading.start.Tie as tie
 
-ruleset starts = (start-short, start-nowhere, start-at, needs)
+ruleset starts = (start-short, start-nowhere, start-at, short-is, nowhere-is, placed-is, needs)
 
 pub start-spec : {M : Type 1} → statement M
 start-spec =
