@@ -9,3 +9,4 @@ pub mod NamelessLaws
 pub mod MatchingLaws
 pub mod GuardLaws
 pub mod RefusingLaws
+pub mod CutLaws

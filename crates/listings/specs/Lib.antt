@@ -2,6 +2,7 @@
 pub mod Entries
 pub mod Listings
 pub mod Paths
+pub mod Cuts
 pub mod Matchings
 pub mod Nameless
 pub mod Example
