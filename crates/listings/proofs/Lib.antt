@@ -10,3 +10,4 @@ pub mod MatchingLaws
 pub mod GuardLaws
 pub mod RefusingLaws
 pub mod CutLaws
+pub mod RowLaws

@@ -6,4 +6,5 @@ pub mod Cuts
 pub mod Matchings
 pub mod Nameless
 pub mod Example
+pub mod Rows
 pub mod inner
