@@ -1,4 +1,4 @@
--- What it is for identifiers to stand one behind the other in a directory's bytes, said without reading them all: RULES 8.2 to 8.4.
+-- What it is for identifiers to stand one behind the other in a directory's bytes, said without reading them all: RULES 8.2, 8.5 and 8.8.
 use Prim.Native.Nat.{ℕ, _<_, _≤_}
 use mathlib.Core.Path.{_≡_}
 use mathlib.Core.Bool.{Bool}
