@@ -1,9 +1,8 @@
 -- What the call counts is the sum of what its items count, each read alone: RULES 8.29 and 8.32. Assumes nothing.
-use mathlib.Core.Path.{_≡_, refl, ap, sym, _∙_}
+use mathlib.Core.Path.{_≡_, refl, ap, _∙_}
 use mathlib.Core.List.{List, [], _∷_, _++_}
 use Prim.Native.Nat.{ℕ, _+_, min}
 use native.Mathlib.Omega.{arith}
-use lib.ListN.{length}
 use borrow.Author.Tests.{le-leb}
 use Rattle.disc.specs.Counts.{reported}
 use Rattle.disc.specs.Ran.{Ran}

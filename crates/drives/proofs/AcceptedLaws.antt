@@ -1,10 +1,10 @@
 -- Laws of the areas of a file that are accepted: the read holds their extents, and 7 is told behind their sectors. Assumes nothing.
 use mathlib.Core.Path.{_≡_, refl, ap, sym, _∙_}
 use mathlib.Core.Bool.{Bool, true, false, _||_}
-use mathlib.Core.List.{List, [], _∷_, _++_, append-nil, append-assoc}
+use mathlib.Core.List.{List, [], _∷_, _++_, append-nil}
 use mathlib.Core.Logic.{⊎-elim}
 use Prim.Native.Nat.{ℕ, zero, suc, _+_, _-_, _<_, _≤_, max}
-use native.Mathlib.Nat.{add-zero, zero-add, add-assoc}
+use native.Mathlib.Nat.{add-zero}
 use native.Mathlib.Omega.{arith}
 use lib.ListN.{length, take, length-append}
 use lib.Dec.{ltb, leb}
@@ -12,7 +12,7 @@ use borrow.Author.Tests.{lt-ltb, ltb-true, ltb-false}
 use Rattle.disc.specs.Choice.{pick}
 use Rattle.disc.specs.Ask.{Disc, Held, Ask, Outcome, given, outcome, asked, then, andThen}
 use Rattle.disc.specs.Ask.Held.{holds, lacks}
-use Rattle.disc.specs.Ask.Ask.{done, refuse, ask}
+use Rattle.disc.specs.Ask.Ask.{done}
 use Rattle.disc.specs.Ask.Outcome.{answered, refused}
 use Rattle.disc.specs.declared.places.Mount.{Mount}
 use Rattle.disc.specs.declared.refusals.Refusal.{Refusal}
@@ -34,7 +34,7 @@ use Rattle.drives.specs.Feeds.Feed.{over, stop, name, hold, put, want}
 use Rattle.drives.specs.Feeds.Short.{enough, ofSlots, ofRoom}
 use Rattle.drives.specs.FileFeeds.{extentsFeed, joined, namedBy, chainFeed}
 use Rattle.drives.specs.Moments.{slotsBy, roomBy, Accepted, unlessRefused, areasFrom, areasBehind, extentsNamed, sectorsAsked}
-use Rattle.drives.proofs.MomentLaws.{later, slots-add, pathOf, Passes, Names, naming-passes, naming-names, naming-refused, naming-holds-none}
+use Rattle.drives.proofs.MomentLaws.{later, slots-add, pathOf, Passes, naming-passes, naming-names, naming-refused, naming-holds-none}
 use Rattle.drives.proofs.SlotLaws.{wholeArea, named-below, next-whole}
 use Rattle.drives.proofs.Promises.{Free, free-none, extents-free}
 use Rattle.disc.specs.Lists.{askedBehind}

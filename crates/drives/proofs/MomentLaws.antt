@@ -1,15 +1,15 @@
 -- Laws of the sectors that a read passes before it holds its extents, as lent memory grows: those of a call that brings no byte. Assumes nothing.
 use mathlib.Core.Path.{_≡_, refl, ap, sym, _∙_}
 use mathlib.Core.Bool.{Bool, true, false, _||_}
-use mathlib.Core.List.{List, [], _∷_, _++_, append-nil, append-assoc}
+use mathlib.Core.List.{List, [], _∷_, _++_, append-assoc}
 use mathlib.Core.Logic.{_⊎_, inl, inr, ⊎-elim}
-use Prim.Native.Nat.{ℕ, zero, suc, _+_, _-_, _<_, _≤_, min, max}
+use Prim.Native.Nat.{ℕ, zero, suc, _+_, _-_, _<_, _≤_, max}
 use native.Mathlib.Nat.{add-zero, zero-add, add-assoc, sub-zero}
 use native.Mathlib.Omega.{arith}
 use lib.ListN.{length, take, replicate}
 use lib.Dec.{ltb}
 use borrow.Author.Tests.{ltb-true}
-use Rattle.disc.specs.Ask.{Disc, Held, Ask, Outcome, given, outcome, asked}
+use Rattle.disc.specs.Ask.{Disc, Held, Ask, given, outcome, asked}
 use Rattle.disc.specs.Ask.Held.{holds, lacks}
 use Rattle.disc.specs.Ask.Ask.{done, refuse, ask}
 use Rattle.disc.specs.Ask.Outcome.{answered, refused}
@@ -17,7 +17,7 @@ use Rattle.disc.specs.declared.refusals.Refusal.{Refusal}
 use Rattle.disc.specs.declared.refusals.Refusal.the-variants.{Io}
 use Rattle.disc.proofs.RanLaws.{never}
 use Rattle.drives.specs.Feeds.{Feed, following, naming, Grown, firstOf, behindFirst, within, wanted, heldMost, Short, shortOf}
-use Rattle.drives.specs.Feeds.Feed.{over, stop, name, hold, put, want}
+use Rattle.drives.specs.Feeds.Feed.{name, want}
 use Rattle.drives.specs.Feeds.Short.{enough}
 use Rattle.drives.specs.Moments.{slotsBy, roomBy, brought, FullAt}
 

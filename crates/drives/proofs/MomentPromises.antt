@@ -39,7 +39,7 @@ use Rattle.chains.specs.Chains.{mostContinuations, nextArea, continued}
 use Rattle.files.specs.Reads.{extentsBytes}
 use Rattle.files.specs.Files.{Located, entryAt, entryMount, isEmbedded, embeddedBytes, located, entryIn, chainOf, File, resolved, fileAt, contentOf, fileBytes}
 use Rattle.files.specs.Files.File.{embedded, chained}
-use Rattle.drives.specs.Feeds.{Feed, naming, Grown, firstOf, within, End as Ending, endOf, wanted, arrived, Short, shortOf}
+use Rattle.drives.specs.Feeds.{Feed, naming, Grown, firstOf, within, End as Ending, endOf, wanted, arrived, shortOf}
 use Rattle.drives.specs.Feeds.End.{answers, refuses}
 use Rattle.drives.specs.Feeds.Feed.{over, stop, put}
 use Rattle.drives.specs.Feeds.Short.{enough, ofSlots, ofRoom}

@@ -1,28 +1,27 @@
 -- Laws of the bytes that each sector of a read brings: 5 is told behind the first with which there are more than there is room for. Assumes nothing.
 use mathlib.Core.Path.{_≡_, refl, ap, sym, _∙_}
-use mathlib.Core.Bool.{Bool, true, false, _||_}
+use mathlib.Core.Bool.{Bool, true, false}
 use mathlib.Core.List.{List, [], _∷_, _++_, append-nil}
 use mathlib.Core.Option.{Option, none, some}
-use Prim.Native.Nat.{ℕ, zero, suc, _+_, _-_, _*_, _/_, _<_, _≤_, min}
+use Prim.Native.Nat.{ℕ, zero, suc, _+_, _-_, _*_, _≤_, min}
 use native.Mathlib.Nat.{zero-add, add-assoc}
 use native.Mathlib.Omega.{arith}
-use lib.ListN.{length, take, replicate, length-append, length-take}
-use lib.Dec.{eqb, ltb, leb}
+use lib.ListN.{length, take, length-append, length-take}
+use lib.Dec.{eqb, leb}
 use borrow.Author.Tests.{leb-true, leb-false, eqb-true}
 use Rattle.disc.specs.Choice.{pick}
-use Rattle.disc.specs.Ask.{Disc, Held, Ask, Outcome, given, outcome, asked}
+use Rattle.disc.specs.Ask.{Disc, Held, given}
 use Rattle.disc.specs.Ask.Held.{holds, lacks}
-use Rattle.disc.specs.Ask.Outcome.{answered, refused}
 use Rattle.disc.specs.Images.{sectorsFor}
 use Rattle.disc.specs.Places.{placed}
 use Rattle.disc.specs.declared.places.Mount.{Mount}
 use Rattle.disc.specs.declared.refusals.Refusal.{Refusal}
 use Rattle.disc.specs.declared.refusals.Refusal.the-variants.{Io, Unsupported, NoRoom}
 use Rattle.areas.specs.declared.AllocExtent.{AllocExtent}
-use Rattle.drives.specs.Feeds.{Feed, lent, Grown, firstOf, behindFirst, within, End, endOf, wanted, arrived, Short, shortOf}
+use Rattle.drives.specs.Feeds.{Feed, lent, Grown, firstOf, behindFirst, within, endOf, wanted, arrived, shortOf}
 use Rattle.drives.specs.Feeds.End.{answers, refuses}
-use Rattle.drives.specs.Feeds.Feed.{over, stop, name, hold, put, want}
-use Rattle.drives.specs.Feeds.Short.{enough, ofSlots, ofRoom}
+use Rattle.drives.specs.Feeds.Feed.{over, stop, put}
+use Rattle.drives.specs.Feeds.Short.{enough, ofRoom}
 use Rattle.drives.specs.FileFeeds.{extentFeed, standing, extentsFeed}
 use Rattle.drives.specs.Moments.{sectorShares, extentShares, brought, FullAt}
 use Rattle.drives.proofs.MomentLaws.{full-one, full-first}

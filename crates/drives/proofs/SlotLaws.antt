@@ -1,10 +1,10 @@
 -- Laws of the extents that a file's read holds: those of the areas that are accepted. Assumes nothing.
 use mathlib.Core.Path.{_≡_, refl, ap, sym, _∙_}
-use mathlib.Core.Bool.{Bool, true, false, _&&_, _||_}
-use mathlib.Core.List.{List, [], _∷_, _++_, append-nil, append-assoc}
-use mathlib.Core.Logic.{_⊎_, inl, inr, ⊎-elim}
+use mathlib.Core.Bool.{Bool, true, false, _&&_}
+use mathlib.Core.List.{List, [], _∷_, _++_, append-assoc}
+use mathlib.Core.Logic.{⊎-elim}
 use mathlib.Core.Option.{Option, none, some}
-use Prim.Native.Nat.{ℕ, zero, suc, _+_, _-_, _*_, _/_, _<_, _≤_, min, max}
+use Prim.Native.Nat.{ℕ, zero, suc, _+_, _-_, _<_, _≤_, min}
 use native.Mathlib.Nat.{zero-add}
 use native.Mathlib.Omega.{arith}
 use lib.ListN.{length, getD, take, drop, replicate, length-append, length-drop, length-replicate, take-append-drop, List·getD-append}
@@ -12,18 +12,17 @@ use lib.Seq.{getD-take, getD-drop, length-take-le, take-take, take-append-le}
 use lib.Dec.{eqb, ltb, leb}
 use Rattle.disc.specs.Choice.{pick}
 use Rattle.disc.proofs.AskLaws.{outcome-then}
-use Rattle.disc.specs.Ask.{Disc, Held, Ask, Outcome, given, outcome, asked, then, andThen}
+use Rattle.disc.specs.Ask.{Disc, Held, Ask, Outcome, given, outcome, then, andThen}
 use Rattle.disc.specs.Ask.Held.{holds, lacks}
 use Rattle.disc.specs.Ask.Ask.{done, refuse, ask}
 use Rattle.disc.specs.Ask.Outcome.{answered, refused}
 use Rattle.disc.specs.Images.{sectors, sectorsFor}
 use Rattle.disc.specs.Places.{placed, isChecked, standing as placing}
 use Rattle.disc.specs.declared.places.Mount.{Mount}
-use Rattle.disc.specs.declared.refusals.Refusal.{Refusal}
 use Rattle.disc.specs.declared.refusals.Refusal.the-variants.{Io, Malformed, Unsupported}
 use Rattle.disc.proofs.RanLaws.{never}
 use Rattle.disc.proofs.ImageLaws.{split}
-use Rattle.records.specs.Bytes.{byte, u32at}
+use Rattle.records.specs.Bytes.{u32at}
 use Rattle.tags.specs.Tags.{readTag, readAed}
 use Rattle.tags.specs.declared.TagRead.{TagRead}
 use Rattle.tags.specs.declared.TagRead.the-variants.{Read, Refused as NoTag}
@@ -32,8 +31,6 @@ use Rattle.tags.specs.declared.AedRead.the-variants.{Header, NoHeader}
 use Rattle.tags.proofs.HeadLaws.{aed-read}
 use Rattle.areas.specs.declared.AllocExtent.{AllocExtent}
 use Rattle.areas.specs.declared.AdContinuation.{AdContinuation}
-use Rattle.areas.specs.declared.AdEnding.{AdEnding}
-use Rattle.areas.specs.declared.AdEnding.the-variants.{End, Continuation, Refused}
 use Rattle.areas.specs.declared.AdCursor.{AdCursor}
 use Rattle.areas.specs.declared.AdStep.{AdStep}
 use Rattle.areas.specs.declared.AdStep.the-variants.{Extent, Continuation as GoesOn, End as Ends, Refused as Refuses}

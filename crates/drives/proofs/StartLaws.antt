@@ -1,7 +1,5 @@
 -- Laws of the state in which an opening and a read begin, field by field. Assumes nothing.
 use mathlib.Core.Path.{_≡_, refl, _∙_}
-use Prim.Native.Nat.{ℕ}
-use lib.Dec.{eqb}
 use borrow.Author.Tests.{eq-eqb, ne-eqb}
 use Rattle.disc.specs.Places.{icbPlaced, StandsIn}
 use Rattle.disc.specs.declared.places.Mount.{Mount}

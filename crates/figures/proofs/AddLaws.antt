@@ -1,6 +1,6 @@
 -- What a directory, a file and an image add to the figures of a place, and what they leave of any numbers. Assumes nothing.
 use mathlib.Core.Path.{_≡_, refl, ap, sym, _∙_}
-use mathlib.Core.List.{List, [], _∷_}
+use mathlib.Core.List.{List}
 use Prim.Native.Nat.{ℕ, _+_, _*_, _<_, _≤_, _^_, max}
 use native.Mathlib.Nat.{add-zero}
 use native.Mathlib.Omega.{arith}
@@ -8,7 +8,7 @@ use lib.ListN.{length, getD, set}
 use lib.Seq.{sets}
 use borrow.Author.Tests.{eq-eqb, ne-eqb}
 use Rattle.disc.specs.Counts.{reported}
-use Rattle.figures.specs.Figures.{Figures, Wide, Holds, Adds, added, oneDirectory, oneFile, oneImage, oneAt, eachAdded, summed, greater, most, over, pairs, numbers, row}
+use Rattle.figures.specs.Figures.{Figures, Wide, Adds, added, oneDirectory, oneFile, oneImage, oneAt, eachAdded, summed, greater, most, over, pairs, numbers, row}
 use Rattle.figures.specs.Placed.{summedAt, greaterAt, inPlace, filed, withDirectory, withFile, withImage}
 use Rattle.figures.proofs.PairLaws.{reported-within, over-within}
 use Rattle.figures.proofs.RowLaws.{each-long, each-none, each-one, sum-at, longer-at, laid, laid-long, first-list, first-set, second-list, second-set, last-number, last-set}

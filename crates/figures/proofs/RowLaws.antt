@@ -8,8 +8,8 @@ use native.Mathlib.Omega.{arith}
 use lib.ListN.{length, getD, set, replicate, length-append, List·getD-append}
 use lib.Seq.{sets, set-append-left, getD-append-add, getD-at, set-at}
 use Rattle.disc.specs.Counts.{reported}
-use Rattle.figures.specs.Figures.{most, over, pairs, summed, greater, eachAdded, oneAt, placesAdded}
-use Rattle.figures.proofs.PairLaws.{over-within, reported-within, summed-is, greater-is}
+use Rattle.figures.specs.Figures.{over, pairs, summed, greater, eachAdded, oneAt, placesAdded}
+use Rattle.figures.proofs.PairLaws.{summed-is, greater-is}
 
 -- ---- lists of numbers added
 

@@ -1,12 +1,11 @@
 -- The pass that copies, one turn at a time. Assumes nothing.
 use mathlib.Core.Path.{_≡_, refl, ap, sym, _∙_}
-use mathlib.Core.Bool.{Bool, true, false}
+use mathlib.Core.Bool.{true, false}
 use mathlib.Core.List.{List, [], _∷_, _++_, append-nil, append-assoc}
-use mathlib.Core.Logic.{⊎-elim}
 use Prim.Native.Nat.{ℕ, suc, _+_, _-_, _≤_, _<_, _^_}
-use native.Mathlib.Nat.{add-sub-cancel-left, zero-add}
+use native.Mathlib.Nat.{add-sub-cancel-left}
 use native.Mathlib.Omega.{arith}
-use lib.ListN.{length, take, drop, set, length-append, length-take, length-drop, drop-of-length-le}
+use lib.ListN.{length, take, drop, set, length-take, length-drop, drop-of-length-le}
 use lib.Seq.{take-all, drop-drop, drop-set-lt, length-take-le, sets, length-sets, sets-eq}
 use mir.Syntax.{w64}
 use mir.Val.{Fits}

@@ -1,13 +1,12 @@
 -- The runs of a file, counted, listed and stored. Assumes nothing.
 use mathlib.Core.Path.{_≡_, refl, ap, sym, _∙_}
-use mathlib.Core.List.{List, [], _∷_, _++_, map}
+use mathlib.Core.List.{List, [], _∷_, map}
 use mathlib.Core.Logic.{⊎-elim}
 use Prim.Native.Nat.{ℕ, zero, suc, _+_, _-_, _≤_, _<_, _^_, min}
 use native.Mathlib.Nat.{add-zero, zero-add}
 use native.Mathlib.Numerals.{add-one}
 use native.Mathlib.Omega.{arith}
 use lib.ListN.{length, drop, set, length-append, length-drop, length-map, length-set, drop-of-length-le}
-use lib.Dec.{leb}
 use lib.Seq.{length-take-le, sets, sets-eq}
 use mir.Syntax.{w64}
 use mir.Val.{Fits}
@@ -16,7 +15,7 @@ use Rattle.disc.specs.Counts.{reported}
 use Rattle.disc.specs.Refusals.{number}
 use Rattle.disc.specs.Ask.{Outcome}
 use Rattle.disc.specs.Ask.Outcome.{answered, refused}
-use Rattle.disc.specs.Ran.{Ran, ran, after, eachIn}
+use Rattle.disc.specs.Ran.{Ran, ran, eachIn}
 use Rattle.disc.specs.Images.{disc}
 use Rattle.disc.specs.Replies.{replyOf, leftBy}
 use Rattle.disc.specs.declared.places.Mount.{Mount}

@@ -10,7 +10,7 @@ use lib.Dec.{eqb}
 use borrow.Author.Tests.{eq-eqb, ne-eqb, eqb-true, eqb-false}
 use Rattle.disc.specs.Choice.{pick}
 use Rattle.listings.specs.Paths.{Component, front, behind, componentsFrom, components, unlessEmpty}
-use Rattle.listings.specs.Cuts.{Slashes, NoSlash, Parted, Heads, CutFrom, Cut}
+use Rattle.listings.specs.Cuts.{Slashes, NoSlash, Parted, CutFrom, Cut}
 
 -- ---- the bytes before the first slash
 

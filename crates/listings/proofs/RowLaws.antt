@@ -13,7 +13,7 @@ use Rattle.disc.specs.Ask.Outcome.{answered, refused}
 use Rattle.disc.specs.declared.refusals.Refusal.{Refusal}
 use Rattle.identifiers.specs.Identifiers.{nameAt, nameEnd, nextAt}
 use Rattle.listings.specs.Entries.{Entry, entryRead, inFront, entriesFrom, entries}
-use Rattle.listings.specs.Rows.{First, RowTo, Ends, Fails, Told}
+use Rattle.listings.specs.Rows.{RowTo, Ends, Fails, Told}
 
 -- ---- the next identifier
 

@@ -2,23 +2,19 @@
 use mathlib.Core.Path.{_≡_, refl, sym, ap, _∙_}
 use mathlib.Core.Bool.{Bool, true, false}
 use mathlib.Core.List.{List, [], _∷_, _++_, map}
-use Prim.Native.Nat.{ℕ, zero, suc, _+_, _-_, _≤_, _<_, max}
+use Prim.Native.Nat.{ℕ, zero, suc, _+_, _-_, _≤_, max}
 use native.Mathlib.Omega.{arith}
 use lib.ListN.{length, getD, replicate, length-append, length-replicate}
 use lib.Dec.{eqb}
-use borrow.Author.Tests.{eq-eqb, ne-eqb, eqb-true, eqb-false}
+use borrow.Author.Tests.{ne-eqb, eqb-true, eqb-false}
 use Rattle.disc.specs.Choice.{pick}
 use Rattle.disc.specs.Ask.{Disc, Outcome}
 use Rattle.disc.specs.Ask.Outcome.{answered, refused}
 use Rattle.disc.specs.Counts.{reported}
-use Rattle.disc.specs.Ran.{ran}
 use Rattle.disc.specs.Refusals.{number}
 use Rattle.disc.specs.Replies.{answerOf, measuredBy}
 use Rattle.disc.specs.declared.places.Mount.{Mount}
 use Rattle.disc.proofs.RefusalLaws.{refusal-listed, refusal-numbered}
-use Rattle.records.specs.declared.allocations.LongAd.{LongAd}
-use Rattle.files.specs.Files.{fileBytes, fileExtents, fileHops}
-use Rattle.files.specs.Sizes.{lengthIn, numberIn}
 use Rattle.identifiers.specs.Identifiers.{isDirectory}
 use Rattle.figures.specs.Figures.{Figures, nothing, oneAt, eachAdded, added, addedTo, Wide, sum}
 use Rattle.figures.proofs.FigureLaws.{zero-holds, added-wide, addedTo-wide}

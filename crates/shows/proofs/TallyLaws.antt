@@ -1,5 +1,5 @@
 -- What an entry adds to the figures of a place, and what the functions leave there. Assumes nothing.
-use mathlib.Core.Path.{_≡_, refl, sym, ap, _∙_}
+use mathlib.Core.Path.{_≡_, refl, ap, _∙_}
 use mathlib.Core.Bool.{Bool, true, false}
 use mathlib.Core.List.{List, [], _∷_, map}
 use Prim.Native.Nat.{ℕ, min}
@@ -13,8 +13,8 @@ use Rattle.disc.specs.Replies.{measuredBy}
 use Rattle.disc.specs.declared.places.Mount.{Mount}
 use Rattle.disc.proofs.RefusalLaws.{refusal-listed}
 use Rattle.records.specs.declared.allocations.LongAd.{LongAd}
-use Rattle.files.specs.Files.{fileBytes, fileExtents, fileHops}
-use Rattle.files.specs.Sizes.{lengthIn, numberIn, sizesBy, sizesOf}
+use Rattle.files.specs.Files.{fileBytes}
+use Rattle.files.specs.Sizes.{sizesBy, sizesOf}
 use Rattle.files.specs.declared.sizes.FileSizes.{FileSizes}
 use Rattle.figures.specs.Figures.{Figures, Holds, Adds, added, addedTo, oneFile}
 use Rattle.figures.specs.Placed.{withDirectory}

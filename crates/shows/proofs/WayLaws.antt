@@ -2,14 +2,14 @@
 use mathlib.Core.Path.{_≡_, refl, sym, ap, _∙_}
 use mathlib.Core.Bool.{Bool, true, false}
 use mathlib.Core.List.{List, [], _∷_, _++_, map, append-assoc, append-nil}
-use Prim.Native.Nat.{ℕ, zero, suc, _+_, _-_, _≤_, _<_}
+use Prim.Native.Nat.{ℕ, suc, _+_, _-_, _≤_, _<_}
 use native.Mathlib.Omega.{arith}
 use lib.ListN.{length, take, drop, drop-of-length-le, length-append}
 use lib.Seq.{drop-at}
 use lib.Dec.{eqb}
 use Rattle.disc.specs.Choice.{pick}
-use Rattle.disc.specs.Ask.{Disc, outcome, ended}
-use Rattle.disc.specs.Ask.Outcome.{answered, refused}
+use Rattle.disc.specs.Ask.{Disc, outcome}
+use Rattle.disc.specs.Ask.Outcome.{answered}
 use Rattle.disc.specs.Images.{disc}
 use Rattle.disc.specs.Places.{isChecked}
 use Rattle.disc.specs.Ran.{Ran, ran}
@@ -19,7 +19,6 @@ use Rattle.disc.proofs.RanLaws.{ran-done}
 use Rattle.records.specs.declared.allocations.LongAd.{LongAd}
 use Rattle.identifiers.specs.Identifiers.{isDirectory}
 use Rattle.names.specs.Names.{asIs}
-use Rattle.files.specs.Files.{fileBytes}
 use Rattle.files.proofs.ContentLaws.{content-bytes}
 use Rattle.listings.specs.Entries.{Entry, isSkipped, nameIn}
 use Rattle.listings.specs.Listings.{answersTo}
@@ -29,8 +28,8 @@ use Rattle.listings.specs.declared.matchings.Matching.the-variants.{AsWritten}
 use Rattle.listings.proofs.MatchingLaws.{answers-written}
 use Rattle.listings.proofs.Promises.{answers-folded}
 use Rattle.listings.proofs.RecordLaws.{each-read, each-at, named-answers}
-use Rattle.directories.specs.Directories.{within, directoryBytes}
-use Rattle.directories.specs.Lookups.{Sought, seeking, seekPath, lookupOf, icbOf}
+use Rattle.directories.specs.Directories.{directoryBytes}
+use Rattle.directories.specs.Lookups.{seeking, seekPath, lookupOf}
 use Rattle.directories.specs.Lookups.Sought.{reached}
 use Rattle.directories.proofs.LookupLaws.{look-is}
 use Rattle.directories.proofs.PathLaws.{first-takes, seek-takes}

@@ -1,9 +1,8 @@
 -- What each figure of an image is, where its opening and its tree are answered: a number of nodes, a sum over them, or the greatest. RULES 16.4 and 16.7. Assumes nothing.
-use mathlib.Core.Path.{_≡_, refl, ap, sym, _∙_}
+use mathlib.Core.Path.{_≡_, refl}
 use mathlib.Core.List.{List}
 use Prim.Native.Nat.{ℕ}
 use native.Mathlib.Omega.{arith}
-use lib.ListN.{getD}
 use Rattle.disc.specs.Images.{disc}
 use Rattle.disc.specs.Ask.{Disc}
 use Rattle.disc.specs.Ask.Outcome.{answered}
@@ -12,7 +11,7 @@ use Rattle.disc.specs.declared.places.Mount.{Mount}
 use Rattle.volumes.specs.Choices.{openingBy}
 use Rattle.volumes.specs.declared.choices.Choice.{Choice}
 use Rattle.volumes.specs.declared.openings.VolumeRecord.{VolumeRecord}
-use Rattle.figures.specs.Figures.{Figures, oneAt, oneImage, added}
+use Rattle.figures.specs.Figures.{Figures, oneImage, added}
 use Rattle.figures.proofs.RowLaws.{each-none}
 use Rattle.shows.specs.Shows.{Node, tree, mostLevels}
 use Rattle.shows.specs.Sums.{SumsOf}

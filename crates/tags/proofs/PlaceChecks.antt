@@ -7,7 +7,6 @@ use mathlib.Core.Option.{Option, none, some}
 use native.Mathlib.Omega.{arith}
 use lib.Dec.{eqb, leb}
 use borrow.Author.Tests.{eq-eqb, eqb-true, le-leb, lt-leb}
-use Rattle.disc.specs.Choice.{pick}
 use Rattle.disc.specs.Places.{sectorOf, startFor, icbStart, crossing, placed, icbPlaced}
 use Rattle.disc.specs.declared.places.Mount.{Mount}
 use Rattle.disc.specs.declared.places.PartitionRef.the-variants.{Unnamed, Named}

@@ -1,10 +1,10 @@
 -- RULES 10.3: an answer is written over the front of what was lent and nothing behind it, by each call that answers with bytes or slots. Assumes nothing.
-use Prim.Native.Nat.{ℕ, _+_, _-_, _≤_}
+use Prim.Native.Nat.{ℕ, _≤_}
 use mathlib.Core.Path.{_≡_, refl, _∙_}
 use mathlib.Core.Bool.{Bool, true, false}
 use mathlib.Core.List.{List, _++_}
 use native.Mathlib.Omega.{arith}
-use lib.ListN.{length, take, drop, length-append, length-drop}
+use lib.ListN.{length, drop, length-append, length-drop}
 use lib.Seq.{take-append-seam, drop-append-seam}
 use lib.Dec.{leb}
 use borrow.Author.Tests.{leb-true}
@@ -16,7 +16,6 @@ use Rattle.disc.specs.Ran.{Ran, eachIn}
 use Rattle.disc.specs.Replies.{replyBy, leftBy}
 use Rattle.disc.specs.declared.refusals.Refusal.{Refusal}
 use Rattle.disc.specs.declared.refusals.Refusal.the-variants.{NoRoom, NoSlot}
-use Rattle.disc.specs.declared.replies.Reply.{Reply}
 use Rattle.disc.proofs.RefusalLaws.{refusal-numbered}
 use Rattle.vault.specs.Public.{byBytes, byWork, byRow}
 use Rattle.vault.specs.Fronts.{Fronted}

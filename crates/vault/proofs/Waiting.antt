@@ -1,28 +1,22 @@
 -- RULES 2.11 to 2.13, of a read by ICB that waits for its image: which sector it waits for, and when it is ready. Assumes nothing.
 use mathlib.Core.Path.{_≡_, refl, ap, sym, _∙_}
-use mathlib.Core.Bool.{Bool, true, false, _&&_}
-use mathlib.Core.List.{List, [], _∷_, _++_}
-use mathlib.Core.Logic.{⊎-elim}
-use mathlib.Core.Option.{Option, none, some}
-use Prim.Native.Nat.{ℕ, zero, suc, _+_, _-_, _*_, _/_, _≤_, _<_, min}
-use native.Mathlib.Nat.{zero-add, add-zero}
+use mathlib.Core.Bool.{Bool, true, false}
+use mathlib.Core.List.{List}
+use Prim.Native.Nat.{ℕ, _+_, _-_, _≤_, _<_}
 use native.Mathlib.Omega.{arith}
-use lib.ListN.{length, take}
-use lib.Dec.{eqb, leb}
-use borrow.Author.Tests.{eqb-true, eqb-false, le-leb, lt-leb, le-ltb}
+use lib.ListN.{length}
+use lib.Dec.{eqb}
+use borrow.Author.Tests.{le-leb}
 use Rattle.disc.specs.Choice.{pick}
 use Rattle.disc.specs.Counts.{reported}
 use Rattle.disc.specs.Replies.{replyBy}
 use Rattle.disc.specs.Ask.{Outcome, outcome, asked}
 use Rattle.disc.specs.Ask.Ask.{done}
 use Rattle.disc.specs.Ask.Outcome.{answered, refused}
-use Rattle.disc.specs.Images.{disc, heldFrom, sectorsFor, isAnswered}
+use Rattle.disc.specs.Images.{disc}
 use Rattle.disc.specs.Refusing.{isIo}
 use Rattle.disc.specs.Ran.{ran, onward}
-use Rattle.disc.specs.Places.{placed}
-use Rattle.disc.specs.declared.places.Mount.{Mount}
-use Rattle.disc.specs.declared.refusals.Refusal.the-variants.{Io, Unsupported, NoRoom}
-use Rattle.disc.proofs.ImageLaws.{split}
+use Rattle.disc.specs.declared.refusals.Refusal.the-variants.{NoRoom}
 use Rattle.disc.proofs.RanLaws.{ran-done, ran-then, never}
 use Rattle.areas.specs.declared.AllocExtent.{AllocExtent}
 use Rattle.files.specs.ExtentSectors.{extentSectors}

@@ -1,5 +1,4 @@
 -- RULES 10.3: what a call that answers with bytes or slots leaves of what it was lent.
-use Prim.Native.Nat.{ℕ}
 use mathlib.Core.Path.{_≡_}
 use mathlib.Core.List.{List}
 use lib.ListN.{length, take, drop}

@@ -1,7 +1,7 @@
 -- The label call is refused exactly where opening is, by the same number and after the same count. Assumes nothing.
 use mathlib.Core.Path.{_≡_, ap, _∙_}
 use lib.ListN.{length}
-use Rattle.disc.specs.Ask.{Disc, outcome, asked, ended}
+use Rattle.disc.specs.Ask.{Disc, outcome, ended}
 use Rattle.disc.specs.Ask.Outcome.{refused}
 use Rattle.disc.specs.Ran.{ran}
 use Rattle.disc.specs.declared.refusals.Refusal.{Refusal}

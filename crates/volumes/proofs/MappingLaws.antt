@@ -3,7 +3,7 @@ use mathlib.Core.Path.{_≡_, refl, ap, sym, _∙_}
 use mathlib.Core.Bool.{Bool, true, false, not}
 use mathlib.Core.List.{List, [], _∷_, _++_, append-nil}
 use mathlib.Core.Option.{Option, none, some}
-use Prim.Native.Nat.{ℕ, zero, suc, _+_, _*_, _≤_, _<_, min}
+use Prim.Native.Nat.{ℕ, zero, suc, _+_, _*_, min}
 use native.Mathlib.Omega.{arith}
 use lib.ListN.{length, getD, length-append}
 use lib.Dec.{eqb, leb, ltb}
@@ -11,26 +11,26 @@ use borrow.Author.Tests.{lt-ltb, ltb-true, ltb-false, le-leb, lt-leb, ne-eqb}
 use Rattle.disc.specs.Choice.{pick}
 use Rattle.disc.specs.Ask.{Held, Disc, Ask, Outcome, outcome, asked, then, given, ended}
 use Rattle.disc.specs.Ask.Held.{holds, lacks}
-use Rattle.disc.specs.Ask.Ask.{done, refuse, ask}
+use Rattle.disc.specs.Ask.Ask.{refuse}
 use Rattle.disc.specs.Ask.Outcome.{answered, refused}
-use Rattle.disc.specs.Ran.{Ran, ran, followed}
-use Rattle.disc.specs.Places.{isMapped, mappedStart, startFor, placed}
+use Rattle.disc.specs.Ran.{Ran, ran}
+use Rattle.disc.specs.Places.{mappedStart, startFor, placed}
 use Rattle.disc.specs.declared.places.Mount.{Mount}
 use Rattle.disc.specs.declared.refusals.Refusal.{Refusal}
 use Rattle.disc.specs.declared.refusals.Refusal.the-variants.{Malformed, NotBluray, Unsupported}
 use Rattle.disc.proofs.PickLaws.{not-both, pick-yes}
-use Rattle.disc.proofs.RanLaws.{ran-refuse, ran-then, never}
+use Rattle.disc.proofs.RanLaws.{ran-then}
 use Rattle.descriptors.specs.FileSets.{readFileSet}
 use Rattle.volumes.specs.declared.sequences.Kept.{Kept}
 use Rattle.volumes.specs.declared.openings.How.{How}
 use Rattle.volumes.specs.declared.openings.VolumeRecord.{VolumeRecord}
 use Rattle.volumes.specs.Sequences.{nothing, Parsed, Order, orderOf, anyPartition, counts, replacing, prevailing, keptOf}
 use Rattle.volumes.specs.Sequences.Parsed.{primary, partition, logical}
-use Rattle.volumes.specs.Openings.{mapAt, mapIn, isPlainMap, numberOfMap, startIn, startOfNumber, startOfMap, startThen, startsFrom, mapStarts, eachOf, fileSetRef, mountBy, mountedBy, mappedMount, mountOf, fileSetIn, volumeIn, fileSetAt, fileSetOn, mountingOf, mounting, opening}
-use Rattle.volumes.specs.Mapping.{isNumbered, anyMap, Check, check, firstOf, keptChecks, mapChecks, mappedChecks, startOr, fileSetSector, refusalOf, isThere}
+use Rattle.volumes.specs.Openings.{mapAt, mapIn, isPlainMap, numberOfMap, startOfNumber, startOfMap, startThen, startsFrom, mapStarts, eachOf, fileSetRef, mountBy, mountedBy, mappedMount, mountOf, fileSetIn, volumeIn, fileSetAt, fileSetOn, mountingOf, opening}
+use Rattle.volumes.specs.Mapping.{isNumbered, anyMap, firstOf, keptChecks, mapChecks, mappedChecks, startOr, fileSetSector, refusalOf, isThere}
 use Rattle.volumes.proofs.MapLaws.{mapped-mount}
 use Rattle.volumes.proofs.Promises.{opening-is, scan-same}
-use Rattle.volumes.specs.Made.{Mapped, sequence, chosen}
+use Rattle.volumes.specs.Made.{sequence, chosen}
 
 -- ---- the descriptors of a number
 

@@ -1,11 +1,11 @@
 -- The sectors of the image that hold nothing are zeros. Assumes nothing.
-use mathlib.Core.Path.{_≡_, refl, ap, sym, _∙_}
+use mathlib.Core.Path.{_≡_, refl, ap, _∙_}
 use mathlib.Core.List.{List, [], _∷_, _++_, append-assoc, append-nil}
-use Prim.Native.Nat.{ℕ, zero, suc, _+_, _-_, _*_, _/_, _≤_, _<_}
+use Prim.Native.Nat.{ℕ, zero, suc, _+_, _-_, _*_, _≤_, _<_}
 use native.Mathlib.Omega.{arith}
 use lib.ListN.{length, getD, take, drop, replicate, length-append, length-replicate, getD-replicate, replicate-append-replicate, List·getD-append}
 use lib.Seq.{length-take-le}
-use lib.Dec.{lit<, lit≤}
+use lib.Dec.{lit≤}
 use Rattle.disc.specs.Ask.{Disc}
 use Rattle.disc.specs.Ask.Held.{holds}
 use Rattle.disc.specs.Images.{disc}

@@ -9,7 +9,6 @@ use lib.Dec.{eqb}
 use Rattle.disc.specs.Choice.{pick}
 use Rattle.disc.specs.Ask.{Disc}
 use Rattle.disc.specs.Ask.Held.{holds}
-use Rattle.disc.specs.Images.{sectorsFor}
 use Rattle.disc.specs.declared.places.PartitionRef.the-variants.{Unnamed}
 use Rattle.records.specs.Bytes.{u32at}
 use Rattle.tags.specs.Tags.{readTag, bodyRight, inPlace}

@@ -1,9 +1,9 @@
 -- Where a read goes on from what it was lent: what the private functions say.
-use Prim.Native.Nat.{ℕ, zero, suc, _+_, _-_, min}
+use Prim.Native.Nat.{ℕ, zero, suc, _-_}
 use mathlib.Core.Path.{_≡_}
-use mathlib.Core.Bool.{Bool, true, false}
-use mathlib.Core.List.{List, [], _∷_, _++_}
-use lib.ListN.{length, take, drop}
+use mathlib.Core.Bool.{true, false}
+use mathlib.Core.List.{List, [], _∷_}
+use lib.ListN.{length, drop}
 use lib.Dec.{leb}
 use Rattle.disc.specs.Choice.{pick}
 use Rattle.disc.specs.Images.{sectorsFor}
