@@ -27,12 +27,12 @@ use Rattle.shows.specs.Nodes.{below, children, listed, EntriesOf, Under,
 
 -- ---- what was answered, by its parts
 
-record Parts {A B : Type 0} (d : Disc) (m : Ask A) (f : A → Ask B) (b : B) : Type 0 where
-  a : A
-  first : outcome d m ≡ answered a
-  second : outcome d (f a) ≡ answered b
+pub record Parts {A B : Type 0} (d : Disc) (m : Ask A) (f : A → Ask B) (b : B) : Type 0 where
+  pub a : A
+  pub first : outcome d m ≡ answered a
+  pub second : outcome d (f a) ≡ answered b
 
-parts : {A B : Type 0} (d : Disc) (m : Ask A) (f : A → Ask B) {b : B} → outcome d (then m f) ≡ answered b → Parts d m f b
+pub parts : {A B : Type 0} (d : Disc) (m : Ask A) (f : A → Ask B) {b : B} → outcome d (then m f) ≡ answered b → Parts d m f b
 unfolding ran
 parts {A} {B} d m f {b} e = by (outcome d m) refl (sym (ap (λ (r : Ran B). r .outcome) (ran-then d m f)) ∙ e)
   where

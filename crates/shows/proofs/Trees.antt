@@ -1,25 +1,31 @@
 -- What is proved of the nodes of an answered tree, said without the walk that gives them: which they are, and that a node's path leads to it. Assumes nothing.
-use mathlib.Core.Path.{_≡_, refl}
+use mathlib.Core.Path.{_≡_, refl, sym, ap, _∙_}
 use mathlib.Core.Bool.{Bool, true, false, _&&_}
 use mathlib.Core.List.{List, [], _∷_, _++_}
 use Prim.Native.Nat.{ℕ, _-_}
 use native.Mathlib.Omega.{arith}
 use lib.Dec.{leb}
-use lib.ListN.{take}
+use lib.ListN.{length, take, drop}
 use Rattle.disc.specs.Choice.{pick}
-use Rattle.disc.specs.Ask.{Disc, outcome}
-use Rattle.disc.specs.Ask.Ask.{refuse}
-use Rattle.disc.specs.Ask.Outcome.{answered}
+use Rattle.disc.specs.Counts.{reported}
+use Rattle.disc.specs.Refusals.{number}
+use Rattle.disc.specs.Replies.{replyBy, leftBy, Replied}
+use Rattle.disc.specs.Ran.{ran}
+use Rattle.disc.specs.Ask.{Disc, Outcome, outcome, asked}
+use Rattle.disc.specs.Ask.Ask.{done, refuse}
+use Rattle.disc.specs.Ask.Outcome.{answered, refused}
 use Rattle.disc.specs.Images.{disc}
 use Rattle.disc.specs.declared.places.Mount.{Mount}
-use Rattle.disc.specs.declared.refusals.Refusal.the-variants.{TooDeep}
+use Rattle.disc.specs.declared.refusals.Refusal.the-variants.{NoRoom, TooDeep}
+use Rattle.disc.specs.declared.replies.Reply.{Reply}
 use Rattle.disc.proofs.RanLaws.{never}
+use Rattle.disc.proofs.RefusalLaws.{refusal-numbered}
 use Rattle.records.specs.declared.allocations.LongAd.{LongAd}
 use Rattle.listings.specs.declared.matchings.Matching.the-variants.{AsWritten}
 use Rattle.directories.specs.Lookups.{lookupOf}
-use Rattle.shows.specs.Shows.{Node, nodesAt, mostLevels, tree}
-use Rattle.shows.specs.Nodes.{TreeOf, wayFrom, wayTo, pathOf, Plain}
-use Rattle.shows.proofs.TreeLaws.{BuiltAt, built-at, built-children, built-steps, built-each, each-split, parsed-entries}
+use Rattle.shows.specs.Shows.{Node, nodesAt, mostLevels, tree, nodeRecords, showing}
+use Rattle.shows.specs.Nodes.{TreeOf, ShowsTree, wayFrom, wayTo, pathOf, Plain}
+use Rattle.shows.proofs.TreeLaws.{parts, BuiltAt, built-at, built-children, built-steps, built-each, each-split, parsed-entries}
 use Rattle.shows.proofs.WayLaws.{built-way, way-found}
 use Rattle.disc.specs.Parts.{Bytes}
 
@@ -41,6 +47,29 @@ module _ (d : Disc) (m : Mount) (levels work : ℕ) (root : LongAd) {ns : List N
     each = λ before n behind z. each-split d m before n behind (rw z at (built-each (built .built)));
     steps = built-steps (built .built);
   }
+
+-- so a show that is answered has written the records of these nodes
+pub show-tree : (d : Disc) (m : Mount) (levels work : ℕ) (root : LongAd) {out after : List ℕ} {reply : Reply} → Replied NoRoom (ran d (showing m levels work root)) out after reply → reply .answer ≡ 0
+    → ShowsTree d m root out after reply
+unfolding ran showing outcome
+show-tree d m levels work root {out} {after} {reply} p z = by (outcome d (showing m levels work root)) refl (reported (length (asked d (showing m levels work root)))) (p .says) (p .leaves)
+  where
+    fits : (b : List ℕ) → outcome d (showing m levels work root) ≡ answered b → reply .length ≡ length b → after ≡ b ++ drop (length b) out → ShowsTree d m root out after reply
+    fits b e f g =
+        let q = parts d (tree m levels work root) (λ ns. done (nodeRecords ns)) e in
+        let y : answered (nodeRecords (q .a)) ≡ answered b = q .second in
+        let x : b ≡ nodeRecords (q .a) = cc in
+        record { ns = q .a; nodes = tree-nodes d m levels work root (q .first); said = rw x at f; wrote = rw x at g }
+
+    room : (b : List ℕ) (n : ℕ) → outcome d (showing m levels work root) ≡ answered b → (t : Bool)
+        → reply ≡ pick t (record { answer = 0; count = n; length = length b }) (record { answer = number NoRoom; count = n; length = 0 }) → after ≡ pick t (b ++ drop (length b) out) out
+        → ShowsTree d m root out after reply
+    room b n e true f g = fits b e (ap (λ (x : Reply). x .length) f) g
+    room b n e false f g = absurd (refusal-numbered NoRoom (sym (ap (λ (x : Reply). x .answer) f) ∙ z))
+
+    by : (o : Outcome (List ℕ)) → outcome d (showing m levels work root) ≡ o → (n : ℕ) → reply ≡ replyBy NoRoom (length out) n o → after ≡ leftBy out o → ShowsTree d m root out after reply
+    by (answered b) e n f g = room b n e (leb (length b) (length out)) f g
+    by (refused why) e n f g = absurd (refusal-numbered why (sym (ap (λ (x : Reply). x .answer) f) ∙ z))
 
 -- ---- a node's path
 

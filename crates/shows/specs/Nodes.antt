@@ -3,19 +3,20 @@ use Prim.Native.Nat.{ℕ, suc, _-_, _≤_}
 use mathlib.Core.Path.{_≡_}
 use mathlib.Core.Bool.{true, false}
 use mathlib.Core.List.{List, [], _∷_, _++_, map}
-use lib.ListN.{length, take}
+use lib.ListN.{length, take, drop}
 use lib.Dec.{eqb, ltb}
 use Rattle.disc.specs.Choice.{pick}
 use Rattle.disc.specs.Ask.{Disc, outcome}
 use Rattle.disc.specs.Ask.Outcome.{answered}
 use Rattle.disc.specs.Places.{isChecked}
 use Rattle.disc.specs.declared.places.Mount.{Mount}
+use Rattle.disc.specs.declared.replies.Reply.{Reply}
 use Rattle.records.specs.declared.allocations.LongAd.{LongAd}
 use Rattle.identifiers.specs.Identifiers.{isDirectory}
 use Rattle.files.specs.Files.{fileBytes}
 use Rattle.listings.specs.Entries.{Entry, isSkipped, nameIn, entries}
 use Rattle.listings.specs.Paths.{front}
-use Rattle.shows.specs.Shows.{Node}
+use Rattle.shows.specs.Shows.{Node, nodeRecords}
 
 -- ---- the nodes (RULES 8.35 and 8.36)
 
@@ -57,6 +58,13 @@ pub record TreeOf (d : Disc) (m : Mount) (root : LongAd) (ns : List Node) : Type
   pub roots : EntriesOf d m root (children 0 ns)
   pub each : (before : List Node) (n : Node) (behind : List Node) → ns ≡ before ++ n ∷ behind → Under d m n behind
   pub steps : Steps 0 ns
+
+-- a show that was answered so: the records of such nodes over the front of what was lent, and nothing behind them
+pub record ShowsTree (d : Disc) (m : Mount) (root : LongAd) (before after : List ℕ) (reply : Reply) : Type 0 where
+  pub ns : List Node
+  pub nodes : TreeOf d m root ns
+  pub said : reply .length ≡ length (nodeRecords ns)
+  pub wrote : after ≡ nodeRecords ns ++ drop (length (nodeRecords ns)) before
 
 -- ---- the path of a node
 
