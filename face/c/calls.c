@@ -198,7 +198,7 @@ static void records_by_hand(void) {
 /* What is said of an answer begins so; a number that isn't in the table is said to be none of it. */
 static void texts(void) {
     static const char *const fronts[16] = {"Done", "A sector", "Too few", "No volume", "A form", "The answer", "A directory has", "There are more extents",
-                                           NULL, "A component", "A descriptor", "A directory stands", "There are more paths", "A name", "The files",
+                                           NULL, "A component", "A descriptor", "A directory is found", "There are more paths", "A name", "The files",
                                            "The lengths"};
     for (uint64_t n = 0; n < 20; n++) {
         const char *front = n < 16 && fronts[n] ? fronts[n] : "A number that isn't known";
