@@ -31,50 +31,50 @@ use Rattle.directories.proofs.WalkLaws.{same-components, some-left, com
 pub reads-into : (d : Disc) (v : Mount) (icb : LongAd) (w w′ : List ℕ) {read : Reply} → Reads (ran d (directoryBytes v (length w) icb)) w w′ read → w′ ≡ readInto d v w icb
 reads-into d v icb w w′ p = p .leaves
 
-module _ (d : Disc) (matching : Matching) (v : Mount) (path : List ℕ) {p : PathPlace} (g : p .going ≡ true) (on : On path p) (w : List ℕ) where
-  ahead : placeLeaves d matching v path p w ≡ walkLeaves d matching v (componentsFrom (p .from) (drop (p .from) path)) (p .icb) (p .directory) w
+module _ (d : Disc) (matching : Matching) (v : Mount) (path : List ℕ) {p : PathPlace} (g : p .going ≡ true) (on : On path p) {from : ℕ} (behind-it : from ≡ p .from + slashes (drop (p .from) path)) (w : List ℕ) where
+  ahead : placeLeaves d matching v path p w ≡ walkLeaves d matching v (componentsFrom from (drop from path)) (p .icb) (p .directory) w
   unfolding placeLeaves
-  ahead = rw g
+  ahead = rw (g, same-components path (p .from) behind-it)
 
-  pub leaves-arrived : length path ≤ p .from → {q : PathPlace} → q ≡ stoppedAt 0 (p .icb) (p .count) 0 0 → placeLeaves d matching v path q w ≡ placeLeaves d matching v path p w
+  pub leaves-arrived : length path ≤ from → {q : PathPlace} → q ≡ stoppedAt 0 (p .icb) (p .count) 0 0 → placeLeaves d matching v path q w ≡ placeLeaves d matching v path p w
   unfolding placeLeaves walkLeaves componentsFrom front behind
   leaves-arrived h e =
-      let z : drop (p .from) path ≡ [] = drop-of-length-le path h in
+      let z : drop from path ≡ [] = drop-of-length-le path h in
       rw e (sym (ahead ∙ rw z))
 
-  module _ (h : p .from < length path) {end : ℕ} (k : end ≡ p .from + length (front (drop (p .from) path))) where
-    pub leaves-dead : p .directory ≡ false → {q : PathPlace} → q ≡ lostAt (p .count) (p .from) end → placeLeaves d matching v path q w ≡ placeLeaves d matching v path p w
+  module _ (h : from < length path) {end : ℕ} (k : end ≡ from + length (front (drop from path))) where
+    pub leaves-dead : p .directory ≡ false → {q : PathPlace} → q ≡ lostAt (p .count) from end → placeLeaves d matching v path q w ≡ placeLeaves d matching v path p w
     unfolding placeLeaves walkLeaves
-    leaves-dead t e = rw e (sym (ahead ∙ rw (some-left d matching v (length w) path g on h k, t)))
+    leaves-dead t e = rw e (sym (ahead ∙ rw (some-left d matching v (length w) path g on behind-it h k, t)))
 
     module _ (t : p .directory ≡ true) where
       abbrev here : List ℕ
-      here = take (end - p .from) (drop (p .from) path)
+      here = take (end - from) (drop from path)
 
       turn : placeLeaves d matching v path p w
           ≡ walkedOn (ran d (entering matching v (length w) (p .icb) here) .outcome) (readInto d v w (p .icb))
           (λ e. walkLeaves d matching v (componentsFrom end (drop end path)) (e .identifier .icb) (isDirectory (e .identifier)) (readInto d v w (p .icb)))
       unfolding walkLeaves
-      turn = ahead ∙ rw (some-left d matching v (length w) path g on h k, t, component-is d matching v (length w) path g on h k)
+      turn = ahead ∙ rw (some-left d matching v (length w) path g on behind-it h k, t, component-is d matching v (length w) path g on behind-it h k)
 
       by-outcome : (o : Outcome (Option Entry)) (n : ℕ) (w′ : List ℕ)
-          → placeLeaves d matching v path (beyondOf path (namedOf o) n (p .from) end) w′
+          → placeLeaves d matching v path (beyondOf (namedOf o) n from end) w′
           ≡ walkedOn o w′ (λ e. walkLeaves d matching v (componentsFrom end (drop end path)) (e .identifier .icb) (isDirectory (e .identifier)) w′)
       unfolding beyondOf placeLeaves
-      by-outcome (answered (some e)) n w′ = rw (same-components path end refl)
+      by-outcome (answered (some e)) n w′ = refl
       by-outcome (answered none) n w′ = refl
       by-outcome (refused r) n w′ = simp (ne-eqb _ _ (refusal-numbered r)) refl
 
       pub leaves-entered : {e : Entered} → e ≡ enteredOf (ran d (entering matching v (length w) (p .icb) here)) → (n : ℕ)
-          → {q : PathPlace} → q ≡ beyondOf path (e .entry) n (p .from) end → {w′ : List ℕ} → w′ ≡ readInto d v w (p .icb) → placeLeaves d matching v path q w′ ≡ placeLeaves d matching v path p w
+          → {q : PathPlace} → q ≡ beyondOf (e .entry) n from end → {w′ : List ℕ} → w′ ≡ readInto d v w (p .icb) → placeLeaves d matching v path q w′ ≡ placeLeaves d matching v path p w
       leaves-entered {e} x n z y = rw (z, x, y) (by-outcome (ran d (entering matching v (length w) (p .icb) here) .outcome) n (readInto d v w (p .icb)) ∙ sym turn)
 
 -- ---- the whole walk
 
-pub leaves-start : (d : Disc) (matching : Matching) (v : Mount) (root : LongAd) (path w : List ℕ) (a : ℕ) → a ≡ 0 + slashes (drop 0 path)
-    → placeLeaves d matching v path (record { going = true; answer = 0; icb = root; directory = true; count = 0; from = a; end = length path }) w ≡ pathLeaves d matching v root path w
+pub leaves-start : (d : Disc) (matching : Matching) (v : Mount) (root : LongAd) (path w : List ℕ)
+    → placeLeaves d matching v path (record { going = true; answer = 0; icb = root; directory = true; count = 0; from = 0; end = 0 }) w ≡ pathLeaves d matching v root path w
 unfolding placeLeaves pathLeaves components
-leaves-start d matching v root path w a e = rw (same-components path 0 e)
+leaves-start d matching v root path w = refl
 
 pub leaves-next : (d : Disc) (matching : Matching) (v : Mount) (root : LongAd) (path : List ℕ) (p q : PathPlace) (w w′ w₀ : List ℕ)
     → placeLeaves d matching v path p w ≡ pathLeaves d matching v root path w₀ → placeLeaves d matching v path q w′ ≡ placeLeaves d matching v path p w

@@ -85,14 +85,10 @@ module _ (path : List ℕ) (e : ℕ) {a : ℕ} (p : a ≡ e + slashes (drop e pa
   none-left : slashes (drop a path) ≡ 0
   none-left = rw skipped (no-more-slashes (drop e path))
 
-  skip-within : e ≤ length path → a ≤ length path
-  skip-within h = omega (arith, p, slashes-long (drop e path), length-drop e path)
-
-module _ (d : Disc) (matching : Matching) (v : Mount) (work : ℕ) (path : List ℕ) {p : PathPlace} (g : p .going ≡ true) (on : On path p) where
-  ahead : leadsTo d matching v work path p
-      ≡ endOf (after (p .count) (ran d (seeking matching v work (componentsFrom (p .from) (drop (p .from) path)) (p .icb) (p .directory))))
+module _ (d : Disc) (matching : Matching) (v : Mount) (work : ℕ) (path : List ℕ) {p : PathPlace} (g : p .going ≡ true) (on : On path p) {from : ℕ} (behind-it : from ≡ p .from + slashes (drop (p .from) path)) where
+  ahead : leadsTo d matching v work path p ≡ endOf (after (p .count) (ran d (seeking matching v work (componentsFrom from (drop from path)) (p .icb) (p .directory))))
   unfolding leadsTo
-  ahead = rw g
+  ahead = rw (g, same-components path (p .from) behind-it)
 
   far : stepsLeft path p ≡ 1 + (length path - p .from)
   far = rw g
@@ -108,42 +104,42 @@ module _ (d : Disc) (matching : Matching) (v : Mount) (work : ℕ) (path : List 
   ends-here a b answer icb n u v c s =
       record {
         same = s;
-        on = record { ordered = u; within = v; counted = c; clean = λ x. absurd (let y : _≡_ {A = ℕ} 0 1 = cc in omega arith) };
+        on = record { ordered = u; within = v; counted = c };
         less = rw far (omega arith);
       }
 
-  pub step-arrives : length path ≤ p .from → {q : PathPlace}
+  pub step-arrives : length path ≤ from → {q : PathPlace}
       → q ≡ stoppedAt 0 (p .icb) (p .count) 0 0 → Steps d matching v work path p q
   unfolding componentsFrom front behind seeking ran outcome asked
   step-arrives h e =
-      let z : drop (p .from) path ≡ [] = drop-of-length-le path h in
+      let z : drop from path ≡ [] = drop-of-length-le path h in
       rw e
       (ends-here 0 0 0 (p .icb) (p .count) zero-le zero-le (on .counted)
       (sym (ahead ∙ rw z (both (ap (λ n. record { answer = 0; count = n; icb = p .icb }) counts) refl))))
 
-  module _ (h : p .from < length path) {end : ℕ} (k : end ≡ p .from + length (front (drop (p .from) path))) where
-    pub some-left : componentsFrom (p .from) (drop (p .from) path) ≡ record { bytes = front (drop (p .from) path); at = p .from } ∷ componentsFrom end (drop end path)
-    some-left = first-component (p .from) (drop (p .from) path) (on .clean g) (rw length-drop (omega arith)) ∙ rw (drop-drop, ← k)
+  module _ (h : from < length path) {end : ℕ} (k : end ≡ from + length (front (drop from path))) where
+    pub some-left : componentsFrom from (drop from path) ≡ record { bytes = front (drop from path); at = from } ∷ componentsFrom end (drop end path)
+    some-left = first-component from (drop from path) (none-left path (p .from) behind-it) (rw length-drop (omega arith)) ∙ rw (drop-drop, ← k)
 
     end-within : end ≤ length path
-    end-within = component-within path (p .from) h k
+    end-within = component-within path from h k
 
-    further : p .from < end
-    further = omega (arith, k, front-some (drop (p .from) path) (on .clean g) (rw length-drop (omega arith)))
+    further : from < end
+    further = omega (arith, k, front-some (drop from path) (none-left path (p .from) behind-it) (rw length-drop (omega arith)))
 
-    pub component-is : take (end - p .from) (drop (p .from) path) ≡ front (drop (p .from) path)
-    component-is = rw (k, add-sub-cancel-left) (front-is (drop (p .from) path))
+    pub component-is : take (end - from) (drop from path) ≡ front (drop from path)
+    component-is = rw (k, add-sub-cancel-left) (front-is (drop from path))
 
-    pub step-dead : p .directory ≡ false → {q : PathPlace} → q ≡ lostAt (p .count) (p .from) end → Steps d matching v work path p q
+    pub step-dead : p .directory ≡ false → {q : PathPlace} → q ≡ lostAt (p .count) from end → Steps d matching v work path p q
     unfolding seeking ran outcome asked
     step-dead t e =
         rw e
-        (ends-here (p .from) end (number NotBluray) noLong (p .count) (omega (arith, further)) end-within (on .counted)
+        (ends-here from end (number NotBluray) noLong (p .count) (omega (arith, further)) end-within (on .counted)
         (sym (ahead ∙ rw (some-left, t, ← component-is) (both (ap (notFound (number NotBluray)) counts) refl))))
 
     module _ (t : p .directory ≡ true) where
       abbrev C : Component
-      C = record { bytes = take (end - p .from) (drop (p .from) path); at = p .from }
+      C = record { bytes = take (end - from) (drop from path); at = from }
 
       abbrev rest : Option Entry → Ask Sought
       rest o = orLost C o (λ e. seeking matching v work (componentsFrom end (drop end path)) (e .identifier .icb) (isDirectory (e .identifier)))
@@ -155,28 +151,28 @@ module _ (d : Disc) (matching : Matching) (v : Mount) (work : ℕ) (path : List 
       -- on to the next component
       goes-on : (icb : LongAd) (directory : Bool) (n : ℕ) → n ≤ 0xffff_ffff_ffff_ffff
           → endOf (after n (ran d (seeking matching v work (componentsFrom end (drop end path)) icb directory))) ≡ leadsTo d matching v work path p
-          → Steps d matching v work path p (record { going = true; answer = 0; icb = icb; directory = directory; count = n; from = end + slashes (drop end path); end = length path })
+          → Steps d matching v work path p (record { going = true; answer = 0; icb = icb; directory = directory; count = n; from = end; end = end })
       unfolding leadsTo
       goes-on icb directory n c s =
           record {
-            same = rw (same-components path end refl) s;
-            on = record { ordered = skip-within path end refl end-within; within = omega arith; counted = c; clean = λ x. none-left path end refl };
-            less = rw far (omega (arith, further));
+            same = s;
+            on = record { ordered = omega arith; within = end-within; counted = c };
+            less = rw far (omega (arith, further, end-within, behind-it));
           }
 
       by-outcome : (o : Outcome (Option Entry)) (m : ℕ) → leadsTo d matching v work path p ≡ endOf (after (p .count) (onward o m (λ o. ran d (rest o))))
-          → Steps d matching v work path p (beyondOf path (namedOf o) (reported (p .count + reported m)) (p .from) end)
+          → Steps d matching v work path p (beyondOf (namedOf o) (reported (p .count + reported m)) from end)
       unfolding beyondOf ran outcome asked
       by-outcome (answered (some e)) m s =
           goes-on (e .identifier .icb) (isDirectory (e .identifier)) _ (omega arith) (end-reported (ran d (rest (some e))) (p .count) m ∙ sym s)
       by-outcome (answered none) m s =
-          ends-here (p .from) end (number NotBluray) noLong _ (omega (arith, further)) end-within (omega arith) (both (ap (notFound (number NotBluray)) (omega arith)) refl ∙ sym s)
+          ends-here from end (number NotBluray) noLong _ (omega (arith, further)) end-within (omega arith) (both (ap (notFound (number NotBluray)) (omega arith)) refl ∙ sym s)
       by-outcome (refused r) m s =
           simp (ne-eqb _ _ (refusal-numbered r))
           (ends-here 0 0 (number r) noLong _ zero-le zero-le (omega arith) (both (ap (notFound (number r)) (omega arith)) refl ∙ sym s))
 
       pub step-enters : {e : Entered} → e ≡ enteredOf (ran d (entering matching v work (p .icb) (C .bytes))) → {n : ℕ} → n ≡ reported (p .count + e .count)
-          → {q : PathPlace} → q ≡ beyondOf path (e .entry) n (p .from) end → Steps d matching v work path p q
+          → {q : PathPlace} → q ≡ beyondOf (e .entry) n from end → Steps d matching v work path p q
       step-enters {e} x {n} y z =
           let R : Ran (Option Entry) = ran d (entering matching v work (p .icb) (C .bytes)) in
           let m : n ≡ reported (p .count + reported (R .count)) = y ∙ rw x in
@@ -187,13 +183,13 @@ pub record Walking (d : Disc) (matching : Matching) (v : Mount) (work : ℕ) (ro
   pub on : On path p
   pub same : leadsTo d matching v work path p ≡ endOf (ran d (seekPath matching v work root path))
 
-pub walk-starts : (d : Disc) (matching : Matching) (v : Mount) (work : ℕ) (root : LongAd) (path : List ℕ) (a : ℕ) → a ≡ 0 + slashes (drop 0 path)
-    → Walking d matching v work root path (record { going = true; answer = 0; icb = root; directory = true; count = 0; from = a; end = length path })
+pub walk-starts : (d : Disc) (matching : Matching) (v : Mount) (work : ℕ) (root : LongAd) (path : List ℕ)
+    → Walking d matching v work root path (record { going = true; answer = 0; icb = root; directory = true; count = 0; from = 0; end = 0 })
 unfolding leadsTo seekPath components
-walk-starts d matching v work root path a e =
+walk-starts d matching v work root path =
     record {
-      on = record { ordered = skip-within path 0 e zero-le; within = omega arith; counted = zero-le; clean = λ x. none-left path 0 e };
-      same = rw (same-components path 0 e) (simp zero-add);
+      on = record { ordered = zero-le; within = zero-le; counted = zero-le };
+      same = simp zero-add;
     }
 
 module _ {d : Disc} {matching : Matching} {v : Mount} {work : ℕ} {root : LongAd} {path : List ℕ} {p : PathPlace} (w : Walking d matching v work root path p) where
@@ -207,17 +203,16 @@ module _ {d : Disc} {matching : Matching} {v : Mount} {work : ℕ} {root : LongA
       record { found = ap (λ (x : End). x .found) e; lost = ap (λ (x : End). x .lost) e; ordered = w .on .ordered; within = w .on .within }
 
 -- the returns of `beyond`
-module _ (path : List ℕ) (e : Named) (count from end : ℕ) where
-  pub beyond-refused : (e .answer ≡ 0 → ⊥) → {l : LongAd} → l ≡ noLong → {q : PathPlace} → q ≡ stoppedAt (e .answer) l count 0 0 → q ≡ beyondOf path e count from end
+module _ (e : Named) (count from end : ℕ) where
+  pub beyond-refused : (e .answer ≡ 0 → ⊥) → {l : LongAd} → l ≡ noLong → {q : PathPlace} → q ≡ stoppedAt (e .answer) l count 0 0 → q ≡ beyondOf e count from end
   unfolding beyondOf
   beyond-refused z n k = rw (ne-eqb (e .answer) 0 z, k, n)
 
   module _ (z : e .answer ≡ 0) where
-    pub beyond-lost : e .found ≡ false → {q : PathPlace} → q ≡ lostAt count from end → q ≡ beyondOf path e count from end
+    pub beyond-lost : e .found ≡ false → {q : PathPlace} → q ≡ lostAt count from end → q ≡ beyondOf e count from end
     unfolding beyondOf
     beyond-lost h k = rw (eq-eqb (e .answer) 0 z, h) k
 
-    pub beyond-on : e .found ≡ true → (a : ℕ) → a ≡ end + slashes (drop end path)
-        → record { going = true; answer = 0; icb = e .icb; directory = e .directory; count = count; from = a; end = length path } ≡ beyondOf path e count from end
+    pub beyond-on : e .found ≡ true → record { going = true; answer = 0; icb = e .icb; directory = e .directory; count = count; from = end; end = end } ≡ beyondOf e count from end
     unfolding beyondOf
-    beyond-on h a k = rw (eq-eqb (e .answer) 0 z, h, k)
+    beyond-on h = rw (eq-eqb (e .answer) 0 z, h)

@@ -27,7 +27,7 @@ pub struct Entered {
     pub count: u64,
 }
 
-// A place on the walk along a path: while going, the directory or file at which the component from `from` on is looked for;
+// A place on the walk along a path: while going, the directory or file at which the first component behind `from` is looked for;
 // at the end, the answer, and from `from` to `end` the component that was lost.
 pub struct PathPlace {
     pub going: bool,
@@ -90,8 +90,8 @@ fn lost(count: u64, from: usize, end: usize) -> PathPlace
 }
 
 // Beyond a component whose entry was looked for, or stopped there.
-fn beyond(path: &[u8], entry: Named, count: u64, from: usize, end: usize) -> PathPlace
-    ensures { λ r. ⌜ r ≡ beyondOf (now (path .entry)) entry count from end ⌝ }
+fn beyond(entry: Named, count: u64, from: usize, end: usize) -> PathPlace
+    ensures { λ r. ⌜ r ≡ beyondOf entry count from end ⌝ }
 {
     if entry.answer != DONE {
         return stopped(entry.answer, no_long(), count, 0, 0);
@@ -106,12 +106,12 @@ fn beyond(path: &[u8], entry: Named, count: u64, from: usize, end: usize) -> Pat
         icb,
         directory: entry.directory,
         count,
-        from: component_from(path, end),
-        end: path.len(),
+        from: end,
+        end,
     }
 }
 
-// One step of the walk.
+// One step of the walk. Slashes are passed over where the step begins, so that nothing of the path is relied on that an earlier step has seen.
 fn step(
     image: &[u8],
     mount: Mount,
@@ -125,7 +125,7 @@ fn step(
     ensures { λ q. ⌜ placeLeaves (disc (now (image .entry))) matching mount (now (path .entry)) q (now (work .exit)) ≡ placeLeaves (disc (now (image .entry))) matching mount (now (path .entry)) p (now (work .entry)) ⌝ }
 {
     let icb = p.icb;
-    let from = p.from;
+    let from = component_from(path, p.from);
     if path.len() <= from {
         return stopped(0, icb, p.count, 0, 0);
     }
@@ -135,7 +135,7 @@ fn step(
     }
     let e = enter(image, mount, icb, &path[from..end], matching, work);
     let entry = e.entry;
-    beyond(path, entry, add_counts(p.count, e.count), from, end)
+    beyond(entry, add_counts(p.count, e.count), from, end)
 }
 
 // The whole walk. What is left in the work space is of no use to the caller.
@@ -156,8 +156,8 @@ pub(crate) fn walk(
         icb: root,
         directory: true,
         count: 0,
-        from: component_from(path, 0),
-        end: path.len(),
+        from: 0,
+        end: 0,
     };
     while p.going {
         let q = step(image, mount, path, matching, p, work);

@@ -98,24 +98,24 @@ module _ (check : Bool) (s : List ℕ) (id size : ℕ) where
 
   -- ---- what its answer tells
 
-  pub head-read : {t : DescriptorTag} → readHead check s id size ≡ Read t → (Passed check s id size) t
+  pub head-read : {t : DescriptorTag} → readHead check s id size ≡ Read t → Passed check s id size t
   unfolding readHead withId withBody
   head-read {t} e = told (leb size (length s)) (readTag s) refl refl e
     where
       same : (b : Bool) (u : DescriptorTag) → eqb (u .id) id ≡ b → leb size (length s) ≡ true → readTag s ≡ Read u → (check ≡ true → bodyRight s u ≡ true)
-          → pick b (Read u) (Refused Malformed) ≡ Read t → (Passed check s id size) t
+          → pick b (Read u) (Refused Malformed) ≡ Read t → Passed check s id size t
       same true u f l g q k =
           let p : u ≡ t = cc in
           record { long = leb-true size (length s) l; tag = rw p at g; body = λ c. rw p at (q c); is = rw p at (eqb-true (u .id) id f) }
       same false u f l g q k = absurd (let z : _≡_ {A = ℕ} 0 1 = cc in omega arith)
 
       held : (c b : Bool) (u : DescriptorTag) → check ≡ c → bodyRight s u ≡ b → leb size (length s) ≡ true → readTag s ≡ Read u
-          → withId id (pick c (pick b (Read u) (Refused BadCrc)) (Read u)) ≡ Read t → (Passed check s id size) t
+          → withId id (pick c (pick b (Read u) (Refused BadCrc)) (Read u)) ≡ Read t → Passed check s id size t
       held true true u f h l g k = same (eqb (u .id) id) u refl l g (λ c. h) k
       held true false u f h l g k = absurd (let z : _≡_ {A = ℕ} 0 1 = cc in omega arith)
       held false b u f h l g k = same (eqb (u .id) id) u refl l g (λ c. not-both (sym f ∙ c)) k
 
-      told : (a : Bool) (r : TagRead) → leb size (length s) ≡ a → readTag s ≡ r → pick a (withId id (withBody check s r)) (Refused Malformed) ≡ Read t → (Passed check s id size) t
+      told : (a : Bool) (r : TagRead) → leb size (length s) ≡ a → readTag s ≡ r → pick a (withId id (withBody check s r)) (Refused Malformed) ≡ Read t → Passed check s id size t
       told true (Read u) l g k = held check (bodyRight s u) u refl refl l g k
       told true (Refused w) l g k = absurd (let z : _≡_ {A = ℕ} 0 1 = cc in omega arith)
       told false r l g k = absurd (let z : _≡_ {A = ℕ} 0 1 = cc in omega arith)

@@ -18,7 +18,7 @@ use Rattle.records.specs.declared.allocations.LongAd.{LongAd}
 use Rattle.listings.specs.Entries.{Entry}
 use Rattle.listings.specs.Listings.{namedOf}
 use Rattle.listings.specs.declared.finds.Named.{Named}
-use Rattle.listings.specs.Paths.{Component, componentsFrom, slashes}
+use Rattle.listings.specs.Paths.{Component, componentsFrom}
 use Rattle.listings.specs.declared.matchings.Matching.{Matching}
 use Rattle.directories.specs.Lookups.{Sought, seeking, seekPath, icbOf, foundTo, lostOf}
 use Rattle.directories.specs.declared.lookups.Found.{Found}
@@ -37,11 +37,11 @@ abbrev pub lostAt : ℕ → ℕ → ℕ → PathPlace
 lostAt count from end = stoppedAt (number NotBluray) noLong count from end
 
 -- the place behind a component whose entry was looked for
-unfoldable pub beyondOf : List ℕ → Named → ℕ → ℕ → ℕ → PathPlace
-beyondOf path e count from end =
+unfoldable pub beyondOf : Named → ℕ → ℕ → ℕ → PathPlace
+beyondOf e count from end =
     pick (eqb (e .answer) 0)
     (pick (e .found)
-    (record { going = true; answer = 0; icb = e .icb; directory = e .directory; count = count; from = end + slashes (drop end path); end = length path })
+    (record { going = true; answer = 0; icb = e .icb; directory = e .directory; count = count; from = end; end = end })
     (lostAt count from end))
     (stoppedAt (e .answer) noLong count 0 0)
 
@@ -63,12 +63,11 @@ leadsTo d matching v work path p =
       lost = record { bytes = take (p .end - p .from) (drop (p .from) path); at = p .from };
     })
 
--- a place on the path: while going, where a component starts or the path ends
+-- a place on the path, by its numbers alone
 pub record On (path : List ℕ) (p : PathPlace) : Type 0 where
   pub ordered : p .from ≤ p .end
   pub within : p .end ≤ length path
   pub counted : p .count ≤ 0xffff_ffff_ffff_ffff
-  pub clean : p .going ≡ true → slashes (drop (p .from) path) ≡ 0
 
 -- how far it is to the end
 abbrev pub stepsLeft : List ℕ → PathPlace → ℕ

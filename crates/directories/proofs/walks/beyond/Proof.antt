@@ -15,5 +15,4 @@ beyond-spec =
     (λ c. search goes)
     (λ c κs. search goes)
     (λ c. search goes)
-    (λ c κs. search goes)
     (λ c. search goes))

@@ -17,16 +17,19 @@ entered c =
     let live = entered .before .before .before in
     let ended = live .before .before in
     let here = ended .before in
-    let start = here .before .before .before .before .before in
+    let begun = here .before in
+    let start = begun .before .before .before .before .before in
+    let from = begun .component-from .ensures in
     let read = entered .enter .ensures in
     let inside = not-false _ (live .if2 .left) in (
-      step-enters _ _ _ _ _ (start .pre .0) (start .pre .1) (here .if1 .left) (ended .component-end .ensures) inside (read .0) (counted .add-counts .ensures) (c .beyond .ensures),
-      leaves-entered _ _ _ _ (start .pre .0) (start .pre .1) _ (here .if1 .left) (ended .component-end .ensures) inside (read .0) _ (c .beyond .ensures) (read .1),
+      step-enters _ _ _ _ _ (start .pre .0) (start .pre .1) from (here .if1 .left) (ended .component-end .ensures) inside (read .0) (counted .add-counts .ensures) (c .beyond .ensures),
+      leaves-entered _ _ _ _ (start .pre .0) (start .pre .1) from _ (here .if1 .left) (ended .component-end .ensures) inside (read .0) _ (c .beyond .ensures) (read .1),
     )
 
 pub step-spec : {M : Type 1} → statement M
 step-spec =
     tie.close (tie.spec
+    (λ c κs. search steps)
     (λ c κs. search steps)
     (λ c. search steps)
     (λ c κs. search steps)
