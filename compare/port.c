@@ -7,7 +7,7 @@
  *                                                                               docs/COMPARING.md packs it
  *   'Q' call (1), in noise (1), salt (1),                                       a query; with `in noise`, on an image that holds
  *       volume (95), ICB (17), room (4), work (4), how (4), matching (4),       the kept sectors alone, and noise in all others
- *       places of the lengths (4) and of the answers (4), levels (4),
+ *       places of the lengths (4) and of the answers (4), levels (4), most (8),
  *       path length (4), path, numbers of the shelf (4), each (8), images (8),
  *       kept sectors (4), each sector's number (4)
  *   'T' times (4), and a query as behind 'Q'                                    the query so many times over: the answer is the
@@ -77,7 +77,7 @@ typedef struct {
     vault_volume volume;
     vault_long_ad icb;
     uint32_t room, work, how, matching, lengths, answers, levels, path_length, kept;
-    uint64_t images;
+    uint64_t most, images;
 } query;
 
 static buffer image, noise, replies, lent_out, lent_work, lent_lengths, lent_answers, path, shelf, kept;
@@ -375,11 +375,11 @@ static outcome call(const query *q, const uint8_t *disc, size_t n, uint8_t *out,
                                       work, q->work));
         break;
     }
-    case SHOW: from_reply(&o, vault_show(q->volume, disc, n, q->levels, out, q->room, work, q->work)); break;
+    case SHOW: from_reply(&o, vault_show(q->volume, disc, n, q->levels, q->most, out, q->room, work, q->work)); break;
     case MEASURE: from_reply(&o, vault_measure(q->volume, disc, n, q->icb)); break;
     case SURVEY: {
         const uint64_t *lengths = (const uint64_t *)(const void *)(lent_lengths.at + GUARD);
-        o.answer = vault_survey(disc, n, lengths, q->lengths, q->how, (uint64_t *)(void *)out, q->room, work, q->work);
+        o.answer = vault_survey(disc, n, lengths, q->lengths, q->how, q->most, (uint64_t *)(void *)out, q->room, work, q->work);
         o.length = o.answer ? 0 : VAULT_FIGURES * ((uint64_t)q->lengths + 1);
         break;
     }
@@ -421,6 +421,7 @@ static query take_query(void) {
     q.lengths = (uint32_t)take_number(4);
     q.answers = (uint32_t)take_number(4);
     q.levels = (uint32_t)take_number(4);
+    q.most = take_number(8);
     q.path_length = (uint32_t)take_number(4);
     grow(&path, q.path_length + 1);
     take_all(&path, q.path_length);

@@ -19,6 +19,29 @@
  * A call that is done writes the front of `out` and nothing behind it. `work` is all zero on return from every call,
  * refused or not.
  *
+ * What bounds the time of each call, whatever the image holds: it is in proportion to what stands beside it. The
+ * descriptors of a file stand in its entry and in a chain of at most 32 continuations of 1 MiB, together at most
+ * 16,385 sectors. A directory has at most the bytes of `work`, or is refused.
+ *
+ *     vault_open, vault_label     the main sequence, at most 2,097,151 sectors; once more for each map with VAULT_MAPS
+ *     vault_probe                 8 sectors
+ *     vault_lookup, vault_failed  for each component of the path a directory's bytes, entry and chain
+ *     vault_list                  the directory's bytes, entry and chain
+ *     vault_read                  the bytes that are answered, and the file's entry and chain
+ *     vault_measure, vault_part   the file's entry and chain: none of its bytes is looked at
+ *     vault_extents, vault_runs   the same, and the slots that are written
+ *     vault_read_path             the lookup and the read
+ *     vault_read_all              the sum of its items
+ *     vault_show                  most + 1 times the bytes of `work` and 2,048; one more directory's entry and chain
+ *     vault_survey                of each image the opening, the show, and one more file's entry and chain
+ *     vault_opening_step          one sector
+ *     vault_reading_step          one sector; where the chain or the read ends, the slots of the row
+ *     vault_list_bytes            the bytes lent, as of vault_match and vault_next_component
+ *     vault_write                 the image that is written, and the names
+ *
+ * With VAULT_UNLIMITED as `most`, vault_show and vault_survey have no bound but the number of paths, and a disc that
+ * was made to do harm may have more of these than could ever be walked.
+ *
  * Any volume and any ICB may be handed in, also one made by hand. They are taken as they are: a length of 2^30 is
  * not 0.
  *
@@ -63,6 +86,7 @@ typedef enum vault_answer {
     /* The lengths of a shelf's images pass the bytes lent, or there are too few places for the figures of each and
      * of the shelf. */
     VAULT_BAD_SHELF = 15,
+    VAULT_OVER_BUDGET = 16, /* The call would ask for more sectors than it was lent (`most`). */
 } vault_answer;
 
 /* How a component of a path is matched with the names of a directory's entries. */
@@ -95,11 +119,14 @@ typedef enum vault_how {
 
 enum {
     VAULT_SECTOR_SIZE = 2048, /* The bytes of a sector, and of a block. */
-    VAULT_VERSION = 11, /* Goes up whenever a struct or a call changes. */
+    VAULT_VERSION = 12, /* Goes up whenever a struct or a call changes. */
 };
 
+/* For `most`: as many sectors as the call wants. It is for an image that is trusted. */
+#define VAULT_UNLIMITED UINT64_C(18446744073709551615)
+
 enum {
-    VAULT_FIGURES = 76, /* How many numbers a place of a row of figures has. */
+    VAULT_FIGURES = 80, /* How many numbers a place of a row of figures has. */
 };
 
 /* How a volume is read: where its partition starts, the partition's number, whether the bodies of its descriptors
@@ -223,11 +250,16 @@ vault_reply vault_list(vault_volume volume, const uint8_t *image, size_t image_l
  *
  * A directory at the last level, even an empty one, is VAULT_TOO_DEEP at its turn, before it is read, and so is any
  * other number of levels at once. The directories on the way down stand in `work` together, one behind the other:
- * VAULT_NO_WORK counts those above. A directory is shown, and read, once for each path to it, so that the cost goes
- * with the paths. One that holds itself is found at the last level, and is VAULT_TOO_DEEP, or is VAULT_NO_WORK
- * before. */
-vault_reply vault_show(vault_volume volume, const uint8_t *image, size_t image_length, uint32_t levels, uint8_t *out,
-                       size_t out_length, uint8_t *work, size_t work_length);
+ * VAULT_NO_WORK counts those above. One that holds itself is found at the last level, and is VAULT_TOO_DEEP, or is
+ * VAULT_NO_WORK before.
+ *
+ * A directory is shown, and read, once for each path to it: a few directories may have more paths than could ever be
+ * walked. So `most` is how many sectors the call may ask for. It is VAULT_OVER_BUDGET in the place of asking for one
+ * more, and the count is then `most`; refusals that it meets before stay what they are. A call that asks for no more
+ * is the same as with VAULT_UNLIMITED. On a sound disc each sector of a directory is asked for once, so that as many
+ * as the image has are enough. */
+vault_reply vault_show(vault_volume volume, const uint8_t *image, size_t image_length, uint32_t levels, uint64_t most,
+                       uint8_t *out, size_t out_length, uint8_t *work, size_t work_length);
 
 /* Reads a file, or a directory's own bytes, to `out`. */
 vault_reply vault_read(vault_volume volume, const uint8_t *image, size_t image_length, vault_long_ad icb, uint8_t *out,
@@ -484,10 +516,11 @@ typedef struct {
     /* The counts of reading each file, also of those that are refused; not the sectors of opening, of the tree and
      * of the extent lists. */
     vault_figure sectors;
-    vault_figure files_by_answer[16]; /* How many files have each answer number. */
-    /* How many images have each answer number, of their opening or of their tree; one that has another than 0 has no
+    vault_figure files_by_answer[17]; /* How many files have each answer number. None has VAULT_OVER_BUDGET. */
+    /* How many images have each answer number, of their opening or of their tree, or VAULT_OVER_BUDGET where these
+     * and the reads of the files together want more sectors than were lent. An image that has another than 0 has no
      * other figure. */
-    vault_figure images_by_answer[16];
+    vault_figure images_by_answer[17];
     /* The most continuations of allocation descriptors that were followed for a file that can be read. */
     vault_figure chain;
 } vault_figures;
@@ -496,9 +529,15 @@ typedef struct {
  * place for each in turn, and behind them one for all. `how` is as for vault_open, and `work` as for vault_show. The
  * answer is VAULT_DONE also where every image is refused; or VAULT_BAD_SHELF where the lengths pass `shelf` or there
  * are fewer places than images and one, and then nothing is written but the zeros of `work`. Places behind stay as
- * they came. */
+ * they came.
+ *
+ * Each image is lent `most` sectors anew: its opening, its tree and the reads of its files in their order each have
+ * what those before have left, by their counts. An image that wants more counts under VAULT_OVER_BUDGET, and the
+ * next one has its turn. What is looked up beside the reads, extents and chains, isn't counted. On a sound disc each
+ * sector is asked for once, and those of a file once for each path to it. VAULT_UNLIMITED is no budget. */
 uint64_t vault_survey(const uint8_t *shelf, size_t shelf_length, const uint64_t *lengths, size_t lengths_places,
-                      uint32_t how, uint64_t *figures, size_t figures_places, uint8_t *work, size_t work_length);
+                      uint32_t how, uint64_t most, uint64_t *figures, size_t figures_places, uint8_t *work,
+                      size_t work_length);
 
 /* Writes the total of the first `images` places of a row to the one behind them: for images that don't stand in one
  * slice, of which each was surveyed by itself. The answer is VAULT_DONE; or VAULT_BAD_SHELF where there are too few
@@ -538,6 +577,8 @@ static inline const char *vault_answer_text(uint64_t answer) {
         return "The files of a vault that is to be written: too many, names and lengths unlike in number, one too long, or lengths that pass the staging area";
     case VAULT_BAD_SHELF:
         return "The lengths of a shelf's images pass the bytes lent, or there are too few places for the figures of each and of the shelf";
+    case VAULT_OVER_BUDGET:
+        return "The call would ask for more sectors than it was lent (most)";
     default:
         return "A number that isn't known";
     }

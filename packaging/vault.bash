@@ -16,12 +16,13 @@ _vault() {
     if [[ $word == -* ]]; then
         local options="--help --sectors --checked --highest --maps --copy --drive"
         case $command in
-            ls) options+=" -R -i -l -0 --json --levels --limit --as-written --unambiguous --raw --icb" ;;
-            tree) options+=" --json --levels --limit --as-written --unambiguous --raw --icb" ;;
+            ls) options+=" -R -i -l -0 --json --levels --limit --no-limit --as-written --unambiguous --raw --icb" ;;
+            tree) options+=" --json --levels --limit --no-limit --as-written --unambiguous --raw --icb" ;;
             cat) options+=" --from --bytes --wait --as-written --unambiguous --raw --icb" ;;
-            get) options+=" -o -r --limit --from --bytes --wait --as-written --unambiguous --raw --icb" ;;
+            get) options+=" -o -r --limit --no-limit --from --bytes --wait --as-written --unambiguous --raw --icb" ;;
             stat) options+=" --json --as-written --unambiguous --raw --icb" ;;
-            info | check | survey) options+=" --json" ;;
+            info) options+=" --json" ;;
+            check | survey) options+=" --json --limit --no-limit" ;;
             "") options+=" --version" ;;
         esac
         COMPREPLY=($(compgen -W "$options" -- "$word"))

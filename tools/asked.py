@@ -19,7 +19,7 @@ from typing import Callable, NamedTuple
 sys.dont_write_bytecode = True
 import kit
 import rules
-from rules import SIZE, Disc, Volume
+from rules import SIZE, UNLIMITED, Disc, Volume
 
 CRATES = kit.ROOT / "crates"
 HERE = CRATES / "asker"
@@ -30,7 +30,7 @@ WAYS = 8  # Of opening; behind them come the volumes made by hand.
 WATCHED = 2**32 - 1
 FREE_LENGTH, FREE_ANSWER = 0xA5A5A5A5A5A5A5A5, 0xA5A5A5A5
 BY_HAND = struct.Struct("<IHII4H4H4I16s")
-QUERY = struct.Struct("<9I16sI")
+QUERY = struct.Struct("<9I16sQI")
 OTHER_BYTES = "a name of other bytes"
 
 
@@ -48,11 +48,12 @@ class Query(NamedTuple):
     slots: int
     answers: int
     icb: bytes
+    most: int
     text: bytes
 
     def bytes(self):
-        *numbers, icb, text = self
-        return QUERY.pack(*numbers, icb, len(text)) + text
+        *fields, text = self
+        return QUERY.pack(*fields, len(text)) + text
 
 
 class Image(NamedTuple):
@@ -138,8 +139,8 @@ def volume_by_hand(records):
 def query_read(records, image, by_hand):
     """A query; each number that means nothing is refused at its place."""
     at = records.at
-    *numbers, icb, size = QUERY.unpack(records.take(QUERY.size, "a query"))
-    query = Query(*numbers, icb, records.take(size, "a query's text"))
+    *fields, size = QUERY.unpack(records.take(QUERY.size, "a query"))
+    query = Query(*fields, records.take(size, "a query's text"))
     opens = query.calls & OPENING and query.volume >= WAYS
     for place, is_wrong, why in (
         (0, query.calls == 0 or query.calls >> len(CALLS), "no call, or an unknown one"),
@@ -239,7 +240,7 @@ CALLS = {
     "read_all": Call(
         lambda d, v, q: rules.read_all(d, v, q.text, q.matching, q.room, q.work, q.slots, q.answers), (b"", [], []), all_words
     ),
-    "show": Call(lambda d, v, q: rules.show(d, v, q.levels, q.room, q.work), b"", lambda data, q: f"{summed(data)} kept zero"),
+    "show": Call(lambda d, v, q: rules.show(d, v, q.levels, q.most, q.room, q.work), b"", lambda data, q: f"{summed(data)} kept zero"),
     "measure": Call(lambda d, v, q: rules.measure(d, v, q.icb), 0, lambda length, q: f"length {length}"),
     "runs": Call(lambda d, v, q: rules.runs(d, v, q.icb, q.slots), [], slots_words),
     "failed_at": Call(
@@ -264,7 +265,7 @@ ROWS = {
     "extents": OF_FILE | {7},
     "read_path": ALONG | {5},
     "read_all": {0, 12},
-    "show": OF_FILE | {5, 6, 11},
+    "show": OF_FILE | {5, 6, 11, 16},
     "measure": OF_FILE,
     "runs": OF_FILE | {7},
     "failed_at": ALONG,
@@ -306,10 +307,11 @@ def watched(name, image, volume, query):
 
 
 def query_line(q, size):
-    """What is asked; what is 0 or empty is left out, and so is the whole length of the image."""
-    there = [("there", q.there)] * (q.there != size)
-    numbers = [("matching", q.matching), ("levels", q.levels), ("room", q.room), ("work", q.work), ("slots", q.slots), ("answers", q.answers)]
-    words = [f" {name} {n}" for name, n in [("volume", q.volume), *there, *numbers] if n or name == "there"]
+    """What is asked; what is 0 or empty is left out, and so are the whole length of the image and a budget that is none."""
+    there, most = [("there", q.there)] * (q.there != size), [("most", q.most)] * (q.most != UNLIMITED)
+    numbers = [("room", q.room), ("work", q.work), ("slots", q.slots), ("answers", q.answers)]
+    numbers = [("volume", q.volume), *there, ("matching", q.matching), ("levels", q.levels), *most, *numbers]
+    words = [f" {name} {n}" for name, n in numbers if n or name in ("there", "most")]
     return "query" + "".join(words) + "".join(f" {name} {shown(data)}" for name, data in (("icb", q.icb), ("text", q.text)) if any(data))
 
 
@@ -374,7 +376,7 @@ def stored(program, lines, words):
 def sample():
     """A file with one image, and where each of its fields starts."""
     image = struct.pack("<IIII4s", 4096, 1, 5, 4, b"some")
-    query = Query(BIT["read"], WAYS, 4096, 0, 1, 10, 10, 1, 1, bytes(16), b"path")
+    query = Query(BIT["read"], WAYS, 4096, 0, 1, 10, 10, 1, 1, bytes(16), UNLIMITED, b"path")
     one = recorded("one", 0, image, [rules.NOTHING], [query, query._replace(text=b"")])
     sizes = {"name length": 2, "name": 3, "base": 1, "packed length": 4, "packed": len(image), "hands": 2, "by hand": BY_HAND.size}
     places, at = {}, 0
@@ -388,7 +390,7 @@ def cuts(one, places):
     for size in range(1, len(one)):
         yield f"cut to {size} bytes", one[:size], max(at for at in places.values() if at <= size)
     # Where what stands under a length is cut, and the length says so.
-    for name, starts, lengths in (("packed length", (0, 4, 8, 12, 16), range(20)), ("queries length", (0, QUERY.size), range(1, 60))):
+    for name, starts, lengths in (("packed length", (0, 4, 8, 12, 16), range(20)), ("queries length", (0, QUERY.size), range(1, QUERY.size + 4))):
         at = places[name] + 4
         rest = one[at + int.from_bytes(one[at - 4 : at], "little") :]
         for size in lengths:
@@ -418,7 +420,7 @@ def meaningless(one, places):
         yield what, one[:at] + struct.pack("<" + form, number) + one[at + struct.calcsize(form) :], at
     for what in OPENING & BIT["open"], OPENING & BIT["label"]:
         yield "opening by hand", one[:query] + struct.pack("<I", what) + one[query + 4 :], query + 4
-    yield "a text that ends behind the queries", one[: query + 52] + struct.pack("<I", 61) + one[query + 56 :], query + QUERY.size
+    yield "a text that ends behind the queries", one[: query + 60] + struct.pack("<I", 69) + one[query + 64 :], query + QUERY.size
     yield "a run fewer", one[: packed + 4] + struct.pack("<I", 0) + one[packed + 8 :], packed + 8
     yield OTHER_BYTES, b"\2\0\xc3\xa9" + one[5:], 0
 

@@ -8,7 +8,7 @@ import struct
 
 import udf
 from asked import BIT, WAYS, Query, recorded
-from rules import NOTHING
+from rules import NOTHING, UNLIMITED
 from udf import ANCHOR, BLOCK, DESCRIPTOR, EMBEDDED, FILE_IDENTIFIER, MAIN, NEXT, PARTITION, SECTOR, START
 from udf import aed, entry, long_ad, tag
 
@@ -29,11 +29,11 @@ class Asked(udf.Image):
         if data or base:
             self.bytes = bytearray(data or base.bytes)
 
-    def query(self, *calls, text=b"", icb=bytes(16), volume=0, there=None, matching=0, levels=0, room=0, work=0, slots=0, answers=0):
+    def query(self, *calls, text=b"", icb=bytes(16), volume=0, there=None, matching=0, levels=0, most=UNLIMITED, room=0, work=0, slots=0, answers=0):
         """Asks for calls, of all the image unless less is there."""
         bits = sum(BIT[call] for call in calls)
         there = len(self.bytes) if there is None else there
-        self.queries.append(Query(bits, volume, there, matching, levels, room, work, slots, answers, icb, encoded(text)))
+        self.queries.append(Query(bits, volume, there, matching, levels, room, work, slots, answers, icb, most, encoded(text)))
 
     def by_hand(self, **said):
         """The number of a volume that is made by hand."""

@@ -10,6 +10,7 @@ Needs Python's standard library alone, prints nothing, and writes the same bytes
 import sys
 
 sys.dont_write_bytecode = True
+import budget_images
 import checked_images
 import combined_images
 import directory_images
@@ -35,6 +36,7 @@ WRITERS = {
     "stacks": stack_images,
     "trees": tree_images,
     "combinations": combined_images,
+    "budgets": budget_images,
     "drives": drive_images,
     "shelves": survey_images,
 }

@@ -6,10 +6,11 @@ A call asks a disc for sectors, which counts them. Each function names the rules
 
 import binascii
 import functools
+import math
 from typing import NamedTuple
 
 SIZE = 2048
-GONE, BAD, ABSENT, OTHER, ROOM, WORK, SLOT, SEVERAL, WRONG, TOO_DEEP, TOO_MANY = 1, 2, 3, 4, 5, 6, 7, 9, 10, 11, 12
+GONE, BAD, ABSENT, OTHER, ROOM, WORK, SLOT, SEVERAL, WRONG, TOO_DEEP, TOO_MANY, OVER_BUDGET = 1, 2, 3, 4, 5, 6, 7, 9, 10, 11, 12, 16
 CHECKED, MAPS, HIGHEST = 1, 2, 4
 CASE_IGNORED, AS_WRITTEN = 0, 1
 PRIMARY, ANCHOR, PARTITION, LOGICAL, TERMINATING, FILE_SET, IDENTIFIER, CONTINUATION, ENTRY, EXTENDED_ENTRY = 1, 2, 5, 6, 8, 256, 257, 258, 261, 266
@@ -17,6 +18,7 @@ SHORT, LONG, EXT, EMBEDDED = range(4)
 RECORDED, NEXT = 0, 3
 MOST_MAPS, MOST_CONTINUATIONS, LONGEST_CONTINUATION, MOST_LEVELS = 4, 32, 2**20, 16
 NO_PARTITION = 65536
+UNLIMITED = 2**64 - 1
 IDENTIFIERS = (b"BEA01", b"NSR02", b"NSR03", b"TEA01", b"CD001", b"CDW02")
 
 
@@ -28,13 +30,21 @@ class Refused(Exception):
 
 
 class Disc:
-    """An image of which a front is there: it counts the sectors that are asked for, and keeps the lowest of those that aren't there (2.1 to 2.4)."""
+    """An image of which a front is there: it counts the sectors that are asked for, and keeps the lowest of those that aren't there (2.1 to 2.4). It may be
+    lent a number of sectors, and then refuses each question behind those."""
 
     def __init__(self, image, there=None):
         self.image, self.there = image, len(image) if there is None else there
-        self.count, self.missing = 0, None
+        self.count, self.left, self.missing = 0, math.inf, None
+
+    def lend(self, most):
+        """From now on so many sectors: 2.15 to 2.18."""
+        self.left = math.inf if most == UNLIMITED else most
 
     def sector(self, number):
+        if self.left == 0:
+            raise Refused(OVER_BUDGET)
+        self.left -= 1
         self.count += 1
         if (number + 1) * SIZE > self.there:
             self.missing = number if self.missing is None else min(number, self.missing)
@@ -518,10 +528,11 @@ def nodes(disc, volume, icb, level, levels, work):
             yield from nodes(disc, volume, one.icb, level + 1, levels, work - len(data))
 
 
-def show(disc, volume, levels, room, work):
+def show(disc, volume, levels, most, room, work):
     """8.34, 8.37 and 8.40."""
     if not 1 <= levels <= MOST_LEVELS:
         raise Refused(TOO_DEEP)
+    disc.lend(most)
     tree = nodes(disc, volume, volume.root, 1, levels, work)
     return fitted(b"".join(record(one, b"DE" + bytes([level])) for level, one in tree), room)
 

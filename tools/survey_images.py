@@ -7,12 +7,14 @@ The file is a row of records, with little-endian numbers:
 tools/udf.py says what is packed. A query is
 
     u32 what is asked (0 a survey, 1 a total), u32 how the images are opened, u32 how many numbers the row has, u32 size of the work space,
-    u32 how many numbers follow, and those, u64 each: the lengths of the images; or how many places are totalled, and what the row has at its front
+    u64 how many sectors each image is lent (2^64 - 1: no budget), u32 how many numbers follow, and those, u64 each: the lengths of the images; or how many
+    places are totalled, and what the row has at its front
 """
 
 import struct
 
 import mapped_images
+import rules
 import tree_images
 import udf
 from discs import CHECKED, DELETED, DIRECTORY, HIDDEN, HIGHEST, MAPS, OTHER, PARENT, ROOT, identifier
@@ -25,7 +27,7 @@ START = 40  # The partition stands before the anchor, so that an image has no mo
 LATER = 140  # Where a second partition starts.
 GONE = 4000  # A block past every image.
 WORK = 8192  # The work space, where a query says nothing else.
-PLACE = 76  # How many numbers a place has.
+PLACE = 80  # How many numbers a place has.
 MOST = 2**64 - 1
 NONE_SUCH = 8  # No way of opening.
 SURVEY, TOTAL = 0, 1
@@ -81,13 +83,13 @@ class Shelf:
         parts = [bytes(getattr(image, "bytes", image)) for image in images]
         self.name, self.lengths, self.bytes, self.queries = name, [len(one) for one in parts], b"".join(parts) + behind, []
 
-    def ask(self, what, how, numbers, work, row):
-        self.queries.append(struct.pack("<5I", what, how, numbers, work, len(row)) + struct.pack("<%dQ" % len(row), *row))
+    def ask(self, what, how, numbers, work, row, most=MOST):
+        self.queries.append(struct.pack("<4IQI", what, how, numbers, work, most, len(row)) + struct.pack("<%dQ" % len(row), *row))
 
-    def survey(self, how=0, lengths=None, numbers=None, work=WORK, more=0):
+    def survey(self, how=0, lengths=None, numbers=None, work=WORK, more=0, most=MOST):
         """Of all images, with a row exactly long enough, unless something else is given."""
         lengths = self.lengths if lengths is None else lengths
-        self.ask(SURVEY, how, PLACE * (len(lengths) + 1) + more if numbers is None else numbers, work, lengths)
+        self.ask(SURVEY, how, PLACE * (len(lengths) + 1) + more if numbers is None else numbers, work, lengths, most)
 
     def total(self, places, row, numbers=None):
         self.ask(TOTAL, 0, len(row) if numbers is None else numbers, 0, [places, *row])
@@ -457,46 +459,132 @@ def place(*figures, **more):
 def by_hand():
     """Totals of any numbers: sums up to 2^64 - 1 and past it, marks, chains, too few places and none."""
     s, free = Shelf("rows by hand"), [0] * PLACE
-    every = place(*range(1, 39))
+    every = place(*range(1, 41))
     for row in (
         [every],
-        [every, place(*range(100, 4, -1)[:38])],
+        [every, place(*range(100, 4, -1)[:40])],
         [place(MOST - 1), place(1)],
         [place(MOST), place(0)],
         [place(MOST), place(1)],
         [place(1), place(MOST)],
         [place(MOST), place(MOST)],
-        [place(2**63, _36=2**63), place(2**63, _36=2**63 - 1), place(0, _36=1)],
+        [place(2**63, _38=2**63), place(2**63, _38=2**63 - 1), place(0, _38=1)],
         [place((5, 1)), place(3)],
         [place(3), place((5, 1)), place(4)],
         [place((MOST, 1), (0, 1)), place(0, 0)],
         [place((7, 2), (0, MOST), (MOST, 2**63)), place(1, 1, 1)],
         [place(1, 1), place((7, 2), (0, MOST))],
-        [place(_37=5), place(_37=7)],
-        [place(_37=7), place(_37=5)],
-        [place(_37=7), place(_37=7), place(_37=6)],
-        [place(_37=MOST), place(_37=1)],
-        [place(_37=(5, 1)), place(_37=7)],
-        [place(_37=7), place(_37=(5, 9))],
-        [place(_36=MOST, _37=MOST), place(_36=MOST, _37=MOST)],
-        [place(*[MOST] * 38), place(*[1] * 38)],
-        [place(*[(MOST, 1)] * 38)],
+        [place(_39=5), place(_39=7)],
+        [place(_39=7), place(_39=5)],
+        [place(_39=7), place(_39=7), place(_39=6)],
+        [place(_39=MOST), place(_39=1)],
+        [place(_39=(5, 1)), place(_39=7)],
+        [place(_39=7), place(_39=(5, 9))],
+        [place(_38=MOST, _39=MOST), place(_38=MOST, _39=MOST)],
+        [place(*[MOST] * 40), place(*[1] * 40)],
+        [place(*[(MOST, 1)] * 40)],
         [place(k) for k in range(1, 11)],
     ):
         s.total(len(row), [n for one in [*row, free] for n in one])
     # The place behind them is written over, whatever it held; what stands behind that isn't.
     s.total(1, every, 2 * PLACE)
-    s.total(1, every, 2 * PLACE + 75)
+    s.total(1, every, 2 * PLACE + 79)
     s.total(0, every)
     s.total(1, every + every)
     # Too few places, and none: 2^62 places have as many numbers as none in 64 bits.
-    for numbers in (0, 75, 76):
+    for numbers in (0, 79, 80):
         s.total(0, every[:numbers])
-    for places, numbers in ((1, 76), (1, 151), (1, 152), (2, 152), (2, 227), (3, 228)):
+    for places, numbers in ((1, 80), (1, 159), (1, 160), (2, 160), (2, 239), (3, 240)):
         s.total(places, (every * 3)[:numbers])
     for places in (2**32, 2**62 - 1, 2**63, MOST):
         s.total(places, every * 3)
     yield s
 
 
-CASES = [nothing, rows, cuts, openings, trees, files, paths, chains, beyond, choices, at_random, by_hand]
+# ---- budgets: how many sectors are wanted, tools/rules.py says
+
+
+def wanted(v, how=0):
+    """How many sectors an image takes for its opening; for that and its tree; and for these and the reads of its first files, one after another."""
+    disc = rules.Disc(bytes(v.bytes))
+    volume = rules.opened(disc, how)
+    yield disc.count
+    tree = list(rules.nodes(disc, volume, volume.root, 1, rules.MOST_LEVELS, WORK))
+    yield disc.count
+    for icb in (one.icb for _, one in tree if not one.is_directory):
+        rules.asked(disc, lambda disc: rules.measure(disc, volume, icb))
+        yield disc.count
+
+
+def around(v, how=0):
+    """Each of these, and one sector fewer."""
+    return sorted({n - less for n in wanted(v, how) for less in (0, 1)})
+
+
+def of_zeros():
+    """Files of each kind at two levels, whose bytes are zeros, which cost nothing to keep."""
+    v = Volume()
+    short = v.stored(entry(SHORT, short_ad(5000, v.take(3)), 5000))
+    long = v.stored(entry(LONG, long_ad(2048, v.take()) + long_ad(2049, v.take(2)), 4000))
+    ext = v.stored(entry(EXT, ext_ad(9000, v.take(5)) + ext_ad(9, GONE), 9000, EXTENDED_FILE_ENTRY))
+    kinds = [v.named("short", short), v.named("long", long), v.named("ext", ext), v.named("chain", v.chained(3)), v.named("again", short)]
+    v.is_root([v.cue("a"), v.folder("kinds", kinds, kind=LONG), v.cue("z")], kind=SHORT)
+    return v
+
+
+def harmful():
+    """Thirteen directories, the root first, of twenty entries that all lead to the next, and a last one with a file."""
+    v = Volume()
+    below = v.holding([v.cue("file")])[0]
+    for block in (*[None] * 12, ROOT):
+        below = v.holding([v.named("%02d" % n, below, DIRECTORY) for n in range(20)], block=block)[0]
+    return v
+
+
+def budgets():
+    """Sectors exactly enough and one short for the opening, the tree, and each file; a disc made to do harm between good ones. Each shelf
+    is asked first with no budget, or where it doesn't end so with the highest that it is lent."""
+    good, small_one = of_zeros(), small("a", "b")
+    s = Shelf("a disc made to do harm, between good ones", good, harmful(), small_one)
+    enough, few = max(wanted(good)), max(wanted(small_one))
+    for most in (1000, enough, enough - 1, few, few - 1, 20, 19, 6, 0):
+        s.survey(work=2**15, most=most)
+    # Its tree has no work space below the eighth of its directories.
+    for most in (1000, 15, 14):
+        s.survey(most=most)
+    for how in (CHECKED, MAPS, HIGHEST, NONE_SUCH):
+        s.survey(how=how, work=2**15, most=1000)
+    s.survey(how=NONE_SUCH, most=0)
+    s.survey(work=2**15, most=1000, more=-1)
+    yield s
+    s = Shelf("sectors enough and one short for each part", good)
+    for most in (MOST, MOST - 1, 2**63, 2**32 + enough - 1, 2**32, enough + 1, *around(good), 1, 0):
+        s.survey(most=most)
+    yield s
+    # A refused read counts with the sectors that it asked for, and is then followed by the next.
+    refused = with_files(*(make for several in REFUSED.values() for make in several[:3]))
+    s = Shelf("sectors enough and one short for refused files", refused)
+    for how in (0, CHECKED):
+        for most in (MOST, *around(refused, how)):
+            s.survey(how=how, most=most)
+    yield s
+    # Files are read behind the tree: where that is refused none is, however long those are that stand before.
+    loop, bad = Volume(), Volume()
+    loop.is_root([loop.named("long", loop.chained(32)), loop.named("loop", loop.root, DIRECTORY)])
+    bad.is_root([bad.named("long", bad.chained(32)), bad.folder("d", [Item(identifier("bad", bad.root, wrong=1))])])
+    gone = with_files(lambda v: v.chained(32), lambda v: long_ad(SECTOR, GONE))
+    s = Shelf("trees that are refused behind long files, and one that isn't", loop, bad, gone)
+    for most in (MOST, 5, 6, 7, 8, 21, 22, 23, *around(gone)[-4:], 100):
+        s.survey(most=most)
+    yield s
+    two, three, ten = Volume(), Volume(USUAL[1:]), small("c")
+    two.flip(ANCHOR, 4, fix=False)
+    ten.flip(MAIN, 100)
+    s = Shelf("openings that are refused within a budget and by it", good.bytes[: ANCHOR * SECTOR + 2047], two, three, ten, small_one)
+    for most in (MOST, *range(9)):
+        s.survey(most=most)
+        s.survey(how=CHECKED, most=most)
+    yield s
+
+
+CASES = [nothing, rows, cuts, openings, trees, files, paths, chains, beyond, choices, at_random, by_hand, budgets]

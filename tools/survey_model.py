@@ -21,16 +21,17 @@ import kit
 import rules
 import udf
 from asked import CRATES, Cursor, named, stored, unpacked
-from rules import MOST_LEVELS, OTHER, Disc, Refused, number
+from rules import MOST_LEVELS, OTHER, OVER_BUDGET, UNLIMITED, Disc, Refused, number
 
 BAD_SHELF = 15
 MOST = 2**64 - 1
-FILES, DIRECTORIES, BYTES, EXTENTS, SECTORS, BY_FILES, BY_IMAGES, CHAIN = 0, 1, 2, 3, 4, 5, 21, 37
-FIGURES = 38
+FILES, DIRECTORIES, BYTES, EXTENTS, SECTORS, BY_FILES, BY_IMAGES, CHAIN = 0, 1, 2, 3, 4, 5, 22, 39
+FIGURES = 40
 PLACE = 2 * FIGURES
 FREE = 0xA5A5A5A5A5A5A5A5
 CHOICES = 8
 SURVEY = 0
+QUERY = struct.Struct("<4IQI")
 LONGEST_SHELF = 3 * 2**20
 SHELVES = CRATES / "survey_cases/data/shelves"
 
@@ -56,43 +57,45 @@ def put(row):
     return [half for n in row for half in (min(n, MOST), int(n > MOST))]
 
 
-# ---- of a file, an image and a shelf: 16.4 to 16.10
+# ---- of a file, an image and a shelf: 16.4 to 16.10, and 16.13
 
 
-def of_file(image, volume, icb):
-    disc = Disc(image)
+def of_file(disc, volume, icb):
+    """By a read, which has what is left of the budget; what else is looked up has none."""
+    disc.count = 0
     answer, length = rules.asked(disc, lambda disc: rules.measure(disc, volume, icb))
+    if answer == OVER_BUDGET:
+        raise Refused(answer)
     one = [(FILES, 1), (BY_FILES + answer, 1), (SECTORS, min(disc.count, MOST))]
     if answer:
         return figures(*one)
-    extents, followed = rules.chained(disc, volume, rules.entry_of(disc, volume, icb))
+    other = Disc(disc.image)
+    extents, followed = rules.chained(other, volume, rules.entry_of(other, volume, icb))
     return figures(*one, (BYTES, length), (EXTENTS, len(extents)), (CHAIN, followed))
 
 
-def nodes(disc, how, work):
-    """The volume, and of each node of its tree whether it is a directory, and its ICB."""
+def of_nodes(disc, how, most, work):
+    """The opening, the tree and then the reads of its files, all on one disc that is lent so many sectors."""
     if how >= CHOICES:
         raise Refused(OTHER)
+    disc.lend(most)
     volume = rules.opened(disc, how)
-    return volume, [(one.is_directory, one.icb) for _, one in rules.nodes(disc, volume, volume.root, 1, MOST_LEVELS, work)]
+    tree = list(rules.nodes(disc, volume, volume.root, 1, MOST_LEVELS, work))
+    return [figures((DIRECTORIES, 1)) if one.is_directory else of_file(disc, volume, one.icb) for _, one in tree]
 
 
-def of_image(image, how, work):
-    answer, found = rules.asked(Disc(image), lambda disc: nodes(disc, how, work))
-    one = figures((BY_IMAGES + answer, 1))
-    if answer:
-        return one
-    volume, tree = found
-    return added([one, *(figures((DIRECTORIES, 1)) if is_directory else of_file(image, volume, icb) for is_directory, icb in tree)])
+def of_image(image, how, most, work):
+    answer, found = rules.asked(Disc(image), lambda disc: of_nodes(disc, how, most, work))
+    return added([figures((BY_IMAGES + answer, 1)), *(found or ())])
 
 
-def surveyed(shelf, lengths, how, row, work):
+def surveyed(shelf, lengths, how, most, row, work):
     """The answer, and what the row holds."""
     if sum(lengths) > len(shelf) or PLACE * (len(lengths) + 1) > len(row):
         return BAD_SHELF, row
     each = []
     for n in lengths:
-        each.append(of_image(shelf[:n], how, work))
+        each.append(of_image(shelf[:n], how, most, work))
         shelf = shelf[n:]
     places = [n for one in [*each, added(each)] for n in put(one)]
     return 0, places + row[len(places) :]
@@ -123,10 +126,11 @@ def of_places(row):
         yield "place" + "".join(f" {i}:{n}" + f"!{mark}" * (mark > 0) for i, (n, mark) in enumerate(pairs) if n or mark)
 
 
-def said(what, how, numbers, work, shelf, given):
+def said(what, how, numbers, work, most, shelf, given):
     if what == SURVEY:
-        yield " ".join([f"survey how {how} numbers {numbers} work {work} lengths", *map(str, given)])
-        answer, row = surveyed(shelf, given, how, [FREE] * numbers, work)
+        budget = f" most {most}" * (most != UNLIMITED)
+        yield " ".join([f"survey how {how} numbers {numbers} work {work}{budget} lengths", *map(str, given)])
+        answer, row = surveyed(shelf, given, how, most, [FREE] * numbers, work)
         whole = 0 if answer else PLACE * (len(given) + 1)
     else:
         places, *given = given
@@ -145,8 +149,8 @@ def shelves(data):
         shelf = unpacked(records.inner(records.number(4, "the packed shelf's length"), "the packed shelf"), longest=LONGEST_SHELF)
         asked, queries = records.inner(records.number(4, "the queries' length"), "the queries"), []
         while asked.left():
-            numbers = [asked.number(4, "a query") for _ in range(5)]
-            queries.append((*numbers[:4], [asked.number(8, "a query's number") for _ in range(numbers[4])]))
+            *head, many = QUERY.unpack(asked.take(QUERY.size, "a query"))
+            queries.append((*head, [asked.number(8, "a query's number") for _ in range(many)]))
         yield name, shelf, queries
 
 
@@ -154,20 +158,20 @@ def lines(data):
     """What is printed of a file of shelves."""
     for name, shelf, queries in shelves(data):
         yield "shelf " + name
-        for what, how, numbers, work, given in queries:
-            yield from said(what, how, numbers, work, shelf, given)
+        for *head, given in queries:
+            yield from said(*head, shelf, given)
 
 
 # ---- shelves at random
 
 
 def stored_images():
-    """The images of the stored shelves, as the first survey of each has them."""
+    """The images of the stored shelves, as the first survey of each has them, with its budget: without one an image may not end."""
     found = []
     for _, shelf, queries in shelves(SHELVES.read_bytes()):
-        what, *_, lengths = queries[0]
+        what, *_, most, lengths = queries[0]
         for size in lengths if what == SURVEY else ():
-            found.append(shelf[:size])
+            found.append((shelf[:size], most))
             shelf = shelf[size:]
     return found
 
@@ -193,7 +197,11 @@ def mutated(chance, image):
     return bytes(image)
 
 
-def query(chance, shelf, lengths):
+def packed(head, given):
+    return QUERY.pack(*head, len(given)) + struct.pack(f"<{len(given)}Q", *given)
+
+
+def query(chance, shelf, lengths, highest):
     lengths = list(lengths)
     for _ in range(chance.choice((0,) * 8 + (1, 2))):
         at = chance.randrange(len(lengths) + 1)
@@ -202,7 +210,8 @@ def query(chance, shelf, lengths):
     numbers = PLACE * (len(lengths) + 1) + chance.choice((0,) * 12 + (-1, 1, -PLACE, PLACE))
     work = chance.choice((8192,) * 6 + (65536, 0, chance.randrange(400), chance.randrange(3000)))
     how = chance.choice((0,) * 10 + (1,) * 6 + (2, 3, 4, 5, 6, 7, 8, chance.randrange(2**32)))
-    return struct.pack(f"<5I{len(lengths)}Q", SURVEY, how, max(numbers, 0), work, len(lengths), *lengths)
+    most = chance.choice((highest,) * 5 + (highest - 1, *map(chance.randrange, (8, 20, 60, 200))))
+    return packed((SURVEY, how, max(numbers, 0), work, most), lengths)
 
 
 def by_hand(chance):
@@ -210,18 +219,19 @@ def by_hand(chance):
     n, high = chance.randrange(4), (0, 0, 1, 2, 2**32, 2**63, MOST - 1, MOST)
     row = [chance.choice(high) if at % 2 == 0 else chance.choice((0, 0, 0, 0, 0, 0, 1, 2, MOST)) for at in range(PLACE * n)]
     numbers = PLACE * (n + 1) + chance.choice((0,) * 8 + (-1, 1, PLACE))
-    return struct.pack(f"<5I{len(row) + 1}Q", 1, 0, numbers, 0, len(row) + 1, chance.choice((n,) * 8 + (n + 1, MOST)), *row)
+    return packed((1, 0, numbers, 0, UNLIMITED), [chance.choice((n,) * 8 + (n + 1, MOST)), *row])
 
 
 def shelf_at_random(chance, images, name):
-    parts, room = [], 3 << 20
+    parts, room, highest = [], 3 << 20, UNLIMITED
     for _ in range(chance.choice((0, 1, 1, 1, 2, 3, 5))):
-        one = mutated(chance, chance.choice(images))
+        image, most = chance.choice(images)
+        one = mutated(chance, image)
         if len(one) <= room:
             parts.append(one)
-            room -= len(one)
+            room, highest = room - len(one), min(highest, most)
     shelf = b"".join(parts) + bytes(chance.choice((0, 0, 1, 2048)) if room > 2048 else 0)
-    queries = b"".join(query(chance, shelf, map(len, parts)) for _ in range(3)) + by_hand(chance)
+    queries = b"".join(query(chance, shelf, map(len, parts), highest) for _ in range(3)) + by_hand(chance)
     return udf.record(name, shelf) + struct.pack("<I", len(queries)) + queries
 
 

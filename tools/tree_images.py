@@ -1,9 +1,11 @@
-"""Volumes with trees of directories, and the shows that are asked of them."""
+"""Volumes with trees of directories, and the shows that are asked of them, with budgets too: how long a list is, tools/rules.py says."""
 
 import random
 
 import discs
+import rules
 import udf
+from asked import BIT, WAYS
 from discs import DELETED, DIRECTORY, HIDDEN, OTHER, PARENT, ROOT, identifier, parent, wide
 from udf import ALLOCATED, EMBEDDED, EXT, EXTENDED_FILE_ENTRY, LONG, PARTITION, SECTOR, SHORT, START, long_ad, short_ad
 
@@ -75,6 +77,36 @@ class Volume(discs.Volume):
             self.show(levels, room=room, work=self.work)
         for work in dict.fromkeys((self.work, self.work + 1, max(self.work - 1, 0), 0)):
             self.show(levels, room=self.room, work=work)
+
+    def listed(self, q):
+        """The answer number of a show that was asked for, and how many sectors are on its list."""
+        disc = rules.Disc(bytes(self.bytes))
+        volume = rules.opened(disc, q.volume) if q.volume < WAYS else self.hands[q.volume - WAYS]
+        disc.count = 0
+        answer, _ = rules.asked(disc, lambda disc: rules.show(disc, volume, q.levels, q.most, q.room, q.work))
+        return answer, disc.count
+
+    def lend(self):
+        """Of each answer number the show with the longest list once more, lent as many sectors as are on it, and one fewer; the longest of all also lent none."""
+        longest = {}
+        for q in self.queries:
+            answer, count = self.listed(q) if q.calls == BIT["show"] else (0, -1)
+            if count > longest.get(answer, (-1, q))[0]:
+                longest[answer] = count, q
+        for count, q in longest.values():
+            least = 0 if count == max(count for count, _ in longest.values()) else count
+            self.queries += [q._replace(most=most) for most in sorted({least, count - 1, count}) if most >= 0]
+
+
+def lent(case):
+    """The volumes of a case, with budgets behind all else that is asked of them."""
+
+    def volumes():
+        for v in case():
+            v.lend()
+            yield v
+
+    return volumes
 
 
 # ---- cases
@@ -459,4 +491,4 @@ def at_random():
         yield v
 
 
-CASES = [depths, numbers, roots, loops, doubles, empties, bad, unread, spaces, skips, names, checked, at_random]
+CASES = [lent(case) for case in (depths, numbers, roots, loops, doubles, empties, bad, unread, spaces, skips, names, checked, at_random)]

@@ -2,7 +2,7 @@
 
 use strandlodge_sys::asked;
 use strandlodge_sys::icbs::{long_ad, recorded};
-use strandlodge_sys::vault::{self as face, AS_WRITTEN, CASE_IGNORED, CHECKED, FIGURES, MAPS};
+use strandlodge_sys::vault::{self as face, AS_WRITTEN, CASE_IGNORED, CHECKED, FIGURES, MAPS, UNLIMITED};
 
 #[derive(Clone, Copy, PartialEq, Eq, Debug, PartialOrd, Ord)]
 #[repr(u8)]
@@ -181,6 +181,8 @@ pub struct Query {
     pub how: u32,
     /// The levels of a show.
     pub levels: u32,
+    /// How many sectors a show, or each image of a survey, is lent.
+    pub most: u64,
     /// Of a survey the lengths of the images, which stand one behind another; of a total the row of figures as it comes.
     pub shelf: Vec<u64>,
     /// How many places a total is of.
@@ -195,8 +197,8 @@ pub const PLENTY: usize = usize::MAX;
 
 impl Query {
     pub fn of(call: Call, volume: Volume) -> Query {
-        let (icb, path, matching, shelf) = (Icb::default(), Vec::new(), CASE_IGNORED, Vec::new());
-        Query { call, volume, icb, path, how: 0, matching, room: PLENTY, work: PLENTY, places: [0; 2], levels: 0, shelf, images: 0 }
+        let (icb, path, matching, most, shelf) = (Icb::default(), Vec::new(), CASE_IGNORED, UNLIMITED, Vec::new());
+        Query { call, volume, icb, path, how: 0, matching, room: PLENTY, work: PLENTY, places: [0; 2], levels: 0, most, shelf, images: 0 }
     }
 
     pub fn on(call: Call, volume: Volume, icb: Icb) -> Query {
@@ -276,6 +278,11 @@ impl Query {
 
     pub fn with(&self, room: usize, work: usize) -> Query {
         Query { room, work, ..self.clone() }
+    }
+
+    /// The same, lent so many sectors.
+    pub fn lent(self, most: u64) -> Query {
+        Query { most, ..self }
     }
 
     /// The bytes that are lent for its answer: a slot has 16, and a number 8.

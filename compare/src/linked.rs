@@ -55,9 +55,9 @@ pub unsafe fn make(q: &Query, lends: Lends) -> Values {
             Call::Extents => vault_extents(v, d, n, icb, out.cast(), q.room),
             Call::ReadPath => vault_read_path(v, d, n, p, m, matching, out, q.room, work, q.work),
             Call::ReadAll => vault_read_all(v, d, n, p, m, matching, out, q.room, lengths, l, answers, a, work, q.work),
-            Call::Show => vault_show(v, d, n, q.levels, out, q.room, work, q.work),
+            Call::Show => vault_show(v, d, n, q.levels, q.most, out, q.room, work, q.work),
             Call::Measure => vault_measure(v, d, n, icb),
-            Call::Survey => surveyed(vault_survey(d, n, lengths, l, q.how, out.cast(), q.room, work, q.work), l),
+            Call::Survey => surveyed(vault_survey(d, n, lengths, l, q.how, q.most, out.cast(), q.room, work, q.work), l),
             Call::Total => Reply { answer: vault_survey_total(out.cast(), q.room, q.images as usize), count: 0, length: 0 },
         }
     };

@@ -113,12 +113,15 @@ pub enum Refusal {
     /// 15: the lengths of a shelf's images pass its bytes, or there is no memory for the figures of each. Given by [`survey`](crate::survey()) and its like
     /// alone, for the shelf; no image of it is counted under it.
     BadShelf,
+    /// 16: the call would ask for more sectors than it was lent. Given by [`Vault::show`](crate::Vault::show), and by [`survey`](crate::survey()) and its like
+    /// for an image; no file is counted under it.
+    OverBudget,
     /// A number that this crate's table doesn't have.
     Unknown(u64),
 }
 
 /// The refusals and their numbers.
-const TABLE: [(Refusal, u64); 14] = [
+const TABLE: [(Refusal, u64); 15] = [
     (Refusal::Io, vault::IO),
     (Refusal::Malformed, vault::MALFORMED),
     (Refusal::NotBluray, vault::NOT_BLURAY),
@@ -133,10 +136,11 @@ const TABLE: [(Refusal, u64); 14] = [
     (Refusal::BadName, vault::BAD_NAME),
     (Refusal::BadFiles, vault::BAD_FILES),
     (Refusal::BadShelf, vault::BAD_SHELF),
+    (Refusal::OverBudget, vault::OVER_BUDGET),
 ];
 
 impl Refusal {
-    /// The number that the call answered with: 1 to 7 or 9 to 15, in the answer table.
+    /// The number that the call answered with: 1 to 7 or 9 to 16, in the answer table.
     pub fn number(self) -> u64 {
         match self {
             Refusal::Unknown(number) => number,
@@ -147,8 +151,8 @@ impl Refusal {
     /// Whether the call may be answered otherwise once more of the image is there: 1, a sector that isn't there yet.
     ///
     /// Any other refusal is final, and so is an answer: whatever bytes are added at the image's end, the same call gives the same again, with the
-    /// same count (docs/PROMISES.md). 5, 6, 7 and 12 are so for the memory that was lent: a file of more bytes than its image, and more than 256
-    /// MiB, may have room in a longer one.
+    /// same count (docs/PROMISES.md). 5, 6, 7 and 12 are so for the memory that was lent, and 16 for the sectors: a file of more bytes than its image, and
+    /// more than 256 MiB, may have room in a longer one.
     ///
     /// It is about bytes that are added behind the last one. An image that is made at its full length first, and filled later, has zeros where
     /// nothing was copied yet, and these are read as they stand.
@@ -187,6 +191,7 @@ impl fmt::Display for Refusal {
             }
             Refusal::BadFiles => "a vault has up to 64 files of up to 1,073,739,776 bytes each, and as many bytes are staged as they have",
             Refusal::BadShelf => "the lengths of the images pass the bytes of the shelf, or there is no memory for their figures",
+            Refusal::OverBudget => "more sectors would be asked for than were lent",
             Refusal::Unknown(number) => return write!(f, "the archive answered with {number}, a number that isn't known here"),
         })
     }
@@ -204,7 +209,7 @@ pub struct Refused {
 }
 
 impl Refused {
-    /// The number that the call answered with: 1 to 7 or 9 to 15, in the answer table.
+    /// The number that the call answered with: 1 to 7 or 9 to 16, in the answer table.
     pub fn number(&self) -> u64 {
         self.why.number()
     }
@@ -244,7 +249,7 @@ mod tests {
         for (why, number) in TABLE {
             assert_eq!((Refusal::of(number), why.number()), (Some(why), number));
         }
-        assert_eq!(TABLE.map(|(_, number)| number), [1, 2, 3, 4, 5, 6, 7, 9, 10, 11, 12, 13, 14, 15]);
+        assert_eq!(TABLE.map(|(_, number)| number), [1, 2, 3, 4, 5, 6, 7, 9, 10, 11, 12, 13, 14, 15, 16]);
     }
 
     #[test]
@@ -256,7 +261,7 @@ mod tests {
 
     #[test]
     fn a_number_that_the_table_lacks_shows_itself() {
-        for number in [8, 16, 255, 256 + 7, u64::MAX] {
+        for number in [8, 17, 255, 256 + 7, u64::MAX] {
             let why = Refusal::of(number).unwrap();
             assert_eq!((why, why.number()), (Refusal::Unknown(number), number));
             assert!(why.to_string().contains(&number.to_string()), "{why}");

@@ -126,10 +126,10 @@ pub fn list(volume: Volume, image: &[u8], icb: LongAd, out: &mut Vec<u8>, work: 
     filled(out, |to, room| unsafe { vault_list(volume, image.as_ptr(), image.len(), icb.to_c(), to, room, work, w) })
 }
 
-pub fn show(volume: Volume, image: &[u8], levels: u32, out: &mut Vec<u8>, work: &mut Vec<u8>) -> Answered<()> {
+pub fn show(volume: Volume, image: &[u8], levels: u32, most: u64, out: &mut Vec<u8>, work: &mut Vec<u8>) -> Answered<()> {
     let (work, w) = space(work);
     // SAFETY: the head of this module; `room` bytes from `to` on are `out`'s own, and `w` from `work` on are the other vector's.
-    filled(out, |to, room| unsafe { vault_show(volume, image.as_ptr(), image.len(), levels, to, room, work, w) })
+    filled(out, |to, room| unsafe { vault_show(volume, image.as_ptr(), image.len(), levels, most, to, room, work, w) })
 }
 
 pub fn read(volume: Volume, image: &[u8], icb: LongAd, out: &mut Vec<u8>) -> Answered<()> {
@@ -314,22 +314,23 @@ fn write_to(names: &[u8], lengths: &[u64], staging: &[u8], image: Lent, room: us
     Refusal::of(reply.answer).map_or(Ok(reply.sectors), Err)
 }
 
-/// The figures of a shelf over the front of `row`, a place for each length and one for all; the answer number. The work space is the room of `work`.
-pub fn survey(shelf: &[u8], lengths: &[u64], how: u32, row: &mut [u64], work: &mut Vec<u8>) -> u64 {
+/// The figures of a shelf over the front of `row`, a place for each length and one for all; the answer number. Each image is lent `most` sectors. The work space
+/// is the room of `work`.
+pub fn survey(shelf: &[u8], lengths: &[u64], how: u32, most: u64, row: &mut [u64], work: &mut Vec<u8>) -> u64 {
     let (work, w) = space(work);
-    survey_with(shelf, lengths, how, row, work, w)
+    survey_with(shelf, lengths, how, most, row, work, w)
 }
 
 /// The same with work space that is lent.
-pub fn survey_in(shelf: &[u8], lengths: &[u64], how: u32, row: &mut [u64], work: &mut [u8]) -> u64 {
-    survey_with(shelf, lengths, how, row, work.as_mut_ptr(), work.len())
+pub fn survey_in(shelf: &[u8], lengths: &[u64], how: u32, most: u64, row: &mut [u64], work: &mut [u8]) -> u64 {
+    survey_with(shelf, lengths, how, most, row, work.as_mut_ptr(), work.len())
 }
 
-fn survey_with(shelf: &[u8], lengths: &[u64], how: u32, row: &mut [u64], work: Lent, w: usize) -> u64 {
+fn survey_with(shelf: &[u8], lengths: &[u64], how: u32, most: u64, row: &mut [u64], work: Lent, w: usize) -> u64 {
     see_version();
     let (l, r) = (lengths.len(), row.len());
     // SAFETY: the head of this module; the row is a mutable borrow, and both callers have `w` bytes from `work` on in another.
-    unsafe { vault_survey(shelf.as_ptr(), shelf.len(), lengths.as_ptr(), l, how, row.as_mut_ptr(), r, work, w) }
+    unsafe { vault_survey(shelf.as_ptr(), shelf.len(), lengths.as_ptr(), l, how, most, row.as_mut_ptr(), r, work, w) }
 }
 
 /// The total of the first `images` places of a row, in the one behind them; the answer number.

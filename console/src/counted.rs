@@ -241,21 +241,24 @@ impl<'a> Counted<'a> {
     /// directory in the disc's order, without those that are deleted and the parent.
     ///
     /// It is all or nothing. A directory at the last level, even an empty one, is refused by 11, as is any other number of levels; one that holds itself
-    /// is found there. Whatever is refused on the way refuses the show. The call takes as long as there are paths, however few directories they lead to.
+    /// is found there. Whatever is refused on the way refuses the show.
+    ///
+    /// A directory is listed once for each path to it, and a few directories may have more paths than could ever be listed. So the call is lent `most` sectors:
+    /// it is refused by 16 in the place of asking for one more, with `most` as its count. [`UNLIMITED`](crate::UNLIMITED) is for a disc that is trusted.
     ///
     /// ```no_run
     /// # fn main() -> std::result::Result<(), Box<dyn std::error::Error>> {
     /// let image = std::fs::read("show.img")?;
     /// let vault = strandlodge::Counted::open(&image)?;
-    /// for one in vault.show(16)? {
+    /// for one in vault.show(16, 1_000_000)? {
     ///     println!("{}{}", one.path, if one.entry.is_directory { "/" } else { "" });
     /// }
     /// # Ok(())
     /// # }
     /// ```
-    pub fn show(&self, levels: u32) -> Answered<Show> {
+    pub fn show(&self, levels: u32, most: u64) -> Answered<Show> {
         let mut out = Room::new(FIRST, MOST_SHOW);
-        let answer = retry(&mut out, &mut work_space(), |out, work| calls::show(self.volume, self.image, levels, out, work))?;
+        let answer = retry(&mut out, &mut work_space(), |out, work| calls::show(self.volume, self.image, levels, most, out, work))?;
         out.lent.shrink_to_fit();
         Ok(answer.map(|()| Show::of(out.lent)))
     }

@@ -22,7 +22,7 @@ pub enum Asked<'p> {
     ReadDirectory(LongAd),
     /// A read of a file; and its extents, or its part of the image, which ask for the first of the same sectors.
     ReadFile(LongAd),
-    /// A show of so many levels.
+    /// A show of so many levels. However many sectors it was lent, any refusal but 16 stands where it stands without a budget.
     Show(u32),
 }
 
@@ -143,8 +143,8 @@ impl fmt::Display for Place {
 pub struct Diagnosis {
     /// The refusal.
     pub refused: Refused,
-    /// The last sector that was asked for. None where there was none, where memory was too little (5, 6, 7 and 12), and where the image has
-    /// changed since.
+    /// The last sector that was asked for. None where there was none, where memory or sectors were too few (5, 6, 7, 12 and 16), and where the image
+    /// has changed since.
     pub place: Option<Place>,
     /// Which of its causes the refusal had: that of 4 always, and that of the others where it can be told.
     pub cause: Option<Cause>,
@@ -175,9 +175,10 @@ impl fmt::Display for Diagnosis {
     }
 }
 
-/// Whether a refusal is for what the disc holds, and not for the memory that was lent.
+/// Whether a refusal is for what the disc holds, and not for the memory or the sectors that were lent.
 pub(crate) fn is_of_the_disc(why: Refusal) -> bool {
-    !matches!(why, Refusal::NoRoom | Refusal::NoWork | Refusal::NoSlot | Refusal::TooMany | Refusal::BadShelf | Refusal::Unknown(_))
+    use Refusal::{BadShelf, NoRoom, NoSlot, NoWork, OverBudget, TooMany, Unknown};
+    !matches!(why, NoRoom | NoWork | NoSlot | TooMany | BadShelf | OverBudget | Unknown(_))
 }
 
 /// Where an opening was refused, and why: of [`Vault::open_as`](crate::Vault::open_as) and [`read_volume_label_as`](crate::read_volume_label_as) with

@@ -52,15 +52,16 @@
 //! # A whole show
 //!
 //! [`Vault::show`] lists all that stands on a volume, down to a number of levels, by one call of the archive: [`Show`] gives the entries in turn, each
-//! with its level and its path. A directory is shown once for each path to it, and one that holds itself is refused by 11. So the call takes as long as
-//! there are paths, and of a disc that was made to do harm these may be more than can be counted: who doesn't trust a disc walks it with
-//! [`Vault::read_directory`], and stops where it is too much, as the command `vault tree` does.
+//! with its level and its path. A directory is shown once for each path to it, and one that holds itself is refused by 11.
+//!
+//! The paths of a disc that was made to do harm may be more than can be counted. So the call is lent a number of sectors, `most`, and is refused by 16 in the
+//! place of asking for more; [`UNLIMITED`] is no budget. A sound disc's tree asks for each sector of its directories once.
 //!
 //! # A shelf of images
 //!
 //! [`survey()`] counts what stands on each of many images and on all of them: files, directories, bytes, extents, the sectors that reading them takes, the
 //! longest chain, and what is refused, by its number. [`survey_image`] and [`survey_total`] are for images one at a time, and [`survey_shelf`] for those that
-//! stand in one slice.
+//! stand in one slice. Each image is lent `most` sectors anew, for its opening, its tree and the reads of its files together.
 //!
 //! # Straight from a drive
 //!
@@ -153,6 +154,7 @@ pub use runs::{Run, Runs};
 pub use sequence::{Kind, VolumeDescriptor, volume_descriptors};
 pub use source::Missed;
 pub use stack::Item;
+pub use strandlodge_sys::vault::UNLIMITED;
 pub use survey::{Figure, Figures, Survey, survey, survey_image, survey_shelf, survey_total};
 pub use table::{MapForm, MapTable, map_table};
 pub use tree::Show;

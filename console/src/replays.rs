@@ -19,7 +19,7 @@ use strandlodge_sys::asked::{Call, FILES, Image, Query};
 use strandlodge_sys::icbs::recorded;
 use strandlodge_sys::replay::{Asked, Counts, replay, sections};
 use strandlodge_sys::said::{CAME, Said};
-use strandlodge_sys::vault::{Extent, Run, Volume};
+use strandlodge_sys::vault::{Extent, Run, UNLIMITED, Volume};
 
 // ---- what a call gave, as it is stored
 
@@ -110,7 +110,7 @@ fn raw(asked: &Asked) -> Said {
             let given = said(calls::read_all(v, image, path, m, &mut out, &mut rows, &mut work), |said, ()| said.with(out.clone()));
             Said { lengths: whole(rows.lengths), answers: whole(rows.answers).into_iter().map(u64::from).collect(), ..given }
         }
-        Call::Show => said(calls::show(v, image, q.levels, &mut out, &mut work), |said, ()| said.with(out.clone())),
+        Call::Show => said(calls::show(v, image, q.levels, q.most, &mut out, &mut work), |said, ()| said.with(out.clone())),
         Call::Measure => said(calls::measure(v, image, icb), |said, length| Said { length, ..said }),
         Call::Runs => runs(v, image, icb, q),
     };
@@ -218,7 +218,7 @@ fn counted(asked: &Asked) -> Option<Said> {
         Call::Extents => said(vault.extents(icb), |said, extents| said.with_slots(extents.iter().map(slot).collect())),
         Call::ReadPath => said(vault.read_path_as(path, m), |said, bytes| said.with(bytes)),
         Call::ReadAll => list(&vault, q),
-        Call::Show => said(vault.show(q.levels), |said, show| said.with(records(show))),
+        Call::Show => said(vault.show(q.levels, q.most), |said, show| said.with(records(show))),
         Call::Measure => said(vault.measure(icb), |said, length| Said { length, ..said }),
         Call::Runs => said(vault.runs(icb), |said, runs| said.with_slots(runs.places().map(|run| vec![run.at, run.length]).collect())),
     };
@@ -302,13 +302,14 @@ const STORED: [(usize, usize, [usize; 16]); FILES.len()] = [
     (275, 921, [0, 550, 547, 371, 0, 371, 371, 0, 371, 371, 0, 0, 0, 0, 0, 371]),
     (3, 42, [0, 19, 19, 33, 0, 27, 86, 0, 55, 128, 18, 0, 0, 0, 33, 55]),
     (6, 121, [0, 6, 0, 0, 0, 0, 0, 0, 0, 0, 115, 0, 0, 0, 0, 0]),
-    (148, 1908, [0, 148, 0, 0, 0, 0, 0, 0, 0, 0, 0, 1760, 0, 0, 0, 0]),
+    (148, 2906, [0, 148, 0, 0, 0, 0, 0, 0, 0, 0, 0, 2758, 0, 0, 0, 0]),
     (444, 7416, [444, 444, 955, 1243, 852, 963, 708, 437, 652, 718, 0, 0, 0, 0, 0, 0]),
     (74, 1983, [104, 148, 148, 173, 173, 205, 205, 165, 165, 197, 744, 335, 1225, 1584, 173, 165]),
+    (13, 362, [0, 12, 0, 0, 0, 0, 0, 0, 0, 0, 0, 403, 0, 0, 0, 0]),
 ];
 
 /// The answer numbers that the calls have.
-const ANSWERS: [u64; 12] = [0, 1, 2, 3, 4, 5, 6, 7, 9, 10, 11, 12];
+const ANSWERS: [u64; 13] = [0, 1, 2, 3, 4, 5, 6, 7, 9, 10, 11, 12, 16];
 
 #[test]
 fn the_raw_calls_say_what_is_stored() {
@@ -342,7 +343,7 @@ fn paths_of_a_show_lead_back() {
             continue;
         }
         let vault = Counted::open(&bytes).unwrap();
-        for one in vault.show(16).into_iter().flatten() {
+        for one in vault.show(16, UNLIMITED).into_iter().flatten() {
             assert_eq!(one.path.split('/').count(), usize::from(one.level), "{name}: {}", one.path);
             let found = vault.lookup_as(&one.path, Matching::Unambiguous);
             if !is_ambiguous(&found) {

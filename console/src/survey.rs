@@ -5,10 +5,10 @@ use crate::calls;
 use crate::how::How;
 use crate::room::{FIRST, MOST_DIRECTORY, Room};
 use std::fmt;
-use strandlodge_sys::vault::{BAD_SHELF, DONE, FIGURES};
+use strandlodge_sys::vault::{DONE, FIGURES, OVER_BUDGET};
 
 /// How many answer numbers there are: 0, and the refusals'.
-const ANSWERS: usize = BAD_SHELF as usize + 1;
+const ANSWERS: usize = OVER_BUDGET as usize + 1;
 
 /// How many figures stand in front of those by answer number; the chain stands behind.
 const FRONT: usize = 5;
@@ -60,7 +60,8 @@ pub struct Figures {
     pub sectors: Figure,
     /// How many files have each answer number: 0 are those that can be read.
     pub files_by_answer: [Figure; ANSWERS],
-    /// How many images have each, of their opening or of their tree. One that has another than 0 has no other figure.
+    /// How many images have each: of their opening or of their tree, or 16 where these and the reads of the files together want more sectors than were lent.
+    /// One that has another than 0 has no other figure. No file has 16.
     pub images_by_answer: [Figure; ANSWERS],
     /// The most continuations of allocation descriptors that were followed for a file that can be read.
     pub chain: Figure,
@@ -134,24 +135,24 @@ pub struct Survey {
 }
 
 /// Surveys images: the figures of each, and of all. An image that can't be opened, or whose tree is refused, keeps none of the others back, and is counted
-/// under its answer number; so is a file that can't be read.
+/// under its answer number; so is a file that can't be read. Each image is lent `most` sectors.
 ///
 /// Each is surveyed as by [`survey_image`]. The call is refused, by 15, only where there is no memory for the figures.
 ///
 /// ```
 /// # fn main() -> Result<(), Box<dyn std::error::Error>> {
-/// use strandlodge::{How, Refusal};
+/// use strandlodge::{How, Refusal, UNLIMITED};
 /// let image = strandlodge::write(&[("9", &b"cue 9"[..]), ("10.1A", b"cue 10.1A")])?;
-/// let survey = strandlodge::survey(&[&image[..], b"no disc"], How::default())?;
+/// let survey = strandlodge::survey(&[&image[..], b"no disc"], How::default(), UNLIMITED)?;
 /// assert_eq!((survey.images[0].files.number, survey.total.bytes.number), (2, 14));
 /// assert_eq!(survey.images[1].refusal(), Some(Refusal::Io));
 /// # Ok(())
 /// # }
 /// ```
-pub fn survey(images: &[impl AsRef<[u8]>], how: How) -> Result<Survey, Refusal> {
+pub fn survey(images: &[impl AsRef<[u8]>], how: How, most: u64) -> Result<Survey, Refusal> {
     let mut figures = Vec::new();
     figures.try_reserve_exact(images.len()).map_err(|_| Refusal::BadShelf)?;
-    figures.extend(images.iter().map(|image| survey_image(image.as_ref(), how)));
+    figures.extend(images.iter().map(|image| survey_image(image.as_ref(), how, most)));
     let total = survey_total(&figures)?;
     Ok(Survey { images: figures, total })
 }
@@ -159,22 +160,25 @@ pub fn survey(images: &[impl AsRef<[u8]>], how: How) -> Result<Survey, Refusal> 
 /// The figures of one image: for who has one at a time, and adds them up by [`survey_total`].
 ///
 /// The directories on the way down a tree stand in a work space together, and a tree that doesn't fit is refused by 6. Here that begins with 64 KiB and is
-/// doubled, to 256 MiB at most; [`survey_shelf`] takes one of any length. A directory is gone through once for each path to it, as by
-/// [`Vault::show`](crate::Vault::show): of a disc that was made to do harm these may be more than can be counted.
+/// doubled, to 256 MiB at most; [`survey_shelf`] takes one of any length.
+///
+/// A directory is gone through once for each path to it, as by [`Vault::show`](crate::Vault::show): of a disc that was made to do harm these may be more than
+/// can be counted. So the image is lent `most` sectors, for its opening, its tree and the reads of its files together, and is refused by 16 where it wants more;
+/// [`UNLIMITED`](crate::UNLIMITED) is no budget. A survey that is made again with more work space has `most` sectors again.
 ///
 /// ```
 /// # fn main() -> Result<(), Box<dyn std::error::Error>> {
 /// # let image = strandlodge::write(&[("9", b"cue 9")])?;
-/// let figures = strandlodge::survey_image(&image, strandlodge::How::default());
+/// let figures = strandlodge::survey_image(&image, strandlodge::How::default(), 1_000_000);
 /// println!("{} files, {} bytes", figures.files, figures.bytes);
 /// # Ok(())
 /// # }
 /// ```
-pub fn survey_image(image: &[u8], how: How) -> Figures {
+pub fn survey_image(image: &[u8], how: How, most: u64) -> Figures {
     let (mut work, lengths) = (Room::new(FIRST, MOST_DIRECTORY), [image.len() as u64]);
     loop {
         let mut row = [0; 2 * FIGURES];
-        let answer = calls::survey(image, &lengths, how.number(), &mut row, &mut work.lent);
+        let answer = calls::survey(image, &lengths, how.number(), most, &mut row, &mut work.lent);
         // It is always done: the length is the slice's, and there are two places.
         let figures = row.first_chunk().filter(|_| answer == DONE).map_or_else(Figures::default, Figures::of);
         if figures.refusal() != Some(Refusal::NoWork) || !work.double() {
@@ -183,23 +187,24 @@ pub fn survey_image(image: &[u8], how: How) -> Figures {
     }
 }
 
-/// Surveys images that stand one behind another in one slice, from its front, each as long as `lengths` says, by one call of the archive. The figures are
-/// defined by the work space's length: an image whose tree doesn't fit is refused by 6. It is all zero on return.
+/// Surveys images that stand one behind another in one slice, from its front, each as long as `lengths` says, by one call of the archive. Each is lent `most`
+/// sectors. The figures are defined by the work space's length: an image whose tree doesn't fit is refused by 6. It is all zero on return.
 ///
 /// Refused by 15 where the lengths pass the slice, or where there is no memory for the figures.
 ///
 /// ```
 /// # fn main() -> Result<(), Box<dyn std::error::Error>> {
-/// use strandlodge::{How, survey_shelf};
+/// use strandlodge::{How, UNLIMITED, survey_shelf};
 /// let [one, two] = [strandlodge::write(&[("9", b"cue 9")])?, strandlodge::write(&[("10", b"cue 10")])?];
-/// let shelf = survey_shelf(&[&one[..], &two].concat(), &[one.len() as u64, two.len() as u64], How::default(), &mut [0; 4096])?;
+/// let (shelf, lengths) = ([&one[..], &two].concat(), [one.len() as u64, two.len() as u64]);
+/// let shelf = survey_shelf(&shelf, &lengths, How::default(), UNLIMITED, &mut [0; 4096])?;
 /// assert_eq!((shelf.images.len(), shelf.total.files.number), (2, 2));
 /// # Ok(())
 /// # }
 /// ```
-pub fn survey_shelf(shelf: &[u8], lengths: &[u64], how: How, work: &mut [u8]) -> Result<Survey, Refusal> {
+pub fn survey_shelf(shelf: &[u8], lengths: &[u64], how: How, most: u64, work: &mut [u8]) -> Result<Survey, Refusal> {
     let mut row = zeros(lengths.len())?;
-    done(calls::survey_in(shelf, lengths, how.number(), &mut row, work))?;
+    done(calls::survey_in(shelf, lengths, how.number(), most, &mut row, work))?;
     let mut images = places(&row)?;
     let total = images.pop().unwrap_or_default();
     Ok(Survey { images, total })
@@ -254,10 +259,10 @@ mod tests {
         let place: Row = std::array::from_fn(|n| if n % 2 == 0 { 100 + n as u64 } else { (n as u64 / 2) % 2 });
         let figures = Figures::of(&place);
         assert_eq!(figures.place().collect::<Vec<_>>(), place);
-        assert_eq!((figures.files.number, figures.directories.number, figures.sectors.number, figures.chain.number), (100, 102, 108, 174));
-        assert_eq!((figures.files_by_answer[0].number, figures.images_by_answer[0].number), (110, 142));
-        assert_eq!((figures.files_refused(Refusal::Io).number, figures.images_refused(Refusal::BadShelf).number), (112, 172));
-        assert!(figures.files_refused(Refusal::Unknown(16)).is_zero() && figures.files_refused(Refusal::Unknown(u64::MAX)).is_zero());
+        assert_eq!((figures.files.number, figures.directories.number, figures.sectors.number, figures.chain.number), (100, 102, 108, 178));
+        assert_eq!((figures.files_by_answer[0].number, figures.images_by_answer[0].number), (110, 144));
+        assert_eq!((figures.files_refused(Refusal::Io).number, figures.images_refused(Refusal::OverBudget).number), (112, 176));
+        assert!(figures.files_refused(Refusal::Unknown(17)).is_zero() && figures.files_refused(Refusal::Unknown(u64::MAX)).is_zero());
     }
 
     #[test]

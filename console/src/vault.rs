@@ -316,19 +316,22 @@ impl<B: AsRef<[u8]>> Vault<B> {
     /// directory in the disc's order, without those that are deleted and the parent.
     ///
     /// It is all or nothing. A directory at the last level, even an empty one, is refused by 11, as is any other number of levels; one that holds itself
-    /// is found there. Whatever is refused on the way refuses the show. The call takes as long as there are paths, however few directories they lead to.
+    /// is found there. Whatever is refused on the way refuses the show.
+    ///
+    /// A directory is listed once for each path to it, and a few directories may have more paths than could ever be listed. So the call is lent `most` sectors:
+    /// it is refused by 16 in the place of asking for one more. [`UNLIMITED`](crate::UNLIMITED) is for a disc that is trusted.
     ///
     /// ```no_run
     /// # fn main() -> Result<(), Box<dyn std::error::Error>> {
     /// # let disc = strandlodge::Vault::open(std::fs::read("show.img")?)?;
-    /// for one in disc.show(16)? {
+    /// for one in disc.show(16, 1_000_000)? {
     ///     println!("{}{}", one.path, if one.entry.is_directory { "/" } else { "" });
     /// }
     /// # Ok(())
     /// # }
     /// ```
-    pub fn show(&self, levels: u32) -> Result<Show> {
-        plain(self.counted().show(levels))
+    pub fn show(&self, levels: u32, most: u64) -> Result<Show> {
+        plain(self.counted().show(levels, most))
     }
 
     /// A file's bytes, or a directory's own.

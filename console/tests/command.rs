@@ -4,11 +4,11 @@ mod common;
 
 use common::asked::images;
 use common::command::{Folder, Said, left_out, tool};
-use common::{Disc, SECTOR, identifier, named, noise, reclosed, show};
+use common::{Disc, SECTOR, harm, identifier, named, noise, reclosed, show};
 use std::ffi::OsStr;
 use std::os::unix::ffi::OsStrExt;
 use std::process::{Command, Stdio};
-use strandlodge::{Counted, ShowEntry};
+use strandlodge::{Counted, ShowEntry, UNLIMITED};
 use strandlodge_sys::asked::Image;
 
 const BLACKOUT: &str = "cue 11\nblackout\n";
@@ -110,20 +110,103 @@ fn the_sample_as_a_tree() {
     assert_eq!(folder.vault(&["tree", "show.img", "NONE"]).status, 3);
 }
 
+/// What is said of an image that wants more than the limit.
+fn stopped(name: &str, limit: &str, so: &str) -> String {
+    let cure = "The disc may be made to do harm: --limit N sets another limit, --no-limit none.";
+    format!("vault: {name}: stopped after {limit} sectors, the limit{so}. {cure}\n")
+}
+
+/// Opening takes 6 sectors, each of the two directories one, and an entry that is shown counts as one.
 #[test]
 fn a_tree_stops_at_its_limit() {
     let folder = with_show();
-    for (limit, lines) in [("1", 1), ("4", 4)] {
-        let said = folder.vault(&["ls", "-R", "show.img", "--limit", limit]);
-        assert_eq!((said.status, said.out.lines().count()), (68, lines));
-        assert!(
-            said.error.ends_with("and there are more: --limit N shows N\n") && said.error.contains(&format!("behind {limit} ent")),
-            "{said:?}"
-        );
+    for (limit, lines) in [("1", 0), ("6", 0), ("7", 0), ("8", 1), ("9", 1), ("12", 4)] {
+        for drive in [&[][..], &["--drive"]] {
+            let said = folder.vault(&[&["ls", "-R", "show.img", "--limit", limit], drive].concat());
+            assert_eq!((said.status, said.out.lines().count(), said.error), (68, lines, stopped("show.img", limit, "")));
+        }
     }
-    for limit in ["5", "6"] {
-        assert_eq!(folder.vault(&["ls", "-R", "show.img", "--limit", limit]).status, 0);
+    for limit in [&["--limit", "13"][..], &["--limit", "18446744073709551615"], &["--no-limit"], &[]] {
+        let said = folder.vault(&[&["ls", "-R", "show.img"], limit].concat());
+        assert_eq!((said.status, said.out.lines().count()), (0, 5));
     }
+    // With -l the sizes of each entry are asked for too.
+    let long = |limit| folder.vault(&["ls", "-R", "-l", "show.img", "--limit", limit]).status;
+    let said = folder.vault(&["ls", "-R", "-l", "show.img", "--sectors"]);
+    assert_eq!(said.error, "vault: sectors asked for: open 6, lookup 0, measure 9, extents 5, read_directory 2\n");
+    assert_eq!((long("26"), long("27")), (68, 0));
+}
+
+/// What `check` asks for beside opening: each entry, and a directory's bytes and extents.
+#[test]
+fn a_check_stops_at_its_limit() {
+    let folder = with_show();
+    for limit in [&["--limit", "16"][..], &["--no-limit"], &[]] {
+        answers(&folder.vault(&[&["check", "show.img"], limit].concat()), "19 descriptors, each in place and with a right body\n");
+    }
+    for limit in ["1", "6", "7", "15"] {
+        let said = folder.vault(&["check", "show.img", "--limit", limit]);
+        assert_eq!((said.status, said.out.as_str()), (68, ""), "{said:?}");
+        let (front, cure) =
+            (format!("vault: show.img: stopped after {limit} sectors, the limit; so far: descriptors: "), ". The disc may be made");
+        assert!(said.error.starts_with(&front) && said.error.contains(cure), "{said:?}");
+    }
+    let said = folder.vault(&["check", "show.img", "--limit", "15", "--json"]);
+    assert!(said.status == 68 && said.out.contains("\"unread\": 0, \"stopped\": 15, \"findings\": []}"), "{said:?}");
+    assert!(folder.vault(&["check", "show.img", "--json"]).out.contains("\"stopped\": null"));
+}
+
+/// Directories with more paths than could ever be walked: each command ends by itself.
+#[test]
+fn a_disc_that_was_made_to_do_harm_holds_no_command() {
+    let (folder, disc) = (Folder::new(), harm(14));
+    folder.write("harm.img", &disc.0);
+    std::fs::create_dir(folder.at("to")).unwrap();
+    let limit = (500_000 + 4 * disc.0.len() / SECTOR).to_string();
+    for words in
+        [&["tree", "harm.img"][..], &["ls", "-R", "harm.img"], &["ls", "-R", "-l", "harm.img"], &["ls", "-R", "harm.img", "--drive"]]
+    {
+        let said = folder.vault(words);
+        assert_eq!((said.status, said.error), (68, stopped("harm.img", &limit, "")), "{words:?}");
+        assert!(said.out.lines().count() > 100_000 && said.out.lines().count() < 500_000, "{words:?}");
+    }
+    let said = folder.vault(&["tree", "--json", "harm.img", "--limit", "1000"]);
+    assert!(said.status == 68 && said.out.starts_with("[{") && said.out.ends_with("}]\n"), "{said:?}");
+    // These take each directory once.
+    let said = folder.vault(&["check", "harm.img"]);
+    assert!(said.status == 65 && !said.error.contains("limit"), "{said:?}");
+    let said = folder.vault(&["get", "-r", "harm.img", "-o", "to"]);
+    assert!(said.status == 67 && said.out.lines().count() == 20 && !said.error.contains("limit"), "{said:?}");
+}
+
+/// Directories of overlapping extents, each many times as long as the disc: a few of them are more than a limit.
+#[test]
+fn directories_that_overlap_hold_no_command() {
+    let (folder, mut disc) = (Folder::new(), Disc::new());
+    std::fs::create_dir(folder.at("to")).unwrap();
+    // An identifier that has a block to itself, by its bytes for other uses.
+    let (head, name, other) = (identifier(b"", 5, false), b"\x08cue", SECTOR - 42);
+    let block = [&head[..19], &[4], &head[20..36], &(other as u16).to_le_bytes(), &vec![0; other], name].concat();
+    let first = disc.lay(&common::sealed(block).repeat(64));
+    let extents: Vec<u8> = (0..230).flat_map(|_| common::short_ad(64 * SECTOR, first)).collect();
+    let entries: Vec<Vec<u8>> = (0..40)
+        .map(|n| {
+            let below = disc.entry(0, &extents, 230 * 64 * SECTOR as u64);
+            named(&format!("{n}"), below, true)
+        })
+        .collect();
+    let root = disc.directory(&entries);
+    disc.root(root);
+    folder.write("over.img", &disc.0);
+    let limit = "50000";
+    let said = folder.vault(&["check", "over.img", "--limit", limit]);
+    assert!(
+        said.status == 68 && said.error.starts_with(&format!("vault: over.img: stopped after {limit} sectors, the limit; so far: ")),
+        "{}",
+        said.error
+    );
+    let said = folder.vault(&["get", "-r", "over.img", "-o", "to", "--limit", limit]);
+    assert_eq!((said.status, said.error), (68, stopped("over.img", limit, "; nothing is written")));
 }
 
 /// A directory of two names for the root: 2^16 paths at the last level.
@@ -143,10 +226,10 @@ fn a_directory_that_holds_itself() {
     let root = disc.directory(&[named("a", 3, true), named("b", 3, true)]);
     disc.root(root);
     folder.write("two.img", &disc.0);
+    let said = folder.vault(&["tree", "two.img", "--limit", "1000"]);
+    // Beside the opening each directory takes its entry and one more sector.
+    assert!(said.status == 68 && (300..600).contains(&said.out.lines().count()), "{said:?}");
     let said = folder.vault(&["tree", "two.img"]);
-    // The line in front is the root's.
-    assert_eq!((said.status, said.out.lines().count()), (68, 100_001));
-    let said = folder.vault(&["tree", "two.img", "--limit", "1000000"]);
     assert_eq!((said.status, said.out.lines().count()), (11, (1 << 17) - 2 + 2));
     assert!(said.error.contains("65536 directories at level 16, the last, not looked into"), "{}", said.error);
 }
@@ -178,7 +261,7 @@ fn paths_are_those_of_a_show() {
         folder.write("a.img", &image);
         let vault = Counted::open(&image).unwrap();
         let said = folder.vault(&["ls", "-R", "-0", "a.img"]);
-        match vault.show(16) {
+        match vault.show(16, UNLIMITED) {
             Ok(show) => {
                 let line = |one: ShowEntry| one.path + if one.entry.is_directory { "/\0" } else { "\0" };
                 assert_eq!((said.status, said.out), (0, show.into_iter().map(line).collect()), "{name}");

@@ -10,7 +10,7 @@ use std::io::{self, Cursor, Read, Seek, SeekFrom};
 use std::rc::Rc;
 use strandlodge::udf::{ExtAd, TagId};
 use strandlodge::{Asked, Cause, Counted, CountedDrive, Diagnosis, Drive, How, Kind, LbAddr, LongAd, Matching, Refusal, Refused};
-use strandlodge::{Sought, Standing, Vault, diagnose};
+use strandlodge::{Sought, Standing, UNLIMITED, Vault, diagnose};
 use strandlodge_sys::asked::{Call, Image};
 
 /// A reader that notes the last sector that it was asked for, from a single-sector buffer on.
@@ -287,7 +287,7 @@ fn by_every_call(vault: &Vault<Vec<u8>>, why: &Diagnosis) {
     assert_eq!(vault.diagnose(Asked::ReadPath(b"file", matching), &refused).to_string(), why);
     let refused = vault.lookup_as("folder/x", matching).unwrap_err();
     assert_eq!(vault.diagnose(Asked::Lookup(b"folder/x", matching), &refused).to_string(), why);
-    let refused = vault.show(16).unwrap_err();
+    let refused = vault.show(16, UNLIMITED).unwrap_err();
     assert_eq!(vault.diagnose(Asked::Show(16), &refused).to_string(), why);
     let mut drive = Drive::open(Cursor::new(vault.image().to_vec())).unwrap();
     let refused = drive.read_path("file").unwrap_err();
@@ -369,9 +369,12 @@ fn what_has_no_place_has_none() {
     let refused = vault.lookup("SHOW/12").unwrap_err();
     assert_eq!(vault.diagnose(Asked::ReadFile(icb), &refused).place, None);
     // A show that is too deep ends in the directory that was listed last; one of no levels asks for nothing.
-    let why = vault.diagnose(Asked::Show(1), &vault.show(1).unwrap_err());
+    let why = vault.diagnose(Asked::Show(1), &vault.show(1, UNLIMITED).unwrap_err());
     assert_eq!((why.refused.why, why.place.map(|place| place.sector)), (Refusal::TooDeep, Some(291)));
-    assert_eq!(vault.diagnose(Asked::Show(17), &vault.show(17).unwrap_err()).place, None);
+    let over = vault.show(2, 1).unwrap_err();
+    let why = vault.diagnose(Asked::Show(2), &over);
+    assert_eq!((why.to_string().as_str(), why.place, why.cause), ("more sectors would be asked for than were lent", None, None));
+    assert_eq!(vault.diagnose(Asked::Show(17), &vault.show(17, UNLIMITED).unwrap_err()).place, None);
 }
 
 /// A reader's own failure is named by it, and what is said of a sector is looked at again.

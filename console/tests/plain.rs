@@ -8,7 +8,7 @@ use std::collections::HashSet;
 use std::io::Cursor;
 use std::sync::Arc;
 use strandlodge::{Counted, CountedDrive, DirEntry, Drive, How, LongAd, Mapped, Matching, Refusal, Result, Vault};
-use strandlodge::{read_volume_label, read_volume_label_as};
+use strandlodge::{UNLIMITED, read_volume_label, read_volume_label_as};
 
 /// The lines that were promised to stand, word for word; and the disc is either kind.
 macro_rules! as_they_stood {
@@ -163,7 +163,7 @@ fn plain_answers_are_the_counted_ones() {
         }
         assert_eq!(vault.read_all(&["SHOW/9", "x"]), counted.read_all(&["SHOW/9", "x"]).map(|answer| answer.value));
         for levels in [0, 1, 2, 16] {
-            let (show, other) = (vault.show(levels), counted.show(levels));
+            let (show, other) = (vault.show(levels, UNLIMITED), counted.show(levels, UNLIMITED));
             assert_eq!(show.map(Iterator::collect::<Vec<_>>), other.map(|answer| answer.value.collect::<Vec<_>>()));
         }
     }

@@ -5,11 +5,11 @@ mod common;
 
 use common::asked::images;
 use common::command::{Folder, Said, left_out, tool};
-use common::{Disc, SECTOR, named, show};
+use common::{Disc, SECTOR, harm, named, show};
 use std::process::Command;
 use strandlodge::udf::{AllocationExtentDescriptor, FileEntry};
-use strandlodge::{Counted, Figure, Figures, How, LbAddr, LongAd, Refusal, Survey};
-use strandlodge::{survey, survey_image, survey_shelf, survey_total};
+use strandlodge::{Counted, Figure, Figures, How, LbAddr, LongAd, Refusal, Refused, Show, Survey};
+use strandlodge::{UNLIMITED, survey, survey_image, survey_shelf, survey_total};
 use strandlodge_sys::asked::FILES;
 use strandlodge_sys::sparse::expand;
 
@@ -51,17 +51,20 @@ fn of_drives() -> Vec<Vec<u8>> {
     images
 }
 
-/// Every image that is stored for the gate's programs, but for the shelves; those of one file at a time.
+/// The stored images that were made to do harm: without a budget their trees have no end.
+const ENDLESS: [&str; 2] = ["a disc made to do harm", "the same with right bodies, but for the last directory's"];
+
+/// Every image that is stored for the gate's programs, but for those and for the shelves; those of one file at a time.
 fn stored() -> impl Iterator<Item = Vec<u8>> {
     let written = expand(include_bytes!("../../crates/writer_cases/data/written")).unwrap();
-    let asked = FILES.into_iter().flat_map(images).map(|image| image.bytes);
+    let asked = FILES.into_iter().flat_map(images).filter(|image| !ENDLESS.contains(&image.name.as_str())).map(|image| image.bytes);
     [show(), written, Vec::new()].into_iter().chain(asked).chain(of_drives())
 }
 
-/// A shelf of `survey_cases`, and its surveys: how the images are opened, the work space, and their lengths.
+/// A shelf of `survey_cases`, and its surveys: how the images are opened, the work space, the budget, and their lengths.
 struct Shelf {
     bytes: Vec<u8>,
-    queries: Vec<(How, usize, Vec<u64>)>,
+    queries: Vec<(How, usize, u64, Vec<u64>)>,
 }
 
 /// The stored shelves. Queries that a slice can't have, with choices that aren't there, are left out, as are totals.
@@ -71,10 +74,11 @@ fn shelves() -> Vec<Shelf> {
         all.sized(2);
         let (bytes, mut asked, mut queries) = (expand(all.sized(4)).unwrap(), Input(all.sized(4)), Vec::new());
         while !asked.0.is_empty() {
-            let [what, chosen, _places, work, numbers] = [(); 5].map(|()| asked.number(4));
+            let [what, chosen, _places, work] = [(); 4].map(|()| asked.number(4));
+            let (most, numbers) = (asked.number(8) as u64, asked.number(4));
             let lengths: Vec<u64> = (0..numbers).map(|_| asked.number(8) as u64).collect();
             if what == 0 && chosen < 8 {
-                queries.push((how(chosen), work, lengths));
+                queries.push((how(chosen), work, most, lengths));
             }
         }
         shelves.push(Shelf { bytes, queries });
@@ -118,18 +122,30 @@ fn chain(vault: &Counted, icb: LongAd) -> u64 {
     links
 }
 
-/// The figures of an image by its opening, its show, and for each file its read and its extents.
-fn walked(image: &[u8], how: How) -> Figures {
+/// An image that is refused has no other figure.
+fn refused_by(why: Refusal) -> Figures {
+    let mut figures = Figures::default();
+    figures.images_by_answer[why.number() as usize] = 1.into();
+    figures
+}
+
+/// The figures of an image by its opening, its show, and for each file its read and its extents: these have so many sectors together.
+fn walked(image: &[u8], how: How, most: u64) -> Figures {
+    let opened = Counted::open_as(image, how);
+    let sectors = opened.as_ref().map_or_else(|refused| refused.sectors, |vault| vault.sectors);
+    let Some(left) = most.checked_sub(sectors) else { return refused_by(Refusal::OverBudget) };
+    let (vault, show) = match opened.and_then(|vault| Ok((vault.value, vault.show(16, left)?))) {
+        Ok(shown) => shown,
+        Err(why) => return refused_by(why.into()),
+    };
+    let figures = read(&vault, show.value);
+    if figures.sectors.number > left - show.sectors { refused_by(Refusal::OverBudget) } else { figures }
+}
+
+/// Those of an image that was opened and shown.
+fn read(vault: &Counted, show: Show) -> Figures {
     let mut figures = Figures::default();
     let add = |figure: &mut Figure, n: u64| figure.number += n;
-    let show = Counted::open_as(image, how).and_then(|vault| Ok((vault.value, vault.show(16)?.value)));
-    let (vault, show) = match show {
-        Ok(opened) => opened,
-        Err(refused) => {
-            add(&mut figures.images_by_answer[refused.number() as usize], 1);
-            return figures;
-        }
-    };
     add(&mut figures.images_by_answer[0], 1);
     for entry in show.map(|one| one.entry) {
         if entry.is_directory {
@@ -143,7 +159,7 @@ fn walked(image: &[u8], how: How) -> Figures {
                 add(&mut figures.bytes, read.len() as u64);
                 add(&mut figures.sectors, read.sectors);
                 add(&mut figures.extents, vault.extents(entry.icb).unwrap().len() as u64);
-                figures.chain.number = figures.chain.number.max(chain(&vault, entry.icb));
+                figures.chain.number = figures.chain.number.max(chain(vault, entry.icb));
             }
             Err(refused) => {
                 add(&mut figures.files_by_answer[refused.number() as usize], 1);
@@ -160,8 +176,8 @@ fn every_stored_image_is_surveyed_as_it_is_walked() {
     for image in stored() {
         surveyed += 1;
         for how in (0..8).map(how) {
-            let figures = survey_image(&image, how);
-            assert_eq!(figures, walked(&image, how));
+            let figures = survey_image(&image, how, UNLIMITED);
+            assert_eq!(figures, walked(&image, how, UNLIMITED));
             files += figures.files.number;
             images += figures.images_by_answer[0].number;
         }
@@ -172,30 +188,31 @@ fn every_stored_image_is_surveyed_as_it_is_walked() {
 /// The images of a shelf are surveyed together as they are one by one, and as they are walked; and a file of each refusal is counted.
 #[test]
 fn a_shelf_is_its_images() {
-    let (mut refused, mut chain, mut asked) = (Vec::new(), 0, 0);
+    let (mut refused, mut chain, mut over, mut asked) = (Vec::new(), 0, 0, 0);
     for Shelf { bytes, queries } in shelves() {
-        for (how, work, lengths) in queries {
-            let given = survey_shelf(&bytes, &lengths, how, &mut vec![0xa5; work]);
+        for (how, work, most, lengths) in queries {
+            let given = survey_shelf(&bytes, &lengths, how, most, &mut vec![0xa5; work]);
             let Some(images) = cut(&bytes, &lengths) else {
                 assert_eq!(given, Err(Refusal::BadShelf));
                 continue;
             };
-            let (given, alone) = (given.unwrap(), survey(&images, how).unwrap());
+            let (given, alone) = (given.unwrap(), survey(&images, how, most).unwrap());
             assert_eq!(survey_total(&given.images).unwrap(), given.total);
-            assert_eq!(alone.images, images.iter().map(|image| walked(image, how)).collect::<Vec<_>>());
+            assert_eq!(alone.images, images.iter().map(|image| walked(image, how, most)).collect::<Vec<_>>());
             // With less work space than is lent here an image may be refused by 6.
             if given.total.images_refused(Refusal::NoWork).is_zero() {
                 assert_eq!(given, alone);
             }
             refused.extend(given.total.refused_files().map(|(why, _)| why.number()));
             chain = chain.max(given.total.chain.number);
+            over += given.total.images_refused(Refusal::OverBudget).number;
             asked += 1;
         }
     }
     refused.sort();
     refused.dedup();
     assert_eq!((refused, chain), (vec![1, 2, 4, 10], 32));
-    assert!(asked > 100, "{asked}");
+    assert!(asked > 200 && over > 100, "{asked} {over}");
 }
 
 /// The figures of a place that aren't 0, as `survey_cases` prints them.
@@ -219,9 +236,10 @@ fn surveys_are_those_that_are_stored() {
             shelf = shelves.next();
         }
         let Some(asked) = line.strip_prefix("survey how ") else { continue };
-        let mut numbers = asked.split(' ').filter_map(|word| word.parse::<u64>().ok());
-        let [chosen, _, work] = [(); 3].map(|()| numbers.next().unwrap() as usize);
-        let lengths: Vec<u64> = numbers.collect();
+        let (front, behind) = asked.split_once(" lengths").unwrap();
+        let numbers = |words: &str| words.split(' ').filter_map(|word| word.parse().ok()).collect::<Vec<u64>>();
+        let (front, lengths) = (numbers(front), numbers(behind));
+        let (chosen, work, most) = (front[0] as usize, front[2] as usize, front.get(3).copied().unwrap_or(UNLIMITED));
         let is_done = lines.next().unwrap().starts_with("answer 0 ");
         let mut places = Vec::new();
         while let Some(line) = lines.next_if(|line| line.starts_with("place")) {
@@ -229,7 +247,7 @@ fn surveys_are_those_that_are_stored() {
         }
         if chosen < 8 && is_done {
             let Survey { images, total } =
-                survey_shelf(&shelf.as_ref().unwrap().bytes, &lengths, how(chosen), &mut vec![0xa5; work]).unwrap();
+                survey_shelf(&shelf.as_ref().unwrap().bytes, &lengths, how(chosen), most, &mut vec![0xa5; work]).unwrap();
             assert_eq!(images.iter().chain([&total]).map(placed).collect::<Vec<_>>(), places, "{line}");
             checked += 1;
         }
@@ -251,17 +269,17 @@ fn what_is_over_is_so_in_the_total() {
     let both = survey_total(&[chain(3), chain(32), chain(5)]).unwrap();
     assert_eq!((both.chain, both.files), (32.into(), 40.into()));
     let by = |n: usize| Figures { files_by_answer: std::array::from_fn(|at| u64::from(at == n).into()), ..Figures::default() };
-    let all: Vec<Figures> = (0..16).map(by).collect();
+    let all: Vec<Figures> = (0..17).map(by).collect();
     assert!(survey_total(&all).unwrap().files_by_answer.iter().all(|figure| *figure == 1.into()));
 }
 
 #[test]
 fn no_images_have_no_figures() {
     let none = Survey { images: Vec::new(), total: Figures::default() };
-    assert_eq!(survey(&[] as &[&[u8]], How::default()).unwrap(), none);
-    assert_eq!(survey_shelf(&[7; 100], &[], How::default(), &mut []).unwrap(), none);
-    assert_eq!(survey_shelf(&[7; 100], &[101], How::default(), &mut []), Err(Refusal::BadShelf));
-    assert_eq!(survey_shelf(&[7; 100], &[u64::MAX, 2], How::default(), &mut []), Err(Refusal::BadShelf));
+    assert_eq!(survey(&[] as &[&[u8]], How::default(), 0).unwrap(), none);
+    assert_eq!(survey_shelf(&[7; 100], &[], How::default(), 0, &mut []).unwrap(), none);
+    assert_eq!(survey_shelf(&[7; 100], &[101], How::default(), UNLIMITED, &mut []), Err(Refusal::BadShelf));
+    assert_eq!(survey_shelf(&[7; 100], &[u64::MAX, 2], How::default(), UNLIMITED, &mut []), Err(Refusal::BadShelf));
 }
 
 /// The show with folder SHOW large, so that its work space has to grow, and below it a folder as large.
@@ -273,10 +291,104 @@ fn the_work_space_grows() {
     let below = disc.directory(&names("b"));
     let root = disc.directory(&[vec![named("BELOW", below, true)], names("a")].concat());
     disc.root(root);
-    let figures = survey_image(&disc.0, How::default());
+    let figures = survey_image(&disc.0, How::default(), UNLIMITED);
     assert_eq!((figures.files, figures.directories, figures.bytes), (10_000.into(), 1.into(), 30_000.into()));
-    let within = |work: usize| survey_shelf(&disc.0, &[disc.0.len() as u64], How::default(), &mut vec![7; work]).unwrap().total;
+    let within = |work: usize| survey_shelf(&disc.0, &[disc.0.len() as u64], How::default(), UNLIMITED, &mut vec![7; work]).unwrap().total;
     assert_eq!((within(64 << 10).refusal(), within(1 << 20)), (Some(Refusal::NoWork), figures));
+}
+
+/// A show that is lent as many sectors as its list has is the one without a budget, answered or refused; and lent fewer it is 16, with as many as its count.
+#[test]
+fn every_stored_show_within_its_budget() {
+    let (mut whole, mut over) = (0, 0);
+    for image in stored() {
+        for (how, levels) in (0..8).map(how).flat_map(|how| [1, 2, 3, 16].map(|levels| (how, levels))) {
+            let Ok(vault) = Counted::open_as(&image, how) else { continue };
+            let shown = |most| vault.show(levels, most).map(|shown| shown.map(|shown| shown.map(|one| one.path).collect::<Vec<_>>()));
+            let all = shown(UNLIMITED);
+            let list = all.as_ref().map_or_else(|refused| refused.sectors, |shown| shown.sectors);
+            assert!(shown(list) == all && shown(list + 1) == all);
+            whole += 1;
+            for most in [0, list / 2, list.saturating_sub(1)].into_iter().filter(|most| *most < list) {
+                assert_eq!(shown(most), Err(Refused { why: Refusal::OverBudget, sectors: most }));
+                over += 1;
+            }
+        }
+    }
+    assert!(whole > 10_000 && over > 20_000, "{whole} {over}");
+}
+
+/// A survey of an image takes its opening, its tree and the reads of its files: lent as many sectors as that it is the one without a budget, and lent
+/// fewer it is 16 and nothing else.
+#[test]
+fn a_survey_within_its_budget() {
+    let (mut images, mut over) = (0, 0);
+    for image in stored() {
+        let how = How::default();
+        let Ok(vault) = Counted::open_as(&image, how) else { continue };
+        let Ok(shown) = vault.show(16, UNLIMITED) else { continue };
+        let whole = survey_image(&image, how, UNLIMITED);
+        let most = vault.sectors + shown.sectors + whole.sectors.number;
+        assert_eq!(survey_image(&image, how, most), whole);
+        images += 1;
+        for fewer in [most - 1, most / 2, vault.sectors, vault.sectors - 1, 0] {
+            assert_eq!(survey_image(&image, how, fewer.min(most - 1)), refused_by(Refusal::OverBudget));
+            over += 1;
+        }
+    }
+    assert!(images > 300 && over == 5 * images, "{images} {over}");
+}
+
+/// Each image has the same budget anew, and one that runs out keeps none of the others back.
+#[test]
+fn a_shelf_with_a_disc_that_was_made_to_do_harm() {
+    let (disc, show) = (harm(14).0, show());
+    let images = [&show[..], &disc, &show];
+    let lengths = images.map(|image| image.len() as u64);
+    for most in [16, 100_000] {
+        let shelf = survey(&images, How::default(), most).unwrap();
+        assert_eq!(survey_shelf(&images.concat(), &lengths, How::default(), most, &mut vec![7; 1 << 16]).unwrap(), shelf);
+        let alone = survey_image(&show, How::default(), UNLIMITED);
+        assert_eq!((shelf.images[0], shelf.images[2]), (alone, alone));
+        assert_eq!((shelf.images[1].refusal(), shelf.images[1].files), (Some(Refusal::OverBudget), 0.into()));
+        assert_eq!((shelf.total.files, shelf.total.images_refused(Refusal::OverBudget)), (8.into(), 1.into()));
+        assert!(shelf.total.files_refused(Refusal::OverBudget).is_zero());
+    }
+}
+
+/// By the command such a shelf ends by itself, with a line for each image.
+#[test]
+fn the_command_goes_on_behind_a_disc_that_was_made_to_do_harm() {
+    let (folder, disc) = (shelf(), harm(14).0);
+    folder.write("harm.img", &disc);
+    let begun = std::time::Instant::now();
+    let said = folder.vault(&["survey", "show.img", "harm.img", "show.img"]);
+    // It is half a second on a machine that does nothing else.
+    assert!(begun.elapsed().as_secs() < 30, "{:?}", begun.elapsed());
+    let line = |name: &str| format!("       4           1              154        4          8     0       - {name}");
+    let limit = 500_000 + 4 * disc.len() / SECTOR;
+    let stopped = |limit: usize| {
+        let cure = "The disc may be made to do harm: --limit N sets another limit, --no-limit none.";
+        format!("harm.img: stopped after {limit} sectors, the limit (refusal 16). {cure}")
+    };
+    let total = "       8           2              308        8         16     0       - total";
+    assert_eq!(said.out.lines().collect::<Vec<_>>(), [&line("show.img"), &stopped(limit), &line("show.img"), total]);
+    assert_eq!((said.status, said.error.as_str()), (67, "vault: survey: images: 3, not surveyed: 1; files: 8, of which can be read: 8\n"));
+    let said = folder.vault(&["survey", "harm.img", "show.img", "--limit", "16", "--json"]);
+    let front =
+        format!("{{\"images\": [{{\"image\": \"harm.img\", \"answer\": 16, \"says\": \"{}\", \"limit\": 16, \"files\": 0,", stopped(16));
+    assert!(said.status == 67 && said.out.starts_with(&front), "{said:?}");
+    assert!(said.out.contains("\"show.img\", \"answer\": 0, \"says\": null, \"limit\": 16, \"files\": 4"), "{said:?}");
+    assert!(said.out.ends_with("\"images_by_answer\": [{\"answer\": 0, \"images\": 1}, {\"answer\": 16, \"images\": 1}]}}\n"), "{said:?}");
+    // A small tree of many paths, which has an end.
+    folder.write("small.img", &harm(3).0);
+    let no_limit = folder.vault(&["survey", "small.img", "--no-limit"]);
+    assert!(no_limit.status == 0 && no_limit.out.starts_with("    8000         420            24000        0       8000 "), "{no_limit:?}");
+    assert_eq!(folder.vault(&["survey", "small.img"]).out, no_limit.out);
+    let most = 6 + 1 + 20 + 400 + 8000;
+    assert_eq!(folder.vault(&["survey", "small.img", "--limit", &most.to_string()]).out, no_limit.out);
+    let fewer = folder.vault(&["survey", "small.img", "--limit", &(most - 1).to_string()]);
+    assert!(fewer.status == 67 && fewer.out.contains("(refusal 16)"), "{fewer:?}");
 }
 
 /// Two images of which one is refused, one that isn't there, and a file that can't be read.

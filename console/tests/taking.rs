@@ -321,9 +321,17 @@ fn what_cannot_be_had_keeps_nothing_back() {
     let many = Folder::new();
     many.write("show.img", &show());
     fs::create_dir(many.at("to")).unwrap();
-    refuses(&many.vault(&["get", "-r", "show.img", "-o", "to", "--limit", "4"]), 68, "--limit N takes N; nothing is written");
-    assert!(below(&many, "to").is_empty());
-    assert_eq!(many.vault(&["get", "-r", "show.img", "-o", "to", "--limit", "5"]).status, 0);
+    // Opening takes 6 sectors, the directories 2, the files 8, and that SHOW is named counts as one.
+    for limit in ["1", "7", "8", "16"] {
+        for drive in [&[][..], &["--drive"]] {
+            let said = many.vault(&[&["get", "-r", "show.img", "-o", "to", "--limit", limit], drive].concat());
+            refuses(&said, 68, &format!("stopped after {limit} sectors, the limit; nothing is written. The disc may be made to do harm"));
+            assert!(below(&many, "to").is_empty(), "{said:?}");
+        }
+    }
+    for limit in [&["--limit", "17"][..], &["--no-limit"], &["--limit", "17", "--drive"]] {
+        assert_eq!(many.vault(&[&["get", "-r", "show.img", "-o", "to"], limit].concat()).status, 0);
+    }
     refuses(&many.vault(&["get", "-r", "show.img", "-o", "none"]), 74, "the folder can't be written to");
 }
 
@@ -425,13 +433,15 @@ fn documents_are_json() {
         said.out.contains("\"extents\": [{\"length\": 16, \"type\": 0, \"block\": 12, \"partition\": null, \"sector\": 300}]"),
         "{said:?}"
     );
-    let check = "{\"descriptors\": 19, \"misplaced\": 0, \"ruined\": 0, \"unread\": 0, \"findings\": []}\n";
+    let check = "{\"descriptors\": 19, \"misplaced\": 0, \"ruined\": 0, \"unread\": 0, \"stopped\": null, \"findings\": []}\n";
     answers(&folder.vault(&["check", "--json", "show.img"]), check);
     folder.write("ruined.img", &ruined());
     let said = folder.vault(&["check", "--json", "ruined.img"]);
     assert!(
         said.status == 65
-            && said.out.contains("\"ruined\": 1, \"unread\": 0, \"findings\": [{\"kind\": \"ruined\", \"says\": \"/SHOW/9: file entry"),
+            && said.out.contains(
+                "\"ruined\": 1, \"unread\": 0, \"stopped\": null, \"findings\": [{\"kind\": \"ruined\", \"says\": \"/SHOW/9: file entry"
+            ),
         "{said:?}"
     );
 }
@@ -448,7 +458,10 @@ fn documents_are_read_by_another_program() {
         &["ls", "tricks.img"][..],
         &["ls", "-R", "show.img"],
         &["tree", "show.img", "--levels", "1"],
+        &["tree", "show.img", "--limit", "9"],
         &["tree", "show.img", "--limit", "2"],
+        &["check", "show.img", "--limit", "7"],
+        &["survey", "show.img", "--limit", "7"],
         &["tree", "show.img", "SHOW/9"],
         &["stat", "show.img"],
         &["stat", "show.img", "SHOW"],

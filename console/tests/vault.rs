@@ -2,9 +2,9 @@
 
 mod common;
 
-use common::{DELETED, Disc, SECTOR, continuation, continued, identifier, marked, named, noise, reclosed, short_ad, show};
+use common::{DELETED, Disc, SECTOR, continuation, continued, harm, identifier, marked, named, noise, reclosed, short_ad, show};
 use strandlodge::{AllocExtent, Answer, Counted, How, Kind, Matching, Refusal, Refused, Show, Vault};
-use strandlodge::{probe_vrs, read_volume_label, volume_descriptors};
+use strandlodge::{UNLIMITED, probe_vrs, read_volume_label, volume_descriptors};
 
 const UPPER: &[u8] = b"cue 10.1A\nfront wash 80, blue backs 40, follow 6 seconds\n";
 const LOWER: &[u8] = b"cue 10.1a\nfront wash 20, the look before the interval\n";
@@ -439,7 +439,7 @@ fn paths(show: Show) -> Vec<(u8, String)> {
 fn a_whole_show() {
     let image = show();
     let vault = Counted::open(&image).unwrap();
-    let shown = vault.show(2).unwrap();
+    let shown = vault.show(2, UNLIMITED).unwrap();
     assert_eq!(shown.sectors, 2);
     let wanted = [(1, "SHOW"), (2, "SHOW/9"), (2, "SHOW/10.1A"), (2, "SHOW/10.1a"), (2, "SHOW/11")];
     assert_eq!(paths(shown.value.clone()), wanted.map(|(level, path)| (level, path.to_string())));
@@ -448,11 +448,50 @@ fn a_whole_show() {
         assert_eq!(one.entry.is_directory, one.path == "SHOW");
     }
     // More levels than there are change nothing; fewer are refused at the directory, and any other number at once.
-    assert_eq!(paths(vault.show(16).unwrap().value), paths(vault.show(2).unwrap().value));
-    assert_eq!(refused(vault.show(1)), (Refusal::TooDeep, 1));
+    assert_eq!(paths(vault.show(16, UNLIMITED).unwrap().value), paths(vault.show(2, UNLIMITED).unwrap().value));
+    assert_eq!(refused(vault.show(1, UNLIMITED)), (Refusal::TooDeep, 1));
     for levels in [0, 17, 257, u32::MAX] {
-        assert_eq!(refused(vault.show(levels)), (Refusal::TooDeep, 0));
+        assert_eq!(refused(vault.show(levels, UNLIMITED)), (Refusal::TooDeep, 0));
     }
+}
+
+/// Lent as many sectors as its list has, a show is the one without a budget; lent fewer it is 16, and asked for as many as it was lent.
+#[test]
+fn a_show_within_its_budget() {
+    let image = show();
+    let vault = Counted::open(&image).unwrap();
+    let whole = vault.show(16, UNLIMITED).unwrap();
+    assert_eq!(whole.sectors, 2);
+    let all = paths(whole.value);
+    for most in [2, 3, UNLIMITED - 1] {
+        let shown = vault.show(16, most).unwrap();
+        assert_eq!((shown.sectors, paths(shown.value)), (2, all.clone()));
+    }
+    for most in [0, 1] {
+        assert_eq!(refused(vault.show(16, most)), (Refusal::OverBudget, most));
+        assert_eq!(refused(vault.show(17, most)), (Refusal::TooDeep, 0));
+    }
+    // The directory at the last level is found before it is asked for, and so is 11 before 16.
+    assert_eq!((refused(vault.show(1, 1)), refused(vault.show(1, 0))), ((Refusal::TooDeep, 1), (Refusal::OverBudget, 0)));
+}
+
+/// Directories with more paths than could ever be listed.
+#[test]
+fn a_show_of_a_disc_that_was_made_to_do_harm() {
+    let disc = harm(14).0;
+    let vault = Counted::open(&disc).unwrap();
+    for most in [0, 12, 13, 1_000, 100_000] {
+        assert_eq!(refused(vault.show(16, most)), (Refusal::OverBudget, most));
+    }
+    // The root is the first of 14 directories: at 13 levels the last of them stands at the last.
+    for most in [13, 14, 1_000, UNLIMITED] {
+        assert_eq!(refused(vault.show(13, most)), (Refusal::TooDeep, 13));
+    }
+    assert_eq!(refused(vault.show(13, 12)), (Refusal::OverBudget, 12));
+    let small = harm(3).0;
+    let vault = Counted::open(&small).unwrap();
+    assert_eq!(vault.show(3, 421).unwrap().value.count(), 8_420);
+    assert_eq!(refused(vault.show(3, 420)), (Refusal::OverBudget, 420));
 }
 
 /// More than is lent at first: records of more than 64 KiB, and directories that together have more.
@@ -469,11 +508,11 @@ fn a_large_show() {
     }
     disc.root(below);
     let vault = Counted::open(&disc.0).unwrap();
-    let shown = paths(vault.show(4).unwrap().value);
+    let shown = paths(vault.show(4, UNLIMITED).unwrap().value);
     assert_eq!(shown.len(), 3 * 301 + 900);
     assert_eq!(shown[300], (1, "down".to_string()));
     assert_eq!(shown.last().unwrap(), &(4, "down/down/down/a cue of the innermost directory 0899".to_string()));
-    assert_eq!(refused(vault.show(3)).0, Refusal::TooDeep);
+    assert_eq!(refused(vault.show(3, UNLIMITED)).0, Refusal::TooDeep);
 }
 
 /// A directory that holds itself is found at the last level.
@@ -485,7 +524,7 @@ fn a_show_of_a_directory_that_holds_itself() {
     let vault = Counted::open(&disc.0).unwrap();
     // Two sectors for each level: its entry and its bytes.
     for levels in [1, 2, 16] {
-        assert_eq!(refused(vault.show(levels)), (Refusal::TooDeep, 2 * u64::from(levels)));
+        assert_eq!(refused(vault.show(levels, UNLIMITED)), (Refusal::TooDeep, 2 * u64::from(levels)));
     }
 }
 

@@ -197,11 +197,11 @@ static void records_by_hand(void) {
 
 /* What is said of an answer begins so; a number that isn't in the table is said to be none of it. */
 static void texts(void) {
-    static const char *const fronts[16] = {"Done", "A sector", "Too few", "No volume", "A form", "The answer", "A directory has", "There are more extents",
+    static const char *const fronts[17] = {"Done", "A sector", "Too few", "No volume", "A form", "The answer", "A directory has", "There are more extents",
                                            NULL, "A component", "A descriptor", "A directory is found", "There are more paths", "A name", "The files",
-                                           "The lengths"};
+                                           "The lengths", "The call would ask"};
     for (uint64_t n = 0; n < 20; n++) {
-        const char *front = n < 16 && fronts[n] ? fronts[n] : "A number that isn't known";
+        const char *front = n < 17 && fronts[n] ? fronts[n] : "A number that isn't known";
         const char *text = vault_answer_text(n);
         EXPECT(strlen(text) >= strlen(front) && !memcmp(text, front, strlen(front)));
     }
@@ -230,7 +230,7 @@ static void show(vault_volume v) {
     static const char *const names[] = {"SHOW", "9", "10.1A", "10.1a", "11"};
     size_t at = 0;
     lend();
-    vault_reply r = vault_show(v, image, IMAGE, 2, out, OUT, work, WORK);
+    vault_reply r = vault_show(v, image, IMAGE, 2, 2, out, OUT, work, WORK);
     for (uint32_t i = 0; i < 5; i++) {
         size_t n = strlen(names[i]);
         EXPECT(out[at] == 0x44 && out[at + 1] == 0x45 && out[at + 2] == (i ? 2 : 1) && out[at + 3] == (i ? 0 : 1));
@@ -241,10 +241,16 @@ static void show(vault_volume v) {
     EXPECT(is_reply(r, VAULT_DONE, 2, at) && is_all(out + at, OUT - at, FREE) && is_all(work, WORK, 0));
     records(at, true, names, 5);
     lend();
-    EXPECT(is_reply(vault_show(v, image, IMAGE, 1, out, OUT, work, WORK), VAULT_TOO_DEEP, 1, 0) && holds("", 0) && is_all(work, WORK, 0));
+    EXPECT(is_reply(vault_show(v, image, IMAGE, 1, VAULT_UNLIMITED, out, OUT, work, WORK), VAULT_TOO_DEEP, 1, 0) && holds("", 0) && is_all(work, WORK, 0));
     lend();
-    EXPECT(is_reply(vault_show(v, image, IMAGE, 17, out, OUT, work, WORK), VAULT_TOO_DEEP, 0, 0) && holds("", 0) && is_all(work, WORK, 0));
-    EXPECT(is_reply(vault_show(v, image, IMAGE, 2, out, at - 1, work, WORK), VAULT_NO_ROOM, 2, 0));
+    EXPECT(is_reply(vault_show(v, image, IMAGE, 17, 0, out, OUT, work, WORK), VAULT_TOO_DEEP, 0, 0) && holds("", 0) && is_all(work, WORK, 0));
+    EXPECT(is_reply(vault_show(v, image, IMAGE, 2, VAULT_UNLIMITED, out, at - 1, work, WORK), VAULT_NO_ROOM, 2, 0));
+    /* One sector fewer than it asks for, and fewer than any. 5 stands behind all questions. */
+    for (uint64_t most = 0; most < 2; most++) {
+        lend();
+        EXPECT(is_reply(vault_show(v, image, IMAGE, 2, most, out, OUT, work, WORK), VAULT_OVER_BUDGET, most, 0) && holds("", 0) && is_all(work, WORK, 0));
+        EXPECT(is_reply(vault_show(v, image, IMAGE, 2, most, out, 0, work, WORK), VAULT_OVER_BUDGET, most, 0));
+    }
 }
 
 static void read_cue(vault_volume v, vault_long_ad icb) {
@@ -450,8 +456,8 @@ static void nothing_lent(vault_volume v, vault_long_ad directory, vault_long_ad 
     EXPECT(is_reply(vault_failed(v, NULL, 0, NULL, 0, VAULT_AS_WRITTEN, NULL, 0, &at), VAULT_DONE, 0, 0) && at == 0);
     EXPECT(is_reply(vault_list(v, image, IMAGE, directory, NULL, 0, NULL, 0), VAULT_NO_WORK, 1, 0));
     EXPECT(is_reply(vault_list(v, image, IMAGE, directory, NULL, 0, work, WORK), VAULT_NO_ROOM, 1, 0));
-    EXPECT(is_reply(vault_show(v, image, IMAGE, 2, NULL, 0, NULL, 0), VAULT_NO_WORK, 1, 0));
-    EXPECT(is_reply(vault_show(v, image, IMAGE, 2, NULL, 0, work, WORK), VAULT_NO_ROOM, 2, 0));
+    EXPECT(is_reply(vault_show(v, image, IMAGE, 2, VAULT_UNLIMITED, NULL, 0, NULL, 0), VAULT_NO_WORK, 1, 0));
+    EXPECT(is_reply(vault_show(v, image, IMAGE, 2, VAULT_UNLIMITED, NULL, 0, work, WORK), VAULT_NO_ROOM, 2, 0));
     EXPECT(is_reply(vault_read(v, image, IMAGE, icb, NULL, 0), VAULT_NO_ROOM, 2, 0));
     EXPECT(is_reply(vault_read(v, NULL, 0, icb, NULL, 0), VAULT_IO, 1, 0) && is_reply(vault_measure(v, NULL, 0, icb), VAULT_IO, 1, 0));
     EXPECT(is_reply(vault_part(v, NULL, 0, icb, &at), VAULT_IO, 1, 0) && is_reply(vault_extents(v, image, IMAGE, icb, NULL, 0), VAULT_NO_SLOT, 1, 0));
@@ -466,7 +472,7 @@ static void nothing_lent(vault_volume v, vault_long_ad directory, vault_long_ad 
     EXPECT(vault_reading_step(vault_reading_start(v, directory, NULL, 0), image + (START + 4) * SECTOR, SECTOR, NULL, 0, NULL, 0).answer == VAULT_NO_ROOM);
     EXPECT(is_reply(vault_list_bytes(v, NULL, 0, NULL, 0), VAULT_DONE, 0, 0) && !vault_match(v, NULL, 0, NULL, 0, VAULT_AS_WRITTEN).found);
     EXPECT(vault_next_component(NULL, 0, 0).length == 0 && !vault_next_record(NULL, 0, true, &at, &e));
-    EXPECT(vault_survey(NULL, 0, NULL, 0, 0, NULL, 0, NULL, 0) == VAULT_BAD_SHELF && vault_survey_total(NULL, 0, 0) == VAULT_BAD_SHELF);
+    EXPECT(vault_survey(NULL, 0, NULL, 0, 0, 0, NULL, 0, NULL, 0) == VAULT_BAD_SHELF && vault_survey_total(NULL, 0, 0) == VAULT_BAD_SHELF);
 }
 
 /* Every call on a volume. */
@@ -610,12 +616,16 @@ static union {
     vault_figures of[4];
 } figures;
 
-static uint64_t survey(const uint64_t *lengths, size_t images, uint32_t how, size_t places) {
+static uint64_t survey_within(uint64_t most, const uint64_t *lengths, size_t images, uint32_t how, size_t places) {
     memset(&figures, FREE, sizeof figures);
     memset(work, FREE, WORK);
-    uint64_t answer = vault_survey(image, IMAGE, lengths, images, how, figures.numbers, places, work, WORK);
+    uint64_t answer = vault_survey(image, IMAGE, lengths, images, how, most, figures.numbers, places, work, WORK);
     EXPECT(is_all(work, WORK, 0));
     return answer;
+}
+
+static uint64_t survey(const uint64_t *lengths, size_t images, uint32_t how, size_t places) {
+    return survey_within(VAULT_UNLIMITED, lengths, images, how, places);
 }
 
 static bool is_figure(vault_figure f, uint64_t number) { return f.number == number && !f.over; }
@@ -623,7 +633,7 @@ static bool is_figure(vault_figure f, uint64_t number) { return f.number == numb
 static void is_show(const vault_figures *f, uint64_t bytes) {
     EXPECT(is_figure(f->files, 4) && is_figure(f->directories, 1) && is_figure(f->bytes, bytes));
     EXPECT(is_figure(f->extents, 4) && is_figure(f->sectors, 8) && is_figure(f->chain, 0));
-    EXPECT(is_figure(f->files_by_answer[VAULT_DONE], 4) && is_all(f->files_by_answer + 1, 15 * sizeof(vault_figure), 0));
+    EXPECT(is_figure(f->files_by_answer[VAULT_DONE], 4) && is_all(f->files_by_answer + 1, 16 * sizeof(vault_figure), 0));
     EXPECT(is_figure(f->images_by_answer[VAULT_DONE], 1));
 }
 
@@ -637,11 +647,18 @@ static void surveyed(vault_volume v) {
     }
     EXPECT(survey(both, 2, 0, 4 * VAULT_FIGURES - 1) == VAULT_DONE);
     is_show(figures.of, bytes);
-    EXPECT(is_all(figures.of[0].images_by_answer + 1, 15 * sizeof(vault_figure), 0));
+    EXPECT(is_all(figures.of[0].images_by_answer + 1, 16 * sizeof(vault_figure), 0));
     EXPECT(is_figure(figures.of[1].images_by_answer[VAULT_IO], 1) && is_all(figures.of + 1, offsetof(vault_figures, images_by_answer), 0));
     is_show(figures.of + 2, bytes);
     EXPECT(is_figure(figures.of[2].images_by_answer[VAULT_IO], 1) && is_all(figures.of + 3, sizeof *figures.of, FREE));
     EXPECT(survey(both, 2, 8, sizeof figures / 8) == VAULT_DONE && is_figure(figures.of[2].images_by_answer[VAULT_UNSUPPORTED], 2));
+    /* The show takes 6 sectors to open, 2 for its tree and 8 for its files. The empty image behind it has its own. */
+    EXPECT(survey_within(16, both, 2, 0, 3 * VAULT_FIGURES) == VAULT_DONE);
+    is_show(figures.of, bytes);
+    EXPECT(survey_within(15, both, 2, 0, 3 * VAULT_FIGURES) == VAULT_DONE && is_figure(figures.of[0].images_by_answer[VAULT_OVER_BUDGET], 1));
+    EXPECT(is_all(figures.of, sizeof *figures.of - 2 * sizeof(vault_figure), 0) && is_figure(figures.of[0].chain, 0));
+    EXPECT(is_figure(figures.of[1].images_by_answer[VAULT_IO], 1) && is_figure(figures.of[2].images_by_answer[VAULT_OVER_BUDGET], 1));
+    EXPECT(survey_within(0, both, 2, 0, 3 * VAULT_FIGURES) == VAULT_DONE && is_figure(figures.of[2].images_by_answer[VAULT_OVER_BUDGET], 2));
     EXPECT(survey(both, 0, 0, VAULT_FIGURES) == VAULT_DONE && is_all(figures.of, sizeof *figures.of, 0));
     EXPECT(survey(both, 2, 0, 3 * VAULT_FIGURES - 1) == VAULT_BAD_SHELF && is_all(&figures, sizeof figures, FREE));
     EXPECT(survey(more, 2, 0, 3 * VAULT_FIGURES) == VAULT_BAD_SHELF && is_all(&figures, sizeof figures, FREE));

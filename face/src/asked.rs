@@ -3,12 +3,12 @@
 
 use crate::icbs::{long_ad, recorded};
 use crate::sparse;
-use crate::vault::{LbAddr, LongAd, Mount, Volume};
+use crate::vault::{LbAddr, LongAd, Mount, UNLIMITED, Volume};
 use std::fmt;
 
 /// The files, in the order in which the program goes through them.
-pub const FILES: [&str; 11] =
-    ["volumes", "files", "directories", "matchings", "checks", "maps", "growing", "stacks", "trees", "replayed", "combinations"];
+pub const FILES: [&str; 12] =
+    ["volumes", "files", "directories", "matchings", "checks", "maps", "growing", "stacks", "trees", "replayed", "combinations", "budgets"];
 
 /// The longest image, in bytes.
 pub const LONGEST: usize = 2 << 20;
@@ -63,7 +63,7 @@ impl Call {
 }
 
 /// What is asked of an image.
-#[derive(Debug, Clone, PartialEq, Eq, Default)]
+#[derive(Debug, Clone, PartialEq, Eq)]
 pub struct Query {
     /// The bits of the calls that are made.
     pub calls: u32,
@@ -85,8 +85,18 @@ pub struct Query {
     pub answers: u32,
     /// An ICB as recorded.
     pub icb: [u8; 16],
+    /// How many sectors a show is lent; [`UNLIMITED`] is no budget.
+    pub most: u64,
     /// A path, or for a list the paths.
     pub text: Vec<u8>,
+}
+
+/// No call: every number is 0, and there is no budget.
+impl Default for Query {
+    fn default() -> Query {
+        let (icb, most, text) = ([0; 16], UNLIMITED, Vec::new());
+        Query { calls: 0, volume: 0, there: 0, matching: 0, levels: 0, room: 0, work: 0, slots: 0, answers: 0, icb, most, text }
+    }
 }
 
 impl Query {
@@ -170,6 +180,10 @@ impl<'a> Input<'a> {
         self.chunk().map(u32::from_le_bytes)
     }
 
+    fn u64(&mut self) -> Result<u64> {
+        self.chunk().map(u64::from_le_bytes)
+    }
+
     /// A number that means something where it is within some.
     fn within(&mut self, meant: impl Fn(u32) -> bool, what: &'static str) -> Result<u32> {
         let at = self.at;
@@ -224,9 +238,9 @@ impl<'a> Input<'a> {
         let (bytes, places) = (|n| n <= MOST_BYTES, |n| n <= MOST_PLACES);
         let (room, work) = (self.within(bytes, "too much room")?, self.within(bytes, "too much work space")?);
         let (slots, answers) = (self.within(places, "too many slots")?, self.within(places, "too many answers")?);
-        let (icb, size) = (self.chunk()?, self.u32()?);
+        let (icb, most, size) = (self.chunk()?, self.u64()?, self.u32()?);
         let text = self.take(size as usize, "a text ends behind its record")?.to_vec();
-        Ok(Query { calls, volume, there, matching, levels, room, work, slots, answers, icb, text })
+        Ok(Query { calls, volume, there, matching, levels, room, work, slots, answers, icb, most, text })
     }
 
     /// An image with what is asked of it. The base is the last image that stood alone.
@@ -296,6 +310,7 @@ fn put_query(to: &mut Vec<u8>, q: &Query) {
     let numbers = [q.calls, q.volume, q.there, q.matching, q.levels, q.room, q.work, q.slots, q.answers];
     numbers.iter().for_each(|n| to.extend(n.to_le_bytes()));
     to.extend(q.icb);
+    to.extend(q.most.to_le_bytes());
     to.extend((q.text.len() as u32).to_le_bytes());
     to.extend(&q.text);
 }
@@ -317,7 +332,7 @@ mod tests {
         let root = long_ad(b"\x00\x08\x00\x40ICB as recorded"[..16].try_into().unwrap());
         let query = Query { calls: 0xfff9, volume: BY_HAND, there: 5000, matching: 9, levels: 16, room: 65_536, ..Query::default() };
         let other = Query { calls: Open.bit(), volume: 7, there: WATCHED, work: 65_536, slots: 1024, answers: 1024, ..Query::default() };
-        let queries = vec![Query { icb: recorded(&root), text: b"a/b".to_vec(), ..query }, other];
+        let queries = vec![Query { icb: recorded(&root), most: 7, text: b"a/b".to_vec(), ..query }, other];
         Image {
             name: "an image".into(),
             bytes: [vec![0; 4000], vec![7; 1000]].concat(),
@@ -372,7 +387,7 @@ mod tests {
         let file = file();
         let packed = 2 + 8 + 1 + 4;
         let queries = packed + 16 + 1000 + 2 + 62 + 4;
-        let second = queries + 56 + 3;
+        let second = queries + 64 + 3;
         let odd = |at: usize, number: u32, said: usize, what: &str| {
             let mut file = file.clone();
             file[at..at + 4].copy_from_slice(&number.to_le_bytes());
@@ -397,7 +412,7 @@ mod tests {
         odd(queries + 24, MOST_BYTES + 1, queries + 24, "work");
         odd(queries + 28, MOST_PLACES + 1, queries + 28, "slots");
         odd(queries + 32, MOST_PLACES + 1, queries + 32, "answers");
-        odd(second + 52, 1, second + 56, "text ends");
+        odd(second + 60, 1, second + 64, "text ends");
         let mut named = file.clone();
         named[4] = 0x80;
         assert_eq!(read(&named), Err(Wrong { at: 2, what: "a name isn't ASCII" }));

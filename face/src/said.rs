@@ -2,7 +2,7 @@
 
 use crate::asked::{Call, NO_VOLUME, Query};
 use crate::icbs::recorded;
-use crate::vault::Volume;
+use crate::vault::{UNLIMITED, Volume};
 
 /// What lent memory comes full of.
 pub const CAME: u8 = 0xa5;
@@ -116,13 +116,14 @@ fn volume(Volume { mount, root, label }: &Volume) -> String {
 }
 
 /// The line in front of those of a query's calls, on an image of so many bytes: what is asked, without what is 0 or empty, and without how
-/// much is there where that is all.
+/// much is there where that is all, and without a budget that is none.
 pub fn asking(q: &Query, length: usize) -> String {
     let there = if q.there as usize == length { String::new() } else { format!(" there {}", q.there) };
     let set = |word: &str, number: u32| if number == 0 { String::new() } else { format!(" {word} {number}") };
     let held =
         |word: &str, bytes: &[u8]| if bytes.iter().all(|byte| *byte == 0) { String::new() } else { format!(" {word} {}", text(bytes)) };
-    let choices = [set("volume", q.volume), there, set("matching", q.matching), set("levels", q.levels)].concat();
+    let most = if q.most == UNLIMITED { String::new() } else { format!(" most {}", q.most) };
+    let choices = [set("volume", q.volume), there, set("matching", q.matching), set("levels", q.levels), most].concat();
     let lent = [set("room", q.room), set("work", q.work), set("slots", q.slots), set("answers", q.answers)].concat();
     format!("query{choices}{lent}{}{}", held("icb", &q.icb), held("text", &q.text))
 }

@@ -19,6 +19,29 @@
 //! that is done writes the front of `out` and nothing behind it. `work` is all zero on return from every call, refused
 //! or not.
 //!
+//! What bounds the time of each call, whatever the image holds: it is in proportion to what stands beside it. The
+//! descriptors of a file stand in its entry and in a chain of at most 32 continuations of 1 MiB, together at most
+//! 16,385 sectors. A directory has at most the bytes of `work`, or is refused.
+//!
+//!     vault_open, vault_label     the main sequence, at most 2,097,151 sectors; once more for each map with VAULT_MAPS
+//!     vault_probe                 8 sectors
+//!     vault_lookup, vault_failed  for each component of the path a directory's bytes, entry and chain
+//!     vault_list                  the directory's bytes, entry and chain
+//!     vault_read                  the bytes that are answered, and the file's entry and chain
+//!     vault_measure, vault_part   the file's entry and chain: none of its bytes is looked at
+//!     vault_extents, vault_runs   the same, and the slots that are written
+//!     vault_read_path             the lookup and the read
+//!     vault_read_all              the sum of its items
+//!     vault_show                  most + 1 times the bytes of `work` and 2,048; one more directory's entry and chain
+//!     vault_survey                of each image the opening, the show, and one more file's entry and chain
+//!     vault_opening_step          one sector
+//!     vault_reading_step          one sector; where the chain or the read ends, the slots of the row
+//!     vault_list_bytes            the bytes lent, as of vault_match and vault_next_component
+//!     vault_write                 the image that is written, and the names
+//!
+//! With VAULT_UNLIMITED as `most`, vault_show and vault_survey have no bound but the number of paths, and a disc that
+//! was made to do harm may have more of these than could ever be walked.
+//!
 //! Any volume and any ICB may be handed in, also one made by hand. They are taken as they are: a length of 2^30 is not
 //! 0.
 //!
@@ -58,6 +81,8 @@ pub const BAD_FILES: u64 = 14;
 /// The lengths of a shelf's images pass the bytes lent, or there are too few places for the figures of each and of the
 /// shelf.
 pub const BAD_SHELF: u64 = 15;
+/// The call would ask for more sectors than it was lent (`most`).
+pub const OVER_BUDGET: u64 = 16;
 
 /// ASCII case is ignored, and the first entry that matches is taken.
 pub const CASE_IGNORED: u32 = 0;
@@ -79,13 +104,15 @@ pub const MAPS: u32 = 2;
 /// number alone, with this choice and without.
 pub const HIGHEST: u32 = 4;
 
+/// For `most`: as many sectors as the call wants. It is for an image that is trusted.
+pub const UNLIMITED: u64 = 18446744073709551615;
 /// The bytes of a sector, and of a block.
 pub const SECTOR_SIZE: usize = 2048;
 /// Goes up whenever a struct or a call changes.
-pub const VERSION: u32 = 11;
+pub const VERSION: u32 = 12;
 
 /// How many numbers a place of a row of figures has.
-pub const FIGURES: usize = 76;
+pub const FIGURES: usize = 80;
 
 structs! {
     /// How a volume is read: where its partition starts, the partition's number, whether the bodies of its descriptors
@@ -317,7 +344,7 @@ structs! {
 
     /// The figures of an image or of a shelf. Files and directories are those that vault_show at 16 levels lists, each
     /// once for each path; the root isn't counted.
-    vault_figures as Figures, 608 aligned to 8 {
+    vault_figures as Figures, 640 aligned to 8 {
         /// Files found, those that can't be read among them.
         0 files: Figure,
         16 directories: Figure,
@@ -328,13 +355,14 @@ structs! {
         /// The counts of reading each file, also of those that are refused; not the sectors of opening, of the tree and
         /// of the extent lists.
         64 sectors: Figure,
-        /// How many files have each answer number.
-        80 files_by_answer: [Figure; 16],
-        /// How many images have each answer number, of their opening or of their tree; one that has another than 0 has
+        /// How many files have each answer number. None has VAULT_OVER_BUDGET.
+        80 files_by_answer: [Figure; 17],
+        /// How many images have each answer number, of their opening or of their tree, or VAULT_OVER_BUDGET where these
+        /// and the reads of the files together want more sectors than were lent. An image that has another than 0 has
         /// no other figure.
-        336 images_by_answer: [Figure; 16],
+        352 images_by_answer: [Figure; 17],
         /// The most continuations of allocation descriptors that were followed for a file that can be read.
-        592 chain: Figure,
+        624 chain: Figure,
     }
 }
 
@@ -410,14 +438,20 @@ unsafe extern "C" {
     ///
     /// A directory at the last level, even an empty one, is VAULT_TOO_DEEP at its turn, before it is read, and so is
     /// any other number of levels at once. The directories on the way down stand in `work` together, one behind the
-    /// other: VAULT_NO_WORK counts those above. A directory is shown, and read, once for each path to it, so that the
-    /// cost goes with the paths. One that holds itself is found at the last level, and is VAULT_TOO_DEEP, or is
-    /// VAULT_NO_WORK before.
+    /// other: VAULT_NO_WORK counts those above. One that holds itself is found at the last level, and is
+    /// VAULT_TOO_DEEP, or is VAULT_NO_WORK before.
+    ///
+    /// A directory is shown, and read, once for each path to it: a few directories may have more paths than could ever
+    /// be walked. So `most` is how many sectors the call may ask for. It is VAULT_OVER_BUDGET in the place of asking
+    /// for one more, and the count is then `most`; refusals that it meets before stay what they are. A call that asks
+    /// for no more is the same as with VAULT_UNLIMITED. On a sound disc each sector of a directory is asked for once,
+    /// so that as many as the image has are enough.
     pub fn vault_show(
         volume: Volume,
         image: *const u8,
         image_length: usize,
         levels: u32,
+        most: u64,
         out: *mut u8,
         out_length: usize,
         work: *mut u8,
@@ -576,12 +610,18 @@ unsafe extern "C" {
     /// The answer is VAULT_DONE also where every image is refused; or VAULT_BAD_SHELF where the lengths pass `shelf` or
     /// there are fewer places than images and one, and then nothing is written but the zeros of `work`. Places behind
     /// stay as they came.
+    ///
+    /// Each image is lent `most` sectors anew: its opening, its tree and the reads of its files in their order each
+    /// have what those before have left, by their counts. An image that wants more counts under VAULT_OVER_BUDGET, and
+    /// the next one has its turn. What is looked up beside the reads, extents and chains, isn't counted. On a sound
+    /// disc each sector is asked for once, and those of a file once for each path to it. VAULT_UNLIMITED is no budget.
     pub fn vault_survey(
         shelf: *const u8,
         shelf_length: usize,
         lengths: *const u64,
         lengths_places: usize,
         how: u32,
+        most: u64,
         figures: *mut u64,
         figures_places: usize,
         work: *mut u8,

@@ -6,6 +6,11 @@ MADE = "Made by tools/faces.py from the comments and declarations of crates/{cra
 INT_MAX = 2**31 - 1
 
 
+def literal(value):
+    """A number as C has it: one that no int holds is 64 bits wide."""
+    return str(value) if value <= INT_MAX else f"UINT64_C({value})"
+
+
 def opened(group):
     """The line that an enumeration begins with. One that a call takes has its type in C++, where a cast to it then gives any number; C has no such form."""
     if not group.name:
@@ -29,7 +34,7 @@ def constants(interface, groups):
             lines += [f"}} {group.name};" if group.name else "};", ""]
         for held in group:
             if held not in small:
-                lines += [*commented(held.about), f"#define {front}{held.name} UINT64_C({held.value})", ""]
+                lines += [*commented(held.about), f"#define {front}{held.name} {literal(held.value)}", ""]
     return lines
 
 
@@ -142,7 +147,7 @@ def layouts(interfaces):
     for interface in interfaces:
         front = interface.prefix.upper() + "_"
         for group in interface.constants:
-            lines += [f"HOLDS({front}{held.name} == {held.value});" for held in group]
+            lines += [f"HOLDS({front}{held.name} == {literal(held.value)});" for held in group]
             if group.type:
                 lines.append(f"HOLDS(sizeof({group.name}) == {group.type.size} && ({group.name})-1 > 0);")
         for part in interface.sections:

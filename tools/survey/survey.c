@@ -11,7 +11,7 @@ extern void *memcpy(void *to, const void *from, size_t n);
 extern size_t strlen(const char *text);
 extern _Noreturn void exit(int status);
 
-enum { NUMBERS = 4096, GIVEN = 2048, WORK = 1 << 16, FREE = 0xa5, HEAD = 20 };
+enum { NUMBERS = 4096, GIVEN = 2048, WORK = 1 << 16, FREE = 0xa5, HEAD = 28 };
 
 static uint8_t all[16 << 20], shelf[8 << 20], work[WORK];
 static char said[16 << 20];
@@ -92,13 +92,14 @@ static bool is_zero(size_t n) {
     return true;
 }
 
-static void survey(size_t bytes, uint32_t how, size_t numbers, size_t room, size_t many) {
+static void survey(size_t bytes, uint32_t how, size_t numbers, size_t room, uint64_t most, size_t many) {
     say_number("survey how ", how);
     say_number(" numbers ", numbers);
     say_number(" work ", room);
+    if (most != VAULT_UNLIMITED) say_number(" most ", most);
     say(" lengths");
     for (size_t i = 0; i < many; i++) say_number(" ", given[i]);
-    uint64_t answer = vault_survey(shelf, bytes, given, many, how, row, numbers, work, room);
+    uint64_t answer = vault_survey(shelf, bytes, given, many, how, most, row, numbers, work, room);
     size_t whole = answer ? 0 : VAULT_FIGURES * (many + 1);
     say_number("\nanswer ", answer);
     say_number(" kept ", kept(whole, numbers));
@@ -120,7 +121,7 @@ static void total(size_t numbers, size_t many) {
 
 static void ask(size_t bytes) {
     const uint8_t *head = take(HEAD);
-    size_t numbers = number(head + 8, 4), room = number(head + 12, 4), many = number(head + 16, 4);
+    size_t numbers = number(head + 8, 4), room = number(head + 12, 4), many = number(head + 24, 4);
     if (numbers > NUMBERS || room > WORK || many > GIVEN) exit(8);
     for (size_t i = 0; i < many; i++) given[i] = take_number(8);
     memset(row, FREE, sizeof row);
@@ -128,7 +129,7 @@ static void ask(size_t bytes) {
     if (number(head, 4))
         total(numbers, many);
     else
-        survey(bytes, (uint32_t)number(head + 4, 4), numbers, room, many);
+        survey(bytes, (uint32_t)number(head + 4, 4), numbers, room, number(head + 16, 8), many);
 }
 
 int main(void) {

@@ -16,8 +16,8 @@ pub fn child() -> Result<()> {
     let call = Call::ALL[wire::number(from, 1)? as usize];
     let v = wire::volume(from)?;
     let icb = long(wire::icb(from)?);
-    // Room, work space, choices, rows and levels are none of its own.
-    wire::bytes(from, 28)?;
+    // Room, work space, choices, rows, levels and budget are none of its own.
+    wire::bytes(from, 36)?;
     let n = wire::number(from, 4)? as usize;
     let path = String::from_utf8_lossy(&wire::bytes(from, n)?).into_owned();
     let mut disc: UdfDisc<Logged> = within::disc(Logged::new(&image), v.start, v.partition, long(v.root));

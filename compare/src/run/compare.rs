@@ -22,7 +22,7 @@ use super::{
 use super::{sparse, volumes, volumes_mapped};
 use std::panic::{AssertUnwindSafe, catch_unwind};
 use std::path::{Path, PathBuf};
-use strandlodge_sys::vault::{AMBIGUOUS, BAD_CRC, BAD_SHELF, TOO_DEEP, TOO_MANY};
+use strandlodge_sys::vault::{AMBIGUOUS, BAD_CRC, BAD_SHELF, OVER_BUDGET, TOO_DEEP, TOO_MANY};
 
 /// So many absurd information lengths are tried on the original: a process each.
 const CHILDREN: u64 = 60;
@@ -558,7 +558,7 @@ fn numbers(row: Row, call: Call) -> Vec<u64> {
         Call::Extents => vec![0, 1, 2, 4, 7],
         Call::ReadPath => vec![0, 1, 2, 3, 4, 5, 6],
         Call::ReadAll => return vec![0, TOO_MANY],
-        Call::Show => vec![0, 1, 2, 4, 5, 6, TOO_DEEP],
+        Call::Show => vec![0, 1, 2, 4, 5, 6, TOO_DEEP, OVER_BUDGET],
         Call::Measure => vec![0, 1, 2, 4],
         Call::Survey | Call::Total => return vec![0, BAD_SHELF],
     };
@@ -570,7 +570,7 @@ fn numbers(row: Row, call: Call) -> Vec<u64> {
 
 /// The answer numbers that no image or file of a survey had.
 fn uncounted(tally: &Tally, row: Row) -> Vec<String> {
-    let all = [(Counted::Images, &[0, 1, 2, 3, 4, 6, TOO_DEEP, BAD_CRC][..]), (Counted::Files, &[0, 1, 2, 4, BAD_CRC])];
+    let all = [(Counted::Images, &[0, 1, 2, 3, 4, 6, TOO_DEEP, BAD_CRC, OVER_BUDGET][..]), (Counted::Files, &[0, 1, 2, 4, BAD_CRC])];
     let can_be = |n: u64| n != BAD_CRC || matches!(row, Row::Checked | Row::Mapped);
     let numbers = all.into_iter().flat_map(|(what, numbers)| numbers.iter().map(move |n| (what, *n)));
     let never = numbers.filter(|(what, n)| can_be(*n) && !tally.counted.contains_key(&(row, *what, *n)));

@@ -5,7 +5,7 @@ use super::original::{self, Came, Original, icb};
 use super::prevailing;
 use super::surveys;
 use crate::udf::{DirEntry, within};
-use strandlodge_sys::vault::{AMBIGUOUS, BAD_CRC, CHECKED, HIGHEST, MAPS, TOO_DEEP, TOO_MANY};
+use strandlodge_sys::vault::{AMBIGUOUS, BAD_CRC, CHECKED, HIGHEST, MAPS, OVER_BUDGET, TOO_DEEP, TOO_MANY};
 
 /// The answer, and what it took.
 pub struct Expected {
@@ -364,6 +364,15 @@ pub struct Tree {
     pub files: Vec<Icb>,
 }
 
+/// Whether more sectors were asked for than were lent; then those are left that come before.
+pub fn is_over(asked: &mut Vec<u64>, most: u64) -> bool {
+    let over = asked.len() as u64 > most;
+    if over {
+        asked.truncate(most as usize);
+    }
+    over
+}
+
 /// What is under a directory, whose entries have this level: by the original's reading and listing of it, once for each path. `above` is what the
 /// directories above it take of the work space. An answer number, or 0 where there are too many paths.
 pub fn below(o: &mut Original, q: &Query, at: Icb, level: u32, above: usize, tree: &mut Tree) -> std::result::Result<(), u64> {
@@ -372,6 +381,9 @@ pub fn below(o: &mut Original, q: &Query, at: Icb, level: u32, above: usize, tre
     }
     let read = o.read(at);
     tree.asked.extend(read.asked);
+    if is_over(&mut tree.asked, q.most) {
+        return Err(OVER_BUDGET);
+    }
     let work = above + read.value?.len();
     tree.works.push(work);
     if work > q.work {

@@ -9,7 +9,7 @@ use super::prevailing;
 use super::random::Random;
 use super::surveys;
 use crate::udf::within;
-use strandlodge_sys::vault::{AS_WRITTEN, CASE_IGNORED, CHECKED, HIGHEST, MAPS, UNAMBIGUOUS};
+use strandlodge_sys::vault::{AS_WRITTEN, CASE_IGNORED, CHECKED, HIGHEST, MAPS, OVER_BUDGET, UNAMBIGUOUS, UNLIMITED};
 
 pub struct Case {
     pub query: Query,
@@ -376,8 +376,24 @@ fn levels(random: &mut Random, disc: &Disc, v: Volume) -> u32 {
     [3, 6, 10].into_iter().take_while(|fewer| *fewer < wanted).find(is_much).unwrap_or(wanted)
 }
 
+/// So many sectors are walked of an image that would take long.
+const WALKED: u64 = 400;
+
+/// Sectors that are lent, where as many are on the list: mostly no budget, or exactly enough, one fewer, any, or more than any list has. Where the list is too long to
+/// be walked there is a budget each time.
+fn budget(random: &mut Random, listed: Option<usize>) -> u64 {
+    let Some(listed) = listed else { return random.below(WALKED as usize) as u64 };
+    match random.below(9) {
+        0 => listed as u64,
+        1 => listed.saturating_sub(1) as u64,
+        2 => random.below(listed + 2) as u64,
+        3 => *random.pick(&[0, 1, 1 << 32, UNLIMITED - 1]),
+        _ => UNLIMITED,
+    }
+}
+
 /// The cases of whole shows, on a volume that says whether bodies are checked and which maps there are: with memory to spare, exactly enough and short,
-/// for the whole tree and for a directory on the way. The first is asked in noise too, and others once in a while.
+/// for the whole tree and for a directory on the way, and with budgets. The first is asked in noise too, and others once in a while.
 pub fn shown(random: &mut Random, disc: &Disc, asked: Asked, depth: Depth) -> Vec<Case> {
     let v = match asked {
         Asked::Unchecked => volume(random, disc, depth),
@@ -387,10 +403,9 @@ pub fn shown(random: &mut Random, disc: &Disc, asked: Asked, depth: Depth) -> Ve
     let mut all = Vec::new();
     for _ in 0..if depth == Depth::All { 3 } else { 1 } {
         let q = Query::showing(v, levels(random, disc, v));
-        let e = expected(&disc.image, &q);
-        if e.beyond {
-            continue;
-        }
+        let whole = expected(&disc.image, &q);
+        let listed = (!whole.beyond).then_some(whole.sectors.len());
+        let e = if whole.beyond { expected(&disc.image, &q.clone().lent(WALKED)) } else { whole };
         let most = e.directories.iter().copied().max().unwrap_or(0);
         let some = if e.directories.is_empty() { 0 } else { *random.pick(&e.directories) };
         let any = (random.below(e.full + 2), random.below(most + 2));
@@ -410,7 +425,7 @@ pub fn shown(random: &mut Random, disc: &Disc, asked: Asked, depth: Depth) -> Ve
         }
         sizes.insert(0, (e.full + random.below(80), most + random.below(80)));
         for (i, (room, work)) in sizes.into_iter().enumerate() {
-            let (query, in_noise) = (q.with(room, work), i == 0 || random.once_in(4));
+            let (query, in_noise) = (q.with(room, work).lent(budget(random, listed)), i == 0 || random.once_in(4));
             all.push(Case { expected: expected(&disc.image, &query), query: query.clone(), in_noise: false });
             if in_noise {
                 all.push(Case { expected: expected(&disc.image, &query), query, in_noise: true });
@@ -444,17 +459,19 @@ fn survey_choice(random: &mut Random, asked: Asked) -> u32 {
     }
 }
 
-/// Whether an image has too many paths to be surveyed: where a directory holds itself, or has many names.
+/// Whether an image has too many paths to be surveyed without a budget: where a directory has many names.
 fn is_much(image: &[u8], how: u32) -> bool {
     let opened = expected(image, &Query { how, ..Query::of(Call::Open, Volume::default()) }).values;
-    let walked = |levels| expected(image, &Query::showing(opened.volume, levels)).directories.len();
-    opened.answer == 0 && [3, 6, 10].into_iter().any(|levels| walked(levels) > 60)
+    let show = Query::showing(opened.volume, surveys::LEVELS).lent(WALKED);
+    opened.answer == 0 && expected(image, &show).values.answer == OVER_BUDGET
 }
 
-/// A survey with these memories: the first is asked in noise too where that can be told, and so are others once in a while.
-fn surveys_of(random: &mut Random, shelf: &[u8], queries: Vec<Query>, has_noise: bool) -> Vec<Case> {
+/// A survey with these memories, and budgets around the sectors that an image takes: the first is asked in noise too where that can be told, and so are others once in
+/// a while.
+fn surveys_of(random: &mut Random, shelf: &[u8], queries: Vec<Query>, listed: Option<usize>, has_noise: bool) -> Vec<Case> {
     let mut all = Vec::new();
     for (i, query) in queries.into_iter().enumerate() {
+        let query = query.lent(budget(random, listed));
         let in_noise = has_noise && (i == 0 || random.once_in(4));
         for in_noise in [false, true].into_iter().take(1 + usize::from(in_noise)) {
             all.push(Case { expected: expected(shelf, &query), query: query.clone(), in_noise });
@@ -467,11 +484,10 @@ fn surveys_of(random: &mut Random, shelf: &[u8], queries: Vec<Query>, has_noise:
 /// The surveys of an image by itself: with memory to spare, exactly enough and short, cut, and beside images without a byte.
 pub fn surveyed(random: &mut Random, disc: &Disc, asked: Asked, depth: Depth) -> Vec<Case> {
     let (how, length) = (survey_choice(random, asked), disc.image.len() as u64);
-    if is_much(&disc.image, how) {
-        return Vec::new();
-    }
-    let q = Query::survey(how, &[length]);
+    let is_much = is_much(&disc.image, how);
+    let q = Query::survey(how, &[length]).lent(if is_much { WALKED } else { UNLIMITED });
     let e = expected(&disc.image, &q);
+    let listed = (!is_much).then_some(e.sectors.len());
     let most = e.directories.iter().copied().max().unwrap_or(0);
     let some = if e.directories.is_empty() { 0 } else { *random.pick(&e.directories) };
     let of = |lengths: &[u64], spare: usize| Query::survey(how, lengths).with(PLACE * (lengths.len() + 1) + spare, most);
@@ -497,7 +513,7 @@ pub fn surveyed(random: &mut Random, disc: &Disc, asked: Asked, depth: Depth) ->
         all.retain(|_| random.once_in(4));
     }
     all.insert(0, q.with(2 * PLACE + random.below(5), most + random.below(80)));
-    surveys_of(random, &disc.image, all, true)
+    surveys_of(random, &disc.image, all, listed, true)
 }
 
 /// The surveys of images one behind another, of these lengths in all: as long as they are, with lengths that are wrong, and with rows that are
@@ -509,10 +525,8 @@ pub fn shelved(random: &mut Random, shelf: &[u8], lengths: &[u64]) -> Vec<Case> 
         *end += *n as usize;
         Some(&shelf[*end - *n as usize..*end])
     });
-    if images.any(|image| is_much(image, how)) {
-        return Vec::new();
-    }
-    let (q, numbers) = (Query::survey(how, lengths), PLACE * (lengths.len() + 1));
+    let is_much = images.any(|image| is_much(image, how));
+    let (q, numbers) = (Query::survey(how, lengths).lent(if is_much { WALKED } else { UNLIMITED }), PLACE * (lengths.len() + 1));
     let e = expected(shelf, &q);
     let most = e.directories.iter().copied().max().unwrap_or(0);
     let some = if e.directories.is_empty() { 0 } else { random.pick(&e.directories).saturating_sub(1) };
@@ -533,8 +547,10 @@ pub fn shelved(random: &mut Random, shelf: &[u8], lengths: &[u64]) -> Vec<Case> 
         other(random, |_, huge| huge, huge),
     ];
     let is_whole = lengths.iter().rev().skip(1).all(|n| n % 2048 == 0);
-    let mut cases = surveys_of(random, shelf, all[..1].to_vec(), is_whole);
-    cases.extend(surveys_of(random, shelf, all[1..].to_vec(), false));
+    // As many as an image takes, if all take the same.
+    let listed = (!is_much).then_some(e.sectors.len() / lengths.len());
+    let mut cases = surveys_of(random, shelf, all[..1].to_vec(), listed, is_whole);
+    cases.extend(surveys_of(random, shelf, all[1..].to_vec(), listed, false));
     cases
 }
 

@@ -71,6 +71,7 @@ pub fn shapes() -> Vec<Shape> {
     let tree = |levels, names| disc(|d| nested(d, levels, names));
     let mut all: Vec<Shape> = [1, 2, 15, 16, 17].map(|levels| (format!("a tree of {levels} levels"), tree(levels, 1))).to_vec();
     all.push(("directories of two names".to_string(), tree(6, 2)));
+    all.push(("a disc made to do harm".to_string(), tree(14, 20)));
     all.push(("a root that holds itself".to_string(), holding(holding(Icb::at(0, 0)).volume.root)));
     let whole = tree(4, 1);
     // The first are the files, and the last the root.

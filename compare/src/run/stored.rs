@@ -12,7 +12,7 @@ use std::path::Path;
 use strandlodge_sys::asked::{self, FILES};
 use strandlodge_sys::replay::{Asked, Counts, replay, sections};
 use strandlodge_sys::said::Said;
-use strandlodge_sys::vault::NO_SLOT;
+use strandlodge_sys::vault::{NO_SLOT, UNLIMITED};
 
 // ---- asker
 
@@ -28,6 +28,7 @@ fn query(asked: &Asked, call: Call) -> Query {
         places: [q.slots as usize, q.answers as usize],
         how: q.volume,
         levels: q.levels,
+        most: q.most,
         ..Query::of(call, asked.volume.into())
     }
 }
@@ -154,9 +155,10 @@ fn places(row: &[u8]) -> Vec<String> {
 
 /// What `survey_cases` prints of a query: a survey of the shelf, or a total.
 fn survey(shelf: &[u8], from: &mut &[u8]) -> Result<Vec<String>> {
-    let [is_total, how, numbers, work, n] = [0; 5].map(|_| wire::number(from, 4));
+    let [is_total, how, numbers, work] = [0; 4].map(|_| wire::number(from, 4));
     let (is_total, how, numbers, work) = (is_total? == 1, how? as u32, numbers? as usize, work? as usize);
-    let given = (0..n?).map(|_| wire::number(from, 8)).collect::<Result<Vec<u64>>>()?;
+    let (most, n) = (wire::number(from, 8)?, wire::number(from, 4)?);
+    let given = (0..n).map(|_| wire::number(from, 8)).collect::<Result<Vec<u64>>>()?;
     if is_total {
         let mut row = vec![u64::from_le_bytes([0xa5; 8]); numbers];
         row.iter_mut().zip(&given[1..]).for_each(|(to, n)| *to = *n);
@@ -166,11 +168,12 @@ fn survey(shelf: &[u8], from: &mut &[u8]) -> Result<Vec<String>> {
         lines.extend(places(&v.written));
         return Ok(lines);
     }
-    let v = expected(shelf, &Query::survey(how, &given).with(numbers, work)).values;
+    let v = expected(shelf, &Query::survey(how, &given).with(numbers, work).lent(most)).values;
     let lengths: String = given.iter().map(|n| format!(" {n}")).collect();
     let kept = numbers - v.written.len() / 8;
-    let mut lines =
-        vec![format!("survey how {how} numbers {numbers} work {work} lengths{lengths}"), format!("answer {} kept {kept} zero", v.answer)];
+    let budget = if most == UNLIMITED { String::new() } else { format!(" most {most}") };
+    let asked = format!("survey how {how} numbers {numbers} work {work}{budget} lengths{lengths}");
+    let mut lines = vec![asked, format!("answer {} kept {kept} zero", v.answer)];
     lines.extend(places(&v.written));
     Ok(lines)
 }

@@ -1,11 +1,11 @@
 //! The figures of a shelf, by a walk over what the original opens, lists and reads on each of its images; and the total of a row, by true numbers.
 
 use super::calls::{Icb, PLACE, PLENTY, Query};
-use super::expect::{Expected, Tree, below, opened};
+use super::expect::{Expected, Tree, below, is_over, opened};
 use super::original::Original;
 use super::tally::Counted;
 use crate::udf::{AllocationExtentDescriptor, FileEntry, within};
-use strandlodge_sys::vault::BAD_SHELF;
+use strandlodge_sys::vault::{BAD_SHELF, OVER_BUDGET, UNLIMITED};
 
 /// The figures of a place: files, directories, bytes, extents, sectors, files and images by their answer numbers, and the longest chain.
 const ALL: usize = PLACE / 2;
@@ -15,8 +15,10 @@ const BYTES: usize = 2;
 const EXTENTS: usize = 3;
 const SECTORS: usize = 4;
 const FILES_BY_ANSWER: usize = 5;
-const IMAGES_BY_ANSWER: usize = 21;
-const CHAIN: usize = 37;
+/// The answer numbers that figures have.
+const ANSWERS: usize = 17;
+const IMAGES_BY_ANSWER: usize = FILES_BY_ANSWER + ANSWERS;
+const CHAIN: usize = IMAGES_BY_ANSWER + ANSWERS;
 
 /// The levels of the tree that is surveyed.
 pub const LEVELS: u32 = 16;
@@ -52,7 +54,7 @@ fn bytes(numbers: &[u64]) -> Vec<u8> {
 pub fn counts(written: &[u8]) -> Vec<(Counted, u64, u64)> {
     let numbers: Vec<u64> = written.chunks_exact(8).map(|b| u64::from_le_bytes(b.try_into().unwrap())).collect();
     let shelf = &numbers[numbers.len() - PLACE..];
-    let by_answer = |what, from: usize| (0..16).map(move |n| (what, n as u64, shelf[2 * (from + n)]));
+    let by_answer = |what, from: usize| (0..ANSWERS).map(move |n| (what, n as u64, shelf[2 * (from + n)]));
     let all = by_answer(Counted::Images, IMAGES_BY_ANSWER).chain(by_answer(Counted::Files, FILES_BY_ANSWER));
     all.filter(|(_, _, n)| *n > 0).collect()
 }
@@ -107,16 +109,20 @@ fn file(o: &mut Original, image: &[u8], icb: Icb, all: &mut Surveyed) {
     all.asked.extend(read.asked);
 }
 
-/// An image that is opened as the query chooses, and walked as a show of 16 levels in its work space.
+/// An image that is opened as the query chooses, and walked as a show of 16 levels in its work space; then its files are read. All of it is lent one budget.
 fn surveyed(image: &[u8], q: &Query) -> Surveyed {
     let came = opened(image, q);
     let mut asked = came.asked;
+    if is_over(&mut asked, q.most) {
+        return Surveyed::refused(OVER_BUDGET, asked);
+    }
     let volume = match came.value {
         Err(n) => return Surveyed::refused(n, asked),
         Ok((volume, _)) => volume,
     };
     let (mut o, mut tree) = (Original::new(image, volume), Tree::default());
-    let show = Query::showing(volume, LEVELS).with(PLENTY, q.work);
+    let left = if q.most == UNLIMITED { UNLIMITED } else { q.most - asked.len() as u64 };
+    let show = Query::showing(volume, LEVELS).with(PLENTY, q.work).lent(left);
     let done = below(&mut o, &show, volume.root, 1, 0, &mut tree);
     asked.extend(tree.asked);
     let refused = done.err().unwrap_or(0);
@@ -124,7 +130,14 @@ fn surveyed(image: &[u8], q: &Query) -> Surveyed {
     all.beyond = done == Err(0) || tree.paths > MOST_PATHS;
     if done.is_ok() && !all.beyond {
         all.figures[DIRECTORIES] = (tree.paths - tree.files.len()) as u128;
-        tree.files.iter().for_each(|icb| file(&mut o, image, *icb, &mut all));
+        for icb in &tree.files {
+            file(&mut o, image, *icb, &mut all);
+            // The lists of the opening, the tree and the reads so far.
+            if is_over(&mut all.asked, q.most) {
+                all.figures = Surveyed::refused(OVER_BUDGET, Vec::new()).figures;
+                break;
+            }
+        }
     }
     all.absurd = o.absurd;
     all

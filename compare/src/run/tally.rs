@@ -13,7 +13,7 @@ use std::time::Instant;
 use strandlodge_sys::vault::{CHECKED, HIGHEST, MAPS};
 
 /// The answer numbers of the calls on an image.
-const NUMBERS: [u64; 13] = [0, 1, 2, 3, 4, 5, 6, 7, 9, 10, 11, 12, 15];
+const NUMBERS: [u64; 14] = [0, 1, 2, 3, 4, 5, 6, 7, 9, 10, 11, 12, 15, 16];
 
 /// A row of a table: a name, and how many of each number.
 fn row(f: &mut fmt::Formatter, name: &str, of: impl Fn(u64) -> u64) -> fmt::Result {

@@ -26,7 +26,7 @@ pub fn put_volume(to: &mut Vec<u8>, v: &Volume) {
     to.extend(v.label);
 }
 
-/// Volume, ICB, room, work, the choices, the places of the rows, levels, path, shelf and images.
+/// Volume, ICB, room, work, the choices, the places of the rows, levels, budget, path, shelf and images.
 pub fn put_query(to: &mut Vec<u8>, q: &Query) {
     put_volume(to, &q.volume);
     put_icb(to, &q.icb);
@@ -36,6 +36,7 @@ pub fn put_query(to: &mut Vec<u8>, q: &Query) {
     put(to, q.matching as u64, 4);
     q.places.iter().for_each(|places| put(to, *places as u64, 4));
     put(to, q.levels as u64, 4);
+    put(to, q.most, 8);
     put(to, q.path.len() as u64, 4);
     to.extend(&q.path);
     put(to, q.shelf.len() as u64, 4);

@@ -110,6 +110,18 @@ impl Disc {
     }
 }
 
+/// A disc that was made to do harm: so many levels of directories, the root first, each with 20 entries that lead to the next, and the last one's to a file.
+pub fn harm(levels: usize) -> Disc {
+    let mut disc = Disc::new();
+    let mut below = disc.entry(3, b"cue", 3);
+    for level in 0..levels {
+        let entries: Vec<u8> = (0..20).flat_map(|n| named(&format!("{n:02}"), below, level > 0)).collect();
+        below = disc.entry(3, &entries, entries.len() as u64);
+    }
+    disc.root(below);
+    disc
+}
+
 fn tag(id: u16) -> [u8; 16] {
     let mut tag = [0; 16];
     tag[..2].copy_from_slice(&id.to_le_bytes());

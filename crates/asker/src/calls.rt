@@ -13,6 +13,7 @@ use crate::queries::how_of;
 use crate::queries::icb;
 use crate::queries::levels;
 use crate::queries::matching;
+use crate::queries::most;
 use crate::queries::text;
 use crate::queries::volume;
 use crate::rows::line_of_extents;
@@ -223,7 +224,7 @@ pub(crate) fn line_of(
         return line_of_read_all(v, image, q, out, work, line);
     }
     if call == 11 {
-        let r = v.show(image, levels(q), out, work);
+        let r = v.show(image, levels(q), most(q), out, work);
         return line_of_written(b"show ", r, out, work, line);
     }
     lent_one(call, v, image, q, out, work, line)

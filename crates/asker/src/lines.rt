@@ -1,5 +1,6 @@
 // A line that is put together in lent memory, so that it can be compared with the one before it. Each function puts its text at `at` and returns where
 // the next one goes; what has no room is left out.
+use disc::counts::UNLIMITED;
 use disc::moves::copy;
 use disc::moves::least;
 use programs::lent::is_zero;
@@ -75,6 +76,14 @@ pub(crate) fn put_there(line: &mut [u8], at: usize, there: u32, length: usize) -
         return at;
     }
     put_named(line, at, b" there ", there as u64)
+}
+
+// A budget of sectors, where there is one.
+pub(crate) fn put_most(line: &mut [u8], at: usize, most: u64) -> usize {
+    if most == UNLIMITED {
+        return at;
+    }
+    put_named(line, at, b" most ", most)
 }
 
 // A text of which a byte isn't 0.

@@ -16,6 +16,7 @@ use disc::moves::least;
 use lines::is_same;
 use lines::put;
 use lines::put_held;
+use lines::put_most;
 use lines::put_set;
 use lines::put_there;
 use programs::lent::fill;
@@ -30,6 +31,7 @@ use queries::CALLS;
 use queries::HEAD;
 use queries::WATCHED;
 use queries::is_meant;
+use queries::most;
 use queries::room;
 use queries::space;
 use queries::text;
@@ -127,13 +129,14 @@ fn ask_if(
 
 // ---- a query
 
-// What is asked, without what is 0 or empty.
+// What is asked, without what is 0 or empty, and without a budget that is none.
 fn put_numbers(line: &mut [u8], q: &[u8], length: usize) -> usize {
     let a = put(line, 0, b"query");
     let b = put_set(line, a, b" volume ", volume(q));
     let c = put_there(line, b, there(q), length);
     let d = put_set(line, c, b" matching ", le32(q, 12));
-    put_set(line, d, b" levels ", le32(q, 16))
+    let e = put_set(line, d, b" levels ", le32(q, 16));
+    put_most(line, e, most(q))
 }
 
 fn put_lent(line: &mut [u8], at: usize, q: &[u8]) -> usize {
@@ -188,7 +191,7 @@ fn next_query(
 ) -> usize
     requires { ⌜ i < length (now all) ⌝ }
 {
-    let end = i + HEAD + le32(all, i + 52) as usize;
+    let end = i + HEAD + le32(all, i + 60) as usize;
     if all.len() < end {
         refuse(i, b": it is cut");
         return 0;

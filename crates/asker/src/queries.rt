@@ -1,4 +1,4 @@
-// A query as it stands in a file: nine numbers, an ICB, the length of a text, and the text. docs/COMPARING.md says what each of them means.
+// A query as it stands in a file: nine numbers, an ICB, a budget of sectors, the length of a text, and the text. docs/COMPARING.md says what each of them means.
 use disc::places::Mount;
 use listings::matchings::Matching;
 use listings::matchings::matching_of;
@@ -7,6 +7,7 @@ use records::allocations::LongAd;
 use records::allocations::long_at;
 use records::bytes::le16;
 use records::bytes::le32;
+use records::bytes::le64;
 use vault::volume::Volume;
 use volumes::openings::How;
 use volumes::openings::VolumeRecord;
@@ -15,12 +16,12 @@ use volumes::openings::VolumeRecord;
 pub(crate) const WATCHED: u32 = 4294967295;
 
 // The bytes of a query in front of its text, and of a volume made by hand.
-pub(crate) const HEAD: usize = 56;
+pub(crate) const HEAD: usize = 64;
 
 pub(crate) const BY_HAND: usize = 62;
 
 // The most that is lent: bytes of output and of work space, and places of a row.
-const MOST: u32 = 65536;
+const BYTES: u32 = 65536;
 
 const PLACES: u32 = 1024;
 
@@ -69,6 +70,10 @@ pub(crate) fn icb(q: &[u8]) -> LongAd {
     long_at(q, 36)
 }
 
+pub(crate) fn most(q: &[u8]) -> u64 {
+    le64(q, 52)
+}
+
 pub(crate) fn text(q: &[u8]) -> &[u8] {
     part(q, HEAD, q.len())
 }
@@ -90,8 +95,8 @@ fn is_known(calls: u32, volume: u32, by_hand: usize) -> bool {
 
 // As much can be lent.
 fn is_lent(q: &[u8]) -> bool {
-    (le32(q, 20) <= MOST)
-        & (le32(q, 24) <= MOST)
+    (le32(q, 20) <= BYTES)
+        & (le32(q, 24) <= BYTES)
         & (le32(q, 28) <= PLACES)
         & (le32(q, 32) <= PLACES)
 }

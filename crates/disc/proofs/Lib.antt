@@ -11,6 +11,7 @@ pub mod ImageLaws
 pub mod OnlyLaws
 pub mod GrownLaws
 pub mod MarkedLaws
+pub mod BudgetLaws
 pub mod GivenLaws
 pub mod MoveLaws
 pub mod PartLaws

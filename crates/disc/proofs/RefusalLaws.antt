@@ -4,10 +4,10 @@ use Prim.Native.Nat.{_≤_, _<_, _^_}
 use native.Mathlib.Omega.{arith}
 use Rattle.disc.specs.Refusals.{number, refusalOf}
 use Rattle.disc.specs.declared.refusals.Refusal.{Refusal}
-use Rattle.disc.specs.declared.refusals.Refusal.the-variants.{Io, Malformed, NotBluray, Unsupported, NoRoom, NoWork, NoSlot, Ambiguous, BadCrc, TooDeep, TooMany, BadName, BadFiles, BadShelf}
+use Rattle.disc.specs.declared.refusals.Refusal.the-variants.{Io, Malformed, NotBluray, Unsupported, NoRoom, NoWork, NoSlot, Ambiguous, BadCrc, TooDeep, TooMany, BadName, BadFiles, BadShelf, OverBudget}
 
--- no number is over 15
-pub refusal-listed : (why : Refusal) → number why ≤ 15
+-- no number is over 16
+pub refusal-listed : (why : Refusal) → number why ≤ 16
 refusal-listed Io = omega arith
 refusal-listed Malformed = omega arith
 refusal-listed NotBluray = omega arith
@@ -22,6 +22,7 @@ refusal-listed TooMany = omega arith
 refusal-listed BadName = omega arith
 refusal-listed BadFiles = omega arith
 refusal-listed BadShelf = omega arith
+refusal-listed OverBudget = omega arith
 
 -- so each fits in 32 bits
 pub refusal-small : (why : Refusal) → number why < 2 ^ 32
@@ -43,6 +44,7 @@ refusal-numbered TooMany e = omega arith
 refusal-numbered BadName e = omega arith
 refusal-numbered BadFiles e = omega arith
 refusal-numbered BadShelf e = omega arith
+refusal-numbered OverBudget e = omega arith
 
 -- a refusal comes back from its number
 pub refusal-known : (why : Refusal) → refusalOf (number why) ≡ why
@@ -61,6 +63,7 @@ refusal-known TooMany = refl
 refusal-known BadName = refl
 refusal-known BadFiles = refl
 refusal-known BadShelf = refl
+refusal-known OverBudget = refl
 
 -- so a number has one refusal
 pub refusal-is : (why other : Refusal) → number why ≡ number other → why ≡ other

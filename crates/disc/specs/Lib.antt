@@ -4,6 +4,7 @@ pub mod Refusals
 pub mod Ask
 pub mod Ran
 pub mod Counts
+pub mod Budgets
 pub mod Places
 pub mod Images
 pub mod Moves

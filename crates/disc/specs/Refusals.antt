@@ -3,7 +3,7 @@ use Prim.Native.Nat.{ℕ}
 use lib.Dec.{eqb}
 use Rattle.disc.specs.Choice.{pick}
 use Rattle.disc.specs.declared.refusals.Refusal.{Refusal}
-use Rattle.disc.specs.declared.refusals.Refusal.the-variants.{Io, Malformed, NotBluray, Unsupported, NoRoom, NoWork, NoSlot, Ambiguous, BadCrc, TooDeep, TooMany, BadName, BadFiles, BadShelf}
+use Rattle.disc.specs.declared.refusals.Refusal.the-variants.{Io, Malformed, NotBluray, Unsupported, NoRoom, NoWork, NoSlot, Ambiguous, BadCrc, TooDeep, TooMany, BadName, BadFiles, BadShelf, OverBudget}
 
 -- 0 is kept for "done", and 8 is struck
 abbrev pub number : Refusal → ℕ
@@ -21,6 +21,7 @@ number TooMany = 12
 number BadName = 13
 number BadFiles = 14
 number BadShelf = 15
+number OverBudget = 16
 
 -- the refusal of a number; a number of no refusal is none that a step gives
 unfoldable pub refusalOf : ℕ → Refusal
@@ -38,4 +39,5 @@ refusalOf n =
     (pick (eqb n 13) BadName
     (pick (eqb n 14) BadFiles
     (pick (eqb n 15) BadShelf
-    Io))))))))))))
+    (pick (eqb n 16) OverBudget
+    Io)))))))))))))

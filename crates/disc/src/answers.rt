@@ -45,3 +45,6 @@ pub const BAD_FILES: u64 = 14;
 
 // The lengths of a shelf's images pass the bytes lent, or there are too few places for the figures of each and of the shelf.
 pub const BAD_SHELF: u64 = 15;
+
+// The call would ask for more sectors than it was lent (`most`).
+pub const OVER_BUDGET: u64 = 16;

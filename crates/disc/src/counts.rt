@@ -1,7 +1,11 @@
-// Counts of sectors, held at 2^64 - 1, and the lesser of two numbers.
+// Counts of sectors, held at 2^64 - 1, what is left of a budget of them, and the lesser of two numbers.
 ghost use mathlib.Core.Path.{_≡_};
 ghost use Prim.Native.Nat.{_+_, min};
+ghost use Rattle.disc.specs.Budgets.{leftOf};
 ghost use Rattle.disc.specs.Counts.{reported};
+
+// As many sectors as a call wants: no budget.
+pub const UNLIMITED: u64 = 0xffff_ffff_ffff_ffff;
 
 // Two counts together.
 pub fn add_counts(a: u64, b: u64) -> u64
@@ -11,6 +15,19 @@ pub fn add_counts(a: u64, b: u64) -> u64
         return 0xffff_ffff_ffff_ffff;
     }
     a + b
+}
+
+// What a call leaves of `most` sectors that asked for so many; of no budget it leaves none.
+pub fn left_of(most: u64, count: u64) -> u64
+    ensures { λ r. ⌜ r ≡ leftOf most count ⌝ }
+{
+    if most == UNLIMITED {
+        return most;
+    }
+    if most < count {
+        return 0;
+    }
+    most - count
 }
 
 // The lesser of two numbers.

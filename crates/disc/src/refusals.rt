@@ -12,6 +12,7 @@ use crate::answers::NO_ROOM;
 use crate::answers::NO_SLOT;
 use crate::answers::NO_WORK;
 use crate::answers::NOT_BLURAY;
+use crate::answers::OVER_BUDGET;
 use crate::answers::TOO_DEEP;
 use crate::answers::TOO_MANY;
 use crate::answers::UNSUPPORTED;
@@ -42,6 +43,8 @@ pub enum Refusal {
     BadFiles,
     // The lengths of a shelf's images pass its bytes, or there are too few places for the figures.
     BadShelf,
+    // The call would ask for more sectors than it was lent.
+    OverBudget,
 }
 
 impl Refusal {
@@ -64,6 +67,7 @@ impl Refusal {
             Refusal::BadName => BAD_NAME,
             Refusal::BadFiles => BAD_FILES,
             Refusal::BadShelf => BAD_SHELF,
+            Refusal::OverBudget => OVER_BUDGET,
         }
     }
 }

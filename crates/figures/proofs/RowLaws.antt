@@ -31,8 +31,8 @@ each-at [] n m h = absurd (omega arith)
 each-at (a ∷ s) zero m h = rw (each-none s m)
 each-at (a ∷ s) (suc n) m h = rw (add-zero, each-at s n m (omega arith))
 
-pub each-one : (s : List ℕ) (n : ℕ) → length s ≡ 16 → n ≤ 15 → eachAdded s (oneAt n) ≡ set s n (getD s n 0 + 1)
-each-one s n e h = each-at s n (15 - n) (omega arith)
+pub each-one : (s : List ℕ) (n : ℕ) → length s ≡ 17 → n ≤ 16 → eachAdded s (oneAt n) ≡ set s n (getD s n 0 + 1)
+each-one s n e h = each-at s n (16 - n) (omega arith)
 
 pub each-append : (s t s′ t′ : List ℕ) → length s ≡ length s′ → eachAdded (s ++ t) (s′ ++ t′) ≡ eachAdded s s′ ++ eachAdded t t′
 unfolding eachAdded
@@ -101,23 +101,23 @@ set-behind (a ∷ p) q i v = rw suc-add (ap (λ t. a ∷ t) (set-behind p q i v)
 abbrev pub laid : ℕ → ℕ → ℕ → ℕ → ℕ → List ℕ → List ℕ → ℕ → List ℕ
 laid a b c d e s t n = a ∷ b ∷ c ∷ d ∷ e ∷ (s ++ t ++ n ∷ [])
 
-module _ (a b c d e : ℕ) (s t : List ℕ) (n : ℕ) (x : length s ≡ 16) (y : length t ≡ 16) where
+module _ (a b c d e : ℕ) (s t : List ℕ) (n : ℕ) (x : length s ≡ 17) (y : length t ≡ 17) where
   abbrev front : List ℕ
   front = a ∷ b ∷ c ∷ d ∷ e ∷ []
 
   abbrev middle : List ℕ
   middle = a ∷ b ∷ c ∷ d ∷ e ∷ s
 
-  lists-long : length (s ++ t) ≡ 32
+  lists-long : length (s ++ t) ≡ 34
   lists-long = rw length-append (omega arith)
 
-  sums-long : length (middle ++ t) ≡ 37
+  sums-long : length (middle ++ t) ≡ 39
   sums-long = omega (arith, lists-long)
 
-  pub laid-long : length (laid a b c d e s t n) ≡ 38
+  pub laid-long : length (laid a b c d e s t n) ≡ 40
   laid-long = rw length-append (omega (arith, lists-long))
 
-  module _ (k : ℕ) (h : k ≤ 15) where
+  module _ (k : ℕ) (h : k ≤ 16) where
     pub first-list : getD (laid a b c d e s t n) (5 + k) 0 ≡ getD s k 0
     first-list =
         getD-append-add front (s ++ t ++ n ∷ []) k 0
@@ -130,19 +130,19 @@ module _ (a b c d e : ℕ) (s t : List ℕ) (n : ℕ) (x : length s ≡ 16) (y :
         ∙ ap (λ l. front ++ l) (set-append-left (s ++ t) (n ∷ []) k v (omega (arith, lists-long)))
         ∙ ap (λ l. front ++ (l ++ n ∷ [])) (set-append-left s t k v (omega arith))
 
-    at-second : 21 + k ≡ length middle + k
+    at-second : 22 + k ≡ length middle + k
     at-second = omega arith
 
-    pub second-list : getD (laid a b c d e s t n) (21 + k) 0 ≡ getD t k 0
-    second-list = List·getD-append (middle ++ t) (n ∷ []) 0 (21 + k) (omega (arith, sums-long)) ∙ rw at-second (getD-append-add middle t k 0)
+    pub second-list : getD (laid a b c d e s t n) (22 + k) 0 ≡ getD t k 0
+    second-list = List·getD-append (middle ++ t) (n ∷ []) 0 (22 + k) (omega (arith, sums-long)) ∙ rw at-second (getD-append-add middle t k 0)
 
-    pub second-set : (v : ℕ) → set (laid a b c d e s t n) (21 + k) v ≡ laid a b c d e s (set t k v) n
+    pub second-set : (v : ℕ) → set (laid a b c d e s t n) (22 + k) v ≡ laid a b c d e s (set t k v) n
     second-set v =
-        set-append-left (middle ++ t) (n ∷ []) (21 + k) v (omega (arith, sums-long))
+        set-append-left (middle ++ t) (n ∷ []) (22 + k) v (omega (arith, sums-long))
         ∙ rw at-second (ap (λ l. l ++ n ∷ []) (set-behind middle t k v))
 
-  pub last-number : getD (laid a b c d e s t n) 37 0 ≡ n
-  last-number = getD-at (middle ++ t) n [] 0 37 sums-long
+  pub last-number : getD (laid a b c d e s t n) 39 0 ≡ n
+  last-number = getD-at (middle ++ t) n [] 0 39 sums-long
 
-  pub last-set : (v : ℕ) → set (laid a b c d e s t n) 37 v ≡ laid a b c d e s t v
-  last-set v = set-at (middle ++ t) n [] v 37 sums-long
+  pub last-set : (v : ℕ) → set (laid a b c d e s t n) 39 v ≡ laid a b c d e s t v
+  last-set v = set-at (middle ++ t) n [] v 39 sums-long

@@ -53,15 +53,15 @@ two-in-front w i s h =
 -- ---- a place added to another, and k of its sums are done
 
 pub record Adding (p₀ p : List ℕ) (to from k : ℕ) : Type 0 where
-  pub within : k ≤ 37
-  pub apart : from + 76 ≤ to
-  pub room : to + 76 ≤ length p₀
+  pub within : k ≤ 39
+  pub apart : from + 80 ≤ to
+  pub room : to + 80 ≤ length p₀
   pub long : length p ≡ length p₀
   pub front : take to p ≡ take to p₀
-  pub rest : sets p (to + 2 * k) (placesAdded (37 - k) (take (76 - 2 * k) (drop (to + 2 * k) p)) (take (76 - 2 * k) (drop (from + 2 * k) p₀)))
-      ≡ sets p₀ to (placesAdded 37 (take 76 (drop to p₀)) (take 76 (drop from p₀)))
+  pub rest : sets p (to + 2 * k) (placesAdded (39 - k) (take (80 - 2 * k) (drop (to + 2 * k) p)) (take (80 - 2 * k) (drop (from + 2 * k) p₀)))
+      ≡ sets p₀ to (placesAdded 39 (take 80 (drop to p₀)) (take 80 (drop from p₀)))
 
-pub adding-starts : (p : List ℕ) (to from : ℕ) → (from + 76 ≤ to) × (to + 76 ≤ length p) → Adding p p to from 0
+pub adding-starts : (p : List ℕ) (to from : ℕ) → (from + 80 ≤ to) × (to + 80 ≤ length p) → Adding p p to from 0
 adding-starts p to from h =
     record { within = omega arith; apart = h .0; room = h .1; long = refl; front = refl; rest = rw (add-zero to, add-zero from) }
 
@@ -77,14 +77,14 @@ one-sum p p₀ at from m w h k =
     ∙ ap (λ n. sets (sets p at o) (at + n) rest) (summed-long (getD p at 0) (getD p (at + 1) 0) (getD p₀ from 0) (getD p₀ (from + 1) 0)))
 
 module _ {p₀ p : List ℕ} {to from k : ℕ} (a : Adding p₀ p to from k) where
-  pub adding-reads : k < 37 → from + 2 * k + 1 < length p
+  pub adding-reads : k < 39 → from + 2 * k + 1 < length p
   adding-reads h = omega (arith, a .long, a .room, a .apart)
 
-  module _ (h : k < 37) where
-    left-sums : 37 - k ≡ suc (37 - (k + 1))
+  module _ (h : k < 39) where
+    left-sums : 39 - k ≡ suc (39 - (k + 1))
     left-sums = omega arith
 
-    left-numbers : 76 - 2 * k ≡ suc (suc (76 - 2 * (k + 1)))
+    left-numbers : 80 - 2 * k ≡ suc (suc (80 - 2 * (k + 1)))
     left-numbers = omega arith
 
     next-from : from + 2 * (k + 1) ≡ from + 2 * k + 2
@@ -120,29 +120,29 @@ module _ {p₀ p : List ℕ} {to from k : ℕ} (a : Adding p₀ p to from k) whe
           room = a .room;
           long = rw (e, length-sets) (a .long);
           front = rw e (take-sets to p (to + 2 * k) o (omega arith) ∙ a .front);
-          rest = rw (next-to, next-from, d, e) (sym (one-sum p p₀ (to + 2 * k) (from + 2 * k) (37 - (k + 1)) (76 - 2 * (k + 1)) room-to room-from) ∙ rw (left-sums, left-numbers) at (a .rest));
+          rest = rw (next-to, next-from, d, e) (sym (one-sum p p₀ (to + 2 * k) (from + 2 * k) (39 - (k + 1)) (80 - 2 * (k + 1)) room-to room-from) ∙ rw (left-sums, left-numbers) at (a .rest));
         }
 
-  module _ (h : 37 ≤ k) where
-    all-sums : k ≡ 37
+  module _ (h : 39 ≤ k) where
+    all-sums : k ≡ 39
     all-sums = omega (arith, a .within)
 
-    pub chain-room : to + 74 + 1 < length p
+    pub chain-room : to + 78 + 1 < length p
     chain-room = omega (arith, a .long, a .room)
 
-    pub chain-reads : from + 74 + 1 < length p
+    pub chain-reads : from + 78 + 1 < length p
     chain-reads = omega (arith, a .long, a .room, a .apart)
 
     pub adding-ends : {p′ : List ℕ}
-        → p′ ≡ sets p (to + 74) (greater (getD p (to + 74) 0) (getD p (to + 74 + 1) 0) (getD p (from + 74) 0) (getD p (from + 74 + 1) 0))
-        → p′ ≡ sets p₀ to (placesAdded 37 (take 76 (drop to p₀)) (take 76 (drop from p₀)))
+        → p′ ≡ sets p (to + 78) (greater (getD p (to + 78) 0) (getD p (to + 78 + 1) 0) (getD p (from + 78) 0) (getD p (from + 78 + 1) 0))
+        → p′ ≡ sets p₀ to (placesAdded 39 (take 80 (drop to p₀)) (take 80 (drop from p₀)))
     unfolding placesAdded
     adding-ends {p′} g =
-        let x : getD p (from + 74) 0 ≡ getD p₀ (from + 74) 0 = getD-same (from + 74) to p p₀ (omega (arith, a .apart)) (a .front) in
-        let y : getD p (from + 74 + 1) 0 ≡ getD p₀ (from + 74 + 1) 0 = getD-same (from + 74 + 1) to p p₀ (omega (arith, a .apart)) (a .front) in
-        let z : from + 74 + 1 < length p₀ = omega (arith, a .room, a .apart) in
+        let x : getD p (from + 78) 0 ≡ getD p₀ (from + 78) 0 = getD-same (from + 78) to p p₀ (omega (arith, a .apart)) (a .front) in
+        let y : getD p (from + 78 + 1) 0 ≡ getD p₀ (from + 78 + 1) 0 = getD-same (from + 78 + 1) to p p₀ (omega (arith, a .apart)) (a .front) in
+        let z : from + 78 + 1 < length p₀ = omega (arith, a .room, a .apart) in
         rw (x, y) at g
-        ∙ rw (two-in-front 0 (to + 74) p chain-room, two-in-front 0 (from + 74) p₀ z, append-nil) at (rw all-sums at (a .rest))
+        ∙ rw (two-in-front 0 (to + 78) p chain-room, two-in-front 0 (from + 78) p₀ z, append-nil) at (rw all-sums at (a .rest))
 
 -- ---- n places added to the one behind them, and i of them are
 
@@ -157,125 +157,125 @@ places-long (suc k) (h ∷ o ∷ s) (n ∷ p ∷ t) = rw (length-append (summed 
 
 pub record Totaling (p₀ p : List ℕ) (n i : ℕ) : Type 0 where
   pub within : i ≤ n
-  pub room : 76 * (n + 1) ≤ length p₀
+  pub room : 80 * (n + 1) ≤ length p₀
   pub long : length p ≡ length p₀
-  pub front : take (76 * n) p ≡ take (76 * n) p₀
-  pub behind : drop (76 * (n + 1)) p ≡ drop (76 * (n + 1)) p₀
-  pub rest : totalOf (n - i) (take 76 (drop (76 * n) p)) (drop (76 * i) p₀) ≡ totalOf n (take 76 (drop (76 * n) p₀)) p₀
+  pub front : take (80 * n) p ≡ take (80 * n) p₀
+  pub behind : drop (80 * (n + 1)) p ≡ drop (80 * (n + 1)) p₀
+  pub rest : totalOf (n - i) (take 80 (drop (80 * n) p)) (drop (80 * i) p₀) ≡ totalOf n (take 80 (drop (80 * n) p₀)) p₀
 
-pub totaling-starts : (p : List ℕ) (n : ℕ) → 76 * (n + 1) ≤ length p → Totaling p p n 0
+pub totaling-starts : (p : List ℕ) (n : ℕ) → 80 * (n + 1) ≤ length p → Totaling p p n 0
 totaling-starts p n h = record { within = omega arith; room = h; long = refl; front = refl; behind = refl; rest = rw sub-zero }
 
 module _ {p₀ p : List ℕ} {n i : ℕ} (a : Totaling p₀ p n i) where
-  pub totaling-room : i < n → (76 * i + 76 ≤ 76 * n) × (76 * n + 76 ≤ length p)
+  pub totaling-room : i < n → (80 * i + 80 ≤ 80 * n) × (80 * n + 80 ≤ length p)
   totaling-room h = (omega arith, omega (arith, a .long, a .room))
 
   module _ (h : i < n) where
     one-less : n - i ≡ suc (n - (i + 1))
     one-less = omega arith
 
-    next-place : drop 76 (drop (76 * i) p₀) ≡ drop (76 * (i + 1)) p₀
+    next-place : drop 80 (drop (80 * i) p₀) ≡ drop (80 * (i + 1)) p₀
     next-place =
-        let e : 76 * i + 76 ≡ 76 * (i + 1) = omega arith in
-        drop-drop 76 (76 * i) p₀ ∙ rw e
+        let e : 80 * i + 80 ≡ 80 * (i + 1) = omega arith in
+        drop-drop 80 (80 * i) p₀ ∙ rw e
 
-    same-place : take 76 (drop (76 * i) p) ≡ take 76 (drop (76 * i) p₀)
-    same-place = part-same (76 * i) 76 (76 * n) p p₀ (omega arith) (a .front)
+    same-place : take 80 (drop (80 * i) p) ≡ take 80 (drop (80 * i) p₀)
+    same-place = part-same (80 * i) 80 (80 * n) p p₀ (omega arith) (a .front)
 
-    total-long : length (take 76 (drop (76 * n) p)) ≡ 76
-    total-long = length-take-le 76 (drop (76 * n) p) (rw length-drop (omega (arith, a .long, a .room)))
+    total-long : length (take 80 (drop (80 * n) p)) ≡ 80
+    total-long = length-take-le 80 (drop (80 * n) p) (rw length-drop (omega (arith, a .long, a .room)))
 
-    pub totaling-next : {p′ : List ℕ} → p′ ≡ sets p (76 * n) (placesAdded 37 (take 76 (drop (76 * n) p)) (take 76 (drop (76 * i) p))) → Totaling p₀ p′ n (i + 1)
+    pub totaling-next : {p′ : List ℕ} → p′ ≡ sets p (80 * n) (placesAdded 39 (take 80 (drop (80 * n) p)) (take 80 (drop (80 * i) p))) → Totaling p₀ p′ n (i + 1)
     unfolding totalOf
     totaling-next {p′} g =
-        let v = placesAdded 37 (take 76 (drop (76 * n) p)) (take 76 (drop (76 * i) p₀)) in
-        let e : p′ ≡ sets p (76 * n) v = rw same-place at g in
-        let l : length v ≡ 76 = places-long 37 (take 76 (drop (76 * n) p)) (take 76 (drop (76 * i) p₀)) ∙ total-long in
-        let t : take 76 (drop (76 * n) p′) ≡ v = rw e (part-sets 76 p (76 * n) v l (omega (arith, a .long, a .room))) in
+        let v = placesAdded 39 (take 80 (drop (80 * n) p)) (take 80 (drop (80 * i) p₀)) in
+        let e : p′ ≡ sets p (80 * n) v = rw same-place at g in
+        let l : length v ≡ 80 = places-long 39 (take 80 (drop (80 * n) p)) (take 80 (drop (80 * i) p₀)) ∙ total-long in
+        let t : take 80 (drop (80 * n) p′) ≡ v = rw e (part-sets 80 p (80 * n) v l (omega (arith, a .long, a .room))) in
         record {
           within = omega arith;
           room = a .room;
           long = rw (e, length-sets) (a .long);
-          front = rw e (take-sets (76 * n) p (76 * n) v (omega arith) ∙ a .front);
-          behind = rw e (drop-sets (76 * (n + 1)) p (76 * n) v (omega arith) ∙ a .behind);
+          front = rw e (take-sets (80 * n) p (80 * n) v (omega arith) ∙ a .front);
+          behind = rw e (drop-sets (80 * (n + 1)) p (80 * n) v (omega arith) ∙ a .behind);
           rest = rw (t, ← next-place) (rw one-less at (a .rest));
         }
 
-  pub totaling-ends : n ≤ i → p ≡ take (76 * n) p₀ ++ totalOf n (take 76 (drop (76 * n) p₀)) p₀ ++ drop (76 * (n + 1)) p₀
+  pub totaling-ends : n ≤ i → p ≡ take (80 * n) p₀ ++ totalOf n (take 80 (drop (80 * n) p₀)) p₀ ++ drop (80 * (n + 1)) p₀
   unfolding totalOf
   totaling-ends h =
       let z : n - i ≡ 0 = omega arith in
-      let t : take 76 (drop (76 * n) p) ≡ totalOf n (take 76 (drop (76 * n) p₀)) p₀ = rw z at (a .rest) in
-      let m : 76 * (n + 1) ≡ 76 * n + 76 = omega arith in
-      let w : take (76 * n) p ++ take 76 (drop (76 * n) p) ++ drop (76 * (n + 1)) p ≡ p = rw (m, ← (take-add (76 * n) 76 p)) (take-append-drop (76 * n + 76) p) in
+      let t : take 80 (drop (80 * n) p) ≡ totalOf n (take 80 (drop (80 * n) p₀)) p₀ = rw z at (a .rest) in
+      let m : 80 * (n + 1) ≡ 80 * n + 80 = omega arith in
+      let w : take (80 * n) p ++ take 80 (drop (80 * n) p) ++ drop (80 * (n + 1)) p ≡ p = rw (m, ← (take-add (80 * n) 80 p)) (take-append-drop (80 * n + 80) p) in
       sym w ∙ rw (a .front, t, a .behind)
 
 -- ---- the total
 
 -- what n places come to is told by their numbers alone
-total-same : (n : ℕ) (total s t : List ℕ) → take (76 * n) s ≡ take (76 * n) t → totalOf n total s ≡ totalOf n total t
+total-same : (n : ℕ) (total s t : List ℕ) → take (80 * n) s ≡ take (80 * n) t → totalOf n total s ≡ totalOf n total t
 unfolding totalOf
 total-same zero total s t e = refl
 total-same (suc n) total s t e =
-    let f : take 76 s ≡ take 76 t = part-same 0 76 (76 * suc n) s t (omega arith) e in
-    let g : take (76 * n) (drop 76 s) ≡ take (76 * n) (drop 76 t) = part-same 76 (76 * n) (76 * suc n) s t (omega arith) e in
-    rw f (total-same n (placesAdded 37 total (take 76 t)) (drop 76 s) (drop 76 t) g)
+    let f : take 80 s ≡ take 80 t = part-same 0 80 (80 * suc n) s t (omega arith) e in
+    let g : take (80 * n) (drop 80 s) ≡ take (80 * n) (drop 80 t) = part-same 80 (80 * n) (80 * suc n) s t (omega arith) e in
+    rw f (total-same n (placesAdded 39 total (take 80 t)) (drop 80 s) (drop 80 t) g)
 
 module _ (s : List ℕ) (n : ℕ) where
-  pub total-few : length s / 76 ≤ n → 15 ≡ totalAnswer n s
-  total-few h = rw (lt-leb (76 * (n + 1)) (length s) (omega arith))
+  pub total-few : length s / 80 ≤ n → 15 ≡ totalAnswer n s
+  total-few h = rw (lt-leb (80 * (n + 1)) (length s) (omega arith))
 
-  pub total-kept : length s / 76 ≤ n → s ≡ totaled n s
-  total-kept h = rw (lt-leb (76 * (n + 1)) (length s) (omega arith))
+  pub total-kept : length s / 80 ≤ n → s ≡ totaled n s
+  total-kept h = rw (lt-leb (80 * (n + 1)) (length s) (omega arith))
 
-  module _ (h : n < length s / 76) where
-    enough : 76 * (n + 1) ≤ length s
+  module _ (h : n < length s / 80) where
+    enough : 80 * (n + 1) ≤ length s
     enough = omega arith
 
     pub total-answers : 0 ≡ totalAnswer n s
-    total-answers = rw (le-leb (76 * (n + 1)) (length s) enough)
+    total-answers = rw (le-leb (80 * (n + 1)) (length s) enough)
 
     -- one place, and nothing else, is cleared
-    one-place : 76 * n + 76 - 76 * n ≡ 76
+    one-place : 80 * n + 80 - 80 * n ≡ 80
     one-place = omega arith
 
-    front-long : length (take (76 * n) s) ≡ 76 * n
-    front-long = length-take-le (76 * n) s (omega (arith, enough))
+    front-long : length (take (80 * n) s) ≡ 80 * n
+    front-long = length-take-le (80 * n) s (omega (arith, enough))
 
-    lent-long : length (midOf (76 * n) 76 s) ≡ 76
-    lent-long = length-take-le 76 (drop (76 * n) s) (rw length-drop (omega (arith, enough)))
+    lent-long : length (midOf (80 * n) 80 s) ≡ 80
+    lent-long = length-take-le 80 (drop (80 * n) s) (rw length-drop (omega (arith, enough)))
 
     zeros : List ℕ
-    zeros = replicate 76 0
+    zeros = replicate 80 0
 
     cleared : List ℕ
-    cleared = putMid (76 * n) 76 s zeros
+    cleared = putMid (80 * n) 80 s zeros
 
-    cleared-front : take (76 * n) cleared ≡ take (76 * n) s
+    cleared-front : take (80 * n) cleared ≡ take (80 * n) s
     unfolding cleared
-    cleared-front = take-at (take (76 * n) s) (zeros ++ drop 76 (drop (76 * n) s)) (76 * n) front-long
+    cleared-front = take-at (take (80 * n) s) (zeros ++ drop 80 (drop (80 * n) s)) (80 * n) front-long
 
-    behind-front : drop (76 * n) cleared ≡ zeros ++ drop 76 (drop (76 * n) s)
+    behind-front : drop (80 * n) cleared ≡ zeros ++ drop 80 (drop (80 * n) s)
     unfolding cleared
-    behind-front = drop-at (take (76 * n) s) (zeros ++ drop 76 (drop (76 * n) s)) (76 * n) front-long
+    behind-front = drop-at (take (80 * n) s) (zeros ++ drop 80 (drop (80 * n) s)) (80 * n) front-long
 
-    cleared-place : take 76 (drop (76 * n) cleared) ≡ zeros
+    cleared-place : take 80 (drop (80 * n) cleared) ≡ zeros
     unfolding zeros
     cleared-place = rw behind-front
 
-    cleared-behind : drop (76 * (n + 1)) cleared ≡ drop (76 * (n + 1)) s
+    cleared-behind : drop (80 * (n + 1)) cleared ≡ drop (80 * (n + 1)) s
     unfolding zeros
     cleared-behind =
-        let m : 76 * (n + 1) ≡ 76 * n + 76 = omega arith in
-        rw m (sym (drop-drop 76 (76 * n) cleared) ∙ rw behind-front (drop-drop 76 (76 * n) s))
+        let m : 80 * (n + 1) ≡ 80 * n + 80 = omega arith in
+        rw m (sym (drop-drop 80 (80 * n) cleared) ∙ rw behind-front (drop-drop 80 (80 * n) s))
 
-    pub total-done : {z t : List ℕ} → z ≡ replicate (length (midOf (76 * n) (76 * n + 76 - 76 * n) s)) 0
-        → t ≡ take (76 * n) (putMid (76 * n) (76 * n + 76 - 76 * n) s z) ++ totalOf n (take 76 (drop (76 * n) (putMid (76 * n) (76 * n + 76 - 76 * n) s z))) (putMid (76 * n) (76 * n + 76 - 76 * n) s z)
-        ++ drop (76 * (n + 1)) (putMid (76 * n) (76 * n + 76 - 76 * n) s z)
+    pub total-done : {z t : List ℕ} → z ≡ replicate (length (midOf (80 * n) (80 * n + 80 - 80 * n) s)) 0
+        → t ≡ take (80 * n) (putMid (80 * n) (80 * n + 80 - 80 * n) s z) ++ totalOf n (take 80 (drop (80 * n) (putMid (80 * n) (80 * n + 80 - 80 * n) s z))) (putMid (80 * n) (80 * n + 80 - 80 * n) s z)
+        ++ drop (80 * (n + 1)) (putMid (80 * n) (80 * n + 80 - 80 * n) s z)
         → t ≡ totaled n s
     unfolding cleared zeros
     total-done {z} e g =
         let y : z ≡ zeros = e ∙ rw (one-place, lent-long) in
-        let p : putMid (76 * n) (76 * n + 76 - 76 * n) s z ≡ cleared = rw (one-place, y) in
+        let p : putMid (80 * n) (80 * n + 80 - 80 * n) s z ≡ cleared = rw (one-place, y) in
         let f = rw p at g in
-        rw (le-leb (76 * (n + 1)) (length s) enough) (f ∙ rw (cleared-front, cleared-place, cleared-behind, total-same n zeros cleared s cleared-front))
+        rw (le-leb (80 * (n + 1)) (length s) enough) (f ∙ rw (cleared-front, cleared-place, cleared-behind, total-same n zeros cleared s cleared-front))

@@ -12,7 +12,7 @@ use Rattle.disc.specs.declared.refusals.Refusal.the-variants.{BadShelf}
 
 -- ---- as true numbers (RULES 16.1 and 16.2)
 
--- `byFiles` and `byImages` say how many have each answer number, from 0 to 15; `chain` is the longest chain
+-- `byFiles` and `byImages` say how many have each answer number, from 0 to 16; `chain` is the longest chain
 pub record Figures : Type 0 where
   pub files : ℕ
   pub directories : ℕ
@@ -24,7 +24,7 @@ pub record Figures : Type 0 where
   pub chain : ℕ
 
 abbrev pub answerNumbers : ℕ
-answerNumbers = 16
+answerNumbers = 17
 
 abbrev pub none : List ℕ
 none = replicate answerNumbers 0
@@ -96,12 +96,12 @@ numbers f = f .files ∷ f .directories ∷ f .bytes ∷ f .extents ∷ f .secto
 unfoldable pub row : Figures → List ℕ
 row f = pairs (numbers f)
 
--- how many numbers a place has: two for each of 38 figures, of which all but the last are sums
+-- how many numbers a place has: two for each of 40 figures, of which all but the last are sums
 abbrev pub sums : ℕ
-sums = 37
+sums = 39
 
 abbrev pub place : ℕ
-place = 76
+place = 80
 
 -- a count for each answer number
 pub record Wide (f : Figures) : Type 0 where

@@ -24,10 +24,10 @@ withDirectory s = inPlace (summedAt 2 1) s
 
 -- by its answer number, its bytes, extents and sectors, and its chain: six figures
 abbrev pub filed : ℕ → ℕ → ℕ → ℕ → ℕ → List ℕ → List ℕ
-filed answer bytes extents sectors chain s = greaterAt 74 chain (summedAt (10 + 2 * answer) 1 (summedAt 8 sectors (summedAt 6 extents (summedAt 4 bytes (summedAt 0 1 s)))))
+filed answer bytes extents sectors chain s = greaterAt 78 chain (summedAt (10 + 2 * answer) 1 (summedAt 8 sectors (summedAt 6 extents (summedAt 4 bytes (summedAt 0 1 s)))))
 
 unfoldable pub withFile : ℕ → ℕ → ℕ → ℕ → ℕ → List ℕ → List ℕ
 withFile answer bytes extents sectors chain s = inPlace (filed answer bytes extents sectors chain) s
 
 unfoldable pub withImage : ℕ → List ℕ → List ℕ
-withImage answer s = inPlace (summedAt (42 + 2 * answer) 1) s
+withImage answer s = inPlace (summedAt (44 + 2 * answer) 1) s

@@ -10,9 +10,9 @@ use disc::answers::BAD_SHELF;
 use disc::answers::DONE;
 use disc::counts::lesser;
 
-// How many numbers a place has, two for each of 38 figures: files, directories, bytes, extents, sectors, files by their answer number, images by
+// How many numbers a place has, two for each of 40 figures: files, directories, bytes, extents, sectors, files by their answer number, images by
 // theirs, and the longest chain.
-pub const PLACE: usize = 76;
+pub const PLACE: usize = 80;
 
 // Where they stand in it.
 pub const FILES: usize = 0;
@@ -27,17 +27,17 @@ pub const SECTORS: usize = 8;
 
 pub const FILES_BY_ANSWER: usize = 10;
 
-pub const IMAGES_BY_ANSWER: usize = 42;
+pub const IMAGES_BY_ANSWER: usize = 44;
 
-pub const CHAIN: usize = 74;
+pub const CHAIN: usize = 78;
 
 // How many of the figures are sums: all before the longest chain.
-const SUMS: usize = 37;
+const SUMS: usize = 39;
 
 const MOST: u64 = 0xffff_ffff_ffff_ffff;
 
 // No answer number is over this.
-const MOST_ANSWER: u64 = 15;
+const MOST_ANSWER: u64 = 16;
 
 // Two figures with their marks, added.
 fn sum(number: u64, over: u64, more: u64, more_over: u64) -> [u64; 2]
@@ -107,7 +107,7 @@ pub fn add_directory(place: &mut [u64])
 
 // Adds a file to the figures of a place.
 fn add_sizes(place: &mut [u64], answer: u64, bytes: u64, extents: u64, sectors: u64, chain: u64)
-    requires { ⌜ (length (now place) ≡ 76) × (answer ≤ 15) ⌝ }
+    requires { ⌜ (length (now place) ≡ 80) × (answer ≤ 16) ⌝ }
     ensures { λ _. ⌜ now (place .exit) ≡ withFile answer bytes extents sectors chain (now (place .entry)) ⌝ }
 {
     add_sum(place, FILES, 1, 0);
@@ -118,9 +118,9 @@ fn add_sizes(place: &mut [u64], answer: u64, bytes: u64, extents: u64, sectors: 
     add_longer(place, CHAIN, chain, 0);
 }
 
-// Adds a file by its answer number and what reading it comes to; a number over 15, which none is, counts as 15.
+// Adds a file by its answer number and what reading it comes to; a number over 16, which none is, counts as 16.
 pub fn add_file(place: &mut [u64], answer: u64, bytes: u64, extents: u64, sectors: u64, chain: u64)
-    ensures { λ _. ⌜ now (place .exit) ≡ withFile (min answer 15) bytes extents sectors chain (now (place .entry)) ⌝ }
+    ensures { λ _. ⌜ now (place .exit) ≡ withFile (min answer 16) bytes extents sectors chain (now (place .entry)) ⌝ }
 {
     if place.len() != PLACE {
         return;
@@ -129,9 +129,19 @@ pub fn add_file(place: &mut [u64], answer: u64, bytes: u64, extents: u64, sector
     add_sizes(place, under, bytes, extents, sectors, chain);
 }
 
+// The sectors among the figures of a place, held at 2^64 - 1; 0 where there is no such number.
+pub fn sectors_in(place: &[u64]) -> u64
+    ensures { λ r. ⌜ r ≡ getD (now (place .entry)) 8 0 ⌝ }
+{
+    if place.len() <= SECTORS {
+        return 0;
+    }
+    place[SECTORS]
+}
+
 // Adds an image by its answer number, in the same way.
 pub fn add_image(place: &mut [u64], answer: u64)
-    ensures { λ _. ⌜ now (place .exit) ≡ withImage (min answer 15) (now (place .entry)) ⌝ }
+    ensures { λ _. ⌜ now (place .exit) ≡ withImage (min answer 16) (now (place .entry)) ⌝ }
 {
     if place.len() != PLACE {
         return;
@@ -144,8 +154,8 @@ pub fn add_image(place: &mut [u64], answer: u64)
 
 // Adds the figures at `from` to those at `to`, a place behind it or further on.
 fn add_place(places: &mut [u64], to: usize, from: usize)
-    requires { ⌜ (from + 76 ≤ to) × (to + 76 ≤ length (now places)) ⌝ }
-    ensures { λ _. ⌜ now (places .exit) ≡ sets (now (places .entry)) to (placesAdded sums (take 76 (drop to (now (places .entry)))) (take 76 (drop from (now (places .entry))))) ⌝ }
+    requires { ⌜ (from + 80 ≤ to) × (to + 80 ≤ length (now places)) ⌝ }
+    ensures { λ _. ⌜ now (places .exit) ≡ sets (now (places .entry)) to (placesAdded sums (take 80 (drop to (now (places .entry)))) (take 80 (drop from (now (places .entry))))) ⌝ }
 {
     let mut k: usize = 0;
     while k < SUMS {
@@ -161,8 +171,8 @@ fn add_place(places: &mut [u64], to: usize, from: usize)
 
 // Adds the first n places to the one behind them.
 fn add_places(places: &mut [u64], n: usize)
-    requires { ⌜ 76 * (n + 1) ≤ length (now places) ⌝ }
-    ensures { λ _. ⌜ now (places .exit) ≡ take (76 * n) (now (places .entry)) ++ totalOf n (take 76 (drop (76 * n) (now (places .entry)))) (now (places .entry)) ++ drop (76 * (n + 1)) (now (places .entry)) ⌝ }
+    requires { ⌜ 80 * (n + 1) ≤ length (now places) ⌝ }
+    ensures { λ _. ⌜ now (places .exit) ≡ take (80 * n) (now (places .entry)) ++ totalOf n (take 80 (drop (80 * n) (now (places .entry)))) (now (places .entry)) ++ drop (80 * (n + 1)) (now (places .entry)) ⌝ }
 {
     let mut i: usize = 0;
     while i < n {

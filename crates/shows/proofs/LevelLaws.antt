@@ -16,9 +16,10 @@ use Rattle.disc.specs.Counts.{reported}
 use Rattle.disc.specs.Places.{isChecked}
 use Rattle.disc.specs.Ask.{Disc, Ask, Outcome, then, ended}
 use Rattle.disc.specs.Ask.Outcome.{answered, refused}
-use Rattle.disc.specs.Ran.{Ran, ran, after, followed, told}
+use Rattle.disc.specs.Ran.{Ran, ran, after, onward, followed, told}
 use Rattle.disc.specs.declared.places.Mount.{Mount}
 use Rattle.disc.specs.declared.refusals.Refusal.{Refusal}
+use Rattle.disc.specs.declared.refusals.Refusal.the-variants.{OverBudget}
 use Rattle.disc.specs.declared.replies.Reply.{Reply}
 use Rattle.disc.proofs.RanLaws.{ran-then, ran-ended, never}
 use Rattle.disc.proofs.RefusalLaws.{refusal-numbered}
@@ -34,12 +35,12 @@ use Rattle.directories.specs.Directories.{directoryBytes}
 use Rattle.directories.specs.inner.Spaces.{replyTo, Reads}
 use Rattle.directories.proofs.SpaceLaws.{reads-count, reads-bytes}
 use Rattle.shows.specs.Shows.{Node, nodesAt, nodeRecord}
-use Rattle.shows.specs.inner.Turns.{ownRecord, SeenGood, Noted, stoppedAt, Held, Lent, lent, Shown, opening, Opens, turnOf, Handles}
-use Rattle.shows.specs.Placings.{entryPlaced, nodePlaced}
+use Rattle.shows.specs.inner.Turns.{ownRecord, SeenGood, Noted, stoppedAt, Held, cappedBy, Lent, lent, Shown, opening, Opens, turnOf, Handles}
+use Rattle.shows.specs.inner.Placings.{entryPlaced, nodePlaced}
 use Rattle.shows.specs.declared.nodes.EntrySeen.{EntrySeen}
 use Rattle.shows.specs.declared.levels.ShowPlace.{ShowPlace}
 use Rattle.shows.proofs.NodeLaws.{record-long, own-none, own-record}
-use Rattle.shows.proofs.ShownLaws.{turn-skipped, turn-file, turn-directory, shown-none, shown-one, shown-held, joined-goes}
+use Rattle.shows.proofs.ShownLaws.{turn-skipped, turn-file, turn-directory, shown-none, shown-one, shown-refused, shown-over, shown-held, capped-within, joined-goes}
 
 -- ---- a directory read and parsed
 
@@ -67,68 +68,77 @@ module _ (d : Disc) (m : Mount) (icb : LongAd) (w w′ : List ℕ) {read : Reply
     counted : c ≡ reported (p₀ .count + R .count)
     counted = omega (arith, reads-count p)
 
-    pub open-refused : (read .answer ≡ 0 → ⊥) → {q : ShowPlace} {n : ℕ} → q ≡ stoppedAt (read .answer) c → Opens d m icb p₀ w w′ (record { place = q; length = n })
-    open-refused n e =
-        let x = not-read n in
-        record {
-          good = λ z. absurd (n (sym (ap (λ (x : ShowPlace). x .answer) e) ∙ z));
-          bad = λ z. record {
-            why = x .why;
-            n = R .count;
-            goes = λ f. opened-is f ∙ rw (x .is);
-            place = e ∙ ap (λ a. stoppedAt a c) (x .numbered) ∙ ap (stoppedAt (number (x .why))) counted;
-          };
-        }
+    -- the read wants more sectors than the show may ask for, and so does whatever was to be done with it
+    pub open-over : p₀ .most < c → {a : ℕ} → a ≡ number OverBudget → {q : ShowPlace} {n : ℕ} → q ≡ stoppedAt a (p₀ .most) → Opens d m icb p₀ w w′ (record { place = q; length = n })
+    open-over h {a} f {q} e = record {
+      good = λ z. absurd (refusal-numbered OverBudget (sym f ∙ sym (ap (λ (x : ShowPlace). x .answer) e) ∙ z));
+      bad = λ z. record { shows = λ of g l. rw (opened-is g) (shown-over (omega (arith, counted, more (R .outcome) g)) (e ∙ rw f)) };
+    }
+      where
+        more : (o : Outcome (List ℕ)) (g : List ℕ → List Entry → Ask (List Node)) → R .count ≤ onward o (R .count) (λ b. ran d (then (ended (entries (isChecked m) b)) (g b))) .count
+        more (answered b) g = omega arith
+        more (refused why) g = omega arith
 
-    module _ (z : read .answer ≡ 0) where
-      abbrev b : List ℕ
-      b = take (read .length) w′
+    module _ (within : c ≤ p₀ .most) where
+      -- a refusal that is come to within these
+      stopped-is : (why : Refusal) → cappedBy p₀ (R .count) (stoppedAt (number why) (reported (p₀ .count + R .count))) ≡ stoppedAt (number why) c
+      stopped-is why = capped-within p₀ (R .count) (stoppedAt (number why) (reported (p₀ .count + R .count))) (omega (arith, counted)) ∙ ap (stoppedAt (number why)) (sym counted)
 
-      read-is : R .outcome ≡ answered b
-      read-is = reads-bytes p z ∙ rw sub-zero
+      pub open-refused : (read .answer ≡ 0 → ⊥) → {q : ShowPlace} {n : ℕ} → q ≡ stoppedAt (read .answer) c → Opens d m icb p₀ w w′ (record { place = q; length = n })
+      open-refused n e =
+          let x = not-read n in
+          record {
+            good = λ z. absurd (n (sym (ap (λ (x : ShowPlace). x .answer) e) ∙ z));
+            bad = λ z. record { shows = λ of f l. shown-refused (x .why) (R .count) (opened-is f ∙ rw (x .is)) (e ∙ ap (λ a. stoppedAt a c) (x .numbered) ∙ sym (stopped-is (x .why))) };
+          }
 
-      parsed-is : (f : List ℕ → List Entry → Ask (List Node)) → ran d (opening m (length w) icb f) ≡ after (R .count) (followed (told (entries (isChecked m) b)) (λ es. ran d (f b es)))
-      parsed-is f =
-          opened-is f
-          ∙ rw read-is
-          (ap (after (R .count)) (ran-then d (ended (entries (isChecked m) b)) (f b) ∙ ap (λ (r : Ran (List Entry)). followed r (λ es. ran d (f b es))) (ran-ended d (entries (isChecked m) b))))
+      module _ (z : read .answer ≡ 0) where
+        abbrev b : List ℕ
+        b = take (read .length) w′
 
-      module _ {check : Bool} (q : check ≡ isChecked m) {size : ListingSize} (s : size ≡ sizeOfListing (entries check (take (read .length - 0) (drop 0 w′)))) where
-        s′ : size ≡ sizeOfListing (entries (isChecked m) b)
-        s′ = s ∙ rw (sub-zero, q)
+        read-is : R .outcome ≡ answered b
+        read-is = reads-bytes p z ∙ rw sub-zero
 
-        pub open-bad : (size .answer ≡ 0 → ⊥) → {q : ShowPlace} {l : ℕ} → q ≡ stoppedAt (size .answer) c → Opens d m icb p₀ w w′ (record { place = q; length = l })
-        open-bad n {q} {l} e = by (entries (isChecked m) b) refl s′
-          where
-            by : (o : Outcome (List Entry)) → entries (isChecked m) b ≡ o → size ≡ sizeOfListing o → Opens d m icb p₀ w w′ (record { place = q; length = l })
-            by (answered es) f g = absurd (n (ap (λ (x : ListingSize). x .answer) g))
-            by (refused why) f g = record {
-              good = λ z. absurd (n (sym (ap (λ (x : ShowPlace). x .answer) e) ∙ z));
-              bad = λ z. record {
-                why = why;
-                n = R .count;
-                goes = λ h. parsed-is h ∙ rw f (rw add-zero);
-                place = e ∙ ap (λ a. stoppedAt a c) (ap (λ (x : ListingSize). x .answer) g) ∙ ap (stoppedAt (number why)) counted;
-              };
-            }
+        parsed-is : (f : List ℕ → List Entry → Ask (List Node)) → ran d (opening m (length w) icb f) ≡ after (R .count) (followed (told (entries (isChecked m) b)) (λ es. ran d (f b es)))
+        parsed-is f =
+            opened-is f
+            ∙ rw read-is
+            (ap (after (R .count)) (ran-then d (ended (entries (isChecked m) b)) (f b) ∙ ap (λ (r : Ran (List Entry)). followed r (λ es. ran d (f b es))) (ran-ended d (entries (isChecked m) b))))
 
-        pub open-good : size .answer ≡ 0 → read .length ≤ length w′ → Opens d m icb p₀ w w′ (record { place = record { answer = 0; count = c; size = p₀ .size }; length = read .length })
-        open-good n l = by (entries (isChecked m) b) refl s′
-          where
-            by : (o : Outcome (List Entry)) → entries (isChecked m) b ≡ o → size ≡ sizeOfListing o
-                → Opens d m icb p₀ w w′ (record { place = record { answer = 0; count = c; size = p₀ .size }; length = read .length })
-            by (answered es) f g = record {
-              good = λ z. record {
-                es = es;
-                n = R .count;
-                fits = l;
-                are = f;
-                goes = λ h. parsed-is h ∙ rw f (ap (λ k. record { outcome = ran d (h b es) .outcome; count = R .count + k }) (zero-add (ran d (h b es) .count)));
-                place = rw counted;
-              };
-              bad = λ z. absurd (z refl);
-            }
-            by (refused why) f g = absurd (refusal-numbered why (sym (ap (λ (x : ListingSize). x .answer) g) ∙ n))
+        module _ {check : Bool} (q : check ≡ isChecked m) {size : ListingSize} (s : size ≡ sizeOfListing (entries check (take (read .length - 0) (drop 0 w′)))) where
+          s′ : size ≡ sizeOfListing (entries (isChecked m) b)
+          s′ = s ∙ rw (sub-zero, q)
+
+          pub open-bad : (size .answer ≡ 0 → ⊥) → {q : ShowPlace} {l : ℕ} → q ≡ stoppedAt (size .answer) c → Opens d m icb p₀ w w′ (record { place = q; length = l })
+          open-bad n {q} {l} e = by (entries (isChecked m) b) refl s′
+            where
+              by : (o : Outcome (List Entry)) → entries (isChecked m) b ≡ o → size ≡ sizeOfListing o → Opens d m icb p₀ w w′ (record { place = q; length = l })
+              by (answered es) f g = absurd (n (ap (λ (x : ListingSize). x .answer) g))
+              by (refused why) f g = record {
+                good = λ z. absurd (n (sym (ap (λ (x : ShowPlace). x .answer) e) ∙ z));
+                bad = λ z. record {
+                  shows = λ of h l. shown-refused why (R .count) (parsed-is h ∙ rw f (rw add-zero)) (e ∙ ap (λ a. stoppedAt a c) (ap (λ (x : ListingSize). x .answer) g) ∙ sym (stopped-is why));
+                };
+              }
+
+          pub open-good : size .answer ≡ 0 → read .length ≤ length w′ → Opens d m icb p₀ w w′ (record { place = record { answer = 0; count = c; size = p₀ .size; most = p₀ .most }; length = read .length })
+          open-good n l = by (entries (isChecked m) b) refl s′
+            where
+              by : (o : Outcome (List Entry)) → entries (isChecked m) b ≡ o → size ≡ sizeOfListing o
+                  → Opens d m icb p₀ w w′ (record { place = record { answer = 0; count = c; size = p₀ .size; most = p₀ .most }; length = read .length })
+              by (answered es) f g = record {
+                good = λ z. record {
+                  es = es;
+                  n = R .count;
+                  fits = l;
+                  are = f;
+                  goes = λ h. parsed-is h ∙ rw f (ap (λ k. record { outcome = ran d (h b es) .outcome; count = R .count + k }) (zero-add (ran d (h b es) .count)));
+                  within = omega (arith, counted);
+                  place = rw counted;
+                };
+                bad = λ z. absurd (z refl);
+              }
+              by (refused why) f g = absurd (refusal-numbered why (sym (ap (λ (x : ListingSize). x .answer) g) ∙ n))
 
 -- ---- the turn of the entry at `at` in a directory whose bytes are the first n of the work space
 
@@ -192,7 +202,7 @@ module _ (d : Disc) (m : Mount) (left level : ℕ) (work : List ℕ) (n at : ℕ
     next-further = omega (arith, next-is, g .whole .head, g .whole .on)
 
     -- its own turn was shown, and the others stand behind it
-    handled : {q : ShowPlace} {tally : List ℕ} {l₂ : Lent} → (q .answer ≡ 0 → Held q) → Shown (nodePlaced d m) (ran d (turnOf (nodesAt m left (suc level) (length work - n)) level x)) p (lent out tally) q l₂
+    handled : {q : ShowPlace} {tally : List ℕ} {l₂ : Lent} → (q .answer ≡ 0 → Held (p .most) q) → Shown (nodePlaced d m (p .most)) (ran d (turnOf (nodesAt m left (suc level) (length work - n)) level x)) p (lent out tally) q l₂
         → Handles d m left level raw (length work - n) at p (lent out tally) (record { place = q; next = at + e .next }) l₂
     handled i s = record {
       further = next-further;
@@ -210,14 +220,14 @@ module _ (d : Disc) (m : Mount) (left level : ℕ) (work : List ℕ) (n at : ℕ
     directory-is : isDirectory (x .identifier) ≡ e .directory
     directory-is = sym (ap (λ (v : EntrySeen). v .directory) (g .is))
 
-    module _ (i : Held p) where
+    module _ (i : Held (p .most) p) where
       pub handle-skipped : e .skipped ≡ true → {tally : List ℕ} → Handles d m left level raw (length work - n) at p (lent out tally) (record { place = p; next = at + e .next }) (lent out₁ tally)
       handle-skipped s {tally} =
           let o : ownRecord level x ≡ [] = own-none level x (skip-is ∙ s) in
           handled (λ j. i) (shown-none i (turn-skipped d (nodesAt m left (suc level) (length work - n)) level x (skip-is ∙ s)) (lent out tally)
           (λ room. t .puts x (g .reads) (omega (arith, ap length o)) ∙ ap (sets out (p .size)) o) refl)
 
-      module _ (s : e .skipped ≡ false) {size : ℕ} (c : size ≡ reported (p .size + e .size)) (tally : List ℕ) {tally₁ : List ℕ} (a : tally₁ ≡ entryPlaced d m (e .directory) (e .icb) tally) where
+      module _ (s : e .skipped ≡ false) {size : ℕ} (c : size ≡ reported (p .size + e .size)) (tally : List ℕ) {tally₁ : List ℕ} (a : tally₁ ≡ entryPlaced d m (p .most) (e .directory) (e .icb) tally) where
         abbrev node : Node
         node = record { level = level; entry = x }
 
@@ -232,22 +242,22 @@ module _ (d : Disc) (m : Mount) (left level : ℕ) (work : List ℕ) (n at : ℕ
         icb-is : e .icb ≡ x .identifier .icb
         icb-is = ap (λ (v : EntrySeen). v .icb) (g .is)
 
-        own-shown : {r : Ran (List Node)} → r ≡ told (answered (node ∷ [])) → Shown (nodePlaced d m) r p (lent out tally) (record { answer = 0; count = p .count; size = size }) (lent out₁ tally₁)
+        own-shown : {r : Ran (List Node)} → r ≡ told (answered (node ∷ [])) → Shown (nodePlaced d m (p .most)) r p (lent out tally) (record { answer = 0; count = p .count; size = size; most = p .most }) (lent out₁ tally₁)
         own-shown y = shown-one i y (c ∙ ap (λ v. reported (p .size + v)) size-is) (λ room. t .puts x (g .reads) (omega (arith, ap length own)) ∙ ap (sets out (p .size)) own)
-            (a ∙ ap (λ b. entryPlaced d m b (e .icb) tally) (sym directory-is) ∙ ap (λ i. entryPlaced d m (isDirectory (x .identifier)) i tally) icb-is)
+            (a ∙ ap (λ b. entryPlaced d m (p .most) b (e .icb) tally) (sym directory-is) ∙ ap (λ i. entryPlaced d m (p .most) (isDirectory (x .identifier)) i tally) icb-is)
 
-        own-held : Held (record { answer = 0; count = p .count; size = size })
-        own-held = record { going = refl; counted = i .counted; sized = omega arith }
+        own-held : Held (p .most) (record { answer = 0; count = p .count; size = size; most = p .most })
+        own-held = record { going = refl; lends = refl; counted = i .counted; bounded = i .bounded; sized = omega arith }
 
-        pub handle-file : e .directory ≡ false → Handles d m left level raw (length work - n) at p (lent out tally) (record { place = record { answer = 0; count = p .count; size = size }; next = at + e .next }) (lent out₁ tally₁)
+        pub handle-file : e .directory ≡ false → Handles d m left level raw (length work - n) at p (lent out tally) (record { place = record { answer = 0; count = p .count; size = size; most = p .most }; next = at + e .next }) (lent out₁ tally₁)
         handle-file f = handled (λ j. own-held) (own-shown (turn-file d (nodesAt m left (suc level) (length work - n)) level x (skip-is ∙ s) (directory-is ∙ f)))
 
         -- what stands under it was shown from the work space behind n on
         pub handle-directory : e .directory ≡ true → {q : ShowPlace} {l₂ : Lent}
-            → Shown (nodePlaced d m) (ran d (nodesAt m left (level + 1) (length (midOf n (length work - n) work)) (e .icb))) (record { answer = 0; count = p .count; size = size }) (lent out₁ tally₁) q l₂
+            → Shown (nodePlaced d m (p .most)) (ran d (nodesAt m left (level + 1) (length (midOf n (length work - n) work)) (e .icb))) (record { answer = 0; count = p .count; size = size; most = p .most }) (lent out₁ tally₁) q l₂
             → Handles d m left level raw (length work - n) at p (lent out tally) (record { place = q; next = at + e .next }) l₂
         handle-directory f {q} {l₂} u =
             let l : length (midOf n (length work - n) work) ≡ length work - n = simp (length-take, length-drop) (omega arith) in
-            let y : Shown (nodePlaced d m) (ran d (nodesAt m left (suc level) (length work - n) (x .identifier .icb))) (record { answer = 0; count = p .count; size = size }) (lent out₁ tally₁) q l₂ =
+            let y : Shown (nodePlaced d m (p .most)) (ran d (nodesAt m left (suc level) (length work - n) (x .identifier .icb))) (record { answer = 0; count = p .count; size = size; most = p .most }) (lent out₁ tally₁) q l₂ =
             rw (l, add-one level, icb-is) at u in
-            handled (shown-held u) (rw (turn-directory d (nodesAt m left (suc level) (length work - n)) level x (skip-is ∙ s) (directory-is ∙ f)) (joined-goes (own-shown refl) y refl))
+            handled (shown-held (i .bounded) u) (rw (turn-directory d (nodesAt m left (suc level) (length work - n)) level x (skip-is ∙ s) (directory-is ∙ f)) (joined-goes (own-shown refl) y refl))

@@ -13,4 +13,5 @@ pub mod OneTree
 pub mod WayLaws
 pub mod Trees
 pub mod Tallying
+pub mod LentLaws
 pub mod Summing

@@ -13,7 +13,7 @@ use Rattle.disc.specs.Counts.{reported}
 use Rattle.disc.specs.Places.{isChecked}
 use Rattle.disc.specs.Ask.{Disc, Ask}
 use Rattle.disc.specs.Ask.Outcome.{answered}
-use Rattle.disc.specs.Ran.{ran}
+use Rattle.disc.specs.Ran.{Ran, ran}
 use Rattle.disc.specs.declared.places.Mount.{Mount}
 use Rattle.disc.specs.declared.refusals.Refusal.the-variants.{TooDeep}
 use Rattle.disc.proofs.RanLaws.{ran-done, ran-refuse}
@@ -23,11 +23,19 @@ use Rattle.listings.proofs.GuardLaws.{entries-unchecked}
 use Rattle.listings.proofs.WalkLaws.{at-end}
 use Rattle.shows.specs.Shows.{Node, nodesOf, nodesAt}
 use Rattle.shows.specs.inner.Turns.{stoppedAt, Held, Lent, Shown, opening, Opens, Handles}
-use Rattle.shows.specs.Placings.{nodePlaced}
+use Rattle.shows.specs.inner.Placings.{nodePlaced}
 use Rattle.shows.specs.declared.levels.ShowPlace.{ShowPlace}
 use Rattle.shows.specs.declared.levels.OpenedLevel.{OpenedLevel}
 use Rattle.shows.specs.declared.levels.EntryTurn.{EntryTurn}
-use Rattle.shows.proofs.ShownLaws.{turn-joined, shown-none, shown-refused, shown-after, joined-stops, joined-goes}
+use Rattle.shows.proofs.ShownLaws.{turn-joined, shown-none, shown-refused, shown-after, capped-within, joined-stops, joined-goes}
+
+-- a place by its own number of sectors
+pub held-own : {most : ℕ} {p : ShowPlace} → Held most p → Held (p .most) p
+held-own h = rw (sym (h .lends)) at h
+
+-- what a node adds, said in another way
+shown-by : {of of′ : Node → List ℕ → List ℕ} → of ≡ of′ → {r : Ran (List Node)} {p : ShowPlace} {l : Lent} {q : ShowPlace} {l′ : Lent} → Shown of r p l q l′ → Shown of′ r p l q l′
+shown-by e s = rw e at s
 
 -- ---- the loop has come to `at`
 
@@ -38,7 +46,7 @@ pub record Going (d : Disc) (of : Node → List ℕ → List ℕ) (inside : Long
   pub leads : (q : ShowPlace) (l′ : Lent) → Shown of (ran d (nodesOf inside level left)) p l q l′ → Shown of (ran d (nodesOf inside level es)) p₀ l₀ q l′
 
 pub record Listing (d : Disc) (of : Node → List ℕ → List ℕ) (inside : LongAd → Ask (List Node)) (level : ℕ) (raw : List ℕ) (p₀ : ShowPlace) (l₀ : Lent) (p : ShowPlace) (l : Lent) (at : ℕ) : Type 0 where
-  pub held : Held p
+  pub held : Held (p₀ .most) p
   pub within : at ≤ length raw + 3
   pub goes : (es : List Entry) → entries false raw ≡ answered es → Going d of inside level raw p₀ l₀ es p l at
 
@@ -46,15 +54,15 @@ pub record Listing (d : Disc) (of : Node → List ℕ → List ℕ) (inside : Lo
 abbrev pub AllShown : Disc → (Node → List ℕ → List ℕ) → (LongAd → Ask (List Node)) → ℕ → List ℕ → ShowPlace → Lent → ShowPlace → Lent → Type 0
 AllShown d of inside level raw p₀ l₀ q l′ = (es : List Entry) → entries false raw ≡ answered es → Shown of (ran d (nodesOf inside level es)) p₀ l₀ q l′
 
-pub list-starts : (d : Disc) (of : Node → List ℕ → List ℕ) (inside : LongAd → Ask (List Node)) (level : ℕ) (raw : List ℕ) (p : ShowPlace) (l : Lent) → Held p → Listing d of inside level raw p l p l 0
+pub list-starts : (d : Disc) (of : Node → List ℕ → List ℕ) (inside : LongAd → Ask (List Node)) (level : ℕ) (raw : List ℕ) (p : ShowPlace) (l : Lent) → Held (p .most) p → Listing d of inside level raw p l p l 0
 list-starts d of inside level raw p l h = record { held = h; within = omega arith; goes = λ es are. record { left = es; are = are; leads = λ q l′ s. s } }
 
 module _ (d : Disc) (m : Mount) (below level : ℕ) (raw : List ℕ) (w : ℕ) (p₀ : ShowPlace) (l₀ : Lent) {p : ShowPlace} {l : Lent} {at : ℕ}
-    (i : Listing d (nodePlaced d m) (nodesAt m below (suc level) w) level raw p₀ l₀ p l at) where
+    (i : Listing d (nodePlaced d m (p₀ .most)) (nodesAt m below (suc level) w) level raw p₀ l₀ p l at) where
   abbrev inside : LongAd → Ask (List Node)
   inside = nodesAt m below (suc level) w
 
-  pub list-ends : length raw < at + 38 → AllShown d (nodePlaced d m) inside level raw p₀ l₀ p l
+  pub list-ends : length raw < at + 38 → AllShown d (nodePlaced d m (p₀ .most)) inside level raw p₀ l₀ p l
   unfolding nodesOf
   list-ends h es s =
       let g = i .goes es s in
@@ -63,9 +71,13 @@ module _ (d : Disc) (m : Mount) (below level : ℕ) (raw : List ℕ) (w : ℕ) (
       g .leads p l (rw z (shown-none (i .held) (ran-done d []) l (λ room. refl) refl))
 
   module _ {t : EntryTurn} {l′ : Lent} (h : Handles d m below level raw w at p l t l′) where
-    pub list-next : t .place .answer ≡ 0 → Listing d (nodePlaced d m) inside level raw p₀ l₀ (t .place) l′ (t .next)
+    -- as many sectors may be asked for as at the start
+    alike : (r : Ran (List Node)) → Shown (nodePlaced d m (p .most)) r p l (t .place) l′ → Shown (nodePlaced d m (p₀ .most)) r p l (t .place) l′
+    alike r s = shown-by (ap (nodePlaced d m) (i .held .lends)) s
+
+    pub list-next : t .place .answer ≡ 0 → Listing d (nodePlaced d m (p₀ .most)) inside level raw p₀ l₀ (t .place) l′ (t .next)
     list-next z = record {
-      held = h .held z;
+      held = rw (i .held .lends) at (h .held z);
       within = h .near;
       goes = λ es s.
           let g = i .goes es s in
@@ -73,25 +85,26 @@ module _ (d : Disc) (m : Mount) (below level : ℕ) (raw : List ℕ) (w : ℕ) (
           record {
             left = k .others;
             are = k .are;
-            leads = λ q o v. g .leads q o (rw (k .all, turn-joined d inside level (k .first) (k .others)) (joined-goes (k .shows) v z));
+            leads = λ q o v. g .leads q o (rw (k .all, turn-joined d inside level (k .first) (k .others)) (joined-goes (alike _ (k .shows)) v z));
           };
     }
 
-    pub list-stops : (t .place .answer ≡ 0 → ⊥) → AllShown d (nodePlaced d m) inside level raw p₀ l₀ (t .place) l′
+    pub list-stops : (t .place .answer ≡ 0 → ⊥) → AllShown d (nodePlaced d m (p₀ .most)) inside level raw p₀ l₀ (t .place) l′
     list-stops z es s =
         let g = i .goes es s in
         let k = h .good (g .left) (g .are) in
-        g .leads (t .place) l′ (rw (k .all, turn-joined d inside level (k .first) (k .others)) (joined-stops (k .shows) (ran d (nodesOf inside level (k .others))) z))
+        g .leads (t .place) l′ (rw (k .all, turn-joined d inside level (k .first) (k .others)) (joined-stops (alike _ (k .shows)) (ran d (nodesOf inside level (k .others))) z))
 
 -- ---- the returns of `list_level`
 
 -- no level left
-pub level-none : {of : Node → List ℕ → List ℕ} (d : Disc) (m : Mount) (level : ℕ) (w : ℕ) (icb : LongAd) {left : ℕ} {p : ShowPlace} → Held p → left ≡ 0 → {a : ℕ} → a ≡ number TooDeep → {q : ShowPlace} → q ≡ stoppedAt a (p .count)
+pub level-none : {of : Node → List ℕ → List ℕ} (d : Disc) (m : Mount) (level : ℕ) (w : ℕ) (icb : LongAd) {left : ℕ} {p : ShowPlace} → Held (p .most) p → left ≡ 0 → {a : ℕ} → a ≡ number TooDeep → {q : ShowPlace} → q ≡ stoppedAt a (p .count)
     → {l : Lent} → Shown of (ran d (nodesAt m left level w icb)) p l q l
 unfolding nodesAt
 level-none d m level w icb {p = p} h z k e =
-    let c : p .count ≡ reported (p .count + 0) = omega (arith, h .counted) in
-    rw z (shown-refused TooDeep 0 (ran-refuse d TooDeep) (e ∙ rw k (ap (stoppedAt (number TooDeep)) c)))
+    let c : p .count ≡ reported (p .count + 0) = omega (arith, h .counted, h .bounded) in
+    let w : reported (p .count + 0) ≤ p .most = omega (arith, h .counted) in
+    rw z (shown-refused TooDeep 0 (ran-refuse d TooDeep) (e ∙ rw k (ap (stoppedAt (number TooDeep)) c ∙ sym (capped-within p 0 (stoppedAt (number TooDeep) (reported (p .count + 0))) w))))
 
 module _ (d : Disc) (m : Mount) (icb : LongAd) {left : ℕ} (level : ℕ) (some : left ≡ 0 → ⊥) {p : ShowPlace} {work work₁ : List ℕ} {o : OpenedLevel} (a : Opens d m icb p work work₁ o) where
   level-is : nodesAt m left level (length work) icb ≡ opening m (length work) icb (λ b es. nodesOf (nodesAt m (left - 1) (suc level) (length work - length b)) level es)
@@ -102,25 +115,33 @@ module _ (d : Disc) (m : Mount) (icb : LongAd) {left : ℕ} (level : ℕ) (some 
 
   -- the directory is refused
   pub level-refused : (o .place .answer ≡ 0 → ⊥) → {of : Node → List ℕ → List ℕ} {l : Lent} → Shown of (ran d (nodesAt m left level (length work) icb)) p l (o .place) l
-  level-refused n = let x = a .bad n in rw level-is (shown-refused (x .why) (x .n) (x .goes (λ b es. nodesOf (nodesAt m (left - 1) (suc level) (length work - length b)) level es)) (x .place))
+  level-refused n {of} {l} = rw level-is (a .bad n .shows of (λ b es. nodesOf (nodesAt m (left - 1) (suc level) (length work - length b)) level es) l)
 
   module _ (z : o .place .answer ≡ 0) where
     pub level-fits : o .length ≤ length work₁
     level-fits = a .good z .fits
 
-    pub level-held : p .size ≤ 0xffff_ffff_ffff_ffff → Held (o .place)
-    level-held h = rw (a .good z .place) (record { going = refl; counted = omega arith; sized = h })
+    pub level-held : Held (p .most) p → Held (o .place .most) (o .place)
+    level-held h = rw (a .good z .place) (record { going = refl; lends = refl; counted = a .good z .within; bounded = h .bounded; sized = h .sized })
 
-    -- all its entries were shown
-    pub level-shown : length work₁ ≡ length work → {of : Node → List ℕ → List ℕ} {l : Lent} {q : ShowPlace} {l′ : Lent}
+    pub level-lends : o .place .most ≡ p .most
+    level-lends = ap (λ (x : ShowPlace). x .most) (a .good z .place)
+
+    shown-so : length work₁ ≡ length work → {of : Node → List ℕ → List ℕ} {l : Lent} {q : ShowPlace} {l′ : Lent}
         → AllShown d of (nodesAt m (left - 1) (suc level) (length work₁ - o .length)) level (take (o .length) work₁) (o .place) l q l′
         → Shown of (ran d (nodesAt m left level (length work) icb)) p l q l′
-    level-shown k s =
+    shown-so k s =
         let x = a .good z in
         let n : length (take (o .length) work₁) ≡ o .length = length-take-le (o .length) work₁ (x .fits) in
         let e : length work₁ - o .length ≡ length work - length (take (o .length) work₁) = rw (k, n) in
         let v = rw e at (s (x .es) (entries-unchecked (isChecked m) (take (o .length) work₁) (x .are))) in
         rw (level-is, x .goes (λ b es. nodesOf (nodesAt m (left - 1) (suc level) (length work - length b)) level es)) (shown-after (x .n) (x .place) v)
+
+    -- all its entries were shown
+    pub level-shown : length work₁ ≡ length work → {l : Lent} {q : ShowPlace} {l′ : Lent}
+        → AllShown d (nodePlaced d m (o .place .most)) (nodesAt m (left - 1) (suc level) (length work₁ - o .length)) level (take (o .length) work₁) (o .place) l q l′
+        → Shown (nodePlaced d m (p .most)) (ran d (nodesAt m left level (length work) icb)) p l q l′
+    level-shown k s = shown-by (ap (nodePlaced d m) level-lends) (shown-so k s)
 
 -- ---- the loop's work space
 

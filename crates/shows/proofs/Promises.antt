@@ -17,6 +17,8 @@ use Rattle.disc.specs.Places.{isChecked, unchecked}
 use Rattle.disc.specs.Ask.{Disc, Ask, Outcome, outcome, asked, then, ended, andThen, Agree}
 use Rattle.disc.specs.Ask.Ask.{done, refuse, ask}
 use Rattle.disc.specs.Ask.Outcome.{answered, refused}
+use Rattle.disc.specs.Budgets.{budgeted}
+use Rattle.disc.proofs.BudgetLaws.{budgeted-guards}
 use Rattle.disc.specs.Ran.{Ran, ran, after, onward, followed}
 use Rattle.disc.specs.Replies.{Replied}
 use Rattle.disc.specs.declared.places.Mount.{Mount}
@@ -318,26 +320,27 @@ module _ (d : Disc) (m : Mount) (levels work : ℕ) (root : LongAd) where
   unfolding showing
   show-asks = asked-done d (tree m levels work root) nodeRecords
 
-  -- the count is min(the length of the list, 2^64 - 1)
-  pub show-counts : {out after : List ℕ} {reply : Reply} → Replied NoRoom (ran d (showing m levels work root)) out after reply → reply .count ≡ min (length (asked d (showing m levels work root))) 0xffff_ffff_ffff_ffff
-  unfolding ran
-  show-counts {out} p = ap (λ (x : Reply). x .count) (p .says) ∙ reply-counts NoRoom (length out) (reported (length (asked d (showing m levels work root)))) (outcome d (showing m levels work root))
+  module _ (most : ℕ) where
+    -- the count is min(the length of the list, 2^64 - 1)
+    pub show-counts : {out after : List ℕ} {reply : Reply} → Replied NoRoom (ran d (budgeted most (showing m levels work root))) out after reply → reply .count ≡ min (length (asked d (budgeted most (showing m levels work root)))) 0xffff_ffff_ffff_ffff
+    unfolding ran
+    show-counts {out} p = ap (λ (x : Reply). x .count) (p .says) ∙ reply-counts NoRoom (length out) (reported (length (asked d (budgeted most (showing m levels work root))))) (outcome d (budgeted most (showing m levels work root)))
 
-  -- discs that agree on the list give the same reply and the same memory
-  pub show-same : (e : Disc) → Agree d e (asked d (showing m levels work root)) → {out after : List ℕ} {reply : Reply}
-      → Replied NoRoom (ran d (showing m levels work root)) out after reply → Replied NoRoom (ran e (showing m levels work root)) out after reply
-  show-same e h p = same-replied (showing m levels work root) d e h p
+    -- discs that agree on the list give the same reply and the same memory
+    pub show-same : (e : Disc) → Agree d e (asked d (budgeted most (showing m levels work root))) → {out after : List ℕ} {reply : Reply} → Replied NoRoom (ran d (budgeted most (showing m levels work root))) out after reply → Replied NoRoom (ran e (budgeted most (showing m levels work root))) out after reply
+    show-same e h p = same-replied (budgeted most (showing m levels work root)) d e h p
 
-  -- its contract leaves one result
-  pub show-one : {out after after′ : List ℕ} {reply reply′ : Reply} → Replied NoRoom (ran d (showing m levels work root)) out after reply → Replied NoRoom (ran d (showing m levels work root)) out after′ reply′
-      → (reply ≡ reply′) × (after ≡ after′)
-  show-one p q = replied-one p q
+    -- its contract leaves one result
+    pub show-one : {out after after′ : List ℕ} {reply reply′ : Reply} → Replied NoRoom (ran d (budgeted most (showing m levels work root))) out after reply
+        → Replied NoRoom (ran d (budgeted most (showing m levels work root))) out after′ reply′
+        → (reply ≡ reply′) × (after ≡ after′)
+    show-one p q = replied-one p q
 
-  -- a checked show that isn't refused by 10 is the show without the check, after the same sectors
-  pub show-unchecked : isChecked m ≡ true → isBad (outcome d (showing m levels work root)) ≡ false → Alike d (showing m levels work root) (showing (unchecked m) levels work root)
-  show-unchecked c h =
-      let g = showing-guards m c levels work root in
-      record { outcomes = sym (guards-outcome g d h); lists = sym (guards-asked g d h) }
+    -- a checked show that isn't refused by 10 is the show without the check, after the same sectors
+    pub show-unchecked : isChecked m ≡ true → isBad (outcome d (budgeted most (showing m levels work root))) ≡ false → Alike d (budgeted most (showing m levels work root)) (budgeted most (showing (unchecked m) levels work root))
+    show-unchecked c h =
+        let g = budgeted-guards most (showing-guards m c levels work root) in
+        record { outcomes = sym (guards-outcome g d h); lists = sym (guards-asked g d h) }
 
 -- ---- a worked case: the entry "A" at block 5, a directory, in a level of its own
 

@@ -2,10 +2,11 @@
 use mathlib.Core.Path.{_≡_, refl, sym, ap, _∙_}
 use mathlib.Core.Bool.{Bool, true, false, _&&_}
 use mathlib.Core.List.{List, [], _∷_}
+use mathlib.Core.Logic.{⊎-elim}
 use Prim.Native.Nat.{ℕ, _+_, _-_, _*_, _≤_, _<_, _^_}
 use native.Mathlib.Nat.{sub-zero}
 use native.Mathlib.Omega.{arith}
-use lib.ListN.{length, replicate, length-append, length-take, length-drop}
+use lib.ListN.{length, length-append, length-take, length-drop}
 use lib.Dec.{leb}
 use borrow.Author.Tests.{le-leb, lt-leb}
 use borrow.Rule.Slice.PartMut.{midOf, putMid}
@@ -17,22 +18,24 @@ use Rattle.disc.specs.Ask.Ask.{refuse}
 use Rattle.disc.specs.Ask.Outcome.{answered, refused}
 use Rattle.disc.specs.Ran.{Ran, ran}
 use Rattle.disc.specs.Replies.{Replied}
+use Rattle.disc.specs.Budgets.{budgeted, overRun}
 use Rattle.disc.specs.declared.places.Mount.{Mount}
-use Rattle.disc.specs.declared.refusals.Refusal.the-variants.{NoRoom, TooDeep}
+use Rattle.disc.specs.declared.refusals.Refusal.the-variants.{NoRoom, TooDeep, OverBudget}
 use Rattle.disc.specs.declared.replies.Reply.{Reply}
 use Rattle.disc.proofs.MoveLaws.{over-fits, sets-whole}
 use Rattle.disc.proofs.RanLaws.{ran-refuse, ran-known}
-use Rattle.disc.proofs.RefusalLaws.{refusal-numbered}
+use Rattle.disc.proofs.BudgetLaws.{budgeted-ran}
+use Rattle.disc.proofs.ImageLaws.{split}
 use Rattle.disc.proofs.ReplyLaws.{reply-refused, reply-full, reply-done}
 use Rattle.records.specs.declared.allocations.LongAd.{LongAd}
 use Rattle.shows.specs.Shows.{Node, nodesAt, mostLevels, tree, nodeRecords, showing}
-use Rattle.shows.specs.inner.Turns.{behindBy, lent, Shown}
-use Rattle.shows.specs.Placings.{nodePlaced, Tally, tallyBy, tallies}
+use Rattle.shows.specs.inner.Turns.{stoppedAt, behindBy, lent, Shown}
+use Rattle.shows.proofs.ShownLaws.{capped-within, capped-over, Answers, shown-answers}
 use Rattle.shows.specs.declared.levels.ShowPlace.{ShowPlace}
 
 -- before the first entry
-abbrev pub start : ShowPlace
-start = record { answer = 0; count = 0; size = 0 }
+abbrev pub start : ℕ → ShowPlace
+start most = record { answer = 0; count = 0; size = 0; most = most }
 
 -- ---- the number of levels
 
@@ -63,21 +66,24 @@ written : (text out : List ℕ) {r : Ran (List ℕ)} {n : ℕ} → r ≡ record 
     → {ys : List ℕ} → ys ≡ text → Replied NoRoom r out (putMid 0 (size - 0) out ys) (record { answer = 0; count = c; length = size })
 written text out {n = n} e i j {c} k y = rw (e, y, i) (reply-done text n c j k (rw (over-fits text out j, sub-zero)))
 
-module _ (d : Disc) (m : Mount) (w : ℕ) (root : LongAd) (levels : ℕ) where
+module _ (d : Disc) (m : Mount) (w : ℕ) (root : LongAd) (levels most : ℕ) where
   show-is : ran d (showing m levels w root) ≡ record { outcome = recordsIn (ran d (tree m levels w root) .outcome); count = ran d (tree m levels w root) .count }
   unfolding showing
   show-is = ran-known d (tree m levels w root) (λ ns. answered (nodeRecords ns))
 
-  show-none : tree m levels w root ≡ refuse TooDeep → {a : ℕ} → a ≡ number TooDeep → {reply : Reply} → reply ≡ record { answer = a; count = 0; length = 0 } → (out : List ℕ)
-      → Replied NoRoom (ran d (showing m levels w root)) out out reply
-  show-none e k f out = rw (show-is, e, ran-refuse {A = List Node} d TooDeep) (reply-refused TooDeep 0 0 refl (f ∙ rw k))
+  abbrev S : Ran (List ℕ)
+  S = ran d (budgeted most (showing m levels w root))
 
-  pub show-zero : levels ≡ 0 → {a : ℕ} → a ≡ number TooDeep → {reply : Reply} → reply ≡ record { answer = a; count = 0; length = 0 } → (out : List ℕ)
-      → Replied NoRoom (ran d (showing m levels w root)) out out reply
+  show-none : tree m levels w root ≡ refuse TooDeep → {a : ℕ} → a ≡ number TooDeep → {reply : Reply} → reply ≡ record { answer = a; count = 0; length = 0 } → (out : List ℕ)
+      → Replied NoRoom S out out reply
+  show-none e k f out =
+      let r : ran d (showing m levels w root) ≡ record { outcome = refused TooDeep; count = 0 } = show-is ∙ rw (e, ran-refuse {A = List Node} d TooDeep) in
+      rw (budgeted-ran d (showing m levels w root) most, r, le-leb 0 most (omega arith)) (reply-refused TooDeep 0 0 refl (f ∙ rw k))
+
+  pub show-zero : levels ≡ 0 → {a : ℕ} → a ≡ number TooDeep → {reply : Reply} → reply ≡ record { answer = a; count = 0; length = 0 } → (out : List ℕ) → Replied NoRoom S out out reply
   show-zero h = show-none (tree-none m w root levels h)
 
-  pub show-over : mostLevels < levels → {a : ℕ} → a ≡ number TooDeep → {reply : Reply} → reply ≡ record { answer = a; count = 0; length = 0 } → (out : List ℕ)
-      → Replied NoRoom (ran d (showing m levels w root)) out out reply
+  pub show-over : mostLevels < levels → {a : ℕ} → a ≡ number TooDeep → {reply : Reply} → reply ≡ record { answer = a; count = 0; length = 0 } → (out : List ℕ) → Replied NoRoom S out out reply
   show-over h = show-none (tree-many m w root levels h)
 
   module _ (l : 1 ≤ levels) (k : levels ≤ mostLevels) where
@@ -87,9 +93,15 @@ module _ (d : Disc) (m : Mount) (w : ℕ) (root : LongAd) (levels : ℕ) where
     shown-is : ran d (showing m levels w root) ≡ record { outcome = recordsIn (R .outcome); count = R .count }
     shown-is = show-is ∙ rw (tree-within m w root levels l k)
 
+    lent-is : reported (R .count) ≤ most → S ≡ record { outcome = recordsIn (R .outcome); count = R .count }
+    lent-is h = budgeted-ran d (showing m levels w root) most ∙ rw (shown-is, le-leb (reported (R .count)) most h)
+
+    over-is : most < reported (R .count) → S ≡ overRun most
+    over-is h = budgeted-ran d (showing m levels w root) most ∙ rw (shown-is, lt-leb (reported (R .count)) most h)
+
     -- ---- measured, lent no output
 
-    module _ {of : Node → List ℕ → List ℕ} (out ys : List ℕ) {q : ShowPlace} {tally tally₁ : List ℕ} (s : Shown of R start (lent (midOf 0 (0 - 0) out) tally) q (lent ys tally₁)) (z : length (putMid 0 (0 - 0) out ys) ≡ length out) where
+    module _ {of : Node → List ℕ → List ℕ} (out ys : List ℕ) {q : ShowPlace} {tally tally₁ : List ℕ} (s : Shown of R (start most) (lent (midOf 0 (0 - 0) out) tally) q (lent ys tally₁)) (z : length (putMid 0 (0 - 0) out ys) ≡ length out) where
       -- nothing was written
       as-came : putMid 0 (0 - 0) out ys ≡ out
       as-came = by ys z
@@ -98,77 +110,54 @@ module _ (d : Disc) (m : Mount) (w : ℕ) (root : LongAd) (levels : ℕ) where
           by [] z = refl
           by (y ∷ more) z = absurd (omega (arith, length-append more out))
 
-      pub show-refused : (q .answer ≡ 0 → ⊥) → {reply : Reply} → reply ≡ record { answer = q .answer; count = q .count; length = 0 } → Replied NoRoom (ran d (showing m levels w root)) out (putMid 0 (0 - 0) out ys) reply
-      show-refused n {reply} e = rw (shown-is, as-came) (by (R .outcome) (s .says))
+      pub show-refused : (q .answer ≡ 0 → ⊥) → {reply : Reply} → reply ≡ record { answer = q .answer; count = q .count; length = 0 } → most < 2 ^ 64 → Replied NoRoom S out (putMid 0 (0 - 0) out ys) reply
+      show-refused n {reply} e b = rw as-came (⊎-elim
+          (λ (h : reported (R .count) ≤ most). rw (lent-is h) (by (R .outcome) (s .says ∙ capped-within (start most) (R .count) (behindBy (start most) (R .outcome) (R .count)) (omega arith))))
+          (λ (h : most < reported (R .count)).
+          let f : q ≡ stoppedAt (number OverBudget) most = s .says ∙ capped-over (start most) (R .count) (behindBy (start most) (R .outcome) (R .count)) (omega arith) in
+          rw (over-is h) (reply-refused OverBudget most most (omega arith) (e ∙ rw f)))
+          (split (reported (R .count)) most))
         where
-          by : (o : Outcome (List Node)) → q ≡ behindBy start o (R .count) → Replied NoRoom (record { outcome = recordsIn o; count = R .count }) out out reply
+          by : (o : Outcome (List Node)) → q ≡ behindBy (start most) o (R .count) → Replied NoRoom (record { outcome = recordsIn o; count = R .count }) out out reply
           by (answered ns) f = absurd (n (ap (λ (x : ShowPlace). x .answer) f))
           by (refused why) f = reply-refused why (R .count) (reported (0 + R .count)) (omega arith) (e ∙ rw f)
 
       module _ (g : q .answer ≡ 0) where
         -- the nodes that were measured
-        record Measured : Type 0 where
-          ns : List Node
-          are : R .outcome ≡ answered ns
-          count : q .count ≡ reported (R .count)
-          size : q .size ≡ reported (length (nodeRecords ns))
+        measured : Answers R (start most) q
+        measured = shown-answers s g
 
-        measured : Measured
-        measured = by (R .outcome) refl (s .says)
-          where
-            by : (o : Outcome (List Node)) → R .outcome ≡ o → q ≡ behindBy start o (R .count) → Measured
-            by (answered ns) e f = record {
-              ns = ns;
-              are = e;
-              count = ap (λ (x : ShowPlace). x .count) f ∙ omega arith;
-              size = ap (λ (x : ShowPlace). x .size) f ∙ omega arith;
-            }
-            by (refused why) e f = absurd (refusal-numbered why (sym (ap (λ (x : ShowPlace). x .answer) f) ∙ g))
+        within : reported (R .count) ≤ most
+        within = omega (arith, measured .within)
+
+        text : List ℕ
+        text = nodeRecords (measured .ns)
+
+        counts : q .count ≡ reported (R .count)
+        counts = ap (λ (x : ShowPlace). x .count) (measured .place) ∙ omega arith
+
+        sizes : q .size ≡ reported (length text)
+        unfolding text
+        sizes = ap (λ (x : ShowPlace). x .size) (measured .place) ∙ omega arith
+
+        texted : S ≡ record { outcome = answered text; count = R .count }
+        unfolding text
+        texted = lent-is within ∙ rw (measured .are)
 
         pub show-full : length (putMid 0 (0 - 0) out ys) < q .size → {a : ℕ} → a ≡ number NoRoom → {reply : Reply} → reply ≡ record { answer = a; count = q .count; length = 0 }
-            → Replied NoRoom (ran d (showing m levels w root)) out (putMid 0 (0 - 0) out ys) reply
-        show-full h e f =
-            let x = measured in
-            rw (shown-is, as-came, x .are) (reply-full (nodeRecords (x .ns)) (R .count) (q .count) (omega (arith, x .size)) (x .count) (f ∙ rw e))
+            → Replied NoRoom S out (putMid 0 (0 - 0) out ys) reply
+        show-full h e f = rw (texted, as-came) (reply-full text (R .count) (q .count) (omega (arith, sizes, z)) counts (f ∙ rw e))
 
         -- ---- written, lent what was measured
 
         pub show-done : q .size ≤ length (putMid 0 (0 - 0) out ys) → length out * 1 < 2 ^ 63 → {w₁ : ℕ} → w₁ ≡ w → {q₂ : ShowPlace} {ys₂ tally₂ tally₃ : List ℕ}
-            → Shown of (ran d (nodesAt m levels 1 w₁ root)) start (lent (midOf 0 (q .size - 0) (putMid 0 (0 - 0) out ys)) tally₂) q₂ (lent ys₂ tally₃)
-            → Replied NoRoom (ran d (showing m levels w root)) out (putMid 0 (q .size - 0) (putMid 0 (0 - 0) out ys) ys₂) (record { answer = 0; count = q .count; length = q .size })
+            → Shown of (ran d (nodesAt m levels 1 w₁ root)) (start most) (lent (midOf 0 (q .size - 0) (putMid 0 (0 - 0) out ys)) tally₂) q₂ (lent ys₂ tally₃)
+            → Replied NoRoom S out (putMid 0 (q .size - 0) (putMid 0 (0 - 0) out ys) ys₂) (record { answer = 0; count = q .count; length = q .size })
+        unfolding text
         show-done h b e {q₂} {ys₂} {tally₂} {tally₃} v =
-            let x = measured in
-            let text : List ℕ = nodeRecords (x .ns) in
-            let t : Shown of R start (lent (midOf 0 (q .size - 0) out) tally₂) q₂ (lent ys₂ tally₃) = rw (e, as-came) at v in
-            let i : q .size ≡ length text = omega (arith, x .size, z) in
+            let t : Shown of R (start most) (lent (midOf 0 (q .size - 0) out) tally₂) q₂ (lent ys₂ tally₃) = rw (e, as-came) at v in
+            let i : q .size ≡ length text = omega (arith, sizes, z) in
             let j : length text ≤ length out = omega (arith, z) in
             let n : length (midOf 0 (q .size - 0) out) ≡ length text = simp (length-take, length-drop) (omega arith) in
-            let y : ys₂ ≡ text = t .puts (x .ns) (x .are) (omega (arith, n)) (omega (arith, n)) ∙ sets-whole text (midOf 0 (q .size - 0) out) (sym n) in
-            let r : ran d (showing m levels w root) ≡ record { outcome = answered text; count = R .count } = shown-is ∙ rw (x .are) in
-            rw as-came (written text out r i j (x .count) y)
-
--- ---- a whole tree tallied
-
-module _ (d : Disc) (m : Mount) (work : List ℕ) (root : LongAd) {out out′ : List ℕ} (tally : List ℕ) {tally′ : List ℕ} {q : ShowPlace}
-    (s : Shown (nodePlaced d m) (ran d (nodesAt m mostLevels 1 (length work) root)) start (lent out tally) q (lent out′ tally′)) where
-  abbrev N : Ran (List Node)
-  N = ran d (nodesAt m mostLevels 1 (length work) root)
-
-  tally-is : tallies d m root tally work ≡ tallyBy d m tally work (N .outcome)
-  tally-is = rw (tree-within m (length work) root mostLevels (omega arith) (omega arith))
-
-  pub tallied-refused : (q .answer ≡ 0 → ⊥) → {place work′ : List ℕ} → place ≡ replicate (length tally) 0 → work′ ≡ replicate (length work) 0
-      → _≡_ {A = Tally} (record { answer = q .answer; place = place; work = work′ }) (tallies d m root tally work)
-  tallied-refused h {place} {work′} e f = by (N .outcome) (s .says) ∙ sym tally-is
-    where
-      by : (o : Outcome (List Node)) → q ≡ behindBy start o (N .count) → _≡_ {A = Tally} (record { answer = q .answer; place = place; work = work′ }) (tallyBy d m tally work o)
-      by (answered ns) k = absurd (h (ap (λ (x : ShowPlace). x .answer) k))
-      by (refused why) k = rw (e, f, ap (λ (x : ShowPlace). x .answer) k)
-
-  pub tallied-done : q .answer ≡ 0 → {work′ : List ℕ} → work′ ≡ replicate (length work) 0
-      → _≡_ {A = Tally} (record { answer = 0; place = tally′; work = work′ }) (tallies d m root tally work)
-  tallied-done h {work′} f = by (N .outcome) refl (s .says) ∙ sym tally-is
-    where
-      by : (o : Outcome (List Node)) → N .outcome ≡ o → q ≡ behindBy start o (N .count) → _≡_ {A = Tally} (record { answer = 0; place = tally′; work = work′ }) (tallyBy d m tally work o)
-      by (answered ns) e k = rw (s .tallied ns e, f)
-      by (refused why) e k = absurd (refusal-numbered why (sym (ap (λ (x : ShowPlace). x .answer) k) ∙ h))
+            let y : ys₂ ≡ text = t .puts (measured .ns) (measured .are) (measured .within) (omega (arith, n)) (omega (arith, n)) ∙ sets-whole text (midOf 0 (q .size - 0) out) (sym n) in
+            rw as-came (written text out texted i j counts y)

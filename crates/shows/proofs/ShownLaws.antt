@@ -2,19 +2,24 @@
 use mathlib.Core.Path.{_≡_, refl, sym, ap, _∙_}
 use mathlib.Core.Bool.{Bool, true, false}
 use mathlib.Core.List.{List, [], _∷_, _++_, append-nil, append-assoc}
-use Prim.Native.Nat.{ℕ, _+_, _≤_}
+use mathlib.Core.Logic.{⊎-elim}
+use Prim.Native.Nat.{ℕ, _+_, _≤_, _<_}
 use native.Mathlib.Nat.{zero-add}
 use native.Mathlib.Omega.{arith}
 use lib.ListN.{length, length-append}
+use lib.Dec.{leb}
 use lib.Seq.{sets, length-sets}
+use borrow.Author.Tests.{le-leb, lt-leb}
 use Rattle.disc.specs.Choice.{pick}
 use Rattle.disc.specs.Refusals.{number}
 use Rattle.disc.specs.Counts.{reported}
 use Rattle.disc.specs.Ask.{Disc, Ask, Outcome, then}
 use Rattle.disc.specs.Ask.Ask.{done}
 use Rattle.disc.specs.Ask.Outcome.{answered, refused}
-use Rattle.disc.specs.Ran.{Ran, ran, onward, followed, told}
+use Rattle.disc.specs.Ran.{Ran, ran, after, onward, followed, told}
 use Rattle.disc.specs.declared.refusals.Refusal.{Refusal}
+use Rattle.disc.specs.declared.refusals.Refusal.the-variants.{OverBudget}
+use Rattle.disc.proofs.ImageLaws.{split}
 use Rattle.disc.proofs.AskLaws.{then-then, then-done}
 use Rattle.disc.proofs.MoveLaws.{sets-append}
 use Rattle.disc.proofs.RanLaws.{ran-done, ran-then, never}
@@ -23,8 +28,8 @@ use Rattle.records.specs.declared.allocations.LongAd.{LongAd}
 use Rattle.identifiers.specs.Identifiers.{isDirectory}
 use Rattle.listings.specs.Entries.{Entry, isSkipped}
 use Rattle.shows.specs.Shows.{Node, under, nodesOf, nodeRecord, nodeRecords}
-use Rattle.shows.specs.Placings.{eachPlaced}
-use Rattle.shows.specs.inner.Turns.{stoppedAt, Held, behindBy, Lent, Shown, turnOf}
+use Rattle.shows.specs.inner.Placings.{eachPlaced}
+use Rattle.shows.specs.inner.Turns.{stoppedAt, Held, behindBy, cappedBy, Lent, Shown, turnOf}
 use Rattle.shows.specs.declared.levels.ShowPlace.{ShowPlace}
 
 -- ---- trees behind each other
@@ -109,103 +114,174 @@ placed-joined of (n ∷ a) b s = placed-joined of a b (of n s)
 -- ---- places
 
 -- equal by their parts
-same-place : {a a′ c c′ s s′ : ℕ} → a ≡ a′ → c ≡ c′ → s ≡ s′ → _≡_ {A = ShowPlace} (record { answer = a; count = c; size = s }) (record { answer = a′; count = c′; size = s′ })
-same-place e f g = rw (e, f, g)
+same-place : {a a′ c c′ s s′ m m′ : ℕ} → a ≡ a′ → c ≡ c′ → s ≡ s′ → m ≡ m′
+    → _≡_ {A = ShowPlace} (record { answer = a; count = c; size = s; most = m }) (record { answer = a′; count = c′; size = s′; most = m′ })
+same-place e f g h = rw (e, f, g, h)
+
+-- ---- the sectors that may be asked for
+
+-- they suffice for n more, or they don't
+pub capped-within : (p : ShowPlace) (n : ℕ) (q : ShowPlace) → reported (p .count + n) ≤ p .most → cappedBy p n q ≡ q
+capped-within p n q h = rw (le-leb (reported (p .count + n)) (p .most) h)
+
+pub capped-over : (p : ShowPlace) (n : ℕ) (q : ShowPlace) → p .most < reported (p .count + n) → cappedBy p n q ≡ stoppedAt (number OverBudget) (p .most)
+capped-over p n q h = rw (lt-leb (reported (p .count + n)) (p .most) h)
+
+-- none is asked for
+capped-none : {most : ℕ} {p : ShowPlace} → Held most p → (q : ShowPlace) → cappedBy p 0 q ≡ q
+capped-none {most} {p} h q = capped-within p 0 q (omega (arith, h .counted, h .lends))
+
+-- a place that isn't refused asked for no more than it may
+capped-held : (p : ShowPlace) (n : ℕ) {q : ShowPlace} (q′ : ShowPlace) → q ≡ cappedBy p n q′ → q .answer ≡ 0 → reported (p .count + n) ≤ p .most
+capped-held p n {q} q′ e z = ⊎-elim
+    (λ (h : reported (p .count + n) ≤ p .most). h)
+    (λ (h : p .most < reported (p .count + n)). absurd (refusal-numbered OverBudget (sym (ap (λ (x : ShowPlace). x .answer) (e ∙ capped-over p n q′ h)) ∙ z)))
+    (split (reported (p .count + n)) (p .most))
+
+-- ---- parts that are shown
 
 -- nothing shown
-pub shown-none : {of : Node → List ℕ → List ℕ} {p : ShowPlace} → Held p → {r : Ran (List Node)} → r ≡ told (answered []) → (l : Lent) {l′ : Lent} → (p .size ≤ length (l .out) → l′ .out ≡ l .out) → l′ .tally ≡ l .tally
+pub shown-none : {of : Node → List ℕ → List ℕ} {most : ℕ} {p : ShowPlace} → Held most p → {r : Ran (List Node)} → r ≡ told (answered []) → (l : Lent) {l′ : Lent} → (p .size ≤ length (l .out) → l′ .out ≡ l .out) → l′ .tally ≡ l .tally
     → Shown of r p l p l′
 unfolding nodeRecords eachPlaced
 shown-none {p = p} h e l f g = rw e (record {
-  says = same-place (h .going) (omega (arith, h .counted)) (omega (arith, h .sized));
-  puts = λ ns k room b. let z : ns ≡ [] = cc in rw z (f (omega arith));
-  tallied = λ ns k. let z : ns ≡ [] = cc in rw z g;
+  says = same-place (h .going) (omega (arith, h .counted, h .bounded)) (omega (arith, h .sized)) refl ∙ sym (capped-none h _);
+  puts = λ ns k w room b. let z : ns ≡ [] = cc in rw z (f (omega arith));
+  tallied = λ ns k w. let z : ns ≡ [] = cc in rw z g;
 })
 
 -- one node shown
-pub shown-one : {of : Node → List ℕ → List ℕ} {p : ShowPlace} → Held p → {n : Node} {r : Ran (List Node)} → r ≡ told (answered (n ∷ [])) → {z : ℕ} → z ≡ reported (p .size + length (nodeRecord n)) → {l l′ : Lent}
+pub shown-one : {of : Node → List ℕ → List ℕ} {most : ℕ} {p : ShowPlace} → Held most p → {n : Node} {r : Ran (List Node)} → r ≡ told (answered (n ∷ [])) → {z : ℕ} → z ≡ reported (p .size + length (nodeRecord n)) → {l l′ : Lent}
     → (p .size + length (nodeRecord n) ≤ length (l .out) → l′ .out ≡ sets (l .out) (p .size) (nodeRecord n)) → l′ .tally ≡ of n (l .tally)
-    → Shown of r p l (record { answer = 0; count = p .count; size = z }) l′
+    → Shown of r p l (record { answer = 0; count = p .count; size = z; most = p .most }) l′
 unfolding eachPlaced
-shown-one {of} {p} h {n} e q f g = rw e (record {
-  says = same-place refl (omega (arith, h .counted)) (q ∙ rw (records-one n));
-  puts = λ ns k room b.
+shown-one {of} {most} {p} h {n} e q f g = rw e (record {
+  says = same-place refl (omega (arith, h .counted, h .bounded)) (q ∙ rw (records-one n)) refl ∙ sym (capped-none h _);
+  puts = λ ns k v room b.
       let z : ns ≡ n ∷ [] = cc in
       let w : nodeRecords ns ≡ nodeRecord n = ap nodeRecords z ∙ records-one n in
       rw w (f (rw w at room));
-  tallied = λ ns k. let z : ns ≡ n ∷ [] = cc in rw z g;
+  tallied = λ ns k v. let z : ns ≡ n ∷ [] = cc in rw z g;
 })
 
 -- refused
-pub shown-refused : {of : Node → List ℕ → List ℕ} {p : ShowPlace} (why : Refusal) (n : ℕ) {r : Ran (List Node)} → r ≡ record { outcome = refused why; count = n } → {q : ShowPlace} → q ≡ stoppedAt (number why) (reported (p .count + n)) → {l l′ : Lent}
-    → Shown of r p l q l′
+pub shown-refused : {of : Node → List ℕ → List ℕ} {p : ShowPlace} (why : Refusal) (n : ℕ) {r : Ran (List Node)} → r ≡ record { outcome = refused why; count = n } → {q : ShowPlace}
+    → q ≡ cappedBy p n (stoppedAt (number why) (reported (p .count + n))) → {l l′ : Lent} → Shown of r p l q l′
 shown-refused why n e f = rw e (record { says = f; puts = λ ns k. never k; tallied = λ ns k. never k })
 
--- a place that isn't refused is held
-pub shown-held : {of : Node → List ℕ → List ℕ} {r : Ran (List Node)} {p : ShowPlace} {l : Lent} {q : ShowPlace} {l′ : Lent} → Shown of r p l q l′ → q .answer ≡ 0 → Held q
-shown-held {r = r} {p} {q = q} s z = by (r .outcome) (s .says)
+-- it wants more sectors than it may ask for
+pub shown-over : {of : Node → List ℕ → List ℕ} {r : Ran (List Node)} {p : ShowPlace} → p .most < reported (p .count + r .count) → {q : ShowPlace} → q ≡ stoppedAt (number OverBudget) (p .most) → {l l′ : Lent}
+    → Shown of r p l q l′
+shown-over {r = r} {p} h e = record {
+  says = e ∙ sym (capped-over p (r .count) (behindBy p (r .outcome) (r .count)) h);
+  puts = λ ns k w. absurd (omega (arith, w));
+  tallied = λ ns k w. absurd (omega (arith, w));
+}
+
+-- ---- a place that isn't refused
+
+-- what was shown to come to it
+pub record Answers (r : Ran (List Node)) (p q : ShowPlace) : Type 0 where
+  pub ns : List Node
+  pub are : r .outcome ≡ answered ns
+  pub within : reported (p .count + r .count) ≤ p .most
+  pub place : q ≡ record { answer = 0; count = reported (p .count + r .count); size = reported (p .size + length (nodeRecords ns)); most = p .most }
+
+pub shown-answers : {of : Node → List ℕ → List ℕ} {r : Ran (List Node)} {p : ShowPlace} {l : Lent} {q : ShowPlace} {l′ : Lent} → Shown of r p l q l′ → q .answer ≡ 0 → Answers r p q
+shown-answers {r = r} {p} {q = q} s z =
+    let w = capped-held p (r .count) (behindBy p (r .outcome) (r .count)) (s .says) z in
+    by w (r .outcome) refl (s .says ∙ capped-within p (r .count) (behindBy p (r .outcome) (r .count)) w)
   where
-    by : (o : Outcome (List Node)) → q ≡ behindBy p o (r .count) → Held q
-    by (answered ns) e = rw e (record { going = refl; counted = omega arith; sized = omega arith })
-    by (refused why) e = absurd (refusal-numbered why (sym (ap (λ (x : ShowPlace). x .answer) e) ∙ z))
+    by : reported (p .count + r .count) ≤ p .most → (o : Outcome (List Node)) → r .outcome ≡ o → q ≡ behindBy p o (r .count) → Answers r p q
+    by w (answered ns) f e = record { ns = ns; are = f; within = w; place = e }
+    by w (refused why) f e = absurd (refusal-numbered why (sym (ap (λ (x : ShowPlace). x .answer) e) ∙ z))
+
+pub shown-held : {of : Node → List ℕ → List ℕ} {r : Ran (List Node)} {p : ShowPlace} {l : Lent} {q : ShowPlace} {l′ : Lent} → p .most ≤ 0xffff_ffff_ffff_ffff → Shown of r p l q l′ → q .answer ≡ 0 → Held (p .most) q
+shown-held b s z = let a = shown-answers s z in rw (a .place) (record { going = refl; lends = refl; counted = a .within; bounded = b; sized = omega arith })
 
 -- a part shown behind n sectors that were read for it
-pub shown-after : {of : Node → List ℕ → List ℕ} {r : Ran (List Node)} {p p₁ : ShowPlace} (n : ℕ) → p₁ ≡ record { answer = 0; count = reported (p .count + n); size = p .size } → {l : Lent} {q : ShowPlace} {l′ : Lent}
+pub shown-after : {of : Node → List ℕ → List ℕ} {r : Ran (List Node)} {p p₁ : ShowPlace} (n : ℕ) → p₁ ≡ record { answer = 0; count = reported (p .count + n); size = p .size; most = p .most } → {l : Lent} {q : ShowPlace} {l′ : Lent}
     → Shown of r p₁ l q l′ → Shown of (record { outcome = r .outcome; count = n + r .count }) p l q l′
 shown-after {of} {r} {p} n e {l} {q} {l′} s =
-    let t : Shown of r (record { answer = 0; count = reported (p .count + n); size = p .size }) l q l′ = rw e at s in
-    record { says = t .says ∙ by (r .outcome); puts = t .puts; tallied = t .tallied }
+    let t : Shown of r behind l q l′ = rw e at s in
+    record {
+      says = t .says ∙ ap (λ c. pick (leb c (p .most)) (behindBy behind (r .outcome) (r .count)) (stoppedAt (number OverBudget) (p .most))) sum ∙ ap (cappedBy p (n + r .count)) (by (r .outcome));
+      puts = λ ns h w. t .puts ns h (omega (arith, sum));
+      tallied = λ ns h w. t .tallied ns h (omega (arith, sum));
+    }
   where
-    by : (o : Outcome (List Node)) → behindBy (record { answer = 0; count = reported (p .count + n); size = p .size }) o (r .count) ≡ behindBy p o (n + r .count)
-    by (answered ns) = same-place refl (omega arith) refl
-    by (refused why) = same-place refl (omega arith) refl
+    behind : ShowPlace
+    behind = record { answer = 0; count = reported (p .count + n); size = p .size; most = p .most }
+
+    sum : reported (reported (p .count + n) + r .count) ≡ reported (p .count + (n + r .count))
+    sum = omega arith
+
+    by : (o : Outcome (List Node)) → behindBy behind o (r .count) ≡ behindBy p o (n + r .count)
+    by (answered ns) = same-place refl sum refl refl
+    by (refused why) = same-place refl sum refl refl
 
 -- ---- one part behind another
 
 module _ {of : Node → List ℕ → List ℕ} {r : Ran (List Node)} {p : ShowPlace} {l : Lent} {q : ShowPlace} {l₁ : Lent} (s : Shown of r p l q l₁) where
-  -- the first is refused
+  -- the first is refused, or wants too many sectors
   pub joined-stops : (k : Ran (List Node)) → (q .answer ≡ 0 → ⊥) → Shown of (joined r k) p l q l₁
-  joined-stops k n = by (r .outcome) (s .says)
+  joined-stops k n = ⊎-elim
+      (λ (w : reported (p .count + r .count) ≤ p .most). by w (r .outcome) (s .says ∙ capped-within p (r .count) (behindBy p (r .outcome) (r .count)) w))
+      (λ (w : p .most < reported (p .count + r .count)). shown-over (omega (arith, more (r .outcome) (k .outcome))) (s .says ∙ capped-over p (r .count) (behindBy p (r .outcome) (r .count)) w))
+      (split (reported (p .count + r .count)) (p .most))
     where
-      by : (o : Outcome (List Node)) → q ≡ behindBy p o (r .count) → Shown of (onward o (r .count) (λ a. followed k (λ b. told (answered (a ++ b))))) p l q l₁
-      by (answered a) e = absurd (n (ap (λ (x : ShowPlace). x .answer) e))
-      by (refused why) e = record { says = e; puts = λ ns h. never h; tallied = λ ns h. never h }
+      more : (o o′ : Outcome (List Node)) → r .count ≤ onward o (r .count) (λ a. onward o′ (k .count) (λ b. told (answered (a ++ b)))) .count
+      more (answered a) (answered b) = omega arith
+      more (answered a) (refused why) = omega arith
+      more (refused why) o′ = omega arith
+
+      by : reported (p .count + r .count) ≤ p .most → (o : Outcome (List Node)) → q ≡ behindBy p o (r .count) → Shown of (onward o (r .count) (λ a. followed k (λ b. told (answered (a ++ b))))) p l q l₁
+      by w (answered a) e = absurd (n (ap (λ (x : ShowPlace). x .answer) e))
+      by w (refused why) e = shown-refused why (r .count) refl (e ∙ sym (capped-within p (r .count) (stoppedAt (number why) (reported (p .count + r .count))) w))
 
   module _ {k : Ran (List Node)} {q′ : ShowPlace} {l₂ : Lent} (t : Shown of k q l₁ q′ l₂) where
-    -- both answered
-    both : {a b : List Node} → r .outcome ≡ answered a → k .outcome ≡ answered b → {n : ℕ} → n ≡ r .count + (k .count + 0) → Shown of (record { outcome = answered (a ++ b); count = n }) p l q′ l₂
-    both {a} {b} f g c =
-        let u : q ≡ record { answer = 0; count = reported (p .count + r .count); size = reported (p .size + length (nodeRecords a)) } = s .says ∙ rw f in
-        let v : q′ ≡ record { answer = 0; count = reported (q .count + k .count); size = reported (q .size + length (nodeRecords b)) } = t .says ∙ rw g in
-        let w : length (nodeRecords (a ++ b)) ≡ length (nodeRecords a) + length (nodeRecords b) = rw (records-joined a b, length-append) in
-        let uc : q .count ≡ reported (p .count + r .count) = ap (λ (x : ShowPlace). x .count) u in
-        let us : q .size ≡ reported (p .size + length (nodeRecords a)) = ap (λ (x : ShowPlace). x .size) u in
-        record {
-          says = v ∙ same-place refl (omega arith) (omega arith);
-          puts = λ ns h room m.
-              let z : ns ≡ a ++ b = cc in
-              let zl : length (nodeRecords ns) ≡ length (nodeRecords (a ++ b)) = rw z in
-              let x : l₁ .out ≡ sets (l .out) (p .size) (nodeRecords a) = s .puts a f (omega arith) m in
-              let xl : length (l₁ .out) ≡ length (l .out) = rw x (length-sets (l .out) (p .size) (nodeRecords a)) in
-              let y : l₂ .out ≡ sets (l₁ .out) (q .size) (nodeRecords b) = t .puts b g (omega arith) (omega arith) in
-              let i : q .size ≡ p .size + length (nodeRecords a) = omega arith in
-              let j : sets (l₁ .out) (q .size) (nodeRecords b) ≡ sets (l .out) (p .size) (nodeRecords (a ++ b)) = rw (i, x, records-joined a b) (sym (sets-append (nodeRecords a) (nodeRecords b) (l .out) (p .size))) in
-              y ∙ j ∙ ap (λ m. sets (l .out) (p .size) (nodeRecords m)) (sym z);
-          tallied = λ ns h.
-              let z : ns ≡ a ++ b = cc in
-              t .tallied b g ∙ rw (z, s .tallied a f) (sym (placed-joined of a b (l .tally)));
-        }
+    -- the first is answered, and its place is the second's start
+    module _ (a : List Node) (f : r .outcome ≡ answered a) (within : reported (p .count + r .count) ≤ p .most)
+        (lends : q .most ≡ p .most) (counts : q .count ≡ reported (p .count + r .count)) (sizes : q .size ≡ reported (p .size + length (nodeRecords a))) where
+      second : (n : ℕ) → n ≡ r .count + k .count → q′ ≡ cappedBy p n (behindBy q (k .outcome) (k .count))
+      second n e =
+          let c : reported (q .count + k .count) ≡ reported (p .count + n) = omega (arith, counts) in
+          t .says ∙ rw (c, lends)
+
+      both : {b : List Node} → k .outcome ≡ answered b → Shown of (record { outcome = answered (a ++ b); count = r .count + (k .count + 0) }) p l q′ l₂
+      both {b} h =
+          let w : length (nodeRecords (a ++ b)) ≡ length (nodeRecords a) + length (nodeRecords b) = rw (records-joined a b, length-append) in
+          let c : r .count + (k .count + 0) ≡ r .count + k .count = omega arith in
+          let v : behindBy q (k .outcome) (k .count) ≡ behindBy p (answered (a ++ b)) (r .count + (k .count + 0)) =
+          ap (λ o. behindBy q o (k .count)) h ∙ same-place refl (omega (arith, counts)) (omega (arith, sizes)) lends in
+          record {
+            says = second (r .count + (k .count + 0)) c ∙ ap (cappedBy p (r .count + (k .count + 0))) v;
+            puts = λ ns g i room m.
+                let z : ns ≡ a ++ b = cc in
+                let zl : length (nodeRecords ns) ≡ length (nodeRecords (a ++ b)) = rw z in
+                let x : l₁ .out ≡ sets (l .out) (p .size) (nodeRecords a) = s .puts a f within (omega arith) m in
+                let xl : length (l₁ .out) ≡ length (l .out) = rw x (length-sets (l .out) (p .size) (nodeRecords a)) in
+                let u : reported (q .count + k .count) ≤ q .most = omega (arith, counts, lends) in
+                let y : l₂ .out ≡ sets (l₁ .out) (q .size) (nodeRecords b) = t .puts b h u (omega (arith, sizes)) (omega arith) in
+                let e : q .size ≡ p .size + length (nodeRecords a) = omega (arith, sizes) in
+                let j : sets (l₁ .out) (q .size) (nodeRecords b) ≡ sets (l .out) (p .size) (nodeRecords (a ++ b)) = rw (e, x, records-joined a b) (sym (sets-append (nodeRecords a) (nodeRecords b) (l .out) (p .size))) in
+                y ∙ j ∙ ap (λ m. sets (l .out) (p .size) (nodeRecords m)) (sym z);
+            tallied = λ ns g i.
+                let z : ns ≡ a ++ b = cc in
+                let u : reported (q .count + k .count) ≤ q .most = omega (arith, counts, lends) in
+                t .tallied b h u ∙ rw (z, s .tallied a f within) (sym (placed-joined of a b (l .tally)));
+          }
+
+      goes-on : Shown of (joined r k) p l q′ l₂
+      goes-on = rw f (by (k .outcome) refl)
+        where
+          by : (o : Outcome (List Node)) → k .outcome ≡ o → Shown of (after (r .count) (onward o (k .count) (λ b. told (answered (a ++ b))))) p l q′ l₂
+          by (answered b) h = both h
+          by (refused why) h =
+              shown-refused why (r .count + k .count) refl
+              (second (r .count + k .count) refl ∙ ap (cappedBy p (r .count + k .count)) (ap (λ o. behindBy q o (k .count)) h ∙ ap (stoppedAt (number why)) (omega (arith, counts))))
 
     pub joined-goes : q .answer ≡ 0 → Shown of (joined r k) p l q′ l₂
-    joined-goes g = by (r .outcome) refl (k .outcome) refl
-      where
-        by : (o : Outcome (List Node)) → r .outcome ≡ o → (o′ : Outcome (List Node)) → k .outcome ≡ o′
-            → Shown of (onward o (r .count) (λ a. onward o′ (k .count) (λ b. told (answered (a ++ b))))) p l q′ l₂
-        by (refused why) f o′ h =
-            let v : q ≡ stoppedAt (number why) (reported (p .count + r .count)) = s .says ∙ rw f in
-            absurd (refusal-numbered why (sym (ap (λ (x : ShowPlace). x .answer) v) ∙ g))
-        by (answered a) f (answered b) h = both f h refl
-        by (answered a) f (refused why) h =
-            let v : q ≡ record { answer = 0; count = reported (p .count + r .count); size = reported (p .size + length (nodeRecords a)) } = s .says ∙ rw f in
-            let u : q .count ≡ reported (p .count + r .count) = ap (λ (x : ShowPlace). x .count) v in
-            shown-refused why (r .count + k .count) refl (t .says ∙ rw h (ap (stoppedAt (number why)) (omega arith)))
+    joined-goes g =
+        let x = shown-answers s g in
+        goes-on (x .ns) (x .are) (x .within) (ap (λ (y : ShowPlace). y .most) (x .place)) (ap (λ (y : ShowPlace). y .count) (x .place)) (ap (λ (y : ShowPlace). y .size) (x .place))

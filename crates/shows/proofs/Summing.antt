@@ -46,8 +46,8 @@ one-at : (n k : ℕ) → getD (oneAt n) k 0 ≡ pick (eqb n k) 1 0
 one-at n k = by (eqb n k) refl
   where
     by : (t : Bool) → eqb n k ≡ t → getD (oneAt n) k 0 ≡ pick t 1 0
-    by true e = rw (sym (eqb-true n k e)) (one-there n (15 - n))
-    by false e = one-elsewhere n (15 - n) k (eqb-false n k e)
+    by true e = rw (sym (eqb-true n k e)) (one-there n (16 - n))
+    by false e = one-elsewhere n (16 - n) k (eqb-false n k e)
 
 pub each-at : (s t : List ℕ) (k : ℕ) → length s ≡ length t → getD (eachAdded s t) k 0 ≡ getD s k 0 + getD t k 0
 unfolding eachAdded
@@ -66,7 +66,7 @@ record Adding (d : Disc) (m : Mount) (n : Node) (f : Figures) : Type 0 where
   extents : f .extents ≡ pick (eqb (answerOf (readOf d m n .outcome)) 0) (extentsOf d m n) 0
   sectors : f .sectors ≡ sectorsOf d m n
   by-answer : f .byFiles ≡ oneAt (answerOf (readOf d m n .outcome))
-  small : answerOf (readOf d m n .outcome) ≤ 15
+  small : answerOf (readOf d m n .outcome) ≤ 16
   chain : f .chain ≡ pick (eqb (answerOf (readOf d m n .outcome)) 0) (hopsOf d m n) 0
 
 file-adds : (d : Disc) (m : Mount) (n : Node) → Adding d m n (ofFile d m (n .entry .identifier .icb))
@@ -95,8 +95,8 @@ file-adds d m n = by (readOf d m n .outcome) refl
       chain = rw (e, z);
     }
 
-one-long : (n : ℕ) → n ≤ 15 → length (oneAt n) ≡ 16
-one-long n h = length-append (zeros n) (1 ∷ zeros (15 - n)) ∙ omega (arith, length-replicate {A = ℕ} n 0, length-replicate {A = ℕ} (15 - n) 0)
+one-long : (n : ℕ) → n ≤ 16 → length (oneAt n) ≡ 17
+one-long n h = length-append (zeros n) (1 ∷ zeros (16 - n)) ∙ omega (arith, length-replicate {A = ℕ} n 0, length-replicate {A = ℕ} (16 - n) 0)
 
 module _ (d : Disc) (m : Mount) where
   -- ---- any figure, by what each node adds
@@ -186,13 +186,13 @@ module _ (d : Disc) (m : Mount) where
       read false = omega arith
 
       by : (t : Bool) → length (answering d m k (pick t (filesIn ns) (n ∷ filesIn ns))) ≡ getD (ofEntry d m t (n .entry .identifier .icb) .byFiles) k 0 + length (answering d m k (filesIn ns))
-      by true = omega (arith, zeros-at 16 k)
+      by true = omega (arith, zeros-at 17 k)
       by false = rw (file-adds d m n .by-answer, one-at (answerOf (readOf d m n .outcome)) k) (read (eqb (answerOf (readOf d m n .outcome)) k))
 
-  node-many : (n : Node) → length (ofNode d m n .byFiles) ≡ 16
+  node-many : (n : Node) → length (ofNode d m n .byFiles) ≡ 17
   node-many n = by (isDirectory (n .entry .identifier))
     where
-      by : (t : Bool) → length (ofEntry d m t (n .entry .identifier .icb) .byFiles) ≡ 16
+      by : (t : Bool) → length (ofEntry d m t (n .entry .identifier .icb) .byFiles) ≡ 17
       by true = refl
       by false = rw (file-adds d m n .by-answer) (one-long (answerOf (readOf d m n .outcome)) (file-adds d m n .small))
 
@@ -207,7 +207,7 @@ module _ (d : Disc) (m : Mount) where
     extents = total (λ f. f .extents) (λ l. sum (map (extentsOf d m) (readIn l))) refl refl (λ a n w. refl) extents-one ns;
     sectors = total (λ f. f .sectors) (λ l. sum (map (sectorsOf d m) (filesIn l))) refl refl (λ a n w. refl) sectors-one ns;
     many = addedTo-wide (map (ofNode d m) ns) (zero-holds .wide) .files-wide;
-    byFiles = λ k h. total (λ f. getD (f .byFiles) k 0) (λ l. length (answering d m k (filesIn l))) (zeros-at 16 k) refl
+    byFiles = λ k h. total (λ f. getD (f .byFiles) k 0) (λ l. length (answering d m k (filesIn l))) (zeros-at 17 k) refl
         (λ a n w. each-at (a .byFiles) (ofNode d m n .byFiles) k (w .files-wide ∙ sym (node-many n))) (answers-one k) ns;
     chain = fold-to (λ f. f .chain) max (λ x. omega arith) (λ x y z. omega arith) (λ l. greatest (map (hopsOf d m) (readIn l))) refl (λ a n w. refl) chain-one ns nothing (zero-holds .wide) ∙ omega arith;
   }

@@ -1,5 +1,5 @@
 -- What is proved of a tree's figures, from the definitions alone: their sectors are those that reading its files reports, each node is a file or a directory, and
--- each file has one answer number; and what is left of the place of a tree that was tallied. Assumes nothing.
+-- each file has one answer number. Assumes nothing.
 use mathlib.Core.Path.{_≡_, refl, sym, ap, _∙_}
 use mathlib.Core.Bool.{Bool, true, false}
 use mathlib.Core.List.{List, [], _∷_, _++_, map}
@@ -11,29 +11,25 @@ use Rattle.disc.specs.Counts.{reported}
 use Rattle.disc.specs.Ask.{Disc, Outcome}
 use Rattle.disc.specs.Ask.Outcome.{answered, refused}
 use Rattle.disc.specs.Ran.{ran}
-use Rattle.disc.specs.Refusals.{number}
 use Rattle.disc.specs.declared.places.Mount.{Mount}
-use Rattle.disc.specs.declared.refusals.Refusal.{Refusal}
 use Rattle.disc.proofs.RefusalLaws.{refusal-listed}
 use Rattle.records.specs.declared.allocations.LongAd.{LongAd}
 use Rattle.files.specs.Files.{fileBytes}
-use Rattle.figures.specs.Figures.{Figures, nothing, oneAt, oneFile, eachAdded, added, addedTo, Wide, Holds, sum}
+use Rattle.figures.specs.Figures.{Figures, nothing, oneAt, oneFile, eachAdded, added, addedTo, Wide, sum}
 use Rattle.figures.proofs.FigureLaws.{zero-holds, added-wide}
 use Rattle.identifiers.specs.Identifiers.{isDirectory}
-use Rattle.shows.specs.Shows.{Node, mostLevels, tree}
-use Rattle.shows.specs.Placings.{tallies}
+use Rattle.shows.specs.Shows.{Node}
 use Rattle.shows.specs.Tallies.{fileBy, ofFile, ofEntry, ofNode, ofNodes, readCounts}
-use Rattle.shows.proofs.TallyLaws.{nodes-hold}
 
 -- ---- a file is one file, with one answer number
 
-record OneFile (f : Figures) (sectors : ℕ) : Type 0 where
-  answer : ℕ
-  listed : answer ≤ 15
-  bytes : ℕ
-  extents : ℕ
-  chain : ℕ
-  is : f ≡ oneFile answer bytes extents sectors chain
+pub record OneFile (f : Figures) (sectors : ℕ) : Type 0 where
+  pub answer : ℕ
+  pub listed : answer ≤ 16
+  pub bytes : ℕ
+  pub extents : ℕ
+  pub chain : ℕ
+  pub is : f ≡ oneFile answer bytes extents sectors chain
 
 one-file : (sectors : ℕ) (o : Outcome (List ℕ)) (extents chain : ℕ) → OneFile (fileBy sectors o extents chain) sectors
 one-file sectors (answered b) extents chain = record { answer = 0; listed = omega arith; bytes = length b; extents = extents; chain = chain; is = refl }
@@ -53,10 +49,10 @@ sum-zeros (suc n) = omega (arith, sum-zeros n)
 
 one-sum : (n : ℕ) → sum (oneAt n) ≡ 1
 unfolding sum
-one-sum n = sum-joined (replicate n 0) (1 ∷ replicate (15 - n) 0) ∙ omega (arith, sum-zeros n, sum-zeros (15 - n))
+one-sum n = sum-joined (replicate n 0) (1 ∷ replicate (16 - n) 0) ∙ omega (arith, sum-zeros n, sum-zeros (16 - n))
 
-one-long : (n : ℕ) → n ≤ 15 → length (oneAt n) ≡ 16
-one-long n h = length-append (replicate n 0) (1 ∷ replicate (15 - n) 0) ∙ omega (arith, length-replicate {A = ℕ} n 0, length-replicate {A = ℕ} (15 - n) 0)
+one-long : (n : ℕ) → n ≤ 16 → length (oneAt n) ≡ 17
+one-long n h = length-append (replicate n 0) (1 ∷ replicate (16 - n) 0) ∙ omega (arith, length-replicate {A = ℕ} n 0, length-replicate {A = ℕ} (16 - n) 0)
 
 each-sum : (s t : List ℕ) → length s ≡ length t → sum (eachAdded s t) ≡ sum s + sum t
 unfolding eachAdded sum
@@ -66,7 +62,7 @@ each-sum (a ∷ s) [] h = absurd (omega arith)
 each-sum (a ∷ s) (b ∷ t) h = let e = each-sum s t (omega arith) in omega arith
 
 module _ (d : Disc) (m : Mount) where
-  file-is : (icb : LongAd) → OneFile (ofFile d m icb) (reported (ran d (fileBytes m icb) .count))
+  pub file-is : (icb : LongAd) → OneFile (ofFile d m icb) (reported (ran d (fileBytes m icb) .count))
   unfolding ofFile
   file-is icb = one-file _ (ran d (fileBytes m icb) .outcome) _ _
 
@@ -110,7 +106,7 @@ module _ (d : Disc) (m : Mount) where
 
   -- ---- files by their answer numbers
 
-  entry-answered : (t : Bool) (icb : LongAd) → (length (ofEntry d m t icb .byFiles) ≡ 16) × (sum (ofEntry d m t icb .byFiles) ≡ ofEntry d m t icb .files)
+  entry-answered : (t : Bool) (icb : LongAd) → (length (ofEntry d m t icb .byFiles) ≡ 17) × (sum (ofEntry d m t icb .byFiles) ≡ ofEntry d m t icb .files)
   unfolding sum
   entry-answered true icb = (refl, refl)
   entry-answered false icb = let z = file-is icb in rw (z .is) (one-long (z .answer) (z .listed), one-sum (z .answer))
@@ -126,20 +122,3 @@ module _ (d : Disc) (m : Mount) where
   pub files-by-answer : (ns : List Node) → sum (ofNodes d m ns .byFiles) ≡ ofNodes d m ns .files
   unfolding sum
   files-by-answer ns = answers-to ns nothing (zero-holds .wide) refl
-
--- ---- the place of a tree that was tallied
-
-module _ (d : Disc) (m : Mount) (root : LongAd) (work : List ℕ) where
-  -- where the tree is answered and the place held figures, those of its nodes are added to them
-  pub tally-holds : (before : List ℕ) {ns : List Node} → ran d (tree m mostLevels (length work) root) .outcome ≡ answered ns → (f : Figures) → Holds f before
-      → Holds (addedTo f (map (ofNode d m) ns)) (tallies d m root before work .place)
-  tally-holds before {ns} e f h = rw e (nodes-hold d m ns before f h)
-
-  -- so a place of zeros has its own figures
-  pub tally-alone : {ns : List Node} → ran d (tree m mostLevels (length work) root) .outcome ≡ answered ns → Holds (ofNodes d m ns) (tallies d m root (replicate 76 0) work .place)
-  tally-alone e = tally-holds (replicate 76 0) e nothing zero-holds
-
-  -- where it is refused, the answer is the refusal's number, and the place is all zero
-  pub tally-refused : (before : List ℕ) {why : Refusal} → ran d (tree m mostLevels (length work) root) .outcome ≡ refused why
-      → tallies d m root before work ≡ record { answer = number why; place = replicate (length before) 0; work = replicate (length work) 0 }
-  tally-refused before e = rw e

@@ -2,7 +2,8 @@
 use mathlib.Core.Path.{_≡_, refl, sym, ap, _∙_}
 use mathlib.Core.Bool.{Bool, true, false, _&&_}
 use mathlib.Core.List.{List, [], _∷_, _++_}
-use Prim.Native.Nat.{ℕ, _-_}
+use mathlib.Core.Logic.{⊎-elim}
+use Prim.Native.Nat.{ℕ, _-_, _≤_, _<_}
 use native.Mathlib.Omega.{arith}
 use lib.Dec.{leb}
 use lib.ListN.{length, take, drop}
@@ -11,14 +12,17 @@ use Rattle.disc.specs.Counts.{reported}
 use Rattle.disc.specs.Refusals.{number}
 use Rattle.disc.specs.Replies.{replyBy, leftBy, Replied}
 use Rattle.disc.specs.Ran.{ran}
+use Rattle.disc.specs.Budgets.{budgeted, overRun}
 use Rattle.disc.specs.Ask.{Disc, Outcome, outcome, asked}
 use Rattle.disc.specs.Ask.Ask.{done, refuse}
 use Rattle.disc.specs.Ask.Outcome.{answered, refused}
 use Rattle.disc.specs.Images.{disc}
 use Rattle.disc.specs.declared.places.Mount.{Mount}
-use Rattle.disc.specs.declared.refusals.Refusal.the-variants.{NoRoom, TooDeep}
+use Rattle.disc.specs.declared.refusals.Refusal.the-variants.{NoRoom, TooDeep, OverBudget}
 use Rattle.disc.specs.declared.replies.Reply.{Reply}
 use Rattle.disc.proofs.RanLaws.{never}
+use Rattle.disc.proofs.BudgetLaws.{budgeted-same, budgeted-over}
+use Rattle.disc.proofs.ImageLaws.{split}
 use Rattle.disc.proofs.RefusalLaws.{refusal-numbered}
 use Rattle.records.specs.declared.allocations.LongAd.{LongAd}
 use Rattle.listings.specs.declared.matchings.Matching.the-variants.{AsWritten}
@@ -49,10 +53,10 @@ module _ (d : Disc) (m : Mount) (levels work : ℕ) (root : LongAd) {ns : List N
   }
 
 -- so a show that is answered has written the records of these nodes
-pub show-tree : (d : Disc) (m : Mount) (levels work : ℕ) (root : LongAd) {out after : List ℕ} {reply : Reply} → Replied NoRoom (ran d (showing m levels work root)) out after reply → reply .answer ≡ 0
+unlimited-tree : (d : Disc) (m : Mount) (levels work : ℕ) (root : LongAd) {out after : List ℕ} {reply : Reply} → Replied NoRoom (ran d (showing m levels work root)) out after reply → reply .answer ≡ 0
     → ShowsTree d m root out after reply
 unfolding ran showing outcome
-show-tree d m levels work root {out} {after} {reply} p z = by (outcome d (showing m levels work root)) refl (reported (length (asked d (showing m levels work root)))) (p .says) (p .leaves)
+unlimited-tree d m levels work root {out} {after} {reply} p z = by (outcome d (showing m levels work root)) refl (reported (length (asked d (showing m levels work root)))) (p .says) (p .leaves)
   where
     fits : (b : List ℕ) → outcome d (showing m levels work root) ≡ answered b → reply .length ≡ length b → after ≡ b ++ drop (length b) out → ShowsTree d m root out after reply
     fits b e f g =
@@ -70,6 +74,15 @@ show-tree d m levels work root {out} {after} {reply} p z = by (outcome d (showin
     by : (o : Outcome (List ℕ)) → outcome d (showing m levels work root) ≡ o → (n : ℕ) → reply ≡ replyBy NoRoom (length out) n o → after ≡ leftBy out o → ShowsTree d m root out after reply
     by (answered b) e n f g = room b n e (leb (length b) (length out)) f g
     by (refused why) e n f g = absurd (refusal-numbered why (sym (ap (λ (x : Reply). x .answer) f) ∙ z))
+
+pub show-tree : (d : Disc) (m : Mount) (levels work most : ℕ) (root : LongAd) {out after : List ℕ} {reply : Reply} → Replied NoRoom (ran d (budgeted most (showing m levels work root))) out after reply → reply .answer ≡ 0
+    → ShowsTree d m root out after reply
+show-tree d m levels work most root {out} {after} {reply} p z = ⊎-elim
+    (λ (h : reported (ran d (showing m levels work root) .count) ≤ most). unlimited-tree d m levels work root (rw (budgeted-same d (showing m levels work root) most h) at p) z)
+    (λ (h : most < reported (ran d (showing m levels work root) .count)).
+    let q : Replied NoRoom (overRun most) out after reply = rw (budgeted-over d (showing m levels work root) most h) at p in
+    absurd (refusal-numbered OverBudget (sym (ap (λ (x : Reply). x .answer) (q .says)) ∙ z)))
+    (split (reported (ran d (showing m levels work root) .count)) most)
 
 -- ---- a node's path
 

@@ -1,7 +1,6 @@
 -- What the contracts cite: what a reader must believe, then what the private functions alone cite.
 pub mod Shows
 pub mod Nodes
-pub mod Placings
 pub mod Tallies
 pub mod Levels
 pub mod Sums

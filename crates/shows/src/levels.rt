@@ -6,7 +6,7 @@ ghost use Rattle.disc.specs.Ran.{ran};
 ghost use Rattle.disc.specs.Images.{disc};
 ghost use Rattle.shows.specs.Shows.{nodesAt};
 ghost use Rattle.shows.specs.inner.Turns.{stoppedAt, Held, lent, Shown, Opens, Handles};
-ghost use Rattle.shows.specs.Placings.{nodePlaced};
+ghost use Rattle.shows.specs.inner.Placings.{nodePlaced};
 use crate::nodes::put_node;
 use crate::tallies::tally_entry;
 use directories::spaces::read_directory;
@@ -19,11 +19,12 @@ use listings::listing::measure;
 use records::allocations::LongAd;
 
 // A place in a show: the answer, and of the tree before it the sectors and the bytes of its records, both held at 2^64 - 1. A place is where
-// the next record stands in the output, if it has room there: lent no output, the recursion measures.
+// the next record stands in the output, if it has room there: lent no output, the recursion measures. `most` is how many sectors the show may ask for.
 pub(crate) struct ShowPlace {
     pub answer: u64,
     pub count: u64,
     pub size: u64,
+    pub most: u64,
 }
 
 // The end of a show that is refused.
@@ -34,6 +35,7 @@ fn stopped(answer: u64, count: u64) -> ShowPlace
         answer,
         count,
         size: 0,
+        most: 0,
     }
 }
 
@@ -44,12 +46,18 @@ struct OpenedLevel {
 }
 
 // Reads the directory at icb over the front of the work space, and parses all its entries, so that a bad one refuses the show before any
-// of them has its turn.
+// of them has its turn. The read counts its sectors before it is known whether the show may ask for them: where it may not, what was read is of no account.
 fn open_level(image: &[u8], mount: Mount, icb: LongAd, p: ShowPlace, work: &mut [u8]) -> OpenedLevel
     ensures { λ o. ⌜ Opens (disc (now (image .entry))) mount icb p (now (work .entry)) (now (work .exit)) o ⌝ }
 {
     let read = read_directory(image, mount, icb, work);
     let count = add_counts(p.count, read.count);
+    if p.most < count {
+        return OpenedLevel {
+            place: stopped(Refusal::OverBudget.number(), p.most),
+            length: 0,
+        };
+    }
     if read.answer != DONE {
         return OpenedLevel {
             place: stopped(read.answer, count),
@@ -70,6 +78,7 @@ fn open_level(image: &[u8], mount: Mount, icb: LongAd, p: ShowPlace, work: &mut 
             answer: DONE,
             count,
             size: p.size,
+            most: p.most,
         },
         length,
     }
@@ -88,8 +97,8 @@ pub(crate) fn list_level(
     out: &mut [u8],
     tally: &mut [u64],
 ) -> ShowPlace
-    requires { ⌜ (level + left ≤ 17) × Held p ⌝ }
-    ensures { λ q. ⌜ Shown (nodePlaced (disc (now (image .entry))) mount) (ran (disc (now (image .entry))) (nodesAt mount left level (length (now (work .entry))) icb)) p (lent (now (out .entry)) (now (tally .entry))) q (lent (now (out .exit)) (now (tally .exit))) ⌝ }
+    requires { ⌜ (level + left ≤ 17) × Held (p .most) p ⌝ }
+    ensures { λ q. ⌜ Shown (nodePlaced (disc (now (image .entry))) mount (p .most)) (ran (disc (now (image .entry))) (nodesAt mount left level (length (now (work .entry))) icb)) p (lent (now (out .entry)) (now (tally .entry))) q (lent (now (out .exit)) (now (tally .exit))) ⌝ }
 {
     if left == 0 {
         return stopped(Refusal::TooDeep.number(), p.count);
@@ -133,7 +142,7 @@ fn handle_entry(
     out: &mut [u8],
     tally: &mut [u64],
 ) -> EntryTurn
-    requires { ⌜ (at + 38 ≤ n) × (n ≤ length (now work)) × (level + left ≤ 16) × Held p ⌝ }
+    requires { ⌜ (at + 38 ≤ n) × (n ≤ length (now work)) × (level + left ≤ 16) × Held (p .most) p ⌝ }
     ensures { λ t. ⌜ Handles (disc (now (image .entry))) mount left level (take n (now (work .entry))) (length (now (work .entry)) - n) at p (lent (now (out .entry)) (now (tally .entry))) t (lent (now (out .exit)) (now (tally .exit))) ⌝ }
     ensures { λ _. ⌜ take n (now (work .exit)) ≡ take n (now (work .entry)) ⌝ }
 {
@@ -152,8 +161,9 @@ fn handle_entry(
         answer: DONE,
         count: p.count,
         size: add_counts(p.size, e.size),
+        most: p.most,
     };
-    tally_entry(image, mount, e.directory, e.icb, tally);
+    tally_entry(image, mount, e.directory, e.icb, p.most, tally);
     if !e.directory {
         return EntryTurn {
             place: behind,

@@ -1,18 +1,23 @@
 // What an entry of the tree adds to the figures of its image.
 ghost use mathlib.Core.Path.{_≡_};
 ghost use Rattle.disc.specs.Images.{disc};
-ghost use Rattle.shows.specs.Placings.{filePlaced, entryPlaced};
+ghost use Rattle.shows.specs.inner.Placings.{filePlaced, entryPlaced};
 use disc::places::Mount;
 use figures::PLACE;
 use figures::add_directory;
 use figures::add_file;
+use figures::sectors_in;
 use files::sizes::size_file;
 use records::allocations::LongAd;
 
-// The file at icb, which is found, and what reading it comes to.
-fn tally_file(image: &[u8], mount: Mount, icb: LongAd, tally: &mut [u64])
-    ensures { λ _. ⌜ now (tally .exit) ≡ filePlaced (disc (now (image .entry))) mount icb (now (tally .entry)) ⌝ }
+// The file at icb, which is found, and what reading it comes to. Once the reads have asked for more than `most` sectors none is made any more: the image is then
+// over its budget, whatever the others come to.
+fn tally_file(image: &[u8], mount: Mount, icb: LongAd, most: u64, tally: &mut [u64])
+    ensures { λ _. ⌜ now (tally .exit) ≡ filePlaced (disc (now (image .entry))) mount most icb (now (tally .entry)) ⌝ }
 {
+    if most < sectors_in(tally) {
+        return;
+    }
     let s = size_file(image, mount, icb);
     let r = s.reply;
     add_file(tally, r.answer, r.length, s.extents, r.count, s.hops);
@@ -24,9 +29,10 @@ pub(crate) fn tally_entry(
     mount: Mount,
     directory: bool,
     icb: LongAd,
+    most: u64,
     tally: &mut [u64],
 )
-    ensures { λ _. ⌜ now (tally .exit) ≡ entryPlaced (disc (now (image .entry))) mount directory icb (now (tally .entry)) ⌝ }
+    ensures { λ _. ⌜ now (tally .exit) ≡ entryPlaced (disc (now (image .entry))) mount most directory icb (now (tally .entry)) ⌝ }
 {
     if tally.len() != PLACE {
         return;
@@ -35,5 +41,5 @@ pub(crate) fn tally_entry(
         add_directory(tally);
         return;
     }
-    tally_file(image, mount, icb, tally);
+    tally_file(image, mount, icb, most, tally);
 }

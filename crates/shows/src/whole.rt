@@ -2,21 +2,27 @@
 ghost use mathlib.Core.Path.{_≡_};
 ghost use Prim.Native.Nat.{_≤_};
 ghost use lib.ListN.{length, replicate};
+ghost use Rattle.disc.specs.Budgets.{budgeted};
 ghost use Rattle.disc.specs.Ran.{ran};
 ghost use Rattle.disc.specs.Images.{disc};
 ghost use Rattle.disc.specs.Replies.{Replied};
 ghost use Rattle.disc.specs.declared.refusals.Refusal.the-variants.{NoRoom};
 ghost use Rattle.shows.specs.Shows.{showing};
-ghost use Rattle.shows.specs.Placings.{tallies};
+ghost use Rattle.shows.specs.Tallies.{tallied, tallies};
 use crate::levels::ShowPlace;
 use crate::levels::list_level;
+use disc::answers::BAD_SHELF;
 use disc::answers::DONE;
+use disc::answers::OVER_BUDGET;
+use disc::counts::left_of;
 use disc::moves::clear;
 use disc::places::Mount;
 use disc::refusals::Refusal;
 use disc::replies::Reply;
 use disc::replies::refusal;
+use figures::PLACE;
 use figures::clear_figures;
+use figures::sectors_in;
 use records::allocations::LongAd;
 
 // The most levels that can be asked for.
@@ -29,16 +35,18 @@ fn show_within(
     mount: Mount,
     root: LongAd,
     levels: u8,
+    most: u64,
     out: &mut [u8],
     work: &mut [u8],
 ) -> Reply
     requires { ⌜ (1 ≤ levels) × (levels ≤ 16) ⌝ }
-    ensures { λ r. ⌜ Replied NoRoom (ran (disc (now (image .entry))) (showing mount levels (length (now (work .entry))) root)) (now (out .entry)) (now (out .exit)) r ⌝ }
+    ensures { λ r. ⌜ Replied NoRoom (ran (disc (now (image .entry))) (budgeted most (showing mount levels (length (now (work .entry))) root))) (now (out .entry)) (now (out .exit)) r ⌝ }
 {
     let start = ShowPlace {
         answer: DONE,
         count: 0,
         size: 0,
+        most,
     };
     let mut none = [0u64; 1];
     let measured = list_level(
@@ -83,10 +91,11 @@ fn show_tree(
     mount: Mount,
     root: LongAd,
     levels: u32,
+    most: u64,
     out: &mut [u8],
     work: &mut [u8],
 ) -> Reply
-    ensures { λ r. ⌜ Replied NoRoom (ran (disc (now (image .entry))) (showing mount levels (length (now (work .entry))) root)) (now (out .entry)) (now (out .exit)) r ⌝ }
+    ensures { λ r. ⌜ Replied NoRoom (ran (disc (now (image .entry))) (budgeted most (showing mount levels (length (now (work .entry))) root))) (now (out .entry)) (now (out .exit)) r ⌝ }
 {
     if levels == 0 {
         return refusal(Refusal::TooDeep.number(), 0);
@@ -94,45 +103,52 @@ fn show_tree(
     if MOST_LEVELS < levels {
         return refusal(Refusal::TooDeep.number(), 0);
     }
-    show_within(image, mount, root, levels as u8, out, work)
+    show_within(image, mount, root, levels as u8, most, out, work)
 }
 
 // The tree from the directory at root, over the front of out: a listing's record with a level for each entry that a path of at most `levels`
-// components leads to, each before what stands under it. The work space is all zero on return.
+// components leads to, each before what stands under it. It is refused by 16 in the place of asking for more than `most` sectors; UNLIMITED is no budget. The
+// work space is all zero on return.
 pub fn show(
     image: &[u8],
     mount: Mount,
     root: LongAd,
     levels: u32,
+    most: u64,
     out: &mut [u8],
     work: &mut [u8],
 ) -> Reply
-    ensures { λ r. ⌜ Replied NoRoom (ran (disc (now (image .entry))) (showing mount levels (length (now (work .entry))) root)) (now (out .entry)) (now (out .exit)) r ⌝ }
+    ensures { λ r. ⌜ Replied NoRoom (ran (disc (now (image .entry))) (budgeted most (showing mount levels (length (now (work .entry))) root))) (now (out .entry)) (now (out .exit)) r ⌝ }
     ensures { λ _. ⌜ now (work .exit) ≡ replicate (length (now (work .entry))) 0 ⌝ }
 {
-    let reply = show_tree(image, mount, root, levels, out, work);
+    let reply = show_tree(image, mount, root, levels, most, out, work);
     clear(work);
     reply
 }
 
-// The figures of the whole tree from the directory at root, at 16 levels, added to those of a place; the answer is that of the tree, and where it is refused
-// the place is all zero. The work space is all zero on return.
-pub fn tally_tree(
+// The figures of the whole tree from the directory at root, with what was read last left in the work space.
+fn tally_within(
     image: &[u8],
     mount: Mount,
     root: LongAd,
+    most: u64,
     tally: &mut [u64],
     work: &mut [u8],
 ) -> u64
-    ensures { λ r. ⌜ record { answer = r; place = now (tally .exit); work = now (work .exit) } ≡ tallies (disc (now (image .entry))) mount root (now (tally .entry)) (now (work .entry)) ⌝ }
+    ensures { λ r. ⌜ record { answer = r; place = now (tally .exit) } ≡ tallied (disc (now (image .entry))) mount root most (length (now (work .entry))) (now (tally .entry)) ⌝ }
 {
+    if tally.len() != PLACE {
+        return BAD_SHELF;
+    }
+    clear_figures(tally);
     let start = ShowPlace {
         answer: DONE,
         count: 0,
         size: 0,
+        most,
     };
     let mut none = [0u8; 1];
-    let tallied = list_level(
+    let shown = list_level(
         image,
         mount,
         root,
@@ -143,10 +159,31 @@ pub fn tally_tree(
         &mut none[0..0],
         tally,
     );
-    clear(work);
-    if tallied.answer != DONE {
+    if shown.answer != DONE {
         clear_figures(tally);
-        return tallied.answer;
+        return shown.answer;
+    }
+    if left_of(most, shown.count) < sectors_in(tally) {
+        clear_figures(tally);
+        return OVER_BUDGET;
     }
     DONE
+}
+
+// The figures of the whole tree from the directory at root, at 16 levels, in a place. The tree, and then the reads of its files, are lent `most` sectors together;
+// the answer is that of the tree, or 16 where the reads want more than the tree left, and under any number but 0 there are no figures. A slice that is no place is 15,
+// and stays as it came. The work space is all zero on return.
+pub fn tally_tree(
+    image: &[u8],
+    mount: Mount,
+    root: LongAd,
+    most: u64,
+    tally: &mut [u64],
+    work: &mut [u8],
+) -> u64
+    ensures { λ r. ⌜ record { answer = r; place = now (tally .exit); work = now (work .exit) } ≡ tallies (disc (now (image .entry))) mount root most (now (tally .entry)) (now (work .entry)) ⌝ }
+{
+    let answer = tally_within(image, mount, root, most, tally, work);
+    clear(work);
+    answer
 }

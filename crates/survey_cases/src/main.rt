@@ -7,6 +7,7 @@ ghost use mathlib.Core.Path.{_≡_};
 ghost use Prim.Native.Nat.{_<_, _≤_};
 ghost use lib.ListN.{length};
 use disc::answers::DONE;
+use disc::counts::UNLIMITED;
 use disc::moves::least;
 use figures::PLACE;
 use figures::total;
@@ -27,6 +28,9 @@ use volumes::choices::chosen;
 
 // What a number of a row is that the call leaves alone.
 const FREE: u64 = 0xa5a5_a5a5_a5a5_a5a5;
+
+// The bytes of a query in front of the numbers that it gives.
+const HEAD: usize = 28;
 
 // Room for a shelf of five volumes.
 fn three_mebibytes() -> [u8; 3145728]
@@ -127,10 +131,18 @@ fn in_places(numbers: usize, n: usize) -> usize
 
 // ---- the queries
 
-fn say_asked(how: u32, lengths: &[u64], numbers: usize, work: usize) {
+// A budget of sectors, where there is one.
+fn say_most(most: u64) {
+    if most != UNLIMITED {
+        say_named(b" most ", most);
+    }
+}
+
+fn say_asked(how: u32, most: u64, lengths: &[u64], numbers: usize, work: usize) {
     say_named(b"survey how ", how as u64);
     say_named(b" numbers ", numbers as u64);
     say_named(b" work ", work as u64);
+    say_most(most);
     say(b" lengths");
     say_numbers(lengths);
     end_line();
@@ -143,10 +155,17 @@ fn say_answer(answer: u64, row: &[u64], whole: usize)
     say_named(b" kept ", count_free(&row[whole..]));
 }
 
-fn ask_survey(shelf: &[u8], lengths: &[u64], how: u32, row: &mut [u64], work: &mut [u8]) {
-    say_asked(how, lengths, row.len(), work.len());
+fn ask_survey(
+    shelf: &[u8],
+    lengths: &[u64],
+    how: u32,
+    most: u64,
+    row: &mut [u64],
+    work: &mut [u8],
+) {
+    say_asked(how, most, lengths, row.len(), work.len());
     fill(work);
-    let answer = survey(shelf, lengths, chosen(how), row, work);
+    let answer = survey(shelf, lengths, chosen(how), most, row, work);
     let places = if answer == DONE { lengths.len() + 1 } else { 0 };
     let whole = in_places(row.len(), places);
     say_answer(answer, row, whole);
@@ -170,37 +189,32 @@ fn total_of(numbers: &[u8], row: &mut [u64]) {
     ask_total(le64(numbers, 0), row);
 }
 
-fn survey_of(shelf: &[u8], numbers: &[u8], how: u32, row: &mut [u64], work: &mut [u8]) {
+fn survey_of(shelf: &[u8], q: &[u8], numbers: &[u8], row: &mut [u64], work: &mut [u8]) {
     let mut lengths = [0u64; 64];
     let n = least(numbers.len() / 8, 64);
     take_numbers(numbers, &mut lengths);
-    ask_survey(shelf, &lengths[0..n], how, row, work);
+    ask_survey(shelf, &lengths[0..n], le32(q, 4), le64(q, 16), row, work);
 }
 
-// What is asked, how images are opened, how many numbers the row has, the work space's size, how many numbers follow (32 bits each), and those (64 bits each).
+// What is asked, how images are opened, how many numbers the row has, the work space's size (32 bits each), how many sectors an image is lent (64 bits), how many
+// numbers follow (32 bits), and those (64 bits each).
 fn query(shelf: &[u8], q: &[u8], row: &mut [u64], work: &mut [u8]) {
     let n = least(le32(q, 8) as usize, row.len());
     let space = least(le32(q, 12) as usize, work.len());
-    let numbers = part(q, 20, q.len());
+    let numbers = part(q, HEAD, q.len());
     fill_row(row);
     if le32(q, 0) != 0 {
         total_of(numbers, &mut row[0..n]);
         return;
     }
-    survey_of(
-        shelf,
-        numbers,
-        le32(q, 4),
-        &mut row[0..n],
-        &mut work[0..space],
-    );
+    survey_of(shelf, q, numbers, &mut row[0..n], &mut work[0..space]);
 }
 
-// Each query in turn: a head of 20 bytes, with how many numbers follow in its last four, and those.
+// Each query in turn: a head, with how many numbers follow in its last four bytes, and those.
 fn queries(shelf: &[u8], all: &[u8], row: &mut [u64], work: &mut [u8]) {
     let mut i = 0;
     while i < all.len() {
-        let end = i + 20 + 8 * le32(all, i + 16) as usize;
+        let end = i + HEAD + 8 * le32(all, i + 24) as usize;
         query(shelf, part(all, i, end), row, work);
         i = end;
     }
@@ -209,7 +223,7 @@ fn queries(shelf: &[u8], all: &[u8], row: &mut [u64], work: &mut [u8]) {
 // ---- the file of shelves
 
 fn ask_all(shelf: &[u8], all: &[u8], work: &mut [u8]) {
-    let mut row = [0u64; 1024];
+    let mut row = [0u64; 2048];
     queries(shelf, all, &mut row, work);
 }
 

@@ -4,3 +4,4 @@ pub mod ShelfLaws
 pub mod TotalLaws
 pub mod Promises
 pub mod Summing
+pub mod Lending

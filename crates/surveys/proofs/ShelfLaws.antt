@@ -82,30 +82,30 @@ images-long (n ∷ ns) shelf = ap suc (images-long ns (drop n shelf))
 
 -- ---- the figures of i images are in their places
 
-pub record Placing (how : Choice) (shelf lengths before after work₀ work : List ℕ) (at i : ℕ) : Type 0 where
+pub record Placing (how : Choice) (most : ℕ) (shelf lengths before after work₀ work : List ℕ) (at i : ℕ) : Type 0 where
   pub inside : i ≤ length lengths
   pub ends : at ≤ length shelf
-  pub room : 76 * length lengths ≤ length before
+  pub room : 80 * length lengths ≤ length before
   pub long : length after ≡ length before
   pub size : length work ≡ length work₀
-  pub front : take (76 * i) after ++ rows (map (ofImage how (length work₀)) (images (drop i lengths) (drop at shelf))) ≡ rows (map (ofImage how (length work₀)) (images lengths shelf))
-  pub behind : drop (76 * i) after ≡ drop (76 * i) before
+  pub front : take (80 * i) after ++ rows (map (ofImage how most (length work₀)) (images (drop i lengths) (drop at shelf))) ≡ rows (map (ofImage how most (length work₀)) (images lengths shelf))
+  pub behind : drop (80 * i) after ≡ drop (80 * i) before
 
-pub placing-starts : (how : Choice) (shelf lengths before work : List ℕ) → 76 * length lengths ≤ length before → Placing how shelf lengths before before work work 0 0
-placing-starts how shelf lengths before work h =
+pub placing-starts : (how : Choice) (most : ℕ) (shelf lengths before work : List ℕ) → 80 * length lengths ≤ length before → Placing how most shelf lengths before before work work 0 0
+placing-starts how most shelf lengths before work h =
     record { inside = omega arith; ends = omega arith; room = h; long = refl; size = refl; front = refl; behind = refl }
 
-module _ {how : Choice} {shelf lengths before after work₀ work : List ℕ} {at i : ℕ} (p : Placing how shelf lengths before after work₀ work at i) where
-  pub placing-room : i < length lengths → 76 * i + 76 ≤ length after
+module _ {how : Choice} {most : ℕ} {shelf lengths before after work₀ work : List ℕ} {at i : ℕ} (p : Placing how most shelf lengths before after work₀ work at i) where
+  pub placing-room : i < length lengths → 80 * i + 80 ≤ length after
   placing-room h = omega (arith, p .room, p .long)
 
-  pub placing-ends : length lengths ≤ i → after ≡ rows (map (ofImage how (length work₀)) (images lengths shelf)) ++ drop (76 * length lengths) before
+  pub placing-ends : length lengths ≤ i → after ≡ rows (map (ofImage how most (length work₀)) (images lengths shelf)) ++ drop (80 * length lengths) before
   unfolding images rows
   placing-ends h =
       let e : i ≡ length lengths = omega (arith, p .inside) in
       let n : drop i lengths ≡ [] = drop-of-length-le lengths h in
-      let f : take (76 * i) after ≡ rows (map (ofImage how (length work₀)) (images lengths shelf)) = sym (append-nil (take (76 * i) after)) ∙ rw n at (p .front) in
-      sym (take-append-drop (76 * i) after) ∙ rw (f, p .behind, e)
+      let f : take (80 * i) after ≡ rows (map (ofImage how most (length work₀)) (images lengths shelf)) = sym (append-nil (take (80 * i) after)) ∙ rw n at (p .front) in
+      sym (take-append-drop (80 * i) after) ∙ rw (f, p .behind, e)
 
   module _ (h : i < length lengths) {n : ℕ} (l : n ≡ min (getD lengths i 0) (length shelf - at)) where
     pub image-ends : at + n ≤ length shelf
@@ -124,41 +124,41 @@ module _ {how : Choice} {shelf lengths before after work₀ work : List ℕ} {at
     unfolding images
     rest-images = rw (drop-cons lengths i 0 h, add-one, image-is, next-is)
 
-    one-place : 76 * i + 76 - 76 * i ≡ 76
+    one-place : 80 * i + 80 - 80 * i ≡ 80
     one-place = omega arith
 
-    next-place : 76 * (i + 1) ≡ 76 * i + 76
+    next-place : 80 * (i + 1) ≡ 80 * i + 80
     next-place = omega arith
 
-    module _ {z : List ℕ} (held : Holds (ofImage how (length work) (take (at + n - at) (drop at shelf))) z) where
-      is-row : z ≡ row (ofImage how (length work₀) (take (at + n - at) (drop at shelf)))
+    module _ {z : List ℕ} (held : Holds (ofImage how most (length work) (take (at + n - at) (drop at shelf))) z) where
+      is-row : z ≡ row (ofImage how most (length work₀) (take (at + n - at) (drop at shelf)))
       is-row = rw (← (p .size)) (held .is)
 
-      front-long : length (take (76 * i) after ++ z) ≡ 76 * (i + 1)
+      front-long : length (take (80 * i) after ++ z) ≡ 80 * (i + 1)
       front-long =
-          let a : length (take (76 * i) after) ≡ 76 * i = length-take-le (76 * i) after (omega (arith, placing-room h)) in
-          rw (length-append (take (76 * i) after) z, a, holds-long held) (omega arith)
+          let a : length (take (80 * i) after) ≡ 80 * i = length-take-le (80 * i) after (omega (arith, placing-room h)) in
+          rw (length-append (take (80 * i) after) z, a, holds-long held) (omega arith)
 
-      placed : putMid (76 * i) 76 after z ≡ (take (76 * i) after ++ z) ++ drop 76 (drop (76 * i) after)
-      placed = sym (append-assoc (take (76 * i) after) z (drop 76 (drop (76 * i) after)))
+      placed : putMid (80 * i) 80 after z ≡ (take (80 * i) after ++ z) ++ drop 80 (drop (80 * i) after)
+      placed = sym (append-assoc (take (80 * i) after) z (drop 80 (drop (80 * i) after)))
 
-      new-front : take (76 * (i + 1)) (putMid (76 * i) 76 after z) ≡ take (76 * i) after ++ z
-      new-front = rw placed (take-at (take (76 * i) after ++ z) (drop 76 (drop (76 * i) after)) (76 * (i + 1)) front-long)
+      new-front : take (80 * (i + 1)) (putMid (80 * i) 80 after z) ≡ take (80 * i) after ++ z
+      new-front = rw placed (take-at (take (80 * i) after ++ z) (drop 80 (drop (80 * i) after)) (80 * (i + 1)) front-long)
 
-      new-behind : drop (76 * (i + 1)) (putMid (76 * i) 76 after z) ≡ drop (76 * (i + 1)) before
+      new-behind : drop (80 * (i + 1)) (putMid (80 * i) 80 after z) ≡ drop (80 * (i + 1)) before
       new-behind =
-          let b : drop 76 (drop (76 * i) after) ≡ drop (76 * (i + 1)) before = rw (p .behind, next-place) (drop-drop 76 (76 * i) before) in
-          rw placed (drop-at (take (76 * i) after ++ z) (drop 76 (drop (76 * i) after)) (76 * (i + 1)) front-long ∙ b)
+          let b : drop 80 (drop (80 * i) after) ≡ drop (80 * (i + 1)) before = rw (p .behind, next-place) (drop-drop 80 (80 * i) before) in
+          rw placed (drop-at (take (80 * i) after ++ z) (drop 80 (drop (80 * i) after)) (80 * (i + 1)) front-long ∙ b)
 
-      new-long : length (putMid (76 * i) 76 after z) ≡ length before
+      new-long : length (putMid (80 * i) 80 after z) ≡ length before
       new-long =
           let k = placing-room h in
-          rw (placed, length-append (take (76 * i) after ++ z) (drop 76 (drop (76 * i) after)), front-long, length-drop, length-drop) (omega (arith, p .long))
+          rw (placed, length-append (take (80 * i) after ++ z) (drop 80 (drop (80 * i) after)), front-long, length-drop, length-drop) (omega (arith, p .long))
 
-      pub placing-next : {work′ : List ℕ} → length work′ ≡ length work → Placing how shelf lengths before (putMid (76 * i) (76 * i + 76 - 76 * i) after z) work₀ work′ (at + n) (i + 1)
+      pub placing-next : {work′ : List ℕ} → length work′ ≡ length work → Placing how most shelf lengths before (putMid (80 * i) (80 * i + 80 - 80 * i) after z) work₀ work′ (at + n) (i + 1)
       unfolding rows
       placing-next w =
-          let f = ofImage how (length work₀) in
+          let f = ofImage how most (length work₀) in
           let rest = rows (map f (images (drop (i + 1) lengths) (drop (at + n) shelf))) in
           let e : rows (map f (images (drop i lengths) (drop at shelf))) ≡ z ++ rest = rw (rest-images, is-row) in
           rw one-place (record {
@@ -167,15 +167,15 @@ module _ {how : Choice} {shelf lengths before after work₀ work : List ℕ} {at
             room = p .room;
             long = new-long;
             size = w ∙ p .size;
-            front = rw new-front (append-assoc (take (76 * i) after) z rest ∙ rw e at (p .front));
+            front = rw new-front (append-assoc (take (80 * i) after) z rest ∙ rw e at (p .front));
             behind = new-behind;
           })
 
 -- ---- the whole
 
-pub all-wide : (how : Choice) (work : ℕ) (l : List (List ℕ)) → AllWide (map (ofImage how work) l)
-all-wide how work [] = none-wide
-all-wide how work (image ∷ l) = more-wide (image-wide how work image) (all-wide how work l)
+pub all-wide : (how : Choice) (most work : ℕ) (l : List (List ℕ)) → AllWide (map (ofImage how most work) l)
+all-wide how most work [] = none-wide
+all-wide how most work (image ∷ l) = more-wide (image-wide how most work image) (all-wide how most work l)
 
 rows-append : (fs gs : List Figures) → rows (fs ++ gs) ≡ rows fs ++ rows gs
 unfolding rows
@@ -189,86 +189,86 @@ rows-one f = append-nil (row f)
 pub rows-with-total : (fs : List Figures) → rows (withTotal fs) ≡ rows fs ++ row (allAdded fs)
 rows-with-total fs = rows-append fs (allAdded fs ∷ []) ∙ rw (rows-one (allAdded fs))
 
-module _ (how : Choice) (shelf lengths before work : List ℕ) where
-  no-fit : fits shelf lengths before ≡ false → (number BadShelf ≡ surveys how shelf lengths before work .answer) × (before ≡ surveys how shelf lengths before work .figures)
+module _ (how : Choice) (most : ℕ) (shelf lengths before work : List ℕ) where
+  no-fit : fits shelf lengths before ≡ false → (number BadShelf ≡ surveys how most shelf lengths before work .answer) × (before ≡ surveys how most shelf lengths before work .figures)
   no-fit e = (rw e, rw e)
 
   -- the lengths pass the shelf
   long-shelf : leb (sum lengths) (length shelf) ≡ false → fits shelf lengths before ≡ false
   long-shelf e = rw e
 
-  few-places : length before / 76 ≤ length lengths → fits shelf lengths before ≡ false
-  few-places h = rw (lt-leb (76 * (length lengths + 1)) (length before) (omega arith)) (and-false (leb (sum lengths) (length shelf)))
+  few-places : length before / 80 ≤ length lengths → fits shelf lengths before ≡ false
+  few-places h = rw (lt-leb (80 * (length lengths + 1)) (length before) (omega arith)) (and-false (leb (sum lengths) (length shelf)))
     where
       and-false : (b : Bool) → (b && false) ≡ false
       and-false true = refl
       and-false false = refl
 
-  pub shelf-passed : {r : Bool} → r ≡ leb (sum lengths) (length shelf) → r ≡ false → 15 ≡ surveys how shelf lengths before work .answer
+  pub shelf-passed : {r : Bool} → r ≡ leb (sum lengths) (length shelf) → r ≡ false → 15 ≡ surveys how most shelf lengths before work .answer
   shelf-passed e f = no-fit (long-shelf (sym e ∙ f)) .0
 
-  pub shelf-kept : {r : Bool} → r ≡ leb (sum lengths) (length shelf) → r ≡ false → before ≡ surveys how shelf lengths before work .figures
+  pub shelf-kept : {r : Bool} → r ≡ leb (sum lengths) (length shelf) → r ≡ false → before ≡ surveys how most shelf lengths before work .figures
   shelf-kept e f = no-fit (long-shelf (sym e ∙ f)) .1
 
-  pub places-few : length before / 76 ≤ length lengths → 15 ≡ surveys how shelf lengths before work .answer
+  pub places-few : length before / 80 ≤ length lengths → 15 ≡ surveys how most shelf lengths before work .answer
   places-few h = no-fit (few-places h) .0
 
-  pub places-kept : length before / 76 ≤ length lengths → before ≡ surveys how shelf lengths before work .figures
+  pub places-kept : length before / 80 ≤ length lengths → before ≡ surveys how most shelf lengths before work .figures
   places-kept h = no-fit (few-places h) .1
 
-  module _ {r : Bool} (e : r ≡ leb (sum lengths) (length shelf)) (f : r ≡ true) (h : length lengths < length before / 76) where
-    enough : 76 * (length lengths + 1) ≤ length before
+  module _ {r : Bool} (e : r ≡ leb (sum lengths) (length shelf)) (f : r ≡ true) (h : length lengths < length before / 80) where
+    enough : 80 * (length lengths + 1) ≤ length before
     enough = omega arith
 
     fit : fits shelf lengths before ≡ true
-    fit = rw (← e, f, le-leb (76 * (length lengths + 1)) (length before) enough)
+    fit = rw (← e, f, le-leb (80 * (length lengths + 1)) (length before) enough)
 
     each : List Figures
-    each = map (ofImage how (length work)) (images lengths shelf)
+    each = map (ofImage how most (length work)) (images lengths shelf)
 
     each-many : length each ≡ length lengths
     unfolding each
-    each-many = length-map (images lengths shelf) (ofImage how (length work)) ∙ images-long lengths shelf
+    each-many = length-map (images lengths shelf) (ofImage how most (length work)) ∙ images-long lengths shelf
 
     each-wide : AllWide each
     unfolding each
-    each-wide = all-wide how (length work) (images lengths shelf)
+    each-wide = all-wide how most (length work) (images lengths shelf)
 
     rest : List ℕ
-    rest = drop (76 * length lengths) before
+    rest = drop (80 * length lengths) before
 
-    rest-long : 76 ≤ length rest
+    rest-long : 80 ≤ length rest
     unfolding rest
     rest-long = rw length-drop (omega (arith, enough))
 
-    pub room-each : 76 * length lengths ≤ length before
+    pub room-each : 80 * length lengths ≤ length before
     room-each = omega (arith, enough)
 
-    pub done-answer : {s : List ℕ} {a : ℕ} → s ≡ rows (map (ofImage how (length work)) (images lengths shelf)) ++ drop (76 * length lengths) before → a ≡ totalAnswer (length lengths) s
-        → a ≡ surveys how shelf lengths before work .answer
+    pub done-answer : {s : List ℕ} {a : ℕ} → s ≡ rows (map (ofImage how most (length work)) (images lengths shelf)) ++ drop (80 * length lengths) before → a ≡ totalAnswer (length lengths) s
+        → a ≡ surveys how most shelf lengths before work .answer
     unfolding each rest
     done-answer {s} {a} g t =
         let o : totalAnswer (length lengths) (rows each ++ rest) ≡ 0 = rw each-many at (rows-answer each-wide rest rest-long) in
         let k : a ≡ 0 = t ∙ rw g o in
         rw fit k
 
-    pub done-figures : {s u : List ℕ} → s ≡ rows (map (ofImage how (length work)) (images lengths shelf)) ++ drop (76 * length lengths) before → u ≡ totaled (length lengths) s
-        → u ≡ surveys how shelf lengths before work .figures
+    pub done-figures : {s u : List ℕ} → s ≡ rows (map (ofImage how most (length work)) (images lengths shelf)) ++ drop (80 * length lengths) before → u ≡ totaled (length lengths) s
+        → u ≡ surveys how most shelf lengths before work .figures
     unfolding each rest surveyed
     done-figures {s} {u} g t =
-        let o : totaled (length lengths) (rows each ++ rest) ≡ rows each ++ row (allAdded each) ++ drop 76 rest = rw each-many at (rows-total each-wide rest rest-long) in
-        let k : u ≡ rows each ++ row (allAdded each) ++ drop 76 rest = t ∙ rw g o in
-        let m : 76 * (length lengths + 1) ≡ 76 * length lengths + 76 = omega arith in
-        let b : drop 76 rest ≡ drop (76 * (length lengths + 1)) before = rw m (drop-drop 76 (76 * length lengths) before) in
+        let o : totaled (length lengths) (rows each ++ rest) ≡ rows each ++ row (allAdded each) ++ drop 80 rest = rw each-many at (rows-total each-wide rest rest-long) in
+        let k : u ≡ rows each ++ row (allAdded each) ++ drop 80 rest = t ∙ rw g o in
+        let m : 80 * (length lengths + 1) ≡ 80 * length lengths + 80 = omega arith in
+        let b : drop 80 rest ≡ drop (80 * (length lengths + 1)) before = rw m (drop-drop 80 (80 * length lengths) before) in
         rw fit (k ∙ rw (b, ← (rows-with-total each)))
 
   -- with the work space cleared
-  pub survey-cleared : {a : ℕ} {s : List ℕ} (w : List ℕ) {w′ : List ℕ} → (a ≡ surveys how shelf lengths before work .answer) × (s ≡ surveys how shelf lengths before work .figures) → length w ≡ length work → w′ ≡ replicate (length w) 0
-      → _≡_ {A = Surveyed} (record { answer = a; figures = s; work = w′ }) (surveys how shelf lengths before work)
+  pub survey-cleared : {a : ℕ} {s : List ℕ} (w : List ℕ) {w′ : List ℕ} → (a ≡ surveys how most shelf lengths before work .answer) × (s ≡ surveys how most shelf lengths before work .figures) → length w ≡ length work → w′ ≡ replicate (length w) 0
+      → _≡_ {A = Surveyed} (record { answer = a; figures = s; work = w′ }) (surveys how most shelf lengths before work)
   survey-cleared {a} {s} w {w′} q l z = by (fits shelf lengths before) (q .0) (q .1)
     where
       full : Surveyed
-      full = record { answer = 0; figures = rows (surveyed how (length work) lengths shelf) ++ drop (76 * (length lengths + 1)) before; work = replicate (length work) 0 }
+      full = record { answer = 0; figures = rows (surveyed how most (length work) lengths shelf) ++ drop (80 * (length lengths + 1)) before; work = replicate (length work) 0 }
 
       bad : Surveyed
       bad = record { answer = number BadShelf; figures = before; work = replicate (length work) 0 }

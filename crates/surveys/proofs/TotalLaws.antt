@@ -14,15 +14,15 @@ use Rattle.surveys.specs.Shelves.{OneOf}
 
 -- ---- a place of a row
 
-pub rows-place : {fs : List Figures} → AllWide fs → (i : ℕ) → i < length fs → (d : Figures) (rest : List ℕ) → take 76 (drop (76 * i) (rows fs ++ rest)) ≡ row (getD fs i d)
+pub rows-place : {fs : List Figures} → AllWide fs → (i : ℕ) → i < length fs → (d : Figures) (rest : List ℕ) → take 80 (drop (80 * i) (rows fs ++ rest)) ≡ row (getD fs i d)
 unfolding rows
 rows-place none-wide i h d rest = absurd (omega arith)
 rows-place (more-wide {f} {fs} w ws) zero h d rest =
-    rw (append-assoc (row f) (rows fs) rest) (take-at (row f) (rows fs ++ rest) 76 (row-long w))
+    rw (append-assoc (row f) (rows fs) rest) (take-at (row f) (rows fs ++ rest) 80 (row-long w))
 rows-place (more-wide {f} {fs} w ws) (suc i) h d rest =
-    let e : 76 * suc i ≡ 76 + 76 * i = omega arith in
-    let l : length (row f) ≡ 76 = row-long w in
-    rw (e, append-assoc (row f) (rows fs) rest, ← (drop-drop (76 * i) 76 (row f ++ (rows fs ++ rest))), drop-at (row f) (rows fs ++ rest) 76 l) (rows-place ws i (omega arith) d rest)
+    let e : 80 * suc i ≡ 80 + 80 * i = omega arith in
+    let l : length (row f) ≡ 80 = row-long w in
+    rw (e, append-assoc (row f) (rows fs) rest, ← (drop-drop (80 * i) 80 (row f ++ (rows fs ++ rest))), drop-at (row f) (rows fs ++ rest) 80 l) (rows-place ws i (omega arith) d rest)
 
 -- ---- the sectors and the chain
 

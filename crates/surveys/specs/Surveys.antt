@@ -1,4 +1,4 @@
--- Figures over a shelf of images, one behind another: RULES 16.6 to 16.10.
+-- Figures over a shelf of images, one behind another: RULES 16.6 to 16.10, and 16.13.
 use Prim.Native.Nat.{ℕ, _+_, _*_}
 use mathlib.Core.Bool.{Bool, _&&_}
 use mathlib.Core.List.{List, [], _∷_, _++_, map}
@@ -8,30 +8,33 @@ use Rattle.disc.specs.Choice.{pick}
 use Rattle.disc.specs.Refusals.{number}
 use Rattle.disc.specs.Ask.{Disc, Outcome}
 use Rattle.disc.specs.Ask.Outcome.{answered, refused}
-use Rattle.disc.specs.Ran.{ran}
+use Rattle.disc.specs.Ran.{Ran, ran}
+use Rattle.disc.specs.Budgets.{budgeted, leftOf}
 use Rattle.disc.specs.Images.{disc}
-use Rattle.disc.specs.declared.places.Mount.{Mount}
 use Rattle.disc.specs.declared.refusals.Refusal.the-variants.{BadShelf}
 use Rattle.volumes.specs.Choices.{openingBy}
 use Rattle.volumes.specs.declared.choices.Choice.{Choice}
 use Rattle.volumes.specs.declared.openings.VolumeRecord.{VolumeRecord}
 use Rattle.figures.specs.Figures.{Figures, oneImage, added, allAdded, rows, place, sum}
-use Rattle.shows.specs.Shows.{Node, tree, mostLevels}
-use Rattle.shows.specs.Tallies.{ofNodes}
+use Rattle.shows.specs.Tallies.{Tally, treeTally}
 
--- ---- of an image: one whose opening or tree is refused counts under its number, and its other figures are 0
+-- ---- of an image: one whose opening or tree is refused, or that wants more sectors than it is lent, counts under its number, and its other figures are 0
 
-abbrev pub treeBy : Disc → Mount → Outcome (List Node) → Figures
-treeBy d m (answered ns) = added (ofNodes d m ns) (oneImage 0)
-treeBy d m (refused why) = oneImage (number why)
+-- the figures of its tree, and one image
+abbrev pub imageBy : Tally → Figures
+imageBy t = added (t .figures) (oneImage (t .answer))
 
-abbrev pub volumeBy : Disc → ℕ → Outcome VolumeRecord → Figures
-volumeBy d work (answered v) = treeBy d (v .mount) (ran d (tree (v .mount) mostLevels work (v .root)) .outcome)
-volumeBy d work (refused why) = oneImage (number why)
+-- the tree and the reads have what the opening has left
+abbrev pub volumeBy : Disc → ℕ → ℕ → Outcome VolumeRecord → Figures
+volumeBy d left work (answered v) = imageBy (treeTally d (v .mount) (v .root) left work)
+volumeBy d left work (refused why) = oneImage (number why)
 
--- `work` is how many bytes of work space there are
-unfoldable pub ofImage : Choice → ℕ → List ℕ → Figures
-ofImage how work image = volumeBy (disc image) work (ran (disc image) (openingBy how) .outcome)
+abbrev pub volumeOf : Disc → ℕ → ℕ → Ran VolumeRecord → Figures
+volumeOf d most work r = volumeBy d (leftOf most (r .count)) work (r .outcome)
+
+-- `most` is how many sectors it is lent, and `work` how many bytes of work space there are
+unfoldable pub ofImage : Choice → ℕ → ℕ → List ℕ → Figures
+ofImage how most work image = volumeOf (disc image) most work (ran (disc image) (budgeted most (openingBy how)))
 
 -- ---- of a shelf
 
@@ -44,8 +47,9 @@ images (n ∷ ns) shelf = take n shelf ∷ images ns (drop n shelf)
 abbrev pub withTotal : List Figures → List Figures
 withTotal each = each ++ allAdded each ∷ []
 
-unfoldable pub surveyed : Choice → ℕ → List ℕ → List ℕ → List Figures
-surveyed how work lengths shelf = withTotal (map (ofImage how work) (images lengths shelf))
+-- each image is lent `most` sectors anew
+unfoldable pub surveyed : Choice → ℕ → ℕ → List ℕ → List ℕ → List Figures
+surveyed how most work lengths shelf = withTotal (map (ofImage how most work) (images lengths shelf))
 
 -- ---- the call
 
@@ -59,12 +63,12 @@ pub record Surveyed : Type 0 where
   pub work : List ℕ
 
 -- 15 comes first, and then nothing is written but the zeros of the work space
-abbrev pub surveys : Choice → List ℕ → List ℕ → List ℕ → List ℕ → Surveyed
-surveys how shelf lengths figures work =
+abbrev pub surveys : Choice → ℕ → List ℕ → List ℕ → List ℕ → List ℕ → Surveyed
+surveys how most shelf lengths figures work =
     pick (fits shelf lengths figures)
     (record {
       answer = 0;
-      figures = rows (surveyed how (length work) lengths shelf) ++ drop (place * (length lengths + 1)) figures;
+      figures = rows (surveyed how most (length work) lengths shelf) ++ drop (place * (length lengths + 1)) figures;
       work = replicate (length work) 0;
     })
     (record { answer = number BadShelf; figures = figures; work = replicate (length work) 0 })

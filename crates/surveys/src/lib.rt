@@ -4,6 +4,7 @@ ghost use Prim.Native.Nat.{_*_, _≤_};
 ghost use lib.ListN.{length};
 ghost use lib.Dec.{leb};
 ghost use Rattle.disc.specs.Images.{disc};
+ghost use Rattle.disc.specs.Budgets.{budgeted};
 ghost use Rattle.disc.specs.Ran.{ran};
 ghost use Rattle.figures.specs.Figures.{Holds, sum};
 ghost use Rattle.volumes.specs.Choices.{openingBy};
@@ -12,7 +13,9 @@ ghost use Rattle.surveys.specs.Surveys.{ofImage, surveys};
 ghost use Rattle.surveys.specs.inner.Parts.{EachIn, Surveys};
 use disc::answers::BAD_SHELF;
 use disc::answers::DONE;
+use disc::answers::OVER_BUDGET;
 use disc::answers::UNSUPPORTED;
+use disc::counts::left_of;
 use disc::counts::lesser;
 use disc::moves::clear;
 use figures::PLACE;
@@ -35,21 +38,34 @@ fn open_by(image: &[u8], how: Choice) -> Opened
     }
 }
 
-// The figures of an image in a place: one that is refused counts under its number, and has no other figure. The work space is all zero behind a tree, and is else as it came.
-fn survey_image(image: &[u8], how: Choice, place: &mut [u64], work: &mut [u8])
-    requires { ⌜ length (now place) ≡ 76 ⌝ }
-    ensures { λ _. ⌜ Holds (ofImage how (length (now (work .entry))) (now (image .entry))) (now (place .exit)) ⌝ }
+// The same, lent so many sectors.
+fn open_within(image: &[u8], how: Choice, most: u64) -> Opened
+    ensures { λ r. ⌜ r ≡ openedOf (ran (disc (now (image .entry))) (budgeted most (openingBy how))) ⌝ }
 {
-    clear_figures(place);
     let opened = open_by(image, how);
+    if most < opened.count {
+        return refused(OVER_BUDGET, most);
+    }
+    opened
+}
+
+// The figures of an image in a place: one that is refused, or wants more than `most` sectors for its opening, its tree and the reads of its files, counts under its
+// number and has no other figure.
+fn survey_image(image: &[u8], how: Choice, most: u64, place: &mut [u64], work: &mut [u8])
+    requires { ⌜ length (now place) ≡ 80 ⌝ }
+    ensures { λ _. ⌜ Holds (ofImage how most (length (now (work .entry))) (now (image .entry))) (now (place .exit)) ⌝ }
+{
+    let opened = open_within(image, how, most);
     if opened.answer != DONE {
+        clear_figures(place);
         add_image(place, opened.answer);
         return;
     }
     let v = opened.volume;
     let mount = v.mount;
     let root = v.root;
-    let answer = tally_tree(image, mount, root, place, work);
+    let left = left_of(most, opened.count);
+    let answer = tally_tree(image, mount, root, left, place, work);
     add_image(place, answer);
 }
 
@@ -71,16 +87,29 @@ fn within(lengths: &[u64], bytes: u64) -> bool
 }
 
 // The figures of each image in its place. The lengths are looked at a second time here, and that they fit is not relied on: an image ends where the shelf does.
-fn survey_each(shelf: &[u8], lengths: &[u64], how: Choice, figures: &mut [u64], work: &mut [u8])
-    requires { ⌜ 76 * length (now lengths) ≤ length (now figures) ⌝ }
-    ensures { λ _. ⌜ EachIn how (length (now (work .entry))) (now (shelf .entry)) (now (lengths .entry)) (now (figures .entry)) (now (figures .exit)) ⌝ }
+fn survey_each(
+    shelf: &[u8],
+    lengths: &[u64],
+    how: Choice,
+    most: u64,
+    figures: &mut [u64],
+    work: &mut [u8],
+)
+    requires { ⌜ 80 * length (now lengths) ≤ length (now figures) ⌝ }
+    ensures { λ _. ⌜ EachIn how most (length (now (work .entry))) (now (shelf .entry)) (now (lengths .entry)) (now (figures .entry)) (now (figures .exit)) ⌝ }
 {
     let mut at: usize = 0;
     let mut i: usize = 0;
     while i < lengths.len() {
         let n = lesser(lengths[i], (shelf.len() - at) as u64) as usize;
         let to = PLACE * i;
-        survey_image(&shelf[at..at + n], how, &mut figures[to..to + PLACE], work);
+        survey_image(
+            &shelf[at..at + n],
+            how,
+            most,
+            &mut figures[to..to + PLACE],
+            work,
+        );
         at += n;
         i += 1;
     }
@@ -91,10 +120,11 @@ fn survey_all(
     shelf: &[u8],
     lengths: &[u64],
     how: Choice,
+    most: u64,
     figures: &mut [u64],
     work: &mut [u8],
 ) -> u64
-    ensures { λ r. ⌜ Surveys how (now (work .entry)) (now (shelf .entry)) (now (lengths .entry)) (now (figures .entry)) (now (figures .exit)) r ⌝ }
+    ensures { λ r. ⌜ Surveys how most (now (work .entry)) (now (shelf .entry)) (now (lengths .entry)) (now (figures .entry)) (now (figures .exit)) r ⌝ }
 {
     if !within(lengths, shelf.len() as u64) {
         return BAD_SHELF;
@@ -102,22 +132,24 @@ fn survey_all(
     if figures.len() / PLACE <= lengths.len() {
         return BAD_SHELF;
     }
-    survey_each(shelf, lengths, how, figures, work);
+    survey_each(shelf, lengths, how, most, figures, work);
     total(figures, lengths.len())
 }
 
 // Figures over images that stand one behind another in `shelf`, from its front, as `lengths` says: for each in turn a place of PLACE numbers, and one for all of
-// them together. The work space is that of a show at 16 levels, and is all zero on return.
+// them together. Each image is lent `most` sectors, for its opening, its tree and the reads of its files together; UNLIMITED is no budget. The work space is that of a
+// show at 16 levels, and is all zero on return.
 pub fn survey(
     shelf: &[u8],
     lengths: &[u64],
     how: Choice,
+    most: u64,
     figures: &mut [u64],
     work: &mut [u8],
 ) -> u64
-    ensures { λ r. ⌜ record { answer = r; figures = now (figures .exit); work = now (work .exit) } ≡ surveys how (now (shelf .entry)) (now (lengths .entry)) (now (figures .entry)) (now (work .entry)) ⌝ }
+    ensures { λ r. ⌜ record { answer = r; figures = now (figures .exit); work = now (work .exit) } ≡ surveys how most (now (shelf .entry)) (now (lengths .entry)) (now (figures .entry)) (now (work .entry)) ⌝ }
 {
-    let answer = survey_all(shelf, lengths, how, figures, work);
+    let answer = survey_all(shelf, lengths, how, most, figures, work);
     clear(work);
     answer
 }

@@ -36,10 +36,11 @@ pub struct Figures {
     pub extents: Figure,
     // The counts of reading each file, also of those that are refused; not the sectors of opening, of the tree and of the extent lists.
     pub sectors: Figure,
-    // How many files have each answer number.
-    pub files_by_answer: [Figure; 16],
-    // How many images have each answer number, of their opening or of their tree; one that has another than 0 has no other figure.
-    pub images_by_answer: [Figure; 16],
+    // How many files have each answer number. None has VAULT_OVER_BUDGET.
+    pub files_by_answer: [Figure; 17],
+    // How many images have each answer number, of their opening or of their tree, or VAULT_OVER_BUDGET where these and the reads of the files together want more
+    // sectors than were lent. An image that has another than 0 has no other figure.
+    pub images_by_answer: [Figure; 17],
     // The most continuations of allocation descriptors that were followed for a file that can be read.
     pub chain: Figure,
 }
@@ -47,17 +48,22 @@ pub struct Figures {
 // The figures of images that stand one behind another in `shelf`, from its front, each as long as `lengths` says: a place for each in turn, and behind them one
 // for all. `how` is as for vault_open, and `work` as for vault_show. The answer is VAULT_DONE also where every image is refused; or VAULT_BAD_SHELF where the
 // lengths pass `shelf` or there are fewer places than images and one, and then nothing is written but the zeros of `work`. Places behind stay as they came.
+//
+// Each image is lent `most` sectors anew: its opening, its tree and the reads of its files in their order each have what those before have left, by their counts.
+// An image that wants more counts under VAULT_OVER_BUDGET, and the next one has its turn. What is looked up beside the reads, extents and chains, isn't counted.
+// On a sound disc each sector is asked for once, and those of a file once for each path to it. VAULT_UNLIMITED is no budget.
 #[no_mangle]
 pub extern "C" fn vault_survey(
     shelf: &[u8],
     lengths: &[u64],
     how: u32,
+    most: u64,
     figures: &mut [u64],
     work: &mut [u8],
 ) -> u64
-    ensures { λ r. ⌜ record { answer = r; figures = now (figures .exit); work = now (work .exit) } ≡ surveys (choiceOf (howOf how)) (now (shelf .entry)) (now (lengths .entry)) (now (figures .entry)) (now (work .entry)) ⌝ }
+    ensures { λ r. ⌜ record { answer = r; figures = now (figures .exit); work = now (work .exit) } ≡ surveys (choiceOf (howOf how)) most (now (shelf .entry)) (now (lengths .entry)) (now (figures .entry)) (now (work .entry)) ⌝ }
 {
-    survey(shelf, lengths, chosen(how), figures, work)
+    survey(shelf, lengths, chosen(how), most, figures, work)
 }
 
 // Writes the total of the first `images` places of a row to the one behind them: for images that don't stand in one slice, of which each was surveyed by itself.

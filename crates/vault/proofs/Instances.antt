@@ -17,7 +17,7 @@ use Rattle.vault.specs.Calls as left
 use Rattle.vault.specs.Public.{leaves}
 use Rattle.vault.specs.Public.Call.{opens, labels, reads, measures, parts, partsAt, extents, runs, lists, shows, finds, fails, failsAt, readsPath, listsBytes}
 
-module _ (image : List ℕ) (how : How) (v : VolumeRecord) (icb : LongAd) (path : List ℕ) (matching : Matching) (levels : ℕ) (out work : List ℕ) where
+module _ (image : List ℕ) (how : How) (v : VolumeRecord) (icb : LongAd) (path : List ℕ) (matching : Matching) (levels most : ℕ) (out work : List ℕ) where
   pub contracts : (left.opens image how ≡ leaves (opens how) image)
       × (left.labels image how out ≡ leaves (labels how out) image)
       × (left.reads image v icb out ≡ leaves (reads v icb out) image)
@@ -25,7 +25,7 @@ module _ (image : List ℕ) (how : How) (v : VolumeRecord) (icb : LongAd) (path 
       × (left.parts image v icb ≡ leaves (parts v icb) image)
       × (left.partsAt image v icb ≡ leaves (partsAt v icb) image)
       × (left.lists image v icb out work ≡ leaves (lists v icb out work) image)
-      × (left.shows image v levels out work ≡ leaves (shows v levels out work) image)
+      × (left.shows image v levels most out work ≡ leaves (shows v levels most out work) image)
       × (left.finds image v path matching work ≡ leaves (finds v path matching work) image)
       × (left.fails image v path matching work ≡ leaves (fails v path matching work) image)
       × (left.failsAt image v path matching work ≡ leaves (failsAt v path matching work) image)

@@ -20,6 +20,7 @@ pub mod Checking
 pub mod Stacking
 pub mod Summing
 pub mod Showing
+pub mod Lending
 pub mod Growing
 pub mod Waiting
 pub mod Walking

@@ -22,6 +22,7 @@ use Rattle.disc.specs.declared.refusals.Refusal.the-variants.{NoRoom, NoSlot}
 use Rattle.disc.specs.declared.replies.Reply.{Reply}
 use Rattle.disc.proofs.ImageLaws.{image-grown}
 use Rattle.disc.proofs.OnlyLaws.{refuses-within, refused-missing, only-weaker}
+use Rattle.disc.proofs.BudgetLaws.{budgeted-only, budgeted-guards}
 use Rattle.disc.proofs.MarkedLaws.{guards-bad, guards-outcome, guards-asked, guards-front}
 use Rattle.disc.proofs.GrownLaws.{grown-ran, refused-waits}
 use Rattle.disc.proofs.RanLaws.{same-ran}
@@ -163,7 +164,7 @@ tells (extents f v icb row) = row-tells f row
 tells (runs v icb row) = row-tells _ row
 tells (lists v icb out work) = work-tells out work
 tells (listsBytes v bytes out) = bytes-tell out
-tells (shows v levels out work) = work-tells out work
+tells (shows v levels most out work) = work-tells out work
 tells (finds v path matching work) = icb-tells work
 tells (fails v path matching work) = lost-tells work
 tells (failsAt v path matching work) = lost-place-tells work
@@ -183,7 +184,9 @@ said-by (extents f v icb row) = list-only (Said (extents f v icb row)) refl refl
 said-by (runs v icb row) = runs-only (Said (runs v icb row)) refl refl (v .mount) (λ k. k) icb
 said-by (lists v icb out work) = listing-only (Said (lists v icb out work)) refl refl refl (v .mount) (λ k. k) (length work) icb
 said-by (listsBytes v bytes out) = listed-only (Said (listsBytes v bytes out)) refl (isChecked (v .mount)) (λ k. k) bytes
-said-by (shows v levels out work) = showing-only (Said (shows v levels out work)) (v .mount) (bytes-only (Said (shows v levels out work)) refl refl (v .mount) (λ k. k)) refl (λ k. k) refl refl levels (length work) (v .root)
+said-by (shows v levels most out work) =
+    budgeted-only most (λ b. rw b)
+    (showing-only (Said (shows v levels most out work)) (v .mount) (bytes-only (Said (shows v levels most out work)) refl refl (v .mount) (λ k. k)) refl (λ k. k) refl refl levels (length work) (v .root))
 said-by (finds v path matching work) = lookup-only (Said (finds v path matching work)) refl refl refl matching (λ e. rw e) (v .mount) (λ k. k) (length work) refl (v .root) path
 said-by (fails v path matching work) = seek-only (Said (fails v path matching work)) refl refl refl matching (λ e. rw e) (v .mount) (λ k. k) (length work) (v .root) path
 said-by (failsAt v path matching work) = seek-only (Said (failsAt v path matching work)) refl refl refl matching (λ e. rw e) (v .mount) (λ k. k) (length work) (v .root) path
@@ -324,7 +327,7 @@ guards (extents f v icb row) k = extents-guards (v .mount) k icb
 guards (runs v icb row) k = runs-guards (v .mount) k icb
 guards (lists v icb out work) k = listing-guards (v .mount) k (length work) icb
 guards (listsBytes v bytes out) k = rw k (listed-guards bytes)
-guards (shows v levels out work) k = showing-guards (v .mount) k levels (length work) (v .root)
+guards (shows v levels most out work) k = budgeted-guards most (showing-guards (v .mount) k levels (length work) (v .root))
 guards (finds v path matching work) k = lookup-guards (v .mount) k (length work) matching (v .root) path
 guards (fails v path matching work) k = seeking-guards (v .mount) k (length work) matching (v .root) path
 guards (failsAt v path matching work) k = seeking-guards (v .mount) k (length work) matching (v .root) path

@@ -1,10 +1,8 @@
--- RULES 1.1 and 10.5: the table's numbers; work space comes back all zero; a contract allows one result; and the calls for a place say what the calls for the part itself do.
+-- RULES 10.5: work space comes back all zero; a contract allows one result; and the calls for a place say what the calls for the part itself do.
 -- That every answer is of the table, and a refusal has zeros and changes no output byte: Promises. Assumes nothing.
 use mathlib.Core.Path.{_≡_, refl, ap, sym, _∙_}
 use mathlib.Core.List.{List, []}
-use mathlib.Core.Logic.{_⊎_, inl, inr}
-use Prim.Native.Nat.{ℕ, _≤_}
-use native.Mathlib.Omega.{arith}
+use Prim.Native.Nat.{ℕ}
 use lib.ListN.{length, replicate}
 use Rattle.disc.specs.Refusals.{number}
 use Rattle.disc.specs.Ask.{Outcome, andThen}
@@ -12,8 +10,6 @@ use Rattle.disc.specs.Ask.Outcome.{answered, refused}
 use Rattle.disc.specs.Images.{disc}
 use Rattle.disc.specs.Ran.{ran}
 use Rattle.disc.specs.Replies.{answerOf}
-use Rattle.disc.specs.declared.refusals.Refusal.{Refusal}
-use Rattle.disc.specs.declared.refusals.Refusal.the-variants.{Io, Malformed, NotBluray, Unsupported, NoRoom, NoWork, NoSlot, Ambiguous, BadCrc, TooDeep, TooMany, BadName, BadFiles, BadShelf}
 use Rattle.records.specs.declared.allocations.LongAd.{LongAd}
 use Rattle.listings.specs.declared.matchings.Matching.{Matching}
 use Rattle.volumes.specs.declared.openings.VolumeRecord.{VolumeRecord}
@@ -31,24 +27,6 @@ use Rattle.disc.specs.Parts.{PartAt}
 pub one : {R : Type 0} {said left left′ : R} → left ≡ said → left′ ≡ said → left ≡ left′
 one p q = p ∙ sym q
 
--- ---- the table
-
-pub in-table : (why : Refusal) → (number why ≤ 7) ⊎ (number why ≡ 9) ⊎ (number why ≡ 10) ⊎ (number why ≡ 11) ⊎ (number why ≡ 12) ⊎ (number why ≡ 13) ⊎ (number why ≡ 14) ⊎ (number why ≡ 15)
-in-table Io = inl (omega arith)
-in-table Malformed = inl (omega arith)
-in-table NotBluray = inl (omega arith)
-in-table Unsupported = inl (omega arith)
-in-table NoRoom = inl (omega arith)
-in-table NoWork = inl (omega arith)
-in-table NoSlot = inl (omega arith)
-in-table Ambiguous = inr (inl refl)
-in-table BadCrc = inr (inr (inl refl))
-in-table TooDeep = inr (inr (inr (inl refl)))
-in-table TooMany = inr (inr (inr (inr (inl refl))))
-in-table BadName = inr (inr (inr (inr (inr (inl refl)))))
-in-table BadFiles = inr (inr (inr (inr (inr (inr (inl refl))))))
-in-table BadShelf = inr (inr (inr (inr (inr (inr (inr refl))))))
-
 module _ (image : List ℕ) (v : VolumeRecord) (icb : LongAd) (path : List ℕ) (matching : Matching) (out work : List ℕ) where
   -- work space comes back all zero, as long as it was, from each call that takes one
   pub clears : (lists image v icb out work .work ≡ replicate (length work) 0)
@@ -58,8 +36,8 @@ module _ (image : List ℕ) (v : VolumeRecord) (icb : LongAd) (path : List ℕ) 
       × (failsAt image v path matching work .work ≡ replicate (length work) 0)
   clears = (refl, refl, refl, refl, refl)
 
-  pub show-clears : (levels : ℕ) → shows image v levels out work .work ≡ replicate (length work) 0
-  show-clears levels = refl
+  pub show-clears : (levels most : ℕ) → shows image v levels most out work .work ≡ replicate (length work) 0
+  show-clears levels most = refl
 
 -- the call for the part's place has the part's number, count and length; the part stands there; a refusal has zeros
 pub part-at-sound : (image : List ℕ) (v : VolumeRecord) (icb : LongAd)

@@ -8,6 +8,7 @@ use Rattle.disc.specs.Choice.{pick}
 use Rattle.disc.specs.Ask.{Ask, ended, Outcome, asked}
 use Rattle.disc.specs.Images.{disc}
 use Rattle.disc.specs.Ran.{Ran, ran}
+use Rattle.disc.specs.Budgets.{isBudget}
 use Rattle.disc.specs.Places.{isChecked}
 use Rattle.disc.specs.Replies.{measuredOf}
 use Rattle.disc.specs.declared.replies.Reply.{Reply}
@@ -95,10 +96,11 @@ pub record Row : Type 0 where
   pub six : Bool
   pub nine : Bool
   pub eleven : Bool
+  pub sixteen : Bool
   pub ten : Bool
 
 abbrev pub says : Row → ℕ → Bool
-says t n = eqb n 2 || (eqb n 4 && t .four) || (eqb n 3 && t .three) || (eqb n 6 && t .six) || (eqb n 9 && t .nine) || (eqb n 11 && t .eleven) || (eqb n 10 && t .ten)
+says t n = eqb n 2 || (eqb n 4 && t .four) || (eqb n 3 && t .three) || (eqb n 6 && t .six) || (eqb n 9 && t .nine) || (eqb n 11 && t .eleven) || (eqb n 16 && t .sixteen) || (eqb n 10 && t .ten)
 
 abbrev pub third : Matching → Bool
 third CaseIgnored = false
@@ -106,27 +108,28 @@ third AsWritten = false
 third Unambiguous = true
 
 abbrev ofOpening : How → Row
-ofOpening how = record { three = true; four = true; six = false; nine = false; eleven = false; ten = how .checked }
+ofOpening how = record { three = true; four = true; six = false; nine = false; eleven = false; sixteen = false; ten = how .checked }
 
 abbrev ofFile : VolumeRecord → Row
-ofFile v = record { three = false; four = true; six = false; nine = false; eleven = false; ten = isChecked (v .mount) }
+ofFile v = record { three = false; four = true; six = false; nine = false; eleven = false; sixteen = false; ten = isChecked (v .mount) }
 
 -- a directory's bytes at hand
 abbrev ofBytes : VolumeRecord → Row
-ofBytes v = record { three = false; four = false; six = false; nine = false; eleven = false; ten = isChecked (v .mount) }
+ofBytes v = record { three = false; four = false; six = false; nine = false; eleven = false; sixteen = false; ten = isChecked (v .mount) }
 
 abbrev ofDirectory : VolumeRecord → Row
-ofDirectory v = record { three = false; four = true; six = true; nine = false; eleven = false; ten = isChecked (v .mount) }
+ofDirectory v = record { three = false; four = true; six = true; nine = false; eleven = false; sixteen = false; ten = isChecked (v .mount) }
 
 abbrev ofPath : VolumeRecord → Matching → Row
-ofPath v matching = record { three = true; four = true; six = true; nine = third matching; eleven = false; ten = isChecked (v .mount) }
+ofPath v matching = record { three = true; four = true; six = true; nine = third matching; eleven = false; sixteen = false; ten = isChecked (v .mount) }
 
 -- a component that isn't there is what a walk comes to, and no refusal of its own
 abbrev ofWalk : VolumeRecord → Matching → Row
-ofWalk v matching = record { three = false; four = true; six = true; nine = third matching; eleven = false; ten = isChecked (v .mount) }
+ofWalk v matching = record { three = false; four = true; six = true; nine = third matching; eleven = false; sixteen = false; ten = isChecked (v .mount) }
 
-abbrev ofShow : VolumeRecord → Row
-ofShow v = record { three = false; four = true; six = true; nine = false; eleven = true; ten = isChecked (v .mount) }
+-- 16 where there is a budget
+abbrev ofShow : VolumeRecord → ℕ → Row
+ofShow v most = record { three = false; four = true; six = true; nine = false; eleven = true; sixteen = isBudget most; ten = isChecked (v .mount) }
 
 -- ---- the calls: what their questions come to, and what they leave
 
@@ -141,7 +144,7 @@ pub data Call : Type 0 → Type 0 → Type 1 where
   runs : VolumeRecord → LongAd → List (List ℕ) → Call (List Run) (Rowed (List ℕ))
   lists : VolumeRecord → LongAd → List ℕ → List ℕ → Call (List ℕ) Worked
   listsBytes : VolumeRecord → List ℕ → List ℕ → Call (List ℕ) Written
-  shows : VolumeRecord → ℕ → List ℕ → List ℕ → Call (List ℕ) Worked
+  shows : VolumeRecord → ℕ → ℕ → List ℕ → List ℕ → Call (List ℕ) Worked
   finds : VolumeRecord → List ℕ → Matching → List ℕ → Call LongAd Looked
   fails : VolumeRecord → List ℕ → Matching → List ℕ → Call Sought Lost
   failsAt : VolumeRecord → List ℕ → Matching → List ℕ → Call Sought LostPlace
@@ -163,7 +166,7 @@ spec (extents f v icb row) = record { tree = extentListing v icb; row = ofFile v
 spec (runs v icb row) = record { tree = runListing v icb; row = ofFile v; way = byRow pairOf row }
 spec (lists v icb out work) = record { tree = listing v (length work) icb; row = ofDirectory v; way = byWork out work }
 spec (listsBytes v bytes out) = record { tree = ended (listingIn (isChecked (v .mount)) bytes); row = ofBytes v; way = byBytes out }
-spec (shows v levels out work) = record { tree = showing v levels (length work); row = ofShow v; way = byWork out work }
+spec (shows v levels most out work) = record { tree = showing v levels most (length work); row = ofShow v most; way = byWork out work }
 spec (finds v path matching work) = record { tree = finding v (length work) path matching; row = ofPath v matching; way = byIcb work }
 spec (fails v path matching work) = record { tree = seeking v (length work) path matching; row = ofWalk v matching; way = byLost work }
 spec (failsAt v path matching work) = record { tree = seeking v (length work) path matching; row = ofWalk v matching; way = byLostPlace work }

@@ -91,14 +91,22 @@ impl Volume {
     }
 
     // The volume's whole tree, over the front of out: a listing's record with its level for each entry that a path of at most `levels` components
-    // leads to, each before what stands under it. The work space holds the directories on the way down, one behind the other.
-    pub fn show(self, image: &[u8], levels: u32, out: &mut [u8], work: &mut [u8]) -> Reply
-        ensures { λ r. ⌜ record { reply = r; out = now (out .exit); work = now (work .exit) } ≡ leaves (shows (self .0) levels (now (out .entry)) (now (work .entry))) (now (image .entry)) ⌝ }
+    // leads to, each before what stands under it. The work space holds the directories on the way down, one behind the other. It is refused by 16 in the place of
+    // asking for more than `most` sectors; `disc::counts::UNLIMITED` is no budget.
+    pub fn show(
+        self,
+        image: &[u8],
+        levels: u32,
+        most: u64,
+        out: &mut [u8],
+        work: &mut [u8],
+    ) -> Reply
+        ensures { λ r. ⌜ record { reply = r; out = now (out .exit); work = now (work .exit) } ≡ leaves (shows (self .0) levels most (now (out .entry)) (now (work .entry))) (now (image .entry)) ⌝ }
     {
         let v = self.0;
         let mount = v.mount;
         let root = v.root;
-        shows::whole::show(image, mount, root, levels, out, work)
+        shows::whole::show(image, mount, root, levels, most, out, work)
     }
 
     // The bytes of the file at icb, over the front of out.

@@ -17,6 +17,28 @@
 // VAULT_NOT_BLURAY, and leaves `out` and the slots as they came. A call that is done writes the front of `out` and nothing behind it. `work` is
 // all zero on return from every call, refused or not.
 //
+// What bounds the time of each call, whatever the image holds: it is in proportion to what stands beside it. The descriptors of a file stand in its entry and
+// in a chain of at most 32 continuations of 1 MiB, together at most 16,385 sectors. A directory has at most the bytes of `work`, or is refused.
+//
+//     vault_open, vault_label     the main sequence, at most 2,097,151 sectors; once more for each map with VAULT_MAPS
+//     vault_probe                 8 sectors
+//     vault_lookup, vault_failed  for each component of the path a directory's bytes, entry and chain
+//     vault_list                  the directory's bytes, entry and chain
+//     vault_read                  the bytes that are answered, and the file's entry and chain
+//     vault_measure, vault_part   the file's entry and chain: none of its bytes is looked at
+//     vault_extents, vault_runs   the same, and the slots that are written
+//     vault_read_path             the lookup and the read
+//     vault_read_all              the sum of its items
+//     vault_show                  most + 1 times the bytes of `work` and 2,048; one more directory's entry and chain
+//     vault_survey                of each image the opening, the show, and one more file's entry and chain
+//     vault_opening_step          one sector
+//     vault_reading_step          one sector; where the chain or the read ends, the slots of the row
+//     vault_list_bytes            the bytes lent, as of vault_match and vault_next_component
+//     vault_write                 the image that is written, and the names
+//
+// With VAULT_UNLIMITED as `most`, vault_show and vault_survey have no bound but the number of paths, and a disc that was made to do harm may have more of these
+// than could ever be walked.
+//
 // Any volume and any ICB may be handed in, also one made by hand. They are taken as they are: a length of 2^30 is not 0.
 ghost use mathlib.Core.Path.{_≡_};
 ghost use Rattle.layouts.specs.Calls.{wordsOf};
@@ -26,6 +48,7 @@ ghost use Rattle.vault_c.specs.Choosing.{opensAs, labelsAs};
 ghost use Rattle.vault.specs.Calls.{reads, measures, lists, shows, readsPath, readsAll, finds, failsAt, partsAt, extents, runs};
 use directories::lookups::Found;
 use disc::answers::UNSUPPORTED;
+use disc::counts::UNLIMITED;
 use disc::replies::Reply;
 use disc::replies::refusal;
 use listings::matchings::AS_WRITTEN;
@@ -68,16 +91,19 @@ pub const VAULT_MAPS: u32 = MAPS;
 // numbers; with VAULT_MAPS the start of a map's partition is by those of its own number alone, with this choice and without.
 pub const VAULT_HIGHEST: u32 = HIGHEST;
 
+// For `most`: as many sectors as the call wants. It is for an image that is trusted.
+pub const VAULT_UNLIMITED: u64 = UNLIMITED;
+
 // The bytes of a sector, and of a block.
 pub const VAULT_SECTOR_SIZE: usize = 2048;
 
 // Goes up whenever a struct or a call changes.
-pub const VAULT_VERSION: u32 = 11;
+pub const VAULT_VERSION: u32 = 12;
 
 // The VAULT_VERSION of the archive, which is to be that of the header.
 #[no_mangle]
 pub extern "C" fn vault_version() -> u32
-    ensures { λ r. ⌜ r ≡ 11 ⌝ }
+    ensures { λ r. ⌜ r ≡ 12 ⌝ }
 {
     VAULT_VERSION
 }
@@ -171,19 +197,25 @@ pub extern "C" fn vault_list(
 //     the name's length (2 bytes, little-endian)   the name, as UTF-8
 //
 // A directory at the last level, even an empty one, is VAULT_TOO_DEEP at its turn, before it is read, and so is any other number of levels at once. The
-// directories on the way down stand in `work` together, one behind the other: VAULT_NO_WORK counts those above. A directory is shown, and read, once for
-// each path to it, so that the cost goes with the paths. One that holds itself is found at the last level, and is VAULT_TOO_DEEP, or is VAULT_NO_WORK before.
+// directories on the way down stand in `work` together, one behind the other: VAULT_NO_WORK counts those above. One that holds itself is found at the last
+// level, and is VAULT_TOO_DEEP, or is VAULT_NO_WORK before.
+//
+// A directory is shown, and read, once for each path to it: a few directories may have more paths than could ever be walked. So `most` is how many sectors the
+// call may ask for. It is VAULT_OVER_BUDGET in the place of asking for one more, and the count is then `most`; refusals that it meets before stay what they are. A
+// call that asks for no more is the same as with VAULT_UNLIMITED. On a sound disc each sector of a directory is asked for once, so that as many as the image has
+// are enough.
 #[no_mangle]
 pub extern "C" fn vault_show(
     volume: Volume,
     image: &[u8],
     levels: u32,
+    most: u64,
     out: &mut [u8],
     work: &mut [u8],
 ) -> Reply
-    ensures { λ r. ⌜ record { reply = r; out = now (out .exit); work = now (work .exit) } ≡ shows (now (image .entry)) (volume .0) levels (now (out .entry)) (now (work .entry)) ⌝ }
+    ensures { λ r. ⌜ record { reply = r; out = now (out .exit); work = now (work .exit) } ≡ shows (now (image .entry)) (volume .0) levels most (now (out .entry)) (now (work .entry)) ⌝ }
 {
-    volume.show(image, levels, out, work)
+    volume.show(image, levels, most, out, work)
 }
 
 // Reads a file, or a directory's own bytes, to `out`.

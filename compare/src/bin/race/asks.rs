@@ -6,13 +6,18 @@ use crate::memory::{Piece, Side, Store};
 use crate::stage::Raced;
 use common::calls::{Call, Choice, PLACE, Query, Values};
 use common::linked::{self, Lends};
-use strandlodge_sys::vault::{AMBIGUOUS, AS_WRITTEN, BAD_CRC, BAD_SHELF, CASE_IGNORED, NO_SLOT, TOO_DEEP, TOO_MANY, UNAMBIGUOUS};
+use strandlodge_sys::vault::{
+    AMBIGUOUS, AS_WRITTEN, BAD_CRC, BAD_SHELF, CASE_IGNORED, NO_SLOT, OVER_BUDGET, TOO_DEEP, TOO_MANY, UNAMBIGUOUS, UNLIMITED,
+};
 
-/// The table's numbers: up to this one, two more, each by a choice, one of a show, and one of a list of paths.
+/// The table's numbers: up to this one, two more, each by a choice, two of a show, and one of a list of paths.
 const LAST_ANSWER: u64 = NO_SLOT;
 
 /// The choices of matching, by turns along the paths.
 const MATCHINGS: [u32; 3] = [CASE_IGNORED, AS_WRITTEN, UNAMBIGUOUS];
+
+/// The budgets, by turns, of shows and surveys: the trees here take a few sectors.
+const BUDGETS: [u64; 7] = [UNLIMITED, 2, UNLIMITED, 4, 1, 9, 0];
 
 /// More than any answer here has, in bytes and in slots.
 const PLENTY: usize = 1 << 19;
@@ -136,6 +141,7 @@ fn is_listed(q: &Query, answer: u64) -> bool {
         || answer == AMBIGUOUS && q.call.has_path() && q.matching == UNAMBIGUOUS
         || answer == BAD_CRC && q.is_checked()
         || answer == TOO_DEEP && q.call == Call::Show
+        || answer == OVER_BUDGET && q.call == Call::Show && q.most != UNLIMITED
 }
 
 /// The rows of a list: a place for each path as long as there are places, each with an answer of a read by path, no length where it is
@@ -172,6 +178,9 @@ fn in_range(q: &Query, other: &Query, v: &Values, image_length: usize) -> Result
     let by_the_rows = [q, other].map(|q| by_the_rows(q, image_length));
     if !by_the_rows.contains(&Some(v.answer)) && (by_the_rows != [None; 2] || !is_listed(q, v.answer)) {
         return Err(format!("the answer is {}, which isn't in the table", v.answer));
+    }
+    if v.count > q.most || v.answer == OVER_BUDGET && v.count != q.most {
+        return Err(format!("answer {} with a count of {}, of a budget of {}", v.answer, v.count, q.most));
     }
     if v.answer == 0 && q.call.has_room() && v.length > q.room as u64 {
         return Err(format!("done with a length of {}, and room for {}", v.length, q.room));
@@ -286,6 +295,9 @@ fn queries(raced: &Raced, still: &mut impl FnMut(&Query) -> Result<[Values; 2], 
     for (i, q) in queries.iter_mut().filter(|q| q.call.has_path()).enumerate() {
         q.matching = MATCHINGS[i % MATCHINGS.len()];
     }
+    for (i, q) in queries.iter_mut().filter(|q| matches!(q.call, Call::Show | Call::Survey)).enumerate() {
+        q.most = BUDGETS[i % BUDGETS.len()];
+    }
     // All of it again with bodies checked, and through maps, but for the call that has no such choices.
     let checked: Vec<Query> = queries.iter().map(Query::checked).filter(Query::is_checked).collect();
     let mapped: Vec<Query> = queries.iter().map(Query::mapped).filter(Query::is_mapped).collect();
@@ -334,11 +346,16 @@ fn distinct(mut numbers: Vec<usize>) -> Vec<usize> {
     numbers
 }
 
+fn lent(q: &Query) -> String {
+    if q.most == UNLIMITED { String::new() } else { format!(", lent {} sectors", q.most) }
+}
+
 fn words(raced: &Raced, q: &Query) -> String {
     let what = match q.call {
         call if call.has_path() => format!(" along \"{}\", {}", q.path.escape_ascii(), Choice::of(q.matching).name()),
-        Call::Probe | Call::Open | Call::Label | Call::Survey | Call::Total => String::new(),
-        Call::Show => format!(" of {} levels", q.levels),
+        Call::Probe | Call::Open | Call::Label | Call::Total => String::new(),
+        Call::Survey => lent(q),
+        Call::Show => format!(" of {} levels{}", q.levels, lent(q)),
         _ => format!(" of block {}", q.icb.block),
     };
     let room = if q.call.has_room() { format!(", room {}", q.room) } else { String::new() };

@@ -1,6 +1,7 @@
 //! What the command line asks for.
 
 use crate::failure::Failure;
+use crate::limit::Limit;
 use crate::names::{self, shown};
 use crate::runs::Span;
 use crate::style::Style;
@@ -25,6 +26,7 @@ pub enum Command {
     },
     Survey {
         images: Vec<OsString>,
+        limit: Limit,
     },
     Ask {
         image: OsString,
@@ -40,7 +42,8 @@ impl Command {
 
     /// It can be answered a sector at a time.
     fn can_drive(&self) -> bool {
-        let whole = |question: &Question| matches!(question, Question::GetAll { .. } | Question::Probe | Question::Check | Question::Info);
+        let whole =
+            |question: &Question| matches!(question, Question::GetAll { .. } | Question::Probe | Question::Check { .. } | Question::Info);
         matches!(self, Command::Ask { question, .. } if !whole(question))
     }
 }
@@ -73,14 +76,16 @@ pub enum Question {
     GetTree {
         paths: Vec<Vec<u8>>,
         folder: OsString,
-        limit: u64,
+        limit: Limit,
     },
     Stat {
         wanted: Wanted,
     },
     Descriptors,
     Probe,
-    Check,
+    Check {
+        limit: Limit,
+    },
 }
 
 #[derive(Debug, PartialEq, Eq)]
@@ -107,8 +112,12 @@ pub struct Args {
 const PATHS: &[&str] = &["ls", "tree", "cat", "get", "stat"];
 const FOR_PATHS: &str = "--as-written and --unambiguous are for a PATH: that of ls, tree, cat, get or stat";
 
+/// The commands that walk a disc.
+const WALKS: &[&str] = &["tree", "ls", "get", "check", "survey"];
+const FOR_WALKS: &str = "--limit and --no-limit are for tree, ls -R, get -r, check and survey";
+
 /// Options that aren't for every command, those that they are for, and what is said else.
-const OPTIONS: [(&str, &[&str], &str); 18] = [
+const OPTIONS: [(&str, &[&str], &str); 19] = [
     ("--as-written", PATHS, FOR_PATHS),
     ("--unambiguous", PATHS, FOR_PATHS),
     ("--raw", PATHS, "--raw is for a PATH: that of ls, tree, cat, get or stat"),
@@ -121,7 +130,8 @@ const OPTIONS: [(&str, &[&str], &str); 18] = [
     ("-l", &["ls"], "-l is for ls"),
     ("--json", &["ls", "tree", "stat", "info", "check", "survey"], "--json is for ls, tree, stat, info, check and survey"),
     ("--levels", &["tree", "ls"], "--levels is for tree and ls -R"),
-    ("--limit", &["tree", "ls", "get"], "--limit is for tree, ls -R and get -r"),
+    ("--limit", WALKS, FOR_WALKS),
+    ("--no-limit", WALKS, FOR_WALKS),
     ("--wait", &["cat", "get"], FOR_ONE_FILE),
     ("--from", &["cat", "get"], FOR_A_PART),
     ("--bytes", &["cat", "get"], FOR_A_PART),
@@ -174,7 +184,7 @@ impl Options {
             b"--levels" => {
                 self.levels = Some(number(rest.next(), "--levels needs a number, 1 to 16", Bounds::MOST_LEVELS as u64)? as usize)
             }
-            b"--limit" => self.limit = Some(number(rest.next(), "--limit needs a number, of 1 or more", u64::MAX)?),
+            b"--limit" => self.limit = Some(number(rest.next(), "--limit needs N, a number of sectors, of 1 or more", u64::MAX)?),
             b"--wait" => self.wait = Some(seconds(rest.next())?),
             b"--from" => self.span.from = bytes(rest.next(), "--from needs N, the number of a byte: 0 is the first")?,
             b"--bytes" => self.span.bytes = Some(bytes(rest.next(), "--bytes needs N, a number of bytes")?),
@@ -193,8 +203,11 @@ impl Options {
             }
         }
         let deep = name.is_some_and(|name| name == "tree") || self.has("-R") || self.has("-r");
-        if (self.levels.is_some() || self.limit.is_some()) && !deep {
-            return Err(Failure::usage("--levels and --limit are for tree and ls -R, and --limit for get -r"));
+        if self.levels.is_some() && !deep {
+            return Err(Failure::usage("--levels is for tree and ls -R"));
+        }
+        if self.limit()? != Limit::Usual && !deep && name.is_some_and(|name| name == "ls" || name == "get") {
+            return Err(Failure::usage(FOR_WALKS));
         }
         if self.has("-r") && (self.levels.is_some() || self.folder.is_none()) {
             return Err(Failure::usage("get -r needs -o TO, a folder, and takes no --levels"));
@@ -208,9 +221,17 @@ impl Options {
         Ok(())
     }
 
-    fn bounds(&self) -> Bounds {
-        let usual = Bounds::default();
-        Bounds { levels: self.levels.unwrap_or(usual.levels), entries: self.limit.unwrap_or(usual.entries) }
+    fn limit(&self) -> Result<Limit, Failure> {
+        match (self.limit, self.has("--no-limit")) {
+            (None, false) => Ok(Limit::Usual),
+            (Some(most), false) => Ok(Limit::Most(most)),
+            (None, true) => Ok(Limit::None),
+            (Some(_), true) => Err(Failure::usage("--limit and --no-limit are two choices, of which one can be taken")),
+        }
+    }
+
+    fn bounds(&self) -> Result<Bounds, Failure> {
+        Ok(Bounds { levels: self.levels.unwrap_or(Bounds::MOST_LEVELS), limit: self.limit()? })
     }
 
     fn matching(&self) -> Result<Matching, Failure> {
@@ -323,7 +344,10 @@ fn command(words: Vec<OsString>, options: &Options) -> Result<Command, Failure> 
     let command = match name.as_bytes() {
         b"sample" => Command::Sample { file: take(&mut words, &name, "FILE")? },
         b"make" => Command::Make { image: take(&mut words, &name, "IMAGE")?, files: words.by_ref().collect() },
-        b"survey" => Command::Survey { images: [take(&mut words, &name, "IMAGE")?].into_iter().chain(words.by_ref()).collect() },
+        b"survey" => {
+            let first = take(&mut words, &name, "IMAGE")?;
+            Command::Survey { images: [first].into_iter().chain(words.by_ref()).collect(), limit: options.limit()? }
+        }
         b"label" | b"info" | b"ls" | b"tree" | b"cat" | b"get" | b"stat" | b"probe" | b"check" => {
             let image = take(&mut words, &name, "IMAGE")?;
             Command::Ask { image, question: question(&name, &mut words, options)? }
@@ -342,10 +366,10 @@ fn question(name: &OsStr, words: &mut impl Iterator<Item = OsString>, options: &
         b"label" => Question::Label,
         b"info" => Question::Info,
         b"probe" => Question::Probe,
-        b"check" => Question::Check,
+        b"check" => Question::Check { limit: options.limit()? },
         b"tree" | b"ls" if name == "tree" || options.has("-R") => {
             let (wanted, form) = (options.wanted(words)?.unwrap_or_else(root), if name == "tree" { Form::Drawn } else { Form::Paths });
-            Question::Tree { wanted, form, bounds: options.bounds() }
+            Question::Tree { wanted, form, bounds: options.bounds()? }
         }
         b"ls" => Question::Ls { wanted: options.wanted(words)?.unwrap_or_else(root) },
         b"stat" => options.wanted(words)?.map_or(Question::Descriptors, |wanted| Question::Stat { wanted }),
@@ -362,13 +386,10 @@ fn many(name: &OsStr, words: &mut impl Iterator<Item = OsString>, options: &Opti
     let (folder, paths) =
         (options.folder.clone().unwrap_or_default(), words.map(|word| options.path(word)).collect::<Result<Vec<_>, _>>()?);
     if options.has("-r") {
-        return Ok(Question::GetTree { paths, folder, limit: options.limit.unwrap_or(MOST_TAKEN) });
+        return Ok(Question::GetTree { paths, folder, limit: options.limit()? });
     }
     if paths.is_empty() { Err(needs(name, "PATH")) } else { Ok(Question::GetAll { paths, folder }) }
 }
-
-/// So many entries are taken by `get -r` where nothing else is said: a disc that was made to do harm may have more than can be written.
-const MOST_TAKEN: u64 = 1_000_000;
 
 fn needs(name: &OsStr, what: &str) -> Failure {
     Failure::usage(format!("{} needs {what}", name.display()))
@@ -442,11 +463,21 @@ mod tests {
 
     #[test]
     fn a_survey_is_of_any_number_of_images() {
-        for (line, images) in
-            [("survey a", &["a"][..]), ("survey a b --json", &["a", "b"]), ("--maps survey a -- --copy", &["a", "--copy"])]
-        {
+        for (line, images, limit) in [
+            ("survey a", &["a"][..], Limit::Usual),
+            ("survey a b --json --limit 7", &["a", "b"], Limit::Most(7)),
+            ("--maps survey --no-limit a -- --copy", &["a", "--copy"], Limit::None),
+        ] {
             let images = images.iter().map(OsString::from).collect();
-            assert_eq!(parsed(line).unwrap().command, Command::Survey { images }, "{line}");
+            assert_eq!(parsed(line).unwrap().command, Command::Survey { images, limit }, "{line}");
+        }
+    }
+
+    #[test]
+    fn a_check_has_a_limit() {
+        for (line, limit) in [("check a", Limit::Usual), ("check a --limit 1", Limit::Most(1)), ("--no-limit check a", Limit::None)] {
+            let question = Question::Check { limit };
+            assert_eq!(parsed(line).unwrap().command, Command::Ask { image: "a".into(), question }, "{line}");
         }
     }
 
@@ -487,8 +518,9 @@ mod tests {
             ("tree a", "", Form::Drawn, usual),
             ("ls -R a", "", Form::Paths, usual),
             ("tree a b --levels 1", "b", Form::Drawn, Bounds { levels: 1, ..usual }),
-            ("--limit 7 ls a b -R", "b", Form::Paths, Bounds { entries: 7, ..usual }),
-            ("tree --levels 16 --limit 18446744073709551615 a", "", Form::Drawn, Bounds { levels: 16, entries: u64::MAX }),
+            ("--limit 7 ls a b -R", "b", Form::Paths, Bounds { limit: Limit::Most(7), ..usual }),
+            ("tree a --no-limit --levels 2", "", Form::Drawn, Bounds { levels: 2, limit: Limit::None }),
+            ("tree --levels 16 --limit 18446744073709551615 a", "", Form::Drawn, Bounds { levels: 16, limit: Limit::Most(u64::MAX) }),
         ] {
             let question = Question::Tree { wanted: Wanted::Path(path.into()), form, bounds };
             assert_eq!(parsed(line).unwrap().command, Command::Ask { image: "a".into(), question }, "{line}");
@@ -521,9 +553,9 @@ mod tests {
     #[test]
     fn all_of_a_disc_goes_to_a_folder() {
         for (line, paths, limit) in [
-            ("get -r a -o d", &[][..], MOST_TAKEN),
-            ("get a -o d -r b c --limit 7", &["b", "c"], 7),
-            ("get a -o d -r --drive", &[], MOST_TAKEN),
+            ("get -r a -o d", &[][..], Limit::Usual),
+            ("get a -o d -r b c --limit 7", &["b", "c"], Limit::Most(7)),
+            ("get a -o d -r --drive --no-limit", &[], Limit::None),
         ] {
             let paths = paths.iter().map(|path| path.as_bytes().to_vec()).collect();
             let question = Question::GetTree { paths, folder: "d".into(), limit };
@@ -609,6 +641,16 @@ mod tests {
             "ls a --limit 1",
             "cat a b -R",
             "stat a --limit 1",
+            "ls a --no-limit",
+            "get a b c --no-limit",
+            "cat a b --limit 1",
+            "check a --limit 0",
+            "check a --levels 2",
+            "survey a --limit",
+            "survey a --limit x",
+            "survey a --limit 7 --no-limit",
+            "tree a --no-limit --limit 7",
+            "--no-limit",
             "-R",
             "cat a",
             "get a b",

@@ -1,11 +1,12 @@
 //! Whether each descriptor of a disc is in place, and has the body that its tag has the CRC of.
 
+use crate::commands::Manner;
 use crate::disc::Disc;
 use crate::failure::Failure;
+use crate::limit::Limit;
 use crate::log::Log;
 use crate::records;
 use crate::report::{Place, Report};
-use crate::style::Style;
 use crate::walk::{Walk, sector};
 use std::io::Write;
 use strandlodge::{How, Kind, LbAddr, Matching, volume_descriptors};
@@ -14,15 +15,15 @@ const ANCHOR: u64 = 256;
 const SECTOR: u32 = 2048;
 const TERMINATOR: u16 = 8;
 
-pub fn check(image: &[u8], how: How, name: &str, style: Style, out: &mut impl Write, log: &mut Log) -> Result<(), Failure> {
-    let mut report = Report::new(out, style);
+pub fn check(image: &[u8], manner: Manner, limit: Limit, name: &str, out: &mut impl Write, log: &mut Log) -> Result<(), Failure> {
+    let (how, mut report, most) = (manner.how, Report::new(out, manner.style), limit.of(image.len() as u64));
     volume(image, &mut report)?;
     let vault = Disc::open(image, how, name, Matching::default(), log)?.volume;
-    let mut walk = Walk::new(image, vault, &mut report);
+    let mut walk = Walk::new(image, vault, most.saturating_sub(log.total()), &mut report);
     walk.file_set(file_set(image, how))?;
-    walk.root()?;
+    let is_whole = walk.root()?;
     log.sums(walk.sectors);
-    report.end(name)
+    report.end(name, if is_whole { None } else { Some(most) })
 }
 
 /// The anchor and the main sequence, to its end or its terminator, whose id alone counts: the sectors that opening asks for. What can't be

@@ -54,7 +54,7 @@ pub fn ask(question: &Question, manner: Manner, image: &[u8], name: &OsStr, out:
             map_table(image, how).iter().flat_map(maps::lines).try_for_each(|text| line(out, &text))?;
             volume(&mut open(log)?, out)
         }
-        Question::Check => check::check(image, how, name, style, out, log),
+        Question::Check { limit } => check::check(image, manner, *limit, name, out, log),
         Question::Cat { wanted } => {
             let runs = find(&mut open(log)?, wanted, span)?;
             runs::print(runs, out)

@@ -1,7 +1,7 @@
 //! An opened disc, and what a path on it gives.
 
 use crate::failure::{Failure, NO_IMAGE, USAGE};
-use crate::log::Log;
+use crate::log::{self, Log};
 use crate::map::copied;
 use crate::maps;
 use crate::names::shown;
@@ -37,6 +37,8 @@ pub trait Volume {
     /// How many bytes a read gives, and in how many extents they stand; none on a drive, of which no call tells.
     fn measure(&self, icb: LongAd) -> Option<strandlodge::Answered<u64>>;
     fn extent_count(&self, icb: LongAd) -> Option<strandlodge::Answered<u64>>;
+    /// The sectors that a copy of a file asks for; on a drive, as its entry says how long it is.
+    fn reads(&mut self, icb: LongAd) -> u64;
     /// Of the last call, which sector couldn't be had, where more is known of it than that it isn't there.
     fn missed(&self) -> Option<String>;
     /// Where the last call was refused, and why.
@@ -88,6 +90,14 @@ impl Volume for Counted<'_> {
 
     fn extent_count(&self, icb: LongAd) -> Option<strandlodge::Answered<u64>> {
         Some(self.extents(icb).map(|extents| extents.map(|extents| extents.len() as u64)))
+    }
+
+    /// One that is too long isn't copied.
+    fn reads(&mut self, icb: LongAd) -> u64 {
+        match runs::wanted(self, icb, Span::default()) {
+            Err(refused) if refused.why == Refusal::NoRoom => 0,
+            answer => log::sectors(&answer),
+        }
     }
 
     fn missed(&self) -> Option<String> {
@@ -145,6 +155,10 @@ impl Volume for CountedDrive<File> {
         None
     }
 
+    fn reads(&mut self, icb: LongAd) -> u64 {
+        self.entry(icb).map_or(1, |entry| 1 + entry.information_length.div_ceil(SECTOR_SIZE))
+    }
+
     fn missed(&self) -> Option<String> {
         CountedDrive::missed(self).map(ToString::to_string)
     }
@@ -178,6 +192,8 @@ pub struct Disc<'l, V> {
     pub log: &'l mut Log,
     pub name: &'l str,
     pub matching: Matching,
+    /// How long the image or the drive is.
+    pub bytes: u64,
 }
 
 /// What a path gives.
@@ -191,7 +207,7 @@ pub struct Found {
 impl<'a, 'l> Disc<'l, Counted<'a>> {
     pub fn open(image: &'a [u8], how: How, name: &'l str, matching: Matching, log: &'l mut Log) -> Result<Self, Failure> {
         let volume = log.count("open", Counted::open_as(image, how)).map_err(|refused| maps::refused(image, how, name, refused))?;
-        Ok(Disc { volume, log, name, matching })
+        Ok(Disc { volume, log, name, matching, bytes: image.len() as u64 })
     }
 
     /// The volume's name. Opening is gone over again for it.

@@ -46,7 +46,7 @@ pub fn ask(question: &Question, manner: Manner, name: &OsStr, out: &mut impl Wri
             target.fill(write)
         }
         Question::GetTree { paths, folder, limit } => folder::get(&mut disc, paths, Path::new(folder), *limit, name, out),
-        Question::GetAll { .. } | Question::Probe | Question::Check | Question::Info => {
+        Question::GetAll { .. } | Question::Probe | Question::Check { .. } | Question::Info => {
             Err(Failure::usage("--drive isn't for this command"))
         }
     }
@@ -63,7 +63,8 @@ fn open<'l>(name: &OsStr, shown: &'l str, matching: Matching, log: &'l mut Log) 
         Some(failed) => unopened(name, shown, failed),
         None => Failure::refused(shown, refused),
     })?;
-    Ok(Disc { volume, log, name: shown, matching })
+    let bytes = image::length(name).map_or(0, |length| length as u64);
+    Ok(Disc { volume, log, name: shown, matching, bytes })
 }
 
 /// Why a disc wasn't opened: which sector can't be had, or what there is in the last one.

@@ -14,7 +14,7 @@ pub const WRONG: u8 = 65;
 pub const NO_IMAGE: u8 = 66;
 /// Something that `check` couldn't read, or files that `get` couldn't have.
 pub const UNREAD: u8 = 67;
-/// More entries than are to be shown.
+/// More sectors than were lent, or more entries than can be kept.
 pub const STOPPED: u8 = 68;
 /// An answer number that isn't known.
 pub const UNKNOWN: u8 = 70;

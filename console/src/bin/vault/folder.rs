@@ -10,6 +10,7 @@ use crate::disc::{Disc, Volume};
 use crate::drive::{Drawn, copy};
 use crate::failure::{Failure, NO_OUTPUT, STOPPED, UNREAD};
 use crate::file::{Target, apart};
+use crate::limit::{self, Limit};
 use crate::many::{Missed, Written};
 use crate::names::{is_tricky, shown};
 use crate::records::FileEntry;
@@ -47,7 +48,10 @@ struct Plan {
     bytes: usize,
     /// The sectors of the directories that were come to: without maps several references lead to one.
     taken: HashSet<u64>,
-    limit: u64,
+    /// The sectors that copying the files will ask for, with one for each directory that is named; and how many there may be together with those that
+    /// were asked for.
+    reads: u64,
+    most: u64,
     missed: Missed,
     count: Count,
 }
@@ -57,12 +61,12 @@ pub fn get<V: Volume>(
     disc: &mut Disc<V>,
     paths: &[Vec<u8>],
     folder: &Path,
-    limit: u64,
+    limit: Limit,
     image: &OsStr,
     out: &mut impl Write,
 ) -> Result<(), Failure> {
-    let (taken, missed) = (HashSet::new(), Missed::default());
-    let mut plan = Plan { items: Vec::new(), bytes: 0, taken, limit, missed, count: Count::new("entries") };
+    let (taken, missed, most) = (HashSet::new(), Missed::default(), limit.of(disc.bytes));
+    let mut plan = Plan { items: Vec::new(), bytes: 0, taken, reads: 0, most, missed, count: Count::new("entries") };
     let mut names = Names::default();
     if paths.is_empty() {
         let root = disc.volume.root_directory_icb();
@@ -88,6 +92,11 @@ pub fn get<V: Volume>(
 }
 
 impl Plan {
+    /// Fails where too much was asked for, or will be.
+    fn see<V: Volume>(&self, disc: &Disc<V>) -> Result<(), Failure> {
+        limit::see(disc.name, self.most, disc.log.total().saturating_add(self.reads), "; nothing is written")
+    }
+
     /// Notes an entry, and what stands below it.
     fn add<V: Volume>(&mut self, disc: &mut Disc<V>, path: Vec<u8>, entry: &DirEntry, to: PathBuf) -> Result<(), Failure> {
         let first = self.items.len();
@@ -104,7 +113,10 @@ impl Plan {
         self.taken.extend(disc.volume.icb_sector(icb));
         let mut pending = vec![(path, icb, to)];
         while let Some((path, icb, to)) = pending.pop() {
-            match disc.volume.read_directory(icb) {
+            let listed = disc.volume.read_directory(icb);
+            let listed = disc.log.add("read_directory", listed);
+            self.see(disc)?;
+            match listed {
                 // The last one pushed is the next one looked at.
                 Ok(entries) => pending.extend(self.entries(disc, &path, &entries, &to)?.into_iter().rev()),
                 Err(refused) => self.missed.tell(disc.refused(&path, Asked::ReadDirectory(icb), refused), disc),
@@ -132,16 +144,13 @@ impl Plan {
     /// Notes an entry, unless it is a directory that was come to already, or stands too deep.
     fn note<V: Volume>(&mut self, disc: &mut Disc<V>, path: Vec<u8>, entry: &DirEntry, to: PathBuf) -> Result<(), Failure> {
         self.bytes = self.bytes.saturating_add(path.len()).saturating_add(to.as_os_str().len());
-        let why = match self.items.len() as u64 {
-            n if n == self.limit => Some(format!("stopped behind {n} entries, and there are more: --limit N takes N")),
-            _ if self.bytes > MOST_BYTES => {
-                Some(format!("the paths of all entries have more than {MOST_BYTES} bytes: take a folder at a time"))
-            }
-            _ => None,
-        };
-        if let Some(why) = why {
-            return Err(Failure::new(STOPPED, format!("{}: {why}; nothing is written", disc.name)));
+        if self.bytes > MOST_BYTES {
+            let why = format!("the paths of all entries have more than {MOST_BYTES} bytes: take a folder at a time; nothing is written");
+            return Err(Failure::new(STOPPED, format!("{}: {why}", disc.name)));
         }
+        // A directory that is named again asks for nothing, and is told of.
+        self.reads = self.reads.saturating_add(if entry.is_directory { 1 } else { disc.volume.reads(entry.icb) });
+        self.see(disc)?;
         let about = |says: &str| format!("{}: {} {says}", disc.name, quoted(&path));
         if to.as_os_str().len() > DEEPEST {
             let says = about("stands too deep to be written");

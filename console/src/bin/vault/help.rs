@@ -20,14 +20,14 @@ vault: look into a UDF disc. An image is a file or a drive, and is only read.
   vault survey IMAGE..         files, bytes, extents and refusals, in figures
   vault make IMAGE FILE..      writes a vault of up to 64 files, by their names
   vault sample FILE            writes a sample show; vault alone gives a tour
-  --as-written    take a name on PATH byte for byte; else ASCII case is ignored
-  --unambiguous   refuse a name that several entries match; else take the first
+  --as-written, --unambiguous   how names match; else in any case, the first
   --icb BLOCK[:REF]      what stands there, in place of PATH: ls -i shows it
   --checked, --highest, --maps   how the disc is opened; else as the original
   --copy, --drive   read to memory first, or a sector at a time; else mapped
+  --limit N, --no-limit  of ls -R, tree, get -r, check, survey: sectors to want
   --json, --sectors      for other programs; the sectors that each call wanted
 vault COMMAND --help has the rest of a command, and vault --version what it is.
-Status: 0 done, 1 to 15 refused by that number, 64 wrong usage, 65 wrong, or a
+Status: 0 done, 1 to 16 refused by that number, 64 wrong usage, 65 wrong, or a
 no, 66 no image, 67 not all read, 68 limit, 70 unknown, 74 no output.
 ";
 
@@ -66,7 +66,7 @@ const COMMANDS: [(&str, &str, [bool; 3]); 13] = [
     (
         "ls",
         "vault ls IMAGE [PATH]\nPrints what a directory holds, a line to an entry, with a slash behind one that\n\
-         is a directory.\n  -R         all below it too, by paths: --levels N (16), --limit N (100000)\n\
+         is a directory.\n  -R         all below it too, by paths; with --levels and --limit as of tree\n\
          \x20 -i, -l     with the ICB of each, BLOCK:REF; with length, bytes read, extents\n\
          \x20 -0         as they are recorded, with a zero byte behind each\n  --json     as one document\n",
         [true, true, true],
@@ -74,7 +74,9 @@ const COMMANDS: [(&str, &str, [bool; 3]); 13] = [
     (
         "tree",
         "vault tree IMAGE [PATH]\nDraws all that stands below a directory.\n\
-         \x20 --levels N, --limit N   down N levels, 1 to 16 (16); N entries (100000)\n  --json     as one document\n",
+         \x20 --levels N   down N levels, 1 to 16 (16)\n\
+         \x20 --limit N    N sectors at most, with one for each entry that is shown; else\n\
+         \x20              500000, and 4 for each sector of the image. --no-limit: any\n  --json     as one document\n",
         [true, true, true],
     ),
     (
@@ -100,14 +102,19 @@ const COMMANDS: [(&str, &str, [bool; 3]); 13] = [
     (
         "check",
         "vault check IMAGE\nPrints each descriptor that isn't where its tag says, or whose body isn't the\n\
-         one that its tag has the CRC of, and what can't be read: status 65, 67.\n  --json     as one document\n",
+         one that its tag has the CRC of, and what can't be read: status 65, 67.\n\
+         \x20 --limit N  N sectors at most; else 500000, and 4 for each sector of the image\n\
+         \x20 --no-limit any number\n  --json     as one document\n",
         [false, true, false],
     ),
     (
         "survey",
         "vault survey IMAGE..\nPrints a line of figures for each image, and one for all: files, directories,\n\
          bytes, extents, sectors that reading each file takes, the longest chain, and\n\
-         files that can't be read, as NUMBER:FILES; of an image that can't, why.\n  --json     as one document\n",
+         files that can't be read, as NUMBER:FILES; of an image that can't, why.\n\
+         \x20 --limit N  N sectors of each image at most; else 500000, and 4 for each that\n\
+         \x20            it has. One that wants more is refused by 16, and the rest goes on\n\
+         \x20 --no-limit any number\n  --json     as one document\n",
         [false, true, false],
     ),
     (
@@ -126,7 +133,7 @@ vault get IMAGE -o TO PATH..     each to its own name in TO, a folder
 vault get -r IMAGE -o TO [PATH..]  all below each PATH, or all of the disc
   --from N, --bytes N  of one file: from byte N on, the first is 0; N at most
   --wait N   of one file: up to N seconds for an image copied front to back
-  --limit N  of -r: so many entries at most (1000000)
+  --limit N, --no-limit  of -r: sectors to want (500000, and 4 for each it has)
 An old FILE keeps its mode; -r follows no link. /dev/stdout is written to.
 ";
 

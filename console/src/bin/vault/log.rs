@@ -7,19 +7,21 @@ use strandlodge::{Answered, Refused};
 #[derive(Default)]
 pub struct Log {
     calls: Vec<(&'static str, u64)>,
+    total: u64,
     pub remarks: Vec<String>,
 }
 
 impl Log {
     /// Notes a call's count, refused or not, and gives its value.
     pub fn count<T>(&mut self, call: &'static str, answer: Answered<T>) -> std::result::Result<T, Refused> {
-        self.calls.push((call, answer.as_ref().map_or_else(|refused| refused.sectors, |answer| answer.sectors)));
+        self.sums([(call, sectors(&answer))]);
         answer.map(|answer| answer.value)
     }
 
     /// Adds a call's count to those of the same call before it, refused or not, and gives its value.
     pub fn add<T>(&mut self, call: &'static str, answer: Answered<T>) -> std::result::Result<T, Refused> {
-        let sectors = answer.as_ref().map_or_else(|refused| refused.sectors, |answer| answer.sectors);
+        let sectors = sectors(&answer);
+        self.total = self.total.saturating_add(sectors);
         match self.calls.iter_mut().find(|(name, _)| *name == call) {
             Some((_, sum)) => *sum = sum.saturating_add(sectors),
             None => self.calls.push((call, sectors)),
@@ -29,7 +31,15 @@ impl Log {
 
     /// Notes calls that were made many times, each with its counts added up.
     pub fn sums(&mut self, calls: impl IntoIterator<Item = (&'static str, u64)>) {
-        self.calls.extend(calls);
+        for one in calls {
+            self.total = self.total.saturating_add(one.1);
+            self.calls.push(one);
+        }
+    }
+
+    /// All sectors that were asked for so far.
+    pub fn total(&self) -> u64 {
+        self.total
     }
 
     /// Each call in turn, with its count. The probe has none.
@@ -48,6 +58,11 @@ impl Log {
         let one = |(call, count): &(&'static str, u64)| Json::Object(vec![("call", Json::text(*call)), ("sectors", Json::number(*count))]);
         Json::List(self.calls.iter().map(one).collect())
     }
+}
+
+/// The count of a call, refused or not.
+pub fn sectors<T>(answer: &Answered<T>) -> u64 {
+    answer.as_ref().map_or_else(|refused| refused.sectors, |answer| answer.sectors)
 }
 
 /// A line on standard error. Where that is closed there is nobody to tell.

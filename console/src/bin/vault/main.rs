@@ -13,6 +13,7 @@ mod help;
 mod image;
 mod info;
 mod json;
+mod limit;
 mod log;
 mod make;
 mod many;
@@ -70,7 +71,9 @@ fn answer(args: &Args, out: &mut impl Write, log: &mut Log) -> Result<(), Failur
         Command::Tour => tour::give(out),
         Command::Sample { file } => file::Target::at(file)?.write(&tour::sample()?),
         Command::Make { image, files } => make::make(image, files, out),
-        Command::Survey { images } => survey::survey(images, Taken { how: args.how, copied: args.copy }, args.style.is_json, out, log),
+        Command::Survey { images, limit } => {
+            survey::survey(images, Taken { how: args.how, copied: args.copy, limit: *limit }, args.style.is_json, out, log)
+        }
         Command::Ask { image, question } => {
             if let Question::Get { file, .. } = question {
                 file::apart(image, file)?;

@@ -1,8 +1,9 @@
 //! What `check` prints: a line for each descriptor that isn't in place, for each that has a wrong body, and for each thing that can't be read.
 
 use crate::bar::Word;
-use crate::failure::{Failure, UNREAD, WRONG};
+use crate::failure::{Failure, STOPPED, UNREAD, WRONG};
 use crate::json::Json;
+use crate::limit;
 use crate::records::{Tag, crc, has_right_body, is_in_place};
 use crate::style::Style;
 use std::fmt;
@@ -105,8 +106,8 @@ impl<'o, W: Write> Report<'o, W> {
         writeln!(self.out, "{text}").map_err(Failure::output)
     }
 
-    /// All that was found, where it is printed as a document.
-    fn document(&mut self) -> Result<(), Failure> {
+    /// All that was found, where it is printed as a document, and at which limit it ends.
+    fn document(&mut self, stopped: Option<u64>) -> Result<(), Failure> {
         let Some(findings) = self.findings.take() else {
             return Ok(());
         };
@@ -116,18 +117,23 @@ impl<'o, W: Write> Report<'o, W> {
             ("misplaced", Json::number(self.misplaced)),
             ("ruined", Json::number(self.ruined)),
             ("unread", Json::number(self.unread)),
+            ("stopped", Json::maybe(stopped, Json::number)),
             ("findings", Json::List(findings)),
         ])
         .print(self.out)
     }
 
-    /// The last line, or how the command fails.
-    pub fn end(mut self, name: &str) -> Result<(), Failure> {
+    /// The last line, or how the command fails; `stopped` is the limit, where not all was looked at.
+    pub fn end(mut self, name: &str, stopped: Option<u64>) -> Result<(), Failure> {
         let Report { descriptors, misplaced, ruined, unread, .. } = self;
         let wrong = format!("not in place: {misplaced}, with a wrong body: {ruined}; places that can't be read: {unread}");
-        let says = || format!("{name}: descriptors: {descriptors}, {wrong}");
+        let found = format!("descriptors: {descriptors}, {wrong}");
+        let says = || format!("{name}: {found}");
         let is_document = self.findings.is_some();
-        self.document()?;
+        self.document(stopped)?;
+        if let Some(most) = stopped {
+            return Err(Failure::new(STOPPED, limit::stopped(name, most, &format!("; so far: {found}"))));
+        }
         match (misplaced + ruined, unread) {
             (0, 0) if is_document => Ok(()),
             (0, 0) => self.line("sound", format!("{descriptors} descriptors, each in place and with a right body")),

@@ -9,26 +9,30 @@ use crate::disc::Disc;
 use crate::failure::{Failure, UNREAD};
 use crate::image::Image;
 use crate::json::Json;
+use crate::limit::{self, Limit};
 use crate::log::Log;
 use crate::names::shown;
 use std::ffi::{OsStr, OsString};
 use std::io::{self, IsTerminal, Write};
 use std::os::unix::ffi::OsStrExt;
-use strandlodge::{Asked, Figure, Figures, How, Matching, Refused, survey_image, survey_total};
+use strandlodge::{Asked, Figure, Figures, How, Matching, Refusal, Refused, UNLIMITED, survey_image, survey_total};
 
 /// The levels of a survey's tree.
 const LEVELS: u32 = 16;
 
-/// How the images are opened: as it is chosen, and mapped or copied.
+/// How the images are opened: as it is chosen, and mapped or copied; and how many sectors each is lent.
 #[derive(Clone, Copy)]
 pub struct Taken {
     pub how: How,
     pub copied: bool,
+    pub limit: Limit,
 }
 
 /// An image: its figures, or where there are none, why it couldn't be looked at. What is said is one sentence.
 struct Surveyed {
     name: String,
+    /// The sectors that it was lent.
+    most: u64,
     figures: Option<Figures>,
     says: Option<String>,
 }
@@ -76,16 +80,21 @@ fn surveyed(name: &OsStr, taken: Taken) -> Surveyed {
     let text = shown(name.as_bytes());
     match Image::open(name, taken.copied) {
         Ok(image) => {
-            let figures = survey_image(&image, taken.how);
-            let says = figures.refusal().and_then(|why| why_not(&image, taken.how, &text, Refused { why, sectors: 0 }).says);
-            Surveyed { name: text, figures: Some(figures), says }
+            let most = taken.limit.of(image.len() as u64);
+            let figures = survey_image(&image, taken.how, most);
+            let says = figures.refusal().and_then(|why| match why {
+                Refusal::OverBudget => Some(limit::stopped(&text, most, &format!(" (refusal {})", why.number()))),
+                why => why_not(&image, taken.how, &text, why).says,
+            });
+            Surveyed { name: text, most, figures: Some(figures), says }
         }
-        Err(failure) => Surveyed { name: text, figures: None, says: failure.says },
+        Err(failure) => Surveyed { name: text, most: taken.limit.of(0), figures: None, says: failure.says },
     }
 }
 
 /// Why an image wasn't surveyed: its opening is gone over again, and then its tree.
-fn why_not(image: &[u8], how: How, name: &str, refused: Refused) -> Failure {
+fn why_not(image: &[u8], how: How, name: &str, why: Refusal) -> Failure {
+    let refused = Refused { why, sectors: 0 };
     match Disc::open(image, how, name, Matching::default(), &mut Log::default()) {
         Ok(disc) => Failure::diagnosed(name, &disc.volume.diagnose(Asked::Show(LEVELS), &refused)),
         Err(failure) => failure,
@@ -116,6 +125,7 @@ impl Surveyed {
             ("image", Json::text(&self.name)),
             ("answer", Json::maybe(self.figures.as_ref().map(answer), Json::number)),
             ("says", Json::maybe(self.says.as_ref(), Json::text)),
+            ("limit", Json::maybe((self.most != UNLIMITED).then_some(self.most), Json::number)),
         ];
         // What couldn't be looked at has none.
         all.extend(self.figures.iter().flat_map(figures_json));

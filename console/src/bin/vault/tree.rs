@@ -7,8 +7,10 @@
 use crate::bar::Count;
 use crate::commands::line;
 use crate::disc::{Disc, Volume};
-use crate::failure::{Failure, STOPPED};
+use crate::failure::Failure;
 use crate::json::{Json, Rows};
+use crate::limit::{self, Limit};
+use crate::log;
 use crate::names::{shown, shown_name};
 use crate::sizes::Sizes;
 use crate::steps::quoted;
@@ -22,8 +24,8 @@ use strandlodge::{Asked, DirEntry, Refusal};
 pub struct Bounds {
     /// The levels below where it begins.
     pub levels: usize,
-    /// The entries that are shown.
-    pub entries: u64,
+    /// The sectors that are asked for.
+    pub limit: Limit,
 }
 
 impl Bounds {
@@ -33,7 +35,7 @@ impl Bounds {
 
 impl Default for Bounds {
     fn default() -> Bounds {
-        Bounds { levels: Bounds::MOST_LEVELS, entries: 100_000 }
+        Bounds { levels: Bounds::MOST_LEVELS, limit: Limit::default() }
     }
 }
 
@@ -119,8 +121,9 @@ struct Seen {
     /// Directories at the last level, and the path of the first.
     deep: u64,
     first: Vec<u8>,
-    /// Sectors that the listings asked for.
+    /// Sectors that the listings asked for, and how many may be asked for with all other calls.
     sectors: u64,
+    most: u64,
 }
 
 impl Seen {
@@ -150,7 +153,7 @@ pub fn show<V: Volume>(
     if is_drawn {
         line(out, &format!("{}/", shown(path.strip_suffix(b"/").unwrap_or(&path))))?;
     }
-    let mut seen = Seen::default();
+    let mut seen = Seen { most: bounds.limit.of(disc.bytes), ..Seen::default() };
     let below = list(disc, &path, found.icb, &mut seen);
     let from = Path::of(if let Wanted::Path(path) = wanted { path } else { b"" });
     let mut to = if style.is_json { Output::Document(Rows::new(out), style) } else { Output::Lines(out, form, style) };
@@ -175,9 +178,15 @@ fn counted(n: u64, one: &str, more: &str) -> String {
 /// The entries of a directory.
 fn list<V: Volume>(disc: &mut Disc<V>, path: &[u8], icb: strandlodge::LongAd, seen: &mut Seen) -> Result<Vec<DirEntry>, Failure> {
     let answer = disc.volume.read_directory(icb);
-    let sectors = answer.as_ref().map_or_else(|refused| refused.sectors, |answer| answer.sectors);
-    seen.sectors = seen.sectors.saturating_add(sectors);
+    seen.sectors = seen.sectors.saturating_add(log::sectors(&answer));
+    see(disc, seen)?;
     answer.map(|answer| answer.value).map_err(|refused| disc.refused(path, Asked::ReadDirectory(icb), refused))
+}
+
+/// Fails where too much was asked for. An entry that is shown counts as one sector more, which on a sound disc it has: else a few sectors of
+/// directories would be millions of lines.
+fn see<V: Volume>(disc: &Disc<V>, seen: &Seen) -> Result<(), Failure> {
+    limit::see(disc.name, seen.most, disc.log.total().saturating_add(seen.sectors).saturating_add(seen.entries()), "")
 }
 
 /// Goes over the entries of the directory at a path, each before what stands under it.
@@ -195,18 +204,15 @@ fn walk<V: Volume, W: Write>(
             levels.pop();
             continue;
         };
-        if seen.entries() == bounds.entries {
-            return Err(stopped(disc.name, bounds));
-        }
         path.set(level.path, &entry.name);
         let sizes = out.is_long().then(|| disc.sizes(entry.icb));
+        *(if entry.is_directory { &mut seen.directories } else { &mut seen.files }) += 1;
+        see(disc, seen)?;
         out.entry(&levels, &entry, sizes, &path)?;
-        count.at(seen.entries() + 1);
+        count.at(seen.entries());
         if !entry.is_directory {
-            seen.files += 1;
             continue;
         }
-        seen.directories += 1;
         if levels.len() == bounds.levels {
             if seen.deep == 0 {
                 seen.first.clone_from(&path.raw);
@@ -234,12 +240,6 @@ fn drawn(levels: &[Level], entry: &DirEntry) -> String {
         });
     }
     text + &listed(entry)
-}
-
-/// There is more than is to be shown.
-fn stopped(name: &str, bounds: Bounds) -> Failure {
-    let says = format!("stopped behind {}, and there are more: --limit N shows N", counted(bounds.entries, "entry", "entries"));
-    Failure::new(STOPPED, format!("{name}: {says}"))
 }
 
 /// What wasn't looked into, if anything.

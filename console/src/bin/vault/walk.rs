@@ -3,8 +3,10 @@
 //! It goes as the calls do: through the volume's maps where it was opened so. It ends on any disc: an ICB's block is taken once as a file and once
 //! as a directory, however many identifiers name it, and only where it stands in the image; a continuation's block is taken once. So what is kept is
 //! bounded by the image's sectors, four times over where there are four partitions: a name for each such block, and one directory's bytes at a time.
+//! Directories whose extents overlap may have many times the image's bytes all the same: so what the calls ask for is bounded too.
 
 use crate::failure::Failure;
+use crate::log;
 use crate::names::shown;
 use crate::records::{self, Descriptor, FileEntry, FileIdentifier};
 use crate::report::{Place, Report};
@@ -71,21 +73,21 @@ pub struct Walk<'a, 'r, 'o, W> {
     entries: HashSet<Place>,
     continuations: HashSet<Place>,
     pending: Vec<Visit>,
-    /// What the calls asked for, added up for each.
+    /// What the calls asked for, added up for each, and what they may ask for together.
     pub sectors: [(&'static str, u64); 3],
+    most: u64,
 }
 
 impl<'a, 'r, 'o, W: Write> Walk<'a, 'r, 'o, W> {
-    pub fn new(image: &'a [u8], vault: Counted<'a>, report: &'r mut Report<'o, W>) -> Self {
+    pub fn new(image: &'a [u8], vault: Counted<'a>, most: u64, report: &'r mut Report<'o, W>) -> Self {
         let sectors = [("part", 0), ("read_file", 0), ("extents", 0)];
         let (taken, entries, continuations) = Default::default();
-        Walk { image, vault, report, names: Vec::new(), taken, entries, continuations, pending: Vec::new(), sectors }
+        Walk { image, vault, report, names: Vec::new(), taken, entries, continuations, pending: Vec::new(), sectors, most }
     }
 
     /// Notes a call's count, refused or not.
     fn count<T>(&mut self, call: usize, answer: strandlodge::Answered<T>) -> Result<T, Refusal> {
-        let sectors = answer.as_ref().map_or_else(|refused| refused.sectors, |answer| answer.sectors);
-        self.sectors[call].1 = self.sectors[call].1.saturating_add(sectors);
+        self.sectors[call].1 = self.sectors[call].1.saturating_add(log::sectors(&answer));
         answer.map(|answer| answer.value).map_err(|refused| refused.why)
     }
 
@@ -98,13 +100,16 @@ impl<'a, 'r, 'o, W: Write> Walk<'a, 'r, 'o, W> {
         records::tag(bytes).map_or(Ok(()), |tag| self.report.descriptor(|| "the volume".to_string(), tag, place, bytes))
     }
 
-    /// The root, and all below it.
-    pub fn root(&mut self) -> Result<(), Failure> {
+    /// The root, and all below it; or false where that is more than may be asked for.
+    pub fn root(&mut self) -> Result<bool, Failure> {
         self.meet(self.vault.root_directory_icb(), true, None, None)?;
         while let Some(visit) = self.pending.pop() {
             self.visit(&visit)?;
+            if self.sectors.iter().fold(0, |sum: u64, (_, sectors)| sum.saturating_add(*sectors)) > self.most {
+                return Ok(false);
+            }
         }
-        Ok(())
+        Ok(true)
     }
 
     /// An ICB that something names: to be looked at, unless it is taken already. The root has no name.

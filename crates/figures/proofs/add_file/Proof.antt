@@ -9,7 +9,7 @@ use Rattle.figures.proofs.add_file.Tie as tie
 kept : tie.Need-returns
 kept c =
     let a = c .before .before .args in
-    no-file (c .if1 .taken) (min (a .answer) 15) (a .bytes) (a .extents) (a .sectors) (a .chain)
+    no-file (c .if1 .taken) (min (a .answer) 16) (a .bytes) (a .extents) (a .sectors) (a .chain)
 
 pub add-file-spec : {M : Type 1} → statement M
 add-file-spec =

@@ -9,7 +9,7 @@ use Rattle.figures.proofs.add_image.Tie as tie
 pub add-image-spec : {M : Type 1} → statement M
 add-image-spec =
     tie.close (tie.spec
-    (λ c. no-image (c .if1 .taken) (min (c .before .before .args .answer) 15))
+    (λ c. no-image (c .if1 .taken) (min (c .before .before .args .answer) 16))
     (λ c κs. search needs)
     (λ c. search needs)
     (λ c. search needs)

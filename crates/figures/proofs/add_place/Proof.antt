@@ -11,7 +11,7 @@ abbrev Inv-loop : tie.InvT-loop
 Inv-loop places₀ to from k₀ places k = Adding places₀ places to from k
 
 abbrev μ-loop : tie.MeasureT-loop
-μ-loop places₀ to from k₀ places k = 37 - k
+μ-loop places₀ to from k₀ places k = 39 - k
 
 -- by its place: a search over the sums would open them
 again : tie.Need-loop-again Inv-loop μ-loop

@@ -3,6 +3,7 @@ use Prim.Native.Nat.{ℕ, suc, _+_, _≤_, _<_}
 use mathlib.Core.Path.{_≡_}
 use mathlib.Core.Bool.{false}
 use mathlib.Core.List.{List, [], _∷_}
+use lib.Dec.{leb}
 use lib.ListN.{length, take, drop}
 use lib.Seq.{sets}
 use Rattle.disc.specs.Choice.{pick}
@@ -16,6 +17,7 @@ use Rattle.disc.specs.Ask.Outcome.{answered, refused}
 use Rattle.disc.specs.Ran.{Ran, ran}
 use Rattle.disc.specs.declared.places.Mount.{Mount}
 use Rattle.disc.specs.declared.refusals.Refusal.{Refusal}
+use Rattle.disc.specs.declared.refusals.Refusal.the-variants.{OverBudget}
 use Rattle.records.specs.declared.allocations.LongAd.{LongAd}
 use Rattle.identifiers.specs.Identifiers.{readIdentifier, identifierRead, isDirectory}
 use Rattle.identifiers.specs.inner.Wholes.{Whole}
@@ -24,7 +26,7 @@ use Rattle.identifiers.specs.declared.IdentifierRead.{IdentifierRead}
 use Rattle.listings.specs.Entries.{Entry, entryOf, entryRead, isSkipped, entries}
 use Rattle.directories.specs.Directories.{directoryBytes}
 use Rattle.shows.specs.Shows.{Node, under, nodesAt, nodeRecord, nodeRecords}
-use Rattle.shows.specs.Placings.{nodePlaced, eachPlaced}
+use Rattle.shows.specs.inner.Placings.{nodePlaced, eachPlaced}
 use Rattle.shows.specs.declared.nodes.EntrySeen.{EntrySeen}
 use Rattle.shows.specs.declared.levels.ShowPlace.{ShowPlace}
 use Rattle.shows.specs.declared.levels.OpenedLevel.{OpenedLevel}
@@ -75,17 +77,23 @@ pub record Noted (level from : ℕ) (s before after : List ℕ) (e : EntrySeen) 
 -- ---- a place in a show, and the place behind a part of the tree
 
 abbrev pub stoppedAt : ℕ → ℕ → ShowPlace
-stoppedAt answer count = record { answer = answer; count = count; size = 0 }
+stoppedAt answer count = record { answer = answer; count = count; size = 0; most = 0 }
 
--- it isn't refused, and its numbers are held
-pub record Held (p : ShowPlace) : Type 0 where
+-- it isn't refused, it may ask for as many sectors as were lent, no more were asked for, and its size is held
+pub record Held (most : ℕ) (p : ShowPlace) : Type 0 where
   pub going : p .answer ≡ 0
-  pub counted : p .count ≤ 0xffff_ffff_ffff_ffff
+  pub lends : p .most ≡ most
+  pub counted : p .count ≤ most
+  pub bounded : most ≤ 0xffff_ffff_ffff_ffff
   pub sized : p .size ≤ 0xffff_ffff_ffff_ffff
 
 abbrev pub behindBy : ShowPlace → Outcome (List Node) → ℕ → ShowPlace
-behindBy p (answered ns) n = record { answer = 0; count = reported (p .count + n); size = reported (p .size + length (nodeRecords ns)) }
+behindBy p (answered ns) n = record { answer = 0; count = reported (p .count + n); size = reported (p .size + length (nodeRecords ns)); most = p .most }
 behindBy p (refused why) n = stoppedAt (number why) (reported (p .count + n))
+
+-- the place behind a part that asks for n sectors: refused by 16 where that is more than may be asked for
+abbrev pub cappedBy : ShowPlace → ℕ → ShowPlace → ShowPlace
+cappedBy p n q = pick (leb (reported (p .count + n)) (p .most)) q (stoppedAt (number OverBudget) (p .most))
 
 -- what is lent for the records, and for the figures
 pub record Lent : Type 0 where
@@ -97,10 +105,10 @@ lent out tally = record { out = out; tally = tally }
 
 -- a part of the tree was shown: the place behind it, its records where they have room, and the place with its nodes in it
 pub record Shown (of : Node → List ℕ → List ℕ) (r : Ran (List Node)) (p : ShowPlace) (before : Lent) (q : ShowPlace) (after : Lent) : Type 0 where
-  pub says : q ≡ behindBy p (r .outcome) (r .count)
-  pub puts : (ns : List Node) → r .outcome ≡ answered ns → p .size + length (nodeRecords ns) ≤ length (before .out) → length (before .out) ≤ 0xffff_ffff_ffff_ffff
+  pub says : q ≡ cappedBy p (r .count) (behindBy p (r .outcome) (r .count))
+  pub puts : (ns : List Node) → r .outcome ≡ answered ns → reported (p .count + r .count) ≤ p .most → p .size + length (nodeRecords ns) ≤ length (before .out) → length (before .out) ≤ 0xffff_ffff_ffff_ffff
       → after .out ≡ sets (before .out) (p .size) (nodeRecords ns)
-  pub tallied : (ns : List Node) → r .outcome ≡ answered ns → after .tally ≡ eachPlaced of ns (before .tally)
+  pub tallied : (ns : List Node) → r .outcome ≡ answered ns → reported (p .count + r .count) ≤ p .most → after .tally ≡ eachPlaced of ns (before .tally)
 
 -- ---- a directory read and parsed
 
@@ -115,14 +123,12 @@ pub record OpenedWell (d : Disc) (m : Mount) (icb : LongAd) (p : ShowPlace) (wor
   pub fits : o .length ≤ length work′
   pub are : entries (isChecked m) (take (o .length) work′) ≡ answered es
   pub goes : (f : List ℕ → List Entry → Ask (List Node)) → ran d (opening m work icb f) ≡ record { outcome = ran d (f (take (o .length) work′) es) .outcome; count = n + ran d (f (take (o .length) work′) es) .count }
-  pub place : o .place ≡ record { answer = 0; count = reported (p .count + n); size = p .size }
+  pub within : reported (p .count + n) ≤ p .most
+  pub place : o .place ≡ record { answer = 0; count = reported (p .count + n); size = p .size; most = p .most }
 
--- or it is refused, whatever was to be done with it
+-- or it is refused, or wants too many sectors, whatever was to be done with it
 pub record OpenedBadly (d : Disc) (m : Mount) (icb : LongAd) (p : ShowPlace) (work : ℕ) (o : OpenedLevel) : Type 0 where
-  pub why : Refusal
-  pub n : ℕ
-  pub goes : (f : List ℕ → List Entry → Ask (List Node)) → ran d (opening m work icb f) ≡ record { outcome = refused why; count = n }
-  pub place : o .place ≡ stoppedAt (number why) (reported (p .count + n))
+  pub shows : (of : Node → List ℕ → List ℕ) (f : List ℕ → List Entry → Ask (List Node)) (l : Lent) → Shown of (ran d (opening m work icb f)) p l (o .place) l
 
 pub record Opens (d : Disc) (m : Mount) (icb : LongAd) (p : ShowPlace) (work work′ : List ℕ) (o : OpenedLevel) : Type 0 where
   pub good : o .place .answer ≡ 0 → OpenedWell d m icb p (length work) work′ o
@@ -142,11 +148,11 @@ pub record Handled (d : Disc) (m : Mount) (left level : ℕ) (raw : List ℕ) (w
   pub others : List Entry
   pub all : es ≡ first ∷ others
   pub are : entries false (drop (t .next) raw) ≡ answered others
-  pub shows : Shown (nodePlaced d m) (ran d (turnOf (nodesAt m left (suc level) work) level first)) p before (t .place) after
+  pub shows : Shown (nodePlaced d m (p .most)) (ran d (turnOf (nodesAt m left (suc level) work) level first)) p before (t .place) after
 
 -- so it is where the bytes are as they were parsed; whatever they are, the next entry starts further on
 pub record Handles (d : Disc) (m : Mount) (left level : ℕ) (raw : List ℕ) (work at : ℕ) (p : ShowPlace) (before : Lent) (t : EntryTurn) (after : Lent) : Type 0 where
   pub further : at < t .next
   pub near : t .next ≤ length raw + 3
-  pub held : t .place .answer ≡ 0 → Held (t .place)
+  pub held : t .place .answer ≡ 0 → Held (p .most) (t .place)
   pub good : (es : List Entry) → entries false (drop at raw) ≡ answered es → Handled d m left level raw work p before t after es

@@ -9,10 +9,10 @@ use Rattle.surveys.proofs.survey_each.Tie as tie
 ruleset places = (placing-starts, placing-room, placing-ends, placing-next, image-ends, needs)
 
 abbrev Inv-loop : tie.InvT-loop
-Inv-loop shelf lengths how figures₀ work₀ at₀ i₀ figures work at i = Placing how shelf lengths figures₀ figures work₀ work at i
+Inv-loop shelf lengths how most figures₀ work₀ at₀ i₀ figures work at i = Placing how most shelf lengths figures₀ figures work₀ work at i
 
 abbrev μ-loop : tie.MeasureT-loop
-μ-loop shelf lengths how figures₀ work₀ at₀ i₀ figures work at i = length lengths - i
+μ-loop shelf lengths how most figures₀ work₀ at₀ i₀ figures work at i = length lengths - i
 
 pub survey-each-spec : {M : Type 1} → statement M
 survey-each-spec =

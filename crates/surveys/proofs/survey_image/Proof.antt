@@ -16,6 +16,7 @@ survey-image-spec =
     (λ c. search images)
     (λ c κs. search needs)
     (λ c κs. search needs)
+    (λ c κs. search needs)
     (λ c. search needs)
     (λ c. search needs)
     (λ c. search images))

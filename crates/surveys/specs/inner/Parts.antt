@@ -8,9 +8,9 @@ use Rattle.figures.specs.Figures.{rows, place}
 use Rattle.surveys.specs.Surveys.{ofImage, images, surveys}
 
 -- the places of the images, over the front of the row
-abbrev pub EachIn : Choice → ℕ → List ℕ → List ℕ → List ℕ → List ℕ → Type 0
-EachIn how work shelf lengths before after = after ≡ rows (map (ofImage how work) (images lengths shelf)) ++ drop (place * length lengths) before
+abbrev pub EachIn : Choice → ℕ → ℕ → List ℕ → List ℕ → List ℕ → List ℕ → Type 0
+EachIn how most work shelf lengths before after = after ≡ rows (map (ofImage how most work) (images lengths shelf)) ++ drop (place * length lengths) before
 
 -- the whole of it, but for the work space
-abbrev pub Surveys : Choice → List ℕ → List ℕ → List ℕ → List ℕ → List ℕ → ℕ → Type 0
-Surveys how work shelf lengths before after answer = (answer ≡ surveys how shelf lengths before work .answer) × (after ≡ surveys how shelf lengths before work .figures)
+abbrev pub Surveys : Choice → ℕ → List ℕ → List ℕ → List ℕ → List ℕ → List ℕ → ℕ → Type 0
+Surveys how most work shelf lengths before after answer = (answer ≡ surveys how most shelf lengths before work .answer) × (after ≡ surveys how most shelf lengths before work .figures)

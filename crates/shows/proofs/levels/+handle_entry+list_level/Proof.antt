@@ -11,10 +11,10 @@ use borrow.Rule.Slice.PartMut.{take-put}
 use lib.ListN.{length, take}
 use Rattle.disc.specs.Images.{disc}
 use Rattle.shows.specs.Shows.{nodesAt}
-use Rattle.shows.specs.Placings.{nodePlaced}
+use Rattle.shows.specs.inner.Placings.{nodePlaced}
 use Rattle.shows.specs.inner.Turns.{lent}
 use Rattle.shows.proofs.LevelLaws.{handle-bad, next-fits, handle-skipped, handle-file, handle-directory}
-use Rattle.shows.proofs.LoopLaws.{Listing, list-starts, list-ends, list-next, list-stops, level-none, level-refused, level-fits, level-held, level-shown, handles-same, list-fits, list-over}
+use Rattle.shows.proofs.LoopLaws.{held-own, Listing, list-starts, list-ends, list-next, list-stops, level-none, level-refused, level-fits, level-held, level-shown, handles-same, list-fits, list-over}
 use Rattle.shows.proofs.levels.handle_entry.Reads as handle-entry
 use Rattle.shows.proofs.levels.handle_entry.Kinds as handle-entry-kinds
 use Rattle.shows.proofs.levels.+handle_entry+list_level.Lts-handle_entry as handle-entry-lts
@@ -60,7 +60,7 @@ list-level-below t =
 -- whatever shows the rest of the entries from here shows the whole directory
 abbrev list-level-Inv-loop : list-level-lts.InvT-loop
 list-level-Inv-loop image mount level left work₀ out₀ tally₀ below n q₀ at₀ work out tally q at =
-    Listing (disc image) (nodePlaced (disc image) mount) (nodesAt mount below (suc level) (length work₀ - n)) level (take n work₀) q₀ (lent out₀ tally₀) q (lent out tally) at
+    Listing (disc image) (nodePlaced (disc image) mount (q₀ .most)) (nodesAt mount below (suc level) (length work₀ - n)) level (take n work₀) q₀ (lent out₀ tally₀) q (lent out tally) at
     × (take n work ≡ take n work₀) × (length work ≡ length work₀) × (length out ≡ length out₀) × (length tally ≡ length tally₀) × (n ≤ length work₀)
 
 abbrev list-level-μ-loop : list-level-lts.MeasureT-loop
@@ -153,7 +153,7 @@ pub +handle-entry+list-level-spec : {M : Type 1} → statement M
     (λ c κs.
     let sized = c .before .before .before .before .before .before .before .before .before .before in
     let s = sized .before .before .before .before .before .before .before .before .before .before .before .before .before .before .before in
-    (omega (arith, s .pre .0), (omega (arith, s .pre .1 .2), record { going = refl; counted = s .pre .1 .3 .counted; sized = omega (arith, sized .add-counts .ensures) })))
+    (omega (arith, s .pre .0), (omega (arith, s .pre .1 .2), record { going = refl; lends = refl; counted = s .pre .1 .3 .counted; bounded = s .pre .1 .3 .bounded; sized = omega (arith, sized .add-counts .ensures) })))
     -- same-length-8
     (λ c. c .before .before .before .before .before .work2 .given .1)
     -- same-length-9
@@ -214,7 +214,7 @@ pub +handle-entry+list-level-spec : {M : Type 1} → statement M
     let opened = c .before .before .before .before .before in
     let some = opened .before .before in
     let s = some .before .before .before .before .before in (
-      list-starts _ _ _ _ _ _ _ (level-held _ _ _ (s .args .level) (some .if1 .left) (opened .open-level .ensures) (c .if2 .left) (s .pre .1 .1 .sized)),
+      list-starts _ _ _ _ _ _ _ (level-held _ _ _ (s .args .level) (some .if1 .left) (opened .open-level .ensures) (c .if2 .left) (s .pre .1 .1)),
       refl,
       refl,
       refl,
@@ -232,7 +232,7 @@ pub +handle-entry+list-level-spec : {M : Type 1} → statement M
     let i = turn .before .loop .inv in
     let some = turn .before .before .before .before .before .before .before .before .before in
     let s = some .before .before .before .before .before in
-    (omega (arith, s .pre .0, some .if1 .left), (turn .loop-test .taken, omega (arith, i .5, i .2), omega (arith, s .pre .1 .0, some .if1 .left), i .0 .held)))
+    (omega (arith, s .pre .0, some .if1 .left), (turn .loop-test .taken, omega (arith, i .5, i .2), omega (arith, s .pre .1 .0, some .if1 .left), held-own (i .0 .held))))
     -- same-length-2
     (λ c.
     let loop = c .before .before .before .before .before .before .before .before .before .before .before .before .before .before in

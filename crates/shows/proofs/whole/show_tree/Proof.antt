@@ -13,7 +13,7 @@ show-tree-spec =
     (λ c. search (show-zero, needs))
     (λ c κs. search needs)
     (λ c κs. search needs)
-    (λ c. show-over _ _ _ _ _ (omega (arith, c .before .before .if2 .taken)) (c .before .number2 .ensures) (c .refusal2 .ensures) _)
+    (λ c. search (show-over, needs))
     (λ c. search needs)
     (λ c κs. search needs)
     (λ c. search needs)
