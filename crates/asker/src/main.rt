@@ -129,21 +129,22 @@ fn ask_if(
 
 // ---- a query
 
-// What is asked, without what is 0 or empty, and without a budget that is none.
+// What is asked, without what is 0 or empty.
 fn put_numbers(line: &mut [u8], q: &[u8], length: usize) -> usize {
     let a = put(line, 0, b"query");
     let b = put_set(line, a, b" volume ", volume(q));
     let c = put_there(line, b, there(q), length);
     let d = put_set(line, c, b" matching ", le32(q, 12));
-    let e = put_set(line, d, b" levels ", le32(q, 16));
-    put_most(line, e, most(q))
+    put_set(line, d, b" levels ", le32(q, 16))
 }
 
+// What is lent, without what is 0, and without a budget that is none.
 fn put_lent(line: &mut [u8], at: usize, q: &[u8]) -> usize {
-    let a = put_set(line, at, b" room ", le32(q, 20));
-    let b = put_set(line, a, b" work ", le32(q, 24));
-    let c = put_set(line, b, b" slots ", le32(q, 28));
-    put_set(line, c, b" answers ", le32(q, 32))
+    let a = put_most(line, at, most(q));
+    let b = put_set(line, a, b" room ", le32(q, 20));
+    let c = put_set(line, b, b" work ", le32(q, 24));
+    let d = put_set(line, c, b" slots ", le32(q, 28));
+    put_set(line, d, b" answers ", le32(q, 32))
 }
 
 fn say_query(q: &[u8], length: usize, line: &mut [u8]) {

@@ -29,13 +29,9 @@ use Rattle.disc.proofs.ImageLaws.{split}
 use Rattle.disc.proofs.ReplyLaws.{reply-refused, reply-full, reply-done}
 use Rattle.records.specs.declared.allocations.LongAd.{LongAd}
 use Rattle.shows.specs.Shows.{Node, nodesAt, mostLevels, tree, nodeRecords, showing}
-use Rattle.shows.specs.inner.Turns.{stoppedAt, behindBy, lent, Shown}
+use Rattle.shows.specs.inner.Turns.{stoppedAt, startOf, behindBy, lent, Shown}
 use Rattle.shows.proofs.ShownLaws.{capped-within, capped-over, Answers, shown-answers}
 use Rattle.shows.specs.declared.levels.ShowPlace.{ShowPlace}
-
--- before the first entry
-abbrev pub start : ℕ → ShowPlace
-start most = record { answer = 0; count = 0; size = 0; most = most }
 
 -- ---- the number of levels
 
@@ -101,7 +97,7 @@ module _ (d : Disc) (m : Mount) (w : ℕ) (root : LongAd) (levels most : ℕ) wh
 
     -- ---- measured, lent no output
 
-    module _ {of : Node → List ℕ → List ℕ} (out ys : List ℕ) {q : ShowPlace} {tally tally₁ : List ℕ} (s : Shown of R (start most) (lent (midOf 0 (0 - 0) out) tally) q (lent ys tally₁)) (z : length (putMid 0 (0 - 0) out ys) ≡ length out) where
+    module _ {of : Node → List ℕ → List ℕ} (out ys : List ℕ) {q : ShowPlace} {tally tally₁ : List ℕ} (s : Shown of R (startOf most) (lent (midOf 0 (0 - 0) out) tally) q (lent ys tally₁)) (z : length (putMid 0 (0 - 0) out ys) ≡ length out) where
       -- nothing was written
       as-came : putMid 0 (0 - 0) out ys ≡ out
       as-came = by ys z
@@ -112,19 +108,19 @@ module _ (d : Disc) (m : Mount) (w : ℕ) (root : LongAd) (levels most : ℕ) wh
 
       pub show-refused : (q .answer ≡ 0 → ⊥) → {reply : Reply} → reply ≡ record { answer = q .answer; count = q .count; length = 0 } → most < 2 ^ 64 → Replied NoRoom S out (putMid 0 (0 - 0) out ys) reply
       show-refused n {reply} e b = rw as-came (⊎-elim
-          (λ (h : reported (R .count) ≤ most). rw (lent-is h) (by (R .outcome) (s .says ∙ capped-within (start most) (R .count) (behindBy (start most) (R .outcome) (R .count)) (omega arith))))
+          (λ (h : reported (R .count) ≤ most). rw (lent-is h) (by (R .outcome) (s .says ∙ capped-within (startOf most) (R .count) (behindBy (startOf most) (R .outcome) (R .count)) (omega arith))))
           (λ (h : most < reported (R .count)).
-          let f : q ≡ stoppedAt (number OverBudget) most = s .says ∙ capped-over (start most) (R .count) (behindBy (start most) (R .outcome) (R .count)) (omega arith) in
+          let f : q ≡ stoppedAt (number OverBudget) most = s .says ∙ capped-over (startOf most) (R .count) (behindBy (startOf most) (R .outcome) (R .count)) (omega arith) in
           rw (over-is h) (reply-refused OverBudget most most (omega arith) (e ∙ rw f)))
           (split (reported (R .count)) most))
         where
-          by : (o : Outcome (List Node)) → q ≡ behindBy (start most) o (R .count) → Replied NoRoom (record { outcome = recordsIn o; count = R .count }) out out reply
+          by : (o : Outcome (List Node)) → q ≡ behindBy (startOf most) o (R .count) → Replied NoRoom (record { outcome = recordsIn o; count = R .count }) out out reply
           by (answered ns) f = absurd (n (ap (λ (x : ShowPlace). x .answer) f))
           by (refused why) f = reply-refused why (R .count) (reported (0 + R .count)) (omega arith) (e ∙ rw f)
 
       module _ (g : q .answer ≡ 0) where
         -- the nodes that were measured
-        measured : Answers R (start most) q
+        measured : Answers R (startOf most) q
         measured = shown-answers s g
 
         within : reported (R .count) ≤ most
@@ -151,11 +147,11 @@ module _ (d : Disc) (m : Mount) (w : ℕ) (root : LongAd) (levels most : ℕ) wh
         -- ---- written, lent what was measured
 
         pub show-done : q .size ≤ length (putMid 0 (0 - 0) out ys) → length out * 1 < 2 ^ 63 → {w₁ : ℕ} → w₁ ≡ w → {q₂ : ShowPlace} {ys₂ tally₂ tally₃ : List ℕ}
-            → Shown of (ran d (nodesAt m levels 1 w₁ root)) (start most) (lent (midOf 0 (q .size - 0) (putMid 0 (0 - 0) out ys)) tally₂) q₂ (lent ys₂ tally₃)
+            → Shown of (ran d (nodesAt m levels 1 w₁ root)) (startOf most) (lent (midOf 0 (q .size - 0) (putMid 0 (0 - 0) out ys)) tally₂) q₂ (lent ys₂ tally₃)
             → Replied NoRoom S out (putMid 0 (q .size - 0) (putMid 0 (0 - 0) out ys) ys₂) (record { answer = 0; count = q .count; length = q .size })
         unfolding text
         show-done h b e {q₂} {ys₂} {tally₂} {tally₃} v =
-            let t : Shown of R (start most) (lent (midOf 0 (q .size - 0) out) tally₂) q₂ (lent ys₂ tally₃) = rw (e, as-came) at v in
+            let t : Shown of R (startOf most) (lent (midOf 0 (q .size - 0) out) tally₂) q₂ (lent ys₂ tally₃) = rw (e, as-came) at v in
             let i : q .size ≡ length text = omega (arith, sizes, z) in
             let j : length text ≤ length out = omega (arith, z) in
             let n : length (midOf 0 (q .size - 0) out) ≡ length text = simp (length-take, length-drop) (omega arith) in

@@ -7,7 +7,9 @@ ghost use Rattle.disc.specs.Ran.{ran};
 ghost use Rattle.disc.specs.Images.{disc};
 ghost use Rattle.disc.specs.Replies.{Replied};
 ghost use Rattle.disc.specs.declared.refusals.Refusal.the-variants.{NoRoom};
-ghost use Rattle.shows.specs.Shows.{showing};
+ghost use Rattle.shows.specs.Shows.{nodesAt, showing};
+ghost use Rattle.shows.specs.inner.Placings.{nodePlaced};
+ghost use Rattle.shows.specs.inner.Turns.{startOf, lent, Shown};
 ghost use Rattle.shows.specs.Tallies.{tallied, tallies};
 use crate::levels::ShowPlace;
 use crate::levels::list_level;
@@ -28,6 +30,29 @@ use records::allocations::LongAd;
 // The most levels that can be asked for.
 pub const MOST_LEVELS: u32 = 16;
 
+// Goes over the tree from the directory at root once: what is written, and what is tallied, goes by what is lent.
+fn walk(
+    image: &[u8],
+    mount: Mount,
+    root: LongAd,
+    levels: u8,
+    most: u64,
+    work: &mut [u8],
+    out: &mut [u8],
+    tally: &mut [u64],
+) -> ShowPlace
+    requires { ⌜ levels ≤ 16 ⌝ }
+    ensures { λ q. ⌜ Shown (nodePlaced (disc (now (image .entry))) mount most) (ran (disc (now (image .entry))) (nodesAt mount levels 1 (length (now (work .entry))) root)) (startOf most) (lent (now (out .entry)) (now (tally .entry))) q (lent (now (out .exit)) (now (tally .exit))) ⌝ }
+{
+    let start = ShowPlace {
+        answer: DONE,
+        count: 0,
+        size: 0,
+        most,
+    };
+    list_level(image, mount, root, 1, levels, start, work, out, tally)
+}
+
 // Goes over the tree twice, which costs no count: lent no output it sees every refusal and measures; lent what was measured it writes, and
 // nothing behind that can be written, whatever the image holds by then.
 fn show_within(
@@ -42,20 +67,13 @@ fn show_within(
     requires { ⌜ (1 ≤ levels) × (levels ≤ 16) ⌝ }
     ensures { λ r. ⌜ Replied NoRoom (ran (disc (now (image .entry))) (budgeted most (showing mount levels (length (now (work .entry))) root))) (now (out .entry)) (now (out .exit)) r ⌝ }
 {
-    let start = ShowPlace {
-        answer: DONE,
-        count: 0,
-        size: 0,
-        most,
-    };
     let mut none = [0u64; 1];
-    let measured = list_level(
+    let measured = walk(
         image,
         mount,
         root,
-        1,
         levels,
-        start,
+        most,
         work,
         &mut out[0..0],
         &mut none[0..0],
@@ -67,13 +85,12 @@ fn show_within(
         return refusal(Refusal::NoRoom.number(), measured.count);
     }
     let size = measured.size as usize;
-    list_level(
+    walk(
         image,
         mount,
         root,
-        1,
         levels,
-        start,
+        most,
         work,
         &mut out[0..size],
         &mut none[0..0],
@@ -141,20 +158,14 @@ fn tally_within(
         return BAD_SHELF;
     }
     clear_figures(tally);
-    let start = ShowPlace {
-        answer: DONE,
-        count: 0,
-        size: 0,
-        most,
-    };
     let mut none = [0u8; 1];
-    let shown = list_level(
+    let levels = MOST_LEVELS as u8;
+    let shown = walk(
         image,
         mount,
         root,
-        1,
-        MOST_LEVELS as u8,
-        start,
+        levels,
+        most,
         work,
         &mut none[0..0],
         tally,

@@ -79,6 +79,10 @@ pub record Noted (level from : ℕ) (s before after : List ℕ) (e : EntrySeen) 
 abbrev pub stoppedAt : ℕ → ℕ → ShowPlace
 stoppedAt answer count = record { answer = answer; count = count; size = 0; most = 0 }
 
+-- before the first entry of the root
+abbrev pub startOf : ℕ → ShowPlace
+startOf most = record { answer = 0; count = 0; size = 0; most = most }
+
 -- it isn't refused, it may ask for as many sectors as were lent, no more were asked for, and its size is held
 pub record Held (most : ℕ) (p : ShowPlace) : Type 0 where
   pub going : p .answer ≡ 0

@@ -10,7 +10,7 @@ refused c =
     let made = c .before .before .before .before .before in
     let called = made .before .before .before in
     let s = called .before .before .before .before .before .before .before in
-    show-refused _ _ _ _ _ _ (s .pre .0) (s .pre .1) _ _ (called .list-level .ensures) (made .out .given .1) (c .before .if1 .taken) (c .refusal .ensures) (search needs)
+    show-refused _ _ _ _ _ _ (s .pre .0) (s .pre .1) _ _ (called .walk .ensures) (made .out .given .1) (c .before .if1 .taken) (c .refusal .ensures) (search needs)
 
 full : tie.Need-returns-2
 full c =
@@ -18,7 +18,7 @@ full c =
     let made = good .before .before .before .before in
     let called = made .before .before .before in
     let s = called .before .before .before .before .before .before .before in
-    show-full _ _ _ _ _ _ (s .pre .0) (s .pre .1) _ _ (called .list-level .ensures) (made .out .given .1) (good .if1 .left) (c .before .before .if2 .taken) (c .before .number .ensures) (c .refusal2 .ensures)
+    show-full _ _ _ _ _ _ (s .pre .0) (s .pre .1) _ _ (called .walk .ensures) (made .out .given .1) (good .if1 .left) (c .before .before .if2 .taken) (c .before .number .ensures) (c .refusal2 .ensures)
 
 done : tie.Need-returns-3
 done c =
@@ -27,8 +27,8 @@ done c =
     let made = room .before .before .before .before .before .before in
     let called = made .before .before .before in
     let s = called .before .before .before .before .before .before .before in
-    show-done _ _ _ _ _ _ (s .pre .0) (s .pre .1) _ _ (called .list-level .ensures) (made .out .given .1) (room .before .before .if1 .left) (room .if2 .left) (s .good .1 .1 .1 .1 .1 .0 .1)
-    (made .before .before .work .given) (written .list-level2 .ensures)
+    show-done _ _ _ _ _ _ (s .pre .0) (s .pre .1) _ _ (called .walk .ensures) (made .out .given .1) (room .before .before .if1 .left) (room .if2 .left) (s .good .1 .1 .1 .1 .1 .0 .1)
+    (made .before .before .work .given) (written .walk2 .ensures)
 
 pub show-within-spec : {M : Type 1} → statement M
 show-within-spec =

@@ -14,7 +14,7 @@ done c =
     let cleared = called .before .before .before .before .before .before in
     let placed = cleared .before .before in
     let start = placed .before .before .before .before in
-    tallied-done _ _ _ _ _ (now (start .args .tally)) (placed .if1 .left) (cleared .clear-figures .ensures) (called .list-level .ensures) (c .before .before .before .before .if2 .left) (c .before .before .before .left-of .ensures) (c .before .sectors-in .ensures) (c .if3 .left)
+    tallied-done _ _ _ _ _ (now (start .args .tally)) (placed .if1 .left) (cleared .clear-figures .ensures) (called .walk .ensures) (c .before .before .before .before .if2 .left) (c .before .before .before .left-of .ensures) (c .before .sectors-in .ensures) (c .if3 .left)
 
 pub tally-within-spec : {M : Type 1} → statement M
 tally-within-spec =
