@@ -16,7 +16,7 @@ use Rattle.disc.specs.Ask.{Held, Disc, Ask, Outcome, given, outcome, ask
 use Rattle.disc.specs.Ask.Held.{holds, lacks}
 use Rattle.disc.specs.Ask.Ask.{done, refuse, ask}
 use Rattle.disc.specs.Ask.Outcome.{answered, refused}
-use Rattle.disc.specs.Ran.{Ran, ran}
+use Rattle.disc.specs.Ran.{ran}
 use Rattle.disc.specs.Budgets.{within, unlimited, isBudget, budgeted, leftOf, overRun, capped, isOver, ButOver}
 use Rattle.disc.specs.Refusing.{Only, Refuses, Within}
 use Rattle.disc.specs.Marks.{Marked, plain, guarded, Guards}

@@ -2,7 +2,6 @@
 use Prim.Native.Nat.{ℕ, zero, suc, _-_}
 use mathlib.Core.Bool.{Bool, false}
 use mathlib.Core.Path.{_≡_}
-use mathlib.Core.List.{List}
 use lib.Dec.{eqb, leb, ltb}
 use Rattle.disc.specs.Choice.{pick}
 use Rattle.disc.specs.Counts.{reported}

@@ -3,10 +3,10 @@ use mathlib.Core.Path.{_≡_, refl, sym, ap, _∙_}
 use mathlib.Core.Bool.{Bool, true, false, _&&_, not}
 use mathlib.Core.List.{List, [], _∷_, map}
 use mathlib.Core.Logic.{⊎-elim}
-use Prim.Native.Nat.{ℕ, _+_, _-_, _≤_, _<_}
+use Prim.Native.Nat.{ℕ, _+_, _≤_, _<_}
 use native.Mathlib.Omega.{arith}
 use lib.ListN.{length, getD, replicate}
-use lib.Dec.{leb, ltb}
+use lib.Dec.{leb}
 use borrow.Author.Tests.{le-leb, lt-leb, le-ltb, lt-ltb, eq-eqb, ne-eqb}
 use Rattle.disc.specs.Choice.{pick}
 use Rattle.disc.specs.Counts.{reported}
@@ -27,7 +27,7 @@ use Rattle.figures.specs.Figures.{Figures, nothing, oneDirectory, added, addedT
 use Rattle.figures.specs.Placed.{withDirectory}
 use Rattle.figures.proofs.AddLaws.{directory-adds}
 use Rattle.figures.proofs.FigureLaws.{zero-holds, holds-sectors}
-use Rattle.shows.specs.Shows.{Node, nodesAt, mostLevels, tree}
+use Rattle.shows.specs.Shows.{Node, nodesAt, mostLevels}
 use Rattle.shows.specs.Tallies.{ofFile, ofNode, ofNodes, readCounts, lentRead, readsWithin, Tally, tallyBy, tallyOf, treeTally, Tallied, tallied, Tallies, tallies}
 use Rattle.shows.specs.inner.Placings.{filePlaced, nodePlaced, eachPlaced}
 use Rattle.shows.specs.inner.Turns.{stoppedAt, startOf, behindBy, lent, Shown}

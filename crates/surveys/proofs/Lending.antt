@@ -26,7 +26,7 @@ use Rattle.records.specs.declared.allocations.LongAd.{LongAd}
 use Rattle.volumes.specs.Choices.{openingBy}
 use Rattle.volumes.specs.declared.choices.Choice.{Choice}
 use Rattle.volumes.specs.declared.openings.VolumeRecord.{VolumeRecord}
-use Rattle.figures.specs.Figures.{Figures, nothing, oneImage, sum}
+use Rattle.figures.specs.Figures.{nothing, oneImage, sum}
 use Rattle.figures.proofs.RowLaws.{each-none}
 use Rattle.shows.specs.Shows.{Node, tree, mostLevels}
 use Rattle.shows.specs.Sums.{filesIn, answering, readOf}

@@ -8,13 +8,12 @@ use Prim.Native.Nat.{ℕ, min, _≤_, _<_}
 use native.Mathlib.Omega.{arith}
 use lib.ListN.{length, take}
 use lib.Dec.{eqb, ltb, leb}
-use borrow.Author.Tests.{le-ltb, lt-ltb, ne-eqb, eq-eqb}
 use Rattle.disc.specs.Choice.{pick}
 use Rattle.disc.specs.Ask.{Outcome, asked}
 use Rattle.disc.specs.Ask.Outcome.{answered, refused}
 use Rattle.disc.specs.Images.{disc}
-use Rattle.disc.specs.Ran.{Ran, ran}
-use Rattle.disc.specs.Budgets.{unlimited, isBudget, budgeted, isOver, ButOver}
+use Rattle.disc.specs.Ran.{ran}
+use Rattle.disc.specs.Budgets.{unlimited, isBudget, isOver, ButOver}
 use Rattle.disc.proofs.BudgetLaws.{within-asked, budgeted-same, budgeted-over, over-exactly}
 use Rattle.disc.proofs.ImageLaws.{split}
 use Rattle.volumes.specs.declared.openings.VolumeRecord.{VolumeRecord}

@@ -1,5 +1,4 @@
 -- `shows::whole::show_tree` meets its contract: a number of levels that is 0 or over 16 is refused at once. Assumes nothing.
-use native.Mathlib.Omega.{arith}
 use borrow.Author.Needs.{needs}
 use Rattle.shows.proofs.ShowLaws.{show-zero, show-over}
 use Rattle.shows.proofs.whole.show_tree.Statement.{statement}
