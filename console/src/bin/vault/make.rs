@@ -42,9 +42,9 @@ fn source<'a>(image: &OsStr, path: &'a OsString) -> Result<Source<'a>, Failure> 
     Ok(Source { path, file, length: about.len() })
 }
 
-/// Writes a vault of these files to `image`, which is made or replaced, and prints how many sectors it has.
-pub fn make(image: &OsStr, files: &[OsString], out: &mut impl Write) -> Result<(), Failure> {
-    let target = Target::at(image)?;
+/// Writes a vault of these files to `image`, which is made, or replaced where that is forced, and prints how many sectors it has.
+pub fn make(image: &OsStr, files: &[OsString], force: bool, out: &mut impl Write) -> Result<(), Failure> {
+    let target = Target::fresh(image, force)?;
     let names: Vec<&[u8]> = files.iter().map(|file| name(file)).collect();
     // Before any is opened: of too many there may be more than can be open at once.
     write_total(&names, &vec![0; names.len()]).map_err(|why| misnamed(image, files, &names, why))?;
