@@ -178,20 +178,13 @@ fn options_are_told_of() {
 /// A tree in which all is built: the script, and a command that only says that it ran.
 fn built() -> Folder {
     let folder = Folder::new();
-    for name in [
-        "crates/first_cue",
-        "target/staticlib",
-        "target/unproved",
-        "console/src",
-        "target/command/proved",
-        "target/command/unproved",
-        "face/src",
-    ] {
+    for name in
+        ["crates", "target/staticlib", "target/unproved", "console/src", "target/command/proved", "target/command/unproved", "face/src"]
+    {
         fs::create_dir_all(folder.at(name)).unwrap();
     }
     for name in [
         "crates/a.rt",
-        "crates/first_cue/stdin",
         "console/src/a.rs",
         "console/Cargo.toml",
         "console/build.rs",
@@ -241,14 +234,7 @@ fn what_is_built_is_not_built_again() {
     let run = alone(&folder, &["ls", "a b"]);
     assert_eq!((run.status, run.out.as_str(), run.error.as_str()), (0, "proved ran ls a b\n", ""));
     assert_eq!(alone(&folder, &["--build"]).out, "");
-    for newer in [
-        "console/src/a.rs",
-        "console/Cargo.toml",
-        "console/build.rs",
-        "face/src/a.rs",
-        "crates/first_cue/stdin",
-        "target/staticlib/libvault_c.a",
-    ] {
+    for newer in ["console/src/a.rs", "console/Cargo.toml", "console/build.rs", "face/src/a.rs", "target/staticlib/libvault_c.a"] {
         age(&folder, newer, "now + 20 seconds");
         let run = alone(&folder, &["ls"]);
         assert!(run.status == 69 && run.error.contains("cargo is missing"), "{newer} {run:?}");

@@ -125,7 +125,8 @@ const COMMANDS: [(&str, &str, [bool; 3]); 13] = [
     ),
     (
         "sample",
-        "vault sample FILE\nWrites the image of a sample show, that of the tour.\n\
+        "vault sample FILE\nWrites the image of a sample show, that of the tour. It is a whole disc of UDF\n\
+         1.02, which other readers take too.\n\
          \x20 --force    replace a FILE that is there: else it is left as it is\n",
         [false, false, false],
     ),
