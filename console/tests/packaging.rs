@@ -3,7 +3,7 @@
 mod common;
 
 use common::command::{Folder, Said, left_out, tool};
-use common::show;
+use common::{noise, show};
 use std::fs::{self, Permissions};
 use std::io::{self, Write};
 use std::os::unix::fs::{PermissionsExt, symlink};
@@ -135,10 +135,60 @@ fn the_example_in_c_runs() {
         let built = said(&mut build);
         assert_eq!(built.status, 0, "{line} {built:?}");
         let run = said(Command::new(folder.at("cue")).args(["show.img", "SHOW/10.1a"]).current_dir(&folder.0));
-        assert!(run.status == 0 && run.out.starts_with("cue 10.1a\n") && run.error == "54 bytes, 4 sectors\n", "{run:?}");
-        assert_eq!(said(Command::new(folder.at("cue")).args(["show.img", "SHOW/12"]).current_dir(&folder.0)).status, 3);
+        assert!(run.status == 0 && run.out.starts_with("cue 10.1a\n") && run.out.len() == 54 && run.error.is_empty(), "{run:?}");
         fs::remove_file(folder.at("cue")).unwrap();
     }
+}
+
+/// Where the archives are that this was built with, proved or not.
+fn linked() -> PathBuf {
+    let version = said(Command::new(env!("CARGO_BIN_EXE_vault")).arg("--version"));
+    if version.out.contains("were not checked") { root().join("target/unproved") } else { archives() }
+}
+
+/// An example of packaging/, compiled in a folder by itself.
+fn compiled(folder: &Folder, name: &str) {
+    let mut cc = Command::new("cc");
+    cc.args(["-std=c11", "-Wall", "-Wextra", "-Werror", "-pedantic", "-I"]).arg(root().join("include"));
+    cc.arg(root().join("packaging").join(format!("{name}.c"))).arg("-L").arg(linked());
+    let done = said(cc.args(["-lvault_c", "-ldrives_c", "-o"]).arg(folder.at(name)));
+    assert_eq!(done.status, 0, "{name} {done:?}");
+}
+
+/// What each gives of the show, of a file of 3 MiB, and of what isn't there.
+#[test]
+fn the_examples_in_c_give_files_of_any_length() {
+    if tool("cc").is_none() {
+        return left_out("the examples in C", "cc");
+    }
+    let (folder, long) = (Folder::new(), noise(3 << 20));
+    folder.write("show.img", &show());
+    folder.write("long.img", &strandlodge::write(&[("LONG", &long)]).unwrap());
+    folder.write("cut.img", &show()[..9000]);
+    let none = ["show.img", "SHOW/12", "No volume, or no such path\n", "3"];
+    let not_there = ["cut.img", "SHOW/9", "A sector asked for isn't wholly inside the image\n", "1"];
+    let below = ["show.img", "SHOW/9/deeper", "No volume, or no such path\n", "3"];
+    for name in ["example", "window", "lookup"] {
+        compiled(&folder, name);
+        let ran = |image: &str, path: &str| said(Command::new(folder.at(name)).args([image, path]).current_dir(&folder.0));
+        for [image, path, says, status] in [none, not_there, below] {
+            let run = ran(image, path);
+            assert_eq!(
+                (run.status.to_string().as_str(), run.out.as_str(), run.error.as_str()),
+                (status, "", says),
+                "{name} {image} {path}"
+            );
+        }
+        assert_eq!(said(&mut Command::new(folder.at(name))).status, 66);
+        if name != "lookup" {
+            assert!(ran("long.img", "LONG").bytes == long && ran("show.img", "SHOW/10.1a").out.starts_with("cue 10.1a\n"), "{name}");
+        }
+    }
+    let found = |image: &str, path: &str| said(Command::new(folder.at("lookup")).args([image, path]).current_dir(&folder.0)).out;
+    assert_eq!(found("show.img", "SHOW/10.1a"), "file in block 9, partition 5: 8 sectors\n");
+    assert_eq!(found("show.img", "/SHOW/"), "directory in block 4, partition 5: 7 sectors\n");
+    assert_eq!(found("show.img", ""), "directory in block 3, partition 5: 6 sectors\n");
+    assert_eq!(found("long.img", "LONG"), "file in block 16, partition 0: 10 sectors\n");
 }
 
 /// Every option that the command takes is in the man page, and in the completions.
