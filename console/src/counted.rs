@@ -2,6 +2,7 @@
 
 use crate::answer::{Answer, Answered, Refusal, Refused};
 use crate::calls;
+use crate::cause::{Cause, of_call};
 use crate::counted_drive::CountedDrive;
 use crate::diagnosis::{Asked, Diagnosis, Sought, is_of_the_disc};
 use crate::how::How;
@@ -186,6 +187,22 @@ impl<'a> Counted<'a> {
             return Diagnosis::bare(*refused);
         }
         again.diagnose(refused)
+    }
+
+    /// The cause that [`Counted::diagnose`] has, without going over a file's bytes again.
+    pub(crate) fn cause(&self, asked: Asked, refused: &Refused) -> Option<Cause> {
+        if !matches!(refused.why, Refusal::Unsupported | Refusal::Malformed) {
+            return None;
+        }
+        let found = match asked {
+            Asked::ReadFile(icb) => Some(icb),
+            Asked::ReadPath(path, matching) => self.lookup_as(path, matching).ok().map(|icb| icb.value),
+            _ => None,
+        };
+        match found {
+            Some(icb) => of_call(&mut Source::new(Copied::new(self.image)), self.volume.mount, icb, refused.why),
+            None => self.diagnose(asked, refused).cause,
+        }
     }
 
     /// The root directory.

@@ -6,7 +6,7 @@
 
 use crate::answer::{Answer, Answered, Refusal, Refused};
 use crate::calls::{self, Row};
-use crate::cause::{Cause, of_reading};
+use crate::cause::of_call;
 use crate::counted::SECTOR_SIZE;
 use crate::diagnosis::{Asked, Diagnosis, Sought, is_of_the_disc, opening};
 use crate::how::How;
@@ -130,11 +130,7 @@ impl<R: Read + Seek> CountedDrive<R> {
             return Diagnosis::bare(*refused);
         }
         let mut diagnosis = Diagnosis::at(*refused, self.trail.last, &mut self.source);
-        diagnosis.cause = self.trail.icb.and_then(|icb| match refused.why {
-            Refusal::Unsupported => of_reading(&mut self.source, self.volume.mount, icb),
-            Refusal::Malformed => (icb.length == 0).then_some(Cause::EmptyIcb),
-            _ => None,
-        });
+        diagnosis.cause = self.trail.icb.and_then(|icb| of_call(&mut self.source, self.volume.mount, icb, refused.why));
         diagnosis
     }
 

@@ -1,9 +1,11 @@
 //! The calls, over a reader.
 
-use crate::answer::{Answer, Refused, Result};
+use crate::answer::{Answer, Refused};
 use crate::counted_drive::{CountedDrive, Uncopied, Unopened};
 use crate::diagnosis::Diagnosis;
+use crate::error::Result;
 use crate::matching::Matching;
+use crate::paths::{PathText, component};
 use crate::records::{DirEntry, LongAd};
 use crate::source::Missed;
 use crate::vault::plain;
@@ -158,17 +160,18 @@ impl<R: Read + Seek> Drive<R> {
         plain(self.inner.lookup_as(path, matching))
     }
 
-    /// The component at which [`Drive::lookup`] finds nothing, as a part of the path; none where the path is there.
+    /// The component at which [`Drive::lookup`] finds nothing, as a part of the path, text of text and bytes of bytes; none where the path is
+    /// there.
     ///
     /// ```no_run
     /// # fn main() -> Result<(), Box<dyn std::error::Error>> {
     /// # let mut drive = strandlodge::Drive::open(std::fs::File::open("/dev/sr0")?)?;
-    /// assert_eq!(drive.failed("SHOW/12")?, Some(&b"12"[..]));
+    /// assert_eq!(drive.failed("SHOW/12")?, Some("12"));
     /// # Ok(())
     /// # }
     /// ```
-    pub fn failed<'p>(&mut self, path: &'p (impl AsRef<[u8]> + ?Sized)) -> Result<Option<&'p [u8]>> {
-        plain(self.inner.failed(path))
+    pub fn failed<'p, P: PathText + ?Sized>(&mut self, path: &'p P) -> Result<Option<&'p P::Component>> {
+        self.failed_as(path, Matching::CaseIgnored)
     }
 
     /// The same for [`Drive::lookup_as`]. A component that is ambiguous isn't one at which nothing is found: the call is then refused as the
@@ -177,12 +180,13 @@ impl<R: Read + Seek> Drive<R> {
     /// ```no_run
     /// # fn main() -> Result<(), Box<dyn std::error::Error>> {
     /// # let mut drive = strandlodge::Drive::open(std::fs::File::open("/dev/sr0")?)?;
-    /// assert_eq!(drive.failed_as("show/9", strandlodge::Matching::AsWritten)?, Some(&b"show"[..]));
+    /// assert_eq!(drive.failed_as("show/9", strandlodge::Matching::AsWritten)?, Some("show"));
     /// # Ok(())
     /// # }
     /// ```
-    pub fn failed_as<'p>(&mut self, path: &'p (impl AsRef<[u8]> + ?Sized), matching: Matching) -> Result<Option<&'p [u8]>> {
-        plain(self.inner.failed_as(path, matching))
+    pub fn failed_as<'p, P: PathText + ?Sized>(&mut self, path: &'p P, matching: Matching) -> Result<Option<&'p P::Component>> {
+        let found = plain(self.inner.failed_as(path.bytes(), matching))?;
+        Ok(found.and_then(|found| component(path, found)))
     }
 
     /// The entries of a directory in the disc's order, without those that are deleted and the parent.

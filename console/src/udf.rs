@@ -20,6 +20,11 @@ pub use crate::records::{AllocExtent, DirEntry, LbAddr, LongAd};
 pub use crate::vault::{probe_vrs, read_volume_label};
 use strandlodge_sys::records as face;
 
+pub use crate::counted::SECTOR_SIZE;
+
+/// The sector in which the anchor stands (3/10.2).
+pub const AVDP_SECTOR: u64 = 256;
+
 macro_rules! ids {
     ($($name:ident = $number:literal, $says:literal;)*) => {
         /// The kinds of descriptors (ECMA-167 3/7.2.1, 4/7.2.1), by the ids of their tags.

@@ -1,12 +1,14 @@
 //! The calls, over an image that is owned or borrowed.
 
-use crate::answer::{Answer, Answered, Refused, Result};
+use crate::answer::{Answer, Answered, Refused};
 use crate::calls;
 use crate::counted::Counted;
-use crate::diagnosis::{Asked, Diagnosis};
+use crate::diagnosis::{Asked, Diagnosis, diagnose};
+use crate::error::{Error, Result};
 use crate::how::How;
 use crate::maps::PartitionMap;
 use crate::matching::Matching;
+use crate::paths::{PathText, component};
 use crate::records::{AllocExtent, DirEntry, LbAddr, LongAd};
 use crate::stack::Item;
 use crate::tree::Show;
@@ -48,12 +50,17 @@ pub fn read_volume_label(image: &[u8]) -> Result<String> {
 /// # }
 /// ```
 pub fn read_volume_label_as(image: &[u8], how: How) -> Result<String> {
-    plain(Counted::label_of(image, how))
+    Counted::label_of(image, how).map(|label| label.value).map_err(|refused| unopened(image, how, refused))
+}
+
+/// An opening that was refused, with its cause.
+fn unopened(image: &[u8], how: How, refused: Refused) -> Error {
+    Error::caused(refused, diagnose(image, how, &refused).cause)
 }
 
 /// The value alone.
 pub(crate) fn plain<T>(answered: Answered<T>) -> Result<T> {
-    answered.map(|answer| answer.value)
+    Ok(answered?.value)
 }
 
 /// An opened volume with its image, which it owns, as a `Vec<u8>`, a `Box<[u8]>` or a map, or borrows, as a `&[u8]`, a `&Vec<u8>` or an `Arc<[u8]>`.
@@ -119,7 +126,7 @@ impl<B: AsRef<[u8]>> Vault<B> {
     /// # }
     /// ```
     pub fn open_as(image: B, how: How) -> Result<Vault<B>> {
-        let Answer { value, sectors } = Counted::open_as(image.as_ref(), how)?;
+        let Answer { value, sectors } = Counted::open_as(image.as_ref(), how).map_err(|refused| unopened(image.as_ref(), how, refused))?;
         let volume = value.volume();
         Ok(Vault { image, volume, how, sectors })
     }
@@ -137,6 +144,11 @@ impl<B: AsRef<[u8]>> Vault<B> {
     /// ```
     pub fn counted(&self) -> Counted<'_> {
         Counted::over(self.image.as_ref(), self.volume, self.how)
+    }
+
+    /// The value alone; of a call that was refused the cause too.
+    pub(crate) fn told<T>(&self, asked: Asked, answered: Answered<T>) -> Result<T> {
+        answered.map(|answer| answer.value).map_err(|refused| Error::caused(refused, self.counted().cause(asked, &refused)))
     }
 
     /// The sectors that opening asked for.
@@ -254,7 +266,7 @@ impl<B: AsRef<[u8]>> Vault<B> {
     /// # }
     /// ```
     pub fn lookup(&self, path: impl AsRef<[u8]>) -> Result<LongAd> {
-        plain(self.counted().lookup(path))
+        self.lookup_as(path, Matching::CaseIgnored)
     }
 
     /// The same, with components matched as is said.
@@ -267,20 +279,22 @@ impl<B: AsRef<[u8]>> Vault<B> {
     /// # }
     /// ```
     pub fn lookup_as(&self, path: impl AsRef<[u8]>, matching: Matching) -> Result<LongAd> {
-        plain(self.counted().lookup_as(path, matching))
+        let path = path.as_ref();
+        self.told(Asked::Lookup(path, matching), self.counted().lookup_as(path, matching))
     }
 
-    /// The component at which [`Vault::lookup`] finds nothing, as a part of the path; none where the path is there.
+    /// The component at which [`Vault::lookup`] finds nothing, as a part of the path, text of text and bytes of bytes; none where the path is
+    /// there.
     ///
     /// ```no_run
     /// # fn main() -> Result<(), Box<dyn std::error::Error>> {
     /// # let disc = strandlodge::Vault::open(std::fs::read("show.img")?)?;
-    /// assert_eq!(disc.failed("SHOW/12")?, Some(&b"12"[..]));
+    /// assert_eq!(disc.failed("SHOW/12")?, Some("12"));
     /// # Ok(())
     /// # }
     /// ```
-    pub fn failed<'p>(&self, path: &'p (impl AsRef<[u8]> + ?Sized)) -> Result<Option<&'p [u8]>> {
-        plain(self.counted().failed(path))
+    pub fn failed<'p, P: PathText + ?Sized>(&self, path: &'p P) -> Result<Option<&'p P::Component>> {
+        self.failed_as(path, Matching::CaseIgnored)
     }
 
     /// The same for [`Vault::lookup_as`]. A component that is ambiguous isn't one at which nothing is found: the call is then refused as the
@@ -289,12 +303,14 @@ impl<B: AsRef<[u8]>> Vault<B> {
     /// ```no_run
     /// # fn main() -> Result<(), Box<dyn std::error::Error>> {
     /// # let disc = strandlodge::Vault::open(std::fs::read("show.img")?)?;
-    /// assert_eq!(disc.failed_as("show/9", strandlodge::Matching::AsWritten)?, Some(&b"show"[..]));
+    /// assert_eq!(disc.failed_as("show/9", strandlodge::Matching::AsWritten)?, Some("show"));
     /// # Ok(())
     /// # }
     /// ```
-    pub fn failed_as<'p>(&self, path: &'p (impl AsRef<[u8]> + ?Sized), matching: Matching) -> Result<Option<&'p [u8]>> {
-        plain(self.counted().failed_as(path, matching))
+    pub fn failed_as<'p, P: PathText + ?Sized>(&self, path: &'p P, matching: Matching) -> Result<Option<&'p P::Component>> {
+        let bytes = path.bytes();
+        let found = self.told(Asked::Lookup(bytes, matching), self.counted().failed_as(bytes, matching))?;
+        Ok(found.and_then(|found| component(path, found)))
     }
 
     /// The entries of a directory in the disc's order, without those that are deleted and the parent.
@@ -309,7 +325,8 @@ impl<B: AsRef<[u8]>> Vault<B> {
     /// # }
     /// ```
     pub fn read_directory(&self, icb: impl Into<LongAd>) -> Result<Vec<DirEntry>> {
-        plain(self.counted().read_directory(icb))
+        let icb = icb.into();
+        self.told(Asked::ReadDirectory(icb), self.counted().read_directory(icb))
     }
 
     /// All that stands on the volume, down to so many levels, 1 to 16: an entry for each path, each before what stands under it, and those of a
@@ -331,7 +348,7 @@ impl<B: AsRef<[u8]>> Vault<B> {
     /// # }
     /// ```
     pub fn show(&self, levels: u32, most: u64) -> Result<Show> {
-        plain(self.counted().show(levels, most))
+        self.told(Asked::Show(levels), self.counted().show(levels, most))
     }
 
     /// A file's bytes, or a directory's own.
@@ -344,7 +361,8 @@ impl<B: AsRef<[u8]>> Vault<B> {
     /// # }
     /// ```
     pub fn read_file(&self, icb: impl Into<LongAd>) -> Result<Vec<u8>> {
-        plain(self.counted().read_file(icb))
+        let icb = icb.into();
+        self.told(Asked::ReadFile(icb), self.counted().read_file(icb))
     }
 
     /// How many bytes [`Vault::read_file`] gives: what its extents have, as far as its entry says that it goes. It is refused as the read is, but
@@ -358,7 +376,8 @@ impl<B: AsRef<[u8]>> Vault<B> {
     /// # }
     /// ```
     pub fn measure(&self, icb: impl Into<LongAd>) -> Result<u64> {
-        plain(self.counted().measure(icb))
+        let icb = icb.into();
+        self.told(Asked::ReadFile(icb), self.counted().measure(icb))
     }
 
     /// Looks a path up and reads what it names.
@@ -369,7 +388,7 @@ impl<B: AsRef<[u8]>> Vault<B> {
     /// }
     /// ```
     pub fn read_path(&self, path: impl AsRef<[u8]>) -> Result<Vec<u8>> {
-        plain(self.counted().read_path(path))
+        self.read_path_as(path, Matching::CaseIgnored)
     }
 
     /// The same, with components matched as is said.
@@ -382,7 +401,8 @@ impl<B: AsRef<[u8]>> Vault<B> {
     /// # }
     /// ```
     pub fn read_path_as(&self, path: impl AsRef<[u8]>, matching: Matching) -> Result<Vec<u8>> {
-        plain(self.counted().read_path_as(path, matching))
+        let path = path.as_ref();
+        self.told(Asked::ReadPath(path, matching), self.counted().read_path_as(path, matching))
     }
 
     /// Reads what each of many paths names: for each, in their order, its bytes or why there are none, as [`Vault::read_path`] gives them. One that
@@ -431,7 +451,8 @@ impl<B: AsRef<[u8]>> Vault<B> {
     /// # }
     /// ```
     pub fn extents(&self, icb: impl Into<LongAd>) -> Result<Vec<AllocExtent>> {
-        plain(self.counted().extents(icb))
+        let icb = icb.into();
+        self.told(Asked::ReadFile(icb), self.counted().extents(icb))
     }
 
     /// An embedded file's bytes where they stand in the image; none for any other file that can be read.
@@ -444,6 +465,7 @@ impl<B: AsRef<[u8]>> Vault<B> {
     /// # }
     /// ```
     pub fn part(&self, icb: impl Into<LongAd>) -> Result<&[u8]> {
-        plain(self.counted().part(icb))
+        let icb = icb.into();
+        self.told(Asked::ReadFile(icb), self.counted().part(icb))
     }
 }
