@@ -84,6 +84,10 @@ impl<R> Drive<R> {
     /// # Ok(())
     /// # }
     /// ```
+    ///
+    /// # Errors
+    ///
+    /// Refused by 2 where the field isn't a name.
     pub fn label(&self) -> Result<String> {
         plain(self.inner.label())
     }
@@ -129,6 +133,11 @@ impl<R: Read + Seek> Drive<R> {
     /// # Ok(())
     /// # }
     /// ```
+    ///
+    /// # Errors
+    ///
+    /// An `Unopened`, with the reader in it: refused by 1 where a sector can't be had, 2 where a descriptor isn't what it must be, 3 where
+    /// one is missing, and 4 where the volume has a form that isn't read.
     pub fn open(reader: R) -> std::result::Result<Drive<R>, Unopened<R>> {
         let Answer { value: inner, sectors } = CountedDrive::open(reader)?;
         Ok(Drive { inner, sectors })
@@ -143,6 +152,10 @@ impl<R: Read + Seek> Drive<R> {
     /// # Ok(())
     /// # }
     /// ```
+    ///
+    /// # Errors
+    ///
+    /// Refused by 3 where nothing has a name of the path, and as a listing is for each directory on the way.
     pub fn lookup(&mut self, path: impl AsRef<[u8]>) -> Result<LongAd> {
         plain(self.inner.lookup(path))
     }
@@ -156,6 +169,11 @@ impl<R: Read + Seek> Drive<R> {
     /// # Ok(())
     /// # }
     /// ```
+    ///
+    /// # Errors
+    ///
+    /// Refused by 3 where nothing has a name of the path, by 9 where two or more entries match one that is to be unambiguous, and as a
+    /// listing is for each directory on the way.
     pub fn lookup_as(&mut self, path: impl AsRef<[u8]>, matching: Matching) -> Result<LongAd> {
         plain(self.inner.lookup_as(path, matching))
     }
@@ -170,6 +188,10 @@ impl<R: Read + Seek> Drive<R> {
     /// # Ok(())
     /// # }
     /// ```
+    ///
+    /// # Errors
+    ///
+    /// Refused as the lookup is, but for 3.
     pub fn failed<'p, P: PathText + ?Sized>(&mut self, path: &'p P) -> Result<Option<&'p P::Component>> {
         self.failed_as(path, Matching::CaseIgnored)
     }
@@ -184,6 +206,10 @@ impl<R: Read + Seek> Drive<R> {
     /// # Ok(())
     /// # }
     /// ```
+    ///
+    /// # Errors
+    ///
+    /// Refused as the lookup is, but for 3.
     pub fn failed_as<'p, P: PathText + ?Sized>(&mut self, path: &'p P, matching: Matching) -> Result<Option<&'p P::Component>> {
         let found = plain(self.inner.failed_as(path.bytes(), matching))?;
         Ok(found.and_then(|found| component(path, found)))
@@ -200,6 +226,11 @@ impl<R: Read + Seek> Drive<R> {
     /// # Ok(())
     /// # }
     /// ```
+    ///
+    /// # Errors
+    ///
+    /// Refused by 1 where a sector can't be had, 2 where a descriptor or a name isn't what it must be, and 4 where the directory has a form
+    /// that isn't read; by 5 or 6 where there is no memory for it.
     pub fn read_directory(&mut self, icb: impl Into<LongAd>) -> Result<Vec<DirEntry>> {
         plain(self.inner.read_directory(icb))
     }
@@ -214,6 +245,11 @@ impl<R: Read + Seek> Drive<R> {
     /// # Ok(())
     /// # }
     /// ```
+    ///
+    /// # Errors
+    ///
+    /// Refused by 1 where a sector can't be had, 2 where a descriptor isn't what it must be, and 4 where the file has a form that isn't
+    /// read; by 5 where there is no memory for its bytes.
     pub fn read_file(&mut self, icb: impl Into<LongAd>) -> Result<Vec<u8>> {
         plain(self.inner.read_file(icb))
     }
@@ -227,6 +263,10 @@ impl<R: Read + Seek> Drive<R> {
     /// # Ok(())
     /// # }
     /// ```
+    ///
+    /// # Errors
+    ///
+    /// Refused as the lookup is, and then as the read of what it names.
     pub fn read_path(&mut self, path: impl AsRef<[u8]>) -> Result<Vec<u8>> {
         plain(self.inner.read_path(path))
     }
@@ -240,6 +280,10 @@ impl<R: Read + Seek> Drive<R> {
     /// # Ok(())
     /// # }
     /// ```
+    ///
+    /// # Errors
+    ///
+    /// Refused as the lookup is, and then as the read of what it names.
     pub fn read_path_as(&mut self, path: impl AsRef<[u8]>, matching: Matching) -> Result<Vec<u8>> {
         plain(self.inner.read_path_as(path, matching))
     }
@@ -257,6 +301,10 @@ impl<R: Read + Seek> Drive<R> {
     /// # Ok(())
     /// # }
     /// ```
+    ///
+    /// # Errors
+    ///
+    /// An `Uncopied`: the read was refused, with how many bytes are written, or the writer failed.
     pub fn copy_file(&mut self, icb: impl Into<LongAd>, to: &mut impl Write) -> std::result::Result<u64, Uncopied> {
         self.inner.copy_file(icb, to).map(|answer| answer.value)
     }

@@ -28,7 +28,8 @@
 //!
 //! # Where a call was refused
 //!
-//! A refusal is a number and a count. [`Vault::diagnose`], [`Drive::diagnose`] and, of an opening, [`diagnose()`] and [`Unopened::diagnose`] go over the
+//! A refusal is a number and a count, [`Refused`]. [`Error`], which the calls of [`Vault`] and [`Drive`] give, has the cause beside them where it is known, says it,
+//! and is made of an [`io::Error`](std::io::Error) too. [`Vault::diagnose`], [`Drive::diagnose`] and, of an opening, [`diagnose()`] and [`Unopened::diagnose`] go over the
 //! refused call again and name the last sector that it asked for, what for and what stands there ([`Place`]), and which of its causes the refusal had
 //! ([`Cause`]): another block size, a partition map of another form, an extent that isn't recorded.
 //!

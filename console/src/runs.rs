@@ -157,6 +157,10 @@ impl<'a> Counted<'a> {
     /// # Ok(())
     /// # }
     /// ```
+    ///
+    /// # Errors
+    ///
+    /// Refused as the read is, but for want of memory; by 7 where there is none for the runs.
     pub fn runs(&self, icb: impl Into<LongAd>) -> Answered<Runs<'a>> {
         let (icb, volume, image) = (icb.into(), self.volume(), self.image());
         // An extent gives one run at most, and an embedded file is one.
@@ -188,6 +192,10 @@ impl<B: AsRef<[u8]>> Vault<B> {
     /// # Ok(())
     /// # }
     /// ```
+    ///
+    /// # Errors
+    ///
+    /// Refused as the read is, but for want of memory; by 7 where there is none for the runs.
     pub fn runs(&self, icb: impl Into<LongAd>) -> Result<Runs<'_>> {
         let icb = icb.into();
         self.told(Asked::ReadFile(icb), self.counted().runs(icb))

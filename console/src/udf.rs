@@ -99,6 +99,10 @@ impl DescriptorTag {
     pub const SIZE: usize = 16;
 
     /// The tag at the front of these bytes: its checksum and its id are right.
+    ///
+    /// # Errors
+    ///
+    /// Refused by 2 where the bytes are too few, or aren't such a record.
     pub fn parse(bytes: &[u8]) -> Result<DescriptorTag> {
         DescriptorTag::of_c(parsing::tag(bytes)?)
     }
@@ -148,6 +152,10 @@ macro_rules! small {
             pub const SIZE: usize = $size;
 
             /// The record at the front of these bytes.
+            ///
+            /// # Errors
+            ///
+            /// Refused by 2 where the bytes are too few, or aren't such a record.
             pub fn parse(bytes: &[u8]) -> Result<$name> {
                 let face::$name { $($field,)* } = parsing::$parse(bytes)?;
                 Ok($name { $($field: $field.into(),)* })
@@ -187,6 +195,10 @@ impl LbAddr {
     pub const SIZE: usize = 6;
 
     /// The record at the front of these bytes.
+    ///
+    /// # Errors
+    ///
+    /// Refused by 2 where the bytes are too few, or aren't such a record.
     pub fn parse(bytes: &[u8]) -> Result<LbAddr> {
         parsing::lb_addr(bytes).map(LbAddr::from)
     }
@@ -202,6 +214,10 @@ impl LongAd {
     pub const SIZE: usize = 16;
 
     /// The record at the front of these bytes.
+    ///
+    /// # Errors
+    ///
+    /// Refused by 2 where the bytes are too few, or aren't such a record.
     pub fn parse(bytes: &[u8]) -> Result<LongAd> {
         parsing::long_ad(bytes).map(LongAd::from)
     }
@@ -221,11 +237,19 @@ impl From<face::LongAd> for LongAd {
 }
 
 /// The name in a d-string (OSTA UDF 2.1.1). One of id 254 or 255, a deleted one, is empty, where the original refuses it.
+///
+/// # Errors
+///
+/// Refused by 2 where the bytes aren't a name.
 pub fn decode_dstring(payload: &[u8]) -> Result<String> {
     parsing::dstring(payload)
 }
 
 /// The name in a field, whose last byte says how many of the others it has (1/7.2.12).
+///
+/// # Errors
+///
+/// Refused by 2 where the field isn't a name.
 pub fn decode_dstring_field(field: &[u8]) -> Result<String> {
     parsing::dstring_field(field)
 }
@@ -243,6 +267,10 @@ macro_rules! descriptors {
 
         impl $name {
             /// The descriptor at the front of these bytes.
+            ///
+            /// # Errors
+            ///
+            /// Refused by 2 where the bytes are too few, or aren't such a record.
             pub fn parse(bytes: &[u8]) -> Result<$name> {
                 let raw = parsing::$parse(bytes)?;
                 Ok($name { tag: DescriptorTag::of_c(raw.tag)?, $($field: { let make: fn(_) -> Result<$kind> = $make; make(raw.$field)? },)* })

@@ -36,6 +36,11 @@ pub fn probe_vrs(image: &[u8]) -> bool {
 /// # Ok(())
 /// # }
 /// ```
+///
+/// # Errors
+///
+/// Refused by 1 where a sector isn't there, 2 where a descriptor isn't what it must be, 3 where one is missing, 4 where the volume has a
+/// form that isn't read, and, with bodies checked, 10 where one is wrong.
 pub fn read_volume_label(image: &[u8]) -> Result<String> {
     read_volume_label_as(image, How::default())
 }
@@ -49,6 +54,11 @@ pub fn read_volume_label(image: &[u8]) -> Result<String> {
 /// # Ok(())
 /// # }
 /// ```
+///
+/// # Errors
+///
+/// Refused by 1 where a sector isn't there, 2 where a descriptor isn't what it must be, 3 where one is missing, 4 where the volume has a
+/// form that isn't read, and, with bodies checked, 10 where one is wrong.
 pub fn read_volume_label_as(image: &[u8], how: How) -> Result<String> {
     Counted::label_of(image, how).map(|label| label.value).map_err(|refused| unopened(image, how, refused))
 }
@@ -111,6 +121,11 @@ impl<B: AsRef<[u8]>> Vault<B> {
     /// # Ok(())
     /// # }
     /// ```
+    ///
+    /// # Errors
+    ///
+    /// Refused by 1 where a sector isn't there, 2 where a descriptor isn't what it must be, 3 where one is missing, 4 where the volume has
+    /// a form that isn't read, and, with bodies checked, 10 where one is wrong.
     pub fn open(image: B) -> Result<Vault<B>> {
         Vault::open_as(image, How::default())
     }
@@ -125,6 +140,11 @@ impl<B: AsRef<[u8]>> Vault<B> {
     /// # Ok(())
     /// # }
     /// ```
+    ///
+    /// # Errors
+    ///
+    /// Refused by 1 where a sector isn't there, 2 where a descriptor isn't what it must be, 3 where one is missing, 4 where the volume has
+    /// a form that isn't read, and, with bodies checked, 10 where one is wrong.
     pub fn open_as(image: B, how: How) -> Result<Vault<B>> {
         let Answer { value, sectors } = Counted::open_as(image.as_ref(), how).map_err(|refused| unopened(image.as_ref(), how, refused))?;
         let volume = value.volume();
@@ -249,6 +269,10 @@ impl<B: AsRef<[u8]>> Vault<B> {
     /// # Ok(())
     /// # }
     /// ```
+    ///
+    /// # Errors
+    ///
+    /// Refused as opening is: the image is opened again.
     pub fn label(&self) -> Result<String> {
         plain(self.counted().label())
     }
@@ -265,6 +289,10 @@ impl<B: AsRef<[u8]>> Vault<B> {
     /// # Ok(())
     /// # }
     /// ```
+    ///
+    /// # Errors
+    ///
+    /// Refused by 3 where nothing has a name of the path, and as a listing is for each directory on the way.
     pub fn lookup(&self, path: impl AsRef<[u8]>) -> Result<LongAd> {
         self.lookup_as(path, Matching::CaseIgnored)
     }
@@ -278,6 +306,11 @@ impl<B: AsRef<[u8]>> Vault<B> {
     /// # Ok(())
     /// # }
     /// ```
+    ///
+    /// # Errors
+    ///
+    /// Refused by 3 where nothing has a name of the path, by 9 where two or more entries match one that is to be unambiguous, and as a
+    /// listing is for each directory on the way.
     pub fn lookup_as(&self, path: impl AsRef<[u8]>, matching: Matching) -> Result<LongAd> {
         let path = path.as_ref();
         self.told(Asked::Lookup(path, matching), self.counted().lookup_as(path, matching))
@@ -293,6 +326,10 @@ impl<B: AsRef<[u8]>> Vault<B> {
     /// # Ok(())
     /// # }
     /// ```
+    ///
+    /// # Errors
+    ///
+    /// Refused as the lookup is, but for 3.
     pub fn failed<'p, P: PathText + ?Sized>(&self, path: &'p P) -> Result<Option<&'p P::Component>> {
         self.failed_as(path, Matching::CaseIgnored)
     }
@@ -307,6 +344,10 @@ impl<B: AsRef<[u8]>> Vault<B> {
     /// # Ok(())
     /// # }
     /// ```
+    ///
+    /// # Errors
+    ///
+    /// Refused as the lookup is, but for 3.
     pub fn failed_as<'p, P: PathText + ?Sized>(&self, path: &'p P, matching: Matching) -> Result<Option<&'p P::Component>> {
         let bytes = path.bytes();
         let found = self.told(Asked::Lookup(bytes, matching), self.counted().failed_as(bytes, matching))?;
@@ -324,6 +365,11 @@ impl<B: AsRef<[u8]>> Vault<B> {
     /// # Ok(())
     /// # }
     /// ```
+    ///
+    /// # Errors
+    ///
+    /// Refused by 1 where a sector isn't there, 2 where a descriptor or a name isn't what it must be, 4 where the directory has a form that
+    /// isn't read, and 10 where bodies are checked and one is wrong; by 5 or 6 where there is no memory for it.
     pub fn read_directory(&self, icb: impl Into<LongAd>) -> Result<Vec<DirEntry>> {
         let icb = icb.into();
         self.told(Asked::ReadDirectory(icb), self.counted().read_directory(icb))
@@ -347,6 +393,11 @@ impl<B: AsRef<[u8]>> Vault<B> {
     /// # Ok(())
     /// # }
     /// ```
+    ///
+    /// # Errors
+    ///
+    /// Refused by 11 where a directory stands at the last level, or the levels aren't 1 to 16; by 16 where more sectors would be asked for
+    /// than were lent; and as a listing is for each directory on the way.
     pub fn show(&self, levels: u32, most: u64) -> Result<Show> {
         self.told(Asked::Show(levels), self.counted().show(levels, most))
     }
@@ -360,6 +411,11 @@ impl<B: AsRef<[u8]>> Vault<B> {
     /// # Ok(())
     /// # }
     /// ```
+    ///
+    /// # Errors
+    ///
+    /// Refused by 1 where a sector isn't there, 2 where a descriptor isn't what it must be, 4 where the file has a form that isn't read,
+    /// and 10 where bodies are checked and one is wrong; by 5 where there is no memory for its bytes.
     pub fn read_file(&self, icb: impl Into<LongAd>) -> Result<Vec<u8>> {
         let icb = icb.into();
         self.told(Asked::ReadFile(icb), self.counted().read_file(icb))
@@ -375,6 +431,10 @@ impl<B: AsRef<[u8]>> Vault<B> {
     /// # Ok(())
     /// # }
     /// ```
+    ///
+    /// # Errors
+    ///
+    /// Refused as the read is, but for want of memory.
     pub fn measure(&self, icb: impl Into<LongAd>) -> Result<u64> {
         let icb = icb.into();
         self.told(Asked::ReadFile(icb), self.counted().measure(icb))
@@ -387,6 +447,10 @@ impl<B: AsRef<[u8]>> Vault<B> {
     ///     Ok(disc.read_path(cue)?)
     /// }
     /// ```
+    ///
+    /// # Errors
+    ///
+    /// Refused as the lookup is, and then as the read of what it names.
     pub fn read_path(&self, path: impl AsRef<[u8]>) -> Result<Vec<u8>> {
         self.read_path_as(path, Matching::CaseIgnored)
     }
@@ -400,6 +464,10 @@ impl<B: AsRef<[u8]>> Vault<B> {
     /// # Ok(())
     /// # }
     /// ```
+    ///
+    /// # Errors
+    ///
+    /// Refused as the lookup is, and then as the read of what it names.
     pub fn read_path_as(&self, path: impl AsRef<[u8]>, matching: Matching) -> Result<Vec<u8>> {
         let path = path.as_ref();
         self.told(Asked::ReadPath(path, matching), self.counted().read_path_as(path, matching))
@@ -421,6 +489,10 @@ impl<B: AsRef<[u8]>> Vault<B> {
     /// # Ok(())
     /// # }
     /// ```
+    ///
+    /// # Errors
+    ///
+    /// Refused by 12 where there is no memory for the list. What refuses a path is in its item.
     pub fn read_all(&self, paths: &[impl AsRef<[u8]>]) -> Result<Vec<Item>> {
         plain(self.counted().read_all(paths))
     }
@@ -434,6 +506,10 @@ impl<B: AsRef<[u8]>> Vault<B> {
     /// # Ok(())
     /// # }
     /// ```
+    ///
+    /// # Errors
+    ///
+    /// Refused by 12 where there is no memory for the list. What refuses a path is in its item.
     pub fn read_all_as(&self, paths: &[impl AsRef<[u8]>], matching: Matching) -> Result<Vec<Item>> {
         plain(self.counted().read_all_as(paths, matching))
     }
@@ -450,6 +526,10 @@ impl<B: AsRef<[u8]>> Vault<B> {
     /// # Ok(())
     /// # }
     /// ```
+    ///
+    /// # Errors
+    ///
+    /// Refused as the read is before it comes to the file's bytes, and by 7 where there is no memory for the extents.
     pub fn extents(&self, icb: impl Into<LongAd>) -> Result<Vec<AllocExtent>> {
         let icb = icb.into();
         self.told(Asked::ReadFile(icb), self.counted().extents(icb))
@@ -464,6 +544,10 @@ impl<B: AsRef<[u8]>> Vault<B> {
     /// # Ok(())
     /// # }
     /// ```
+    ///
+    /// # Errors
+    ///
+    /// Refused as the read is before it comes to the file's bytes.
     pub fn part(&self, icb: impl Into<LongAd>) -> Result<&[u8]> {
         let icb = icb.into();
         self.told(Asked::ReadFile(icb), self.counted().part(icb))

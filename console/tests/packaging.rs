@@ -191,6 +191,40 @@ fn the_examples_in_c_give_files_of_any_length() {
     assert_eq!(found("long.img", "LONG"), "file in block 16, partition 0: 10 sectors\n");
 }
 
+/// An example in Rust, which `cargo test` builds beside the command; none where this test was built by itself.
+fn example(name: &str) -> Option<PathBuf> {
+    let built = Path::new(env!("CARGO_BIN_EXE_vault")).with_file_name("examples").join(name);
+    if !built.exists() {
+        left_out("an example in Rust", name);
+        return None;
+    }
+    Some(built)
+}
+
+#[test]
+fn the_examples_in_rust_run() {
+    let (Some(cue), Some(drive), Some(stage)) = (example("cue"), example("drive"), example("stage")) else { return };
+    let folder = Folder::new();
+    folder.write("show.img", &show());
+    fs::create_dir(folder.at("to")).unwrap();
+    let ran = |program: &Path, words: &[&str]| said(Command::new(program).args(words).current_dir(&folder.0));
+    let run = ran(&cue, &["show.img", "SHOW/10.1a"]);
+    assert!(run.status == 0 && run.out.starts_with("cue 10.1a\n") && run.error.is_empty(), "{run:?}");
+    let run = ran(&cue, &["show.img", "SHOW/12"]);
+    let says = "there is nothing named \"12\" on SHOW 1\nthere is no volume, or nothing of that name (3)\n";
+    assert_eq!((run.status, run.error.as_str()), (1, says));
+    let run = ran(&cue, &["none.img", "9"]);
+    assert!(run.status == 1 && run.error.ends_with("(os error 2) (1)\n"), "{run:?}");
+    let run = ran(&drive, &["show.img", "SHOW", "to"]);
+    assert_eq!((run.status, run.out.as_str()), (0, "\"9\": 27 bytes\n\"10.1A\": 57 bytes\n\"10.1a\": 54 bytes\n\"11\": 16 bytes\n"));
+    assert!(fs::read(folder.at("to/10.1a")).unwrap().starts_with(b"cue 10.1a\n"));
+    assert_eq!(ran(&drive, &["show.img", "SHOW", "to"]).status, 1);
+    let run = ran(&stage, &["new.img", "to/9", "to/11"]);
+    assert_eq!((run.status, run.out.as_str()), (0, "9: 27 bytes, read back\n11: 16 bytes, read back\n"));
+    assert_eq!(ran(&stage, &["new.img", "to/9"]).status, 1);
+    assert!([&cue, &drive, &stage].iter().all(|program| ran(program, &[]).status == 64));
+}
+
 /// Every option that the command takes is in the man page, and in the completions.
 #[test]
 fn options_are_told_of() {

@@ -275,9 +275,9 @@ fn places_can_be_kept_in_a_set() {
     assert_eq!(entries.len(), 4);
 }
 
-/// Every call has an example in its documentation, which the tests compile.
+/// Every call has an example in its documentation, which the tests compile, and says how it is refused.
 #[test]
-fn every_call_has_an_example() {
+fn every_call_has_an_example_and_its_errors() {
     let mut calls = 0;
     for source in [include_str!("../src/vault.rs"), include_str!("../src/drive.rs"), include_str!("../src/writer.rs")] {
         let mut documented = String::new();
@@ -286,7 +286,7 @@ fn every_call_has_an_example() {
                 documented += line;
             } else if line.starts_with("pub fn ") {
                 // What can be refused is a call; a number or a record that is kept is none.
-                assert!(!line.contains("Result<") || documented.contains("```"), "{line}");
+                assert!(!line.contains("Result<") || documented.contains("```") && documented.contains("# Errors"), "{line}");
                 calls += usize::from(line.contains("Result<"));
                 documented.clear();
             } else if !line.starts_with("#[") {
