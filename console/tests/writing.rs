@@ -180,7 +180,8 @@ fn what_is_there_is_replaced_by_force_alone() {
     let says = "there is a file of this name: it is replaced with --force alone";
     for words in [&["make", "9", "10.1A", "11"][..], &["make", "link", "11"], &["make", "9", "9"], &["sample", "9"], &["sample", "link"]] {
         let said = folder.vault(words);
-        assert_eq!((said.status, said.out.as_str(), said.error), (74, "", format!("vault: {}: {says}\n", words[1])), "{words:?}");
+        let hint = if words[0] == "make" { "; IMAGE, which is written, stands before the files" } else { "" };
+        assert_eq!((said.status, said.out.as_str(), said.error), (74, "", format!("vault: {}: {says}{hint}\n", words[1])), "{words:?}");
     }
     assert!(cues.iter().all(|cue| read(folder.at(cue)).unwrap() == cue.as_bytes()));
     assert_eq!(folder.names(), ["10.1A", "11", "9", "link"]);
