@@ -22,6 +22,7 @@ _vault() {
             get) options+=" -o -r --limit --no-limit --from --bytes --wait --as-written --unambiguous --raw --icb" ;;
             stat) options+=" --json --as-written --unambiguous --raw --icb" ;;
             info) options+=" --json" ;;
+            make | sample) options="--help --force" ;;
             check | survey) options+=" --json --limit --no-limit" ;;
             "") options+=" --version" ;;
         esac

@@ -23,6 +23,7 @@ complete -c vault -n "__fish_seen_subcommand_from get" -s o -x -a "(__fish_compl
 complete -c vault -n "__fish_seen_subcommand_from tree ls" -l levels -x -d "So many levels"
 complete -c vault -n "__fish_seen_subcommand_from tree ls get check survey" -l limit -x -d "So many sectors"
 complete -c vault -n "__fish_seen_subcommand_from tree ls get check survey" -l no-limit -d "Any number of sectors"
+complete -c vault -n "__fish_seen_subcommand_from make sample" -l force -d "Replace a file that is there"
 complete -c vault -n "__fish_seen_subcommand_from cat get" -l wait -x -d "So many seconds"
 complete -c vault -n "__fish_seen_subcommand_from cat get" -l from -x -d "From this byte on"
 complete -c vault -n "__fish_seen_subcommand_from cat get" -l bytes -x -d "So many bytes at most"

@@ -11,6 +11,7 @@ taken for one of matching. Then it builds over the archives, and runs:
     face/c/records.c    every call of records.h, as C11 and as C++17
     face/c/growing.c    reads in which row and output grow at every step, on the images of crates/drive_cases and on a file of 5 MB
     packaging/window.c  that file through a window of 2,048 bytes, which must be what vault_read gives; on x86-64, with cc's own library
+    packaging/lookup.c  its name looked up a sector at a time; in the same way
 
 Needs cc and c++.
 """
@@ -226,12 +227,16 @@ def windowed(archive, folder):
     if ran(f"{folder}/growing", record, ["whole"]) != data:
         raise Failed("vault_read gives other bytes of the long file")
     if os.uname().machine != "x86_64":
-        return "packaging/window.c: left out, the archive is x86-64 code"
+        return "packaging/window.c and lookup.c: left out, the archive is x86-64 code"
     disc, program = pathlib.Path(folder) / "long.img", f"{folder}/window"
     disc.write_bytes(image)
     did("cc", *C, *STRICT, ROOT / "packaging/window.c", archive, "-o", program)
     if did(program, disc, "LONG") != data:
         raise Failed("packaging/window.c gives other bytes than vault_read")
+    did("cc", *C, *STRICT, ROOT / "packaging/lookup.c", archive, "-o", f"{folder}/lookup")
+    # Opening takes 6 sectors, and the root, whose bytes stand in its entry, one.
+    if did(f"{folder}/lookup", disc, "LONG") != b"file in block 4, partition 5: 7 sectors\n":
+        raise Failed("packaging/lookup.c finds something else")
     return f"{len(data)} bytes through a window of {SIZE}"
 
 

@@ -4,7 +4,7 @@ use std::fmt;
 use std::ops::{Deref, DerefMut};
 use strandlodge_sys::vault;
 
-/// What a call on an image gives.
+/// What a call gives that is made of one record, with no image.
 pub type Result<T> = std::result::Result<T, Refused>;
 
 /// The same where the sectors are counted: by [`Counted`](crate::Counted) and [`CountedDrive`](crate::CountedDrive).

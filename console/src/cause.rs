@@ -9,7 +9,7 @@ use crate::records::{AllocExtent, LbAddr, LongAd};
 use crate::sequence::Kind;
 use crate::source::Source;
 use crate::table::{MapForm, MapTable};
-use crate::udf::{AllocationExtentDescriptor, AnchorVolumeDescriptorPointer};
+use crate::udf::{AVDP_SECTOR, AllocationExtentDescriptor, AnchorVolumeDescriptorPointer};
 use crate::{SECTOR_SIZE, entries, parsing};
 use std::fmt;
 use std::io::{Read, Seek};
@@ -19,7 +19,7 @@ use strandlodge_sys::vault::Mount;
 const SIZES: [u32; 3] = [512, 1024, 4096];
 
 /// An anchor stands in this block, whatever the block size is; or in the last one, or as many before it.
-const ANCHOR: u32 = 256;
+const ANCHOR: u32 = AVDP_SECTOR as u32;
 
 /// Of a chain (docs/RULES.md, 6.16).
 const MOST_CONTINUATIONS: usize = 32;
@@ -187,8 +187,17 @@ fn unread(sequence: &Sequence, how: How) -> Option<Cause> {
     all.clone().find_map(kind).or_else(|| all.clone().find_map(lost)).or(Some(no_map))
 }
 
+/// Of a call that was refused at the file or the directory that an ICB names.
+pub(crate) fn of_call<R: Read + Seek>(source: &mut Source<R>, mount: Mount, icb: LongAd, why: Refusal) -> Option<Cause> {
+    match why {
+        Refusal::Unsupported => of_reading(source, mount, icb),
+        Refusal::Malformed => (icb.length == 0).then_some(Cause::EmptyIcb),
+        _ => None,
+    }
+}
+
 /// Of a read of a file or a directory that was refused by 4: the first thing that isn't read, in the order of a read.
-pub(crate) fn of_reading<R: Read + Seek>(source: &mut Source<R>, mount: Mount, icb: LongAd) -> Option<Cause> {
+fn of_reading<R: Read + Seek>(source: &mut Source<R>, mount: Mount, icb: LongAd) -> Option<Cause> {
     let Some(start) = started(mount, icb) else {
         return Some(Cause::NoMap { reference: icb.location.partition_ref, maps: mount.maps });
     };

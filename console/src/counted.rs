@@ -2,6 +2,7 @@
 
 use crate::answer::{Answer, Answered, Refusal, Refused};
 use crate::calls;
+use crate::cause::{Cause, of_call};
 use crate::counted_drive::CountedDrive;
 use crate::diagnosis::{Asked, Diagnosis, Sought, is_of_the_disc};
 use crate::how::How;
@@ -73,12 +74,22 @@ impl fmt::Debug for Counted<'_> {
 
 impl<'a> Counted<'a> {
     /// Opens the volume of an image.
+    ///
+    /// # Errors
+    ///
+    /// Refused by 1 where a sector isn't there, 2 where a descriptor isn't what it must be, 3 where one is missing, 4 where the volume has
+    /// a form that isn't read, and, with bodies checked, 10 where one is wrong.
     pub fn open(image: &'a [u8]) -> Answered<Counted<'a>> {
         Counted::open_as(image, How::default())
     }
 
     /// The same, as it is chosen: which of several descriptors of one kind counts, whether the bodies of descriptors are checked, here and in
     /// every call on what is opened, and whether partition references go through the volume's maps.
+    ///
+    /// # Errors
+    ///
+    /// Refused by 1 where a sector isn't there, 2 where a descriptor isn't what it must be, 3 where one is missing, 4 where the volume has
+    /// a form that isn't read, and, with bodies checked, 10 where one is wrong.
     pub fn open_as(image: &'a [u8], how: How) -> Answered<Counted<'a>> {
         Ok(calls::open(image, how.number())?.map(|volume| Counted { image, volume, how }))
     }
@@ -89,6 +100,11 @@ impl<'a> Counted<'a> {
     }
 
     /// Opens an image as it is chosen, and gives its label.
+    ///
+    /// # Errors
+    ///
+    /// Refused by 1 where a sector isn't there, 2 where a descriptor isn't what it must be, 3 where one is missing, 4 where the volume has
+    /// a form that isn't read, and, with bodies checked, 10 where one is wrong.
     pub fn label_of(image: &[u8], how: How) -> Answered<String> {
         label(image, how)
     }
@@ -188,12 +204,32 @@ impl<'a> Counted<'a> {
         again.diagnose(refused)
     }
 
+    /// The cause that [`Counted::diagnose`] has, without going over a file's bytes again.
+    pub(crate) fn cause(&self, asked: Asked, refused: &Refused) -> Option<Cause> {
+        if !matches!(refused.why, Refusal::Unsupported | Refusal::Malformed) {
+            return None;
+        }
+        let found = match asked {
+            Asked::ReadFile(icb) => Some(icb),
+            Asked::ReadPath(path, matching) => self.lookup_as(path, matching).ok().map(|icb| icb.value),
+            _ => None,
+        };
+        match found {
+            Some(icb) => of_call(&mut Source::new(Copied::new(self.image)), self.volume.mount, icb, refused.why),
+            None => self.diagnose(asked, refused).cause,
+        }
+    }
+
     /// The root directory.
     pub fn root_directory_icb(&self) -> LongAd {
         LongAd::of_c(self.volume.root)
     }
 
     /// The volume's name. The count is that of opening: the call opens the image again.
+    ///
+    /// # Errors
+    ///
+    /// Refused as opening is: the image is opened again.
     pub fn label(&self) -> Answered<String> {
         label(self.image, self.how)
     }
@@ -202,29 +238,51 @@ impl<'a> Counted<'a> {
     /// taken that is equal with ASCII case ignored. The empty path names the root.
     ///
     /// What it gives may have another name than was asked for: [`Counted::lookup_as`] is for cues whose names differ in case alone.
+    ///
+    /// # Errors
+    ///
+    /// Refused by 3 where nothing has a name of the path, and as a listing is for each directory on the way.
     pub fn lookup(&self, path: impl AsRef<[u8]>) -> Answered<LongAd> {
         self.lookup_as(path, Matching::CaseIgnored)
     }
 
     /// The same, with components matched as is said.
+    ///
+    /// # Errors
+    ///
+    /// Refused by 3 where nothing has a name of the path, by 9 where two or more entries match one that is to be unambiguous, and as a
+    /// listing is for each directory on the way.
     pub fn lookup_as(&self, path: impl AsRef<[u8]>, matching: Matching) -> Answered<LongAd> {
         let path = path.as_ref();
         retry::<u8, _>(&mut Room::none(), &mut work_space(), |_, work| calls::lookup(self.volume, self.image, path, matching, work))
     }
 
     /// The component at which [`Counted::lookup`] finds nothing, as a part of the path; none where the path is there.
+    ///
+    /// # Errors
+    ///
+    /// Refused as the lookup is, but for 3.
     pub fn failed<'p>(&self, path: &'p (impl AsRef<[u8]> + ?Sized)) -> Answered<Option<&'p [u8]>> {
         self.failed_as(path, Matching::CaseIgnored)
     }
 
     /// The same for [`Counted::lookup_as`]. A component that is ambiguous isn't one at which nothing is found: the call is then refused as the
     /// lookup is.
+    ///
+    /// # Errors
+    ///
+    /// Refused as the lookup is, but for 3.
     pub fn failed_as<'p>(&self, path: &'p (impl AsRef<[u8]> + ?Sized), matching: Matching) -> Answered<Option<&'p [u8]>> {
         let path = path.as_ref();
         retry::<u8, _>(&mut Room::none(), &mut work_space(), |_, work| calls::failed(self.volume, self.image, path, matching, work))
     }
 
     /// The entries of a directory in the disc's order, without those that are deleted and the parent.
+    ///
+    /// # Errors
+    ///
+    /// Refused by 1 where a sector isn't there, 2 where a descriptor or a name isn't what it must be, 4 where the directory has a form that
+    /// isn't read, and 10 where bodies are checked and one is wrong; by 5 or 6 where there is no memory for it.
     pub fn read_directory(&self, icb: impl Into<LongAd>) -> Answered<Vec<DirEntry>> {
         let icb = icb.into();
         let bytes = self.measure(icb)?;
@@ -256,6 +314,11 @@ impl<'a> Counted<'a> {
     /// # Ok(())
     /// # }
     /// ```
+    ///
+    /// # Errors
+    ///
+    /// Refused by 11 where a directory stands at the last level, or the levels aren't 1 to 16; by 16 where more sectors would be asked for
+    /// than were lent; and as a listing is for each directory on the way.
     pub fn show(&self, levels: u32, most: u64) -> Answered<Show> {
         let mut out = Room::new(FIRST, MOST_SHOW);
         let answer = retry(&mut out, &mut work_space(), |out, work| calls::show(self.volume, self.image, levels, most, out, work))?;
@@ -264,6 +327,11 @@ impl<'a> Counted<'a> {
     }
 
     /// A file's bytes, or a directory's own.
+    ///
+    /// # Errors
+    ///
+    /// Refused by 1 where a sector isn't there, 2 where a descriptor isn't what it must be, 4 where the file has a form that isn't read,
+    /// and 10 where bodies are checked and one is wrong; by 5 where there is no memory for its bytes.
     pub fn read_file(&self, icb: impl Into<LongAd>) -> Answered<Vec<u8>> {
         let icb = icb.into();
         let bytes = self.measure(icb)?;
@@ -273,16 +341,28 @@ impl<'a> Counted<'a> {
     }
 
     /// How many bytes [`Counted::read_file`] gives, with its refusals and its count, but for 5: that one is for want of memory.
+    ///
+    /// # Errors
+    ///
+    /// Refused as the read is, but for want of memory.
     pub fn measure(&self, icb: impl Into<LongAd>) -> Answered<u64> {
         calls::measure(self.volume, self.image, icb.into())
     }
 
     /// Looks a path up and reads what it names; the count is that of both.
+    ///
+    /// # Errors
+    ///
+    /// Refused as the lookup is, and then as the read of what it names.
     pub fn read_path(&self, path: impl AsRef<[u8]>) -> Answered<Vec<u8>> {
         self.read_path_as(path, Matching::CaseIgnored)
     }
 
     /// The same, with components matched as is said.
+    ///
+    /// # Errors
+    ///
+    /// Refused as the lookup is, and then as the read of what it names.
     pub fn read_path_as(&self, path: impl AsRef<[u8]>, matching: Matching) -> Answered<Vec<u8>> {
         let found = self.lookup_as(path, matching)?;
         let both = |sectors: u64| found.sectors.saturating_add(sectors);
@@ -313,11 +393,19 @@ impl<'a> Counted<'a> {
     /// # Ok(())
     /// # }
     /// ```
+    ///
+    /// # Errors
+    ///
+    /// Refused by 12 where there is no memory for the list. What refuses a path is in its item.
     pub fn read_all(&self, paths: &[impl AsRef<[u8]>]) -> Answered<Vec<Item>> {
         self.read_all_as(paths, Matching::CaseIgnored)
     }
 
     /// The same, with the components of every path matched as is said.
+    ///
+    /// # Errors
+    ///
+    /// Refused by 12 where there is no memory for the list. What refuses a path is in its item.
     pub fn read_all_as(&self, paths: &[impl AsRef<[u8]>], matching: Matching) -> Answered<Vec<Item>> {
         let (mut all, mut work) = (Answer { value: Vec::new(), sectors: 0 }, work_space());
         all.value.try_reserve_exact(paths.len()).map_err(|_| too_many())?;
@@ -350,6 +438,10 @@ impl<'a> Counted<'a> {
     }
 
     /// Where a file stands on the disc, its whole chain followed; an embedded file has no extents.
+    ///
+    /// # Errors
+    ///
+    /// Refused as the read is before it comes to the file's bytes, and by 7 where there is no memory for the extents.
     pub fn extents(&self, icb: impl Into<LongAd>) -> Answered<Vec<AllocExtent>> {
         let icb = icb.into();
         let mut row = Room::new(FIRST_SLOTS, MOST_SLOTS);
@@ -363,6 +455,10 @@ impl<'a> Counted<'a> {
     }
 
     /// An embedded file's bytes where they stand in the image; none for any other file that can be read.
+    ///
+    /// # Errors
+    ///
+    /// Refused as the read is before it comes to the file's bytes.
     pub fn part(&self, icb: impl Into<LongAd>) -> Answered<&'a [u8]> {
         calls::part(self.volume, self.image, icb.into())
     }

@@ -6,7 +6,7 @@
 
 use crate::answer::{Answer, Answered, Refusal, Refused};
 use crate::calls::{self, Row};
-use crate::cause::{Cause, of_reading};
+use crate::cause::of_call;
 use crate::counted::SECTOR_SIZE;
 use crate::diagnosis::{Asked, Diagnosis, Sought, is_of_the_disc, opening};
 use crate::how::How;
@@ -83,6 +83,10 @@ impl<R> CountedDrive<R> {
     }
 
     /// The volume's name. No sector is asked for: opening kept its field.
+    ///
+    /// # Errors
+    ///
+    /// Refused by 2 where the field isn't a name.
     pub fn label(&self) -> Answered<String> {
         let [field @ .., length] = self.volume.label;
         let refused = |why| Refused { why, sectors: 0 };
@@ -130,11 +134,7 @@ impl<R: Read + Seek> CountedDrive<R> {
             return Diagnosis::bare(*refused);
         }
         let mut diagnosis = Diagnosis::at(*refused, self.trail.last, &mut self.source);
-        diagnosis.cause = self.trail.icb.and_then(|icb| match refused.why {
-            Refusal::Unsupported => of_reading(&mut self.source, self.volume.mount, icb),
-            Refusal::Malformed => (icb.length == 0).then_some(Cause::EmptyIcb),
-            _ => None,
-        });
+        diagnosis.cause = self.trail.icb.and_then(|icb| of_call(&mut self.source, self.volume.mount, icb, refused.why));
         diagnosis
     }
 
@@ -184,6 +184,11 @@ impl<R: Read + Seek> CountedDrive<R> {
     }
 
     /// Opens the volume of a disc, as [`Counted::open`](crate::Counted::open) does.
+    ///
+    /// # Errors
+    ///
+    /// An `Unopened`, with the reader in it: refused by 1 where a sector can't be had, 2 where a descriptor isn't what it must be, 3 where
+    /// one is missing, and 4 where the volume has a form that isn't read.
     pub fn open(reader: R) -> std::result::Result<Answer<CountedDrive<R>>, Unopened<R>> {
         let (mut source, mut opening) = (Source::new(reader), calls::opening_start());
         while let Some(wanted) = calls::opening_wants(&opening) {
@@ -198,23 +203,40 @@ impl<R: Read + Seek> CountedDrive<R> {
     }
 
     /// The ICB that a path names, as [`Counted::lookup`](crate::Counted::lookup) finds it.
+    ///
+    /// # Errors
+    ///
+    /// Refused by 3 where nothing has a name of the path, and as a listing is for each directory on the way.
     pub fn lookup(&mut self, path: impl AsRef<[u8]>) -> Answered<LongAd> {
         self.lookup_as(path, Matching::CaseIgnored)
     }
 
     /// The same, with components matched as is said.
+    ///
+    /// # Errors
+    ///
+    /// Refused by 3 where nothing has a name of the path, by 9 where two or more entries match one that is to be unambiguous, and as a
+    /// listing is for each directory on the way.
     pub fn lookup_as(&mut self, path: impl AsRef<[u8]>, matching: Matching) -> Answered<LongAd> {
         let Walked { came, sectors, .. } = self.walk(path.as_ref(), matching);
         came.map(|value| Answer { value, sectors }).map_err(|why| Refused { why, sectors })
     }
 
     /// The component at which [`CountedDrive::lookup`] finds nothing, as a part of the path; none where the path is there.
+    ///
+    /// # Errors
+    ///
+    /// Refused as the lookup is, but for 3.
     pub fn failed<'p>(&mut self, path: &'p (impl AsRef<[u8]> + ?Sized)) -> Answered<Option<&'p [u8]>> {
         self.failed_as(path, Matching::CaseIgnored)
     }
 
     /// The same for [`CountedDrive::lookup_as`]. A component that is ambiguous isn't one at which nothing is found: the call is then refused as the
     /// lookup is.
+    ///
+    /// # Errors
+    ///
+    /// Refused as the lookup is, but for 3.
     pub fn failed_as<'p>(&mut self, path: &'p (impl AsRef<[u8]> + ?Sized), matching: Matching) -> Answered<Option<&'p [u8]>> {
         let Walked { came, lost, sectors } = self.walk(path.as_ref(), matching);
         match came {
@@ -224,6 +246,11 @@ impl<R: Read + Seek> CountedDrive<R> {
     }
 
     /// The entries of a directory in the disc's order, without those that are deleted and the parent.
+    ///
+    /// # Errors
+    ///
+    /// Refused by 1 where a sector can't be had, 2 where a descriptor or a name isn't what it must be, and 4 where the directory has a form
+    /// that isn't read; by 5 or 6 where there is no memory for it.
     pub fn read_directory(&mut self, icb: impl Into<LongAd>) -> Answered<Vec<DirEntry>> {
         self.trail = Trail::default();
         let read = self.directory(icb.into())?;
@@ -231,6 +258,11 @@ impl<R: Read + Seek> CountedDrive<R> {
     }
 
     /// A file's bytes, or a directory's own.
+    ///
+    /// # Errors
+    ///
+    /// Refused by 1 where a sector can't be had, 2 where a descriptor isn't what it must be, and 4 where the file has a form that isn't
+    /// read; by 5 where there is no memory for its bytes.
     pub fn read_file(&mut self, icb: impl Into<LongAd>) -> Answered<Vec<u8>> {
         self.trail = Trail::default();
         self.file(icb.into())
@@ -252,11 +284,19 @@ impl<R: Read + Seek> CountedDrive<R> {
     }
 
     /// Looks a path up and reads what it names; the count is that of both.
+    ///
+    /// # Errors
+    ///
+    /// Refused as the lookup is, and then as the read of what it names.
     pub fn read_path(&mut self, path: impl AsRef<[u8]>) -> Answered<Vec<u8>> {
         self.read_path_as(path, Matching::CaseIgnored)
     }
 
     /// The same, with components matched as is said.
+    ///
+    /// # Errors
+    ///
+    /// Refused as the lookup is, and then as the read of what it names.
     pub fn read_path_as(&mut self, path: impl AsRef<[u8]>, matching: Matching) -> Answered<Vec<u8>> {
         let icb = self.lookup_as(path, matching)?;
         let both = |sectors: u64| sectors.saturating_add(icb.sectors);
@@ -270,6 +310,10 @@ impl<R: Read + Seek> CountedDrive<R> {
     ///
     /// What had arrived is written also where the read is refused in the end. Nothing bounds it but the descriptors of the file: a disc that was made to do
     /// harm may give more bytes than it has, and a writer that has had enough fails.
+    ///
+    /// # Errors
+    ///
+    /// An `Uncopied`: the read was refused, with how many bytes are written, or the writer failed.
     pub fn copy_file(&mut self, icb: impl Into<LongAd>, to: &mut impl Write) -> std::result::Result<Answer<u64>, Uncopied> {
         self.trail = Trail::default();
         self.copied(icb.into(), to)

@@ -8,8 +8,8 @@ use crate::opening::Sequence;
 use crate::records::LongAd;
 use crate::source::{Copied, Source};
 use crate::udf::DescriptorTag;
-use std::fmt;
 use std::io::{Read, Seek};
+use std::{error, fmt};
 
 /// A call that was refused, to be gone over again.
 #[derive(Debug, Clone, Copy, PartialEq, Eq)]
@@ -172,6 +172,13 @@ impl fmt::Display for Diagnosis {
     fn fmt(&self, f: &mut fmt::Formatter<'_>) -> fmt::Result {
         f.write_str(&self.what())?;
         self.place.map_or(Ok(()), |place| write!(f, "; {place}"))
+    }
+}
+
+/// It can be given as an error itself; what the refusal's number means is its source.
+impl error::Error for Diagnosis {
+    fn source(&self) -> Option<&(dyn error::Error + 'static)> {
+        Some(&self.refused)
     }
 }
 

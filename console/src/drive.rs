@@ -1,9 +1,11 @@
 //! The calls, over a reader.
 
-use crate::answer::{Answer, Refused, Result};
+use crate::answer::{Answer, Refused};
 use crate::counted_drive::{CountedDrive, Uncopied, Unopened};
 use crate::diagnosis::Diagnosis;
+use crate::error::Result;
 use crate::matching::Matching;
+use crate::paths::{PathText, component};
 use crate::records::{DirEntry, LongAd};
 use crate::source::Missed;
 use crate::vault::plain;
@@ -82,6 +84,10 @@ impl<R> Drive<R> {
     /// # Ok(())
     /// # }
     /// ```
+    ///
+    /// # Errors
+    ///
+    /// Refused by 2 where the field isn't a name.
     pub fn label(&self) -> Result<String> {
         plain(self.inner.label())
     }
@@ -127,6 +133,11 @@ impl<R: Read + Seek> Drive<R> {
     /// # Ok(())
     /// # }
     /// ```
+    ///
+    /// # Errors
+    ///
+    /// An `Unopened`, with the reader in it: refused by 1 where a sector can't be had, 2 where a descriptor isn't what it must be, 3 where
+    /// one is missing, and 4 where the volume has a form that isn't read.
     pub fn open(reader: R) -> std::result::Result<Drive<R>, Unopened<R>> {
         let Answer { value: inner, sectors } = CountedDrive::open(reader)?;
         Ok(Drive { inner, sectors })
@@ -141,6 +152,10 @@ impl<R: Read + Seek> Drive<R> {
     /// # Ok(())
     /// # }
     /// ```
+    ///
+    /// # Errors
+    ///
+    /// Refused by 3 where nothing has a name of the path, and as a listing is for each directory on the way.
     pub fn lookup(&mut self, path: impl AsRef<[u8]>) -> Result<LongAd> {
         plain(self.inner.lookup(path))
     }
@@ -154,21 +169,31 @@ impl<R: Read + Seek> Drive<R> {
     /// # Ok(())
     /// # }
     /// ```
+    ///
+    /// # Errors
+    ///
+    /// Refused by 3 where nothing has a name of the path, by 9 where two or more entries match one that is to be unambiguous, and as a
+    /// listing is for each directory on the way.
     pub fn lookup_as(&mut self, path: impl AsRef<[u8]>, matching: Matching) -> Result<LongAd> {
         plain(self.inner.lookup_as(path, matching))
     }
 
-    /// The component at which [`Drive::lookup`] finds nothing, as a part of the path; none where the path is there.
+    /// The component at which [`Drive::lookup`] finds nothing, as a part of the path, text of text and bytes of bytes; none where the path is
+    /// there.
     ///
     /// ```no_run
     /// # fn main() -> Result<(), Box<dyn std::error::Error>> {
     /// # let mut drive = strandlodge::Drive::open(std::fs::File::open("/dev/sr0")?)?;
-    /// assert_eq!(drive.failed("SHOW/12")?, Some(&b"12"[..]));
+    /// assert_eq!(drive.failed("SHOW/12")?, Some("12"));
     /// # Ok(())
     /// # }
     /// ```
-    pub fn failed<'p>(&mut self, path: &'p (impl AsRef<[u8]> + ?Sized)) -> Result<Option<&'p [u8]>> {
-        plain(self.inner.failed(path))
+    ///
+    /// # Errors
+    ///
+    /// Refused as the lookup is, but for 3.
+    pub fn failed<'p, P: PathText + ?Sized>(&mut self, path: &'p P) -> Result<Option<&'p P::Component>> {
+        self.failed_as(path, Matching::CaseIgnored)
     }
 
     /// The same for [`Drive::lookup_as`]. A component that is ambiguous isn't one at which nothing is found: the call is then refused as the
@@ -177,12 +202,17 @@ impl<R: Read + Seek> Drive<R> {
     /// ```no_run
     /// # fn main() -> Result<(), Box<dyn std::error::Error>> {
     /// # let mut drive = strandlodge::Drive::open(std::fs::File::open("/dev/sr0")?)?;
-    /// assert_eq!(drive.failed_as("show/9", strandlodge::Matching::AsWritten)?, Some(&b"show"[..]));
+    /// assert_eq!(drive.failed_as("show/9", strandlodge::Matching::AsWritten)?, Some("show"));
     /// # Ok(())
     /// # }
     /// ```
-    pub fn failed_as<'p>(&mut self, path: &'p (impl AsRef<[u8]> + ?Sized), matching: Matching) -> Result<Option<&'p [u8]>> {
-        plain(self.inner.failed_as(path, matching))
+    ///
+    /// # Errors
+    ///
+    /// Refused as the lookup is, but for 3.
+    pub fn failed_as<'p, P: PathText + ?Sized>(&mut self, path: &'p P, matching: Matching) -> Result<Option<&'p P::Component>> {
+        let found = plain(self.inner.failed_as(path.bytes(), matching))?;
+        Ok(found.and_then(|found| component(path, found)))
     }
 
     /// The entries of a directory in the disc's order, without those that are deleted and the parent.
@@ -196,6 +226,11 @@ impl<R: Read + Seek> Drive<R> {
     /// # Ok(())
     /// # }
     /// ```
+    ///
+    /// # Errors
+    ///
+    /// Refused by 1 where a sector can't be had, 2 where a descriptor or a name isn't what it must be, and 4 where the directory has a form
+    /// that isn't read; by 5 or 6 where there is no memory for it.
     pub fn read_directory(&mut self, icb: impl Into<LongAd>) -> Result<Vec<DirEntry>> {
         plain(self.inner.read_directory(icb))
     }
@@ -210,6 +245,11 @@ impl<R: Read + Seek> Drive<R> {
     /// # Ok(())
     /// # }
     /// ```
+    ///
+    /// # Errors
+    ///
+    /// Refused by 1 where a sector can't be had, 2 where a descriptor isn't what it must be, and 4 where the file has a form that isn't
+    /// read; by 5 where there is no memory for its bytes.
     pub fn read_file(&mut self, icb: impl Into<LongAd>) -> Result<Vec<u8>> {
         plain(self.inner.read_file(icb))
     }
@@ -223,6 +263,10 @@ impl<R: Read + Seek> Drive<R> {
     /// # Ok(())
     /// # }
     /// ```
+    ///
+    /// # Errors
+    ///
+    /// Refused as the lookup is, and then as the read of what it names.
     pub fn read_path(&mut self, path: impl AsRef<[u8]>) -> Result<Vec<u8>> {
         plain(self.inner.read_path(path))
     }
@@ -236,6 +280,10 @@ impl<R: Read + Seek> Drive<R> {
     /// # Ok(())
     /// # }
     /// ```
+    ///
+    /// # Errors
+    ///
+    /// Refused as the lookup is, and then as the read of what it names.
     pub fn read_path_as(&mut self, path: impl AsRef<[u8]>, matching: Matching) -> Result<Vec<u8>> {
         plain(self.inner.read_path_as(path, matching))
     }
@@ -253,6 +301,10 @@ impl<R: Read + Seek> Drive<R> {
     /// # Ok(())
     /// # }
     /// ```
+    ///
+    /// # Errors
+    ///
+    /// An `Uncopied`: the read was refused, with how many bytes are written, or the writer failed.
     pub fn copy_file(&mut self, icb: impl Into<LongAd>, to: &mut impl Write) -> std::result::Result<u64, Uncopied> {
         self.inner.copy_file(icb, to).map(|answer| answer.value)
     }

@@ -22,6 +22,10 @@ pub struct FileIdentifierDescriptor {
 
 impl FileIdentifierDescriptor {
     /// The descriptor at the front of these bytes.
+    ///
+    /// # Errors
+    ///
+    /// Refused by 2 where the bytes are too few, or aren't such a record.
     pub fn parse(bytes: &[u8]) -> Result<FileIdentifierDescriptor> {
         let raw = parsing::file_identifier(bytes)?;
         let name = bytes.get(raw.name_at..).and_then(|rest| rest.get(..raw.name_length)).unwrap_or_default();
@@ -70,6 +74,10 @@ impl IcbTag {
     pub const SIZE: usize = 20;
 
     /// The record at the front of these bytes.
+    ///
+    /// # Errors
+    ///
+    /// Refused by 2 where the bytes are too few, or aren't such a record.
     pub fn parse(bytes: &[u8]) -> Result<IcbTag> {
         parsing::icb_tag(bytes).map(IcbTag::of_c)
     }
@@ -92,6 +100,10 @@ pub enum AdType {
 
 impl AdType {
     /// By the flags of an ICB tag.
+    ///
+    /// # Errors
+    ///
+    /// Refused by 2 where the flags name no kind of area.
     pub fn from_flags(flags: u16) -> Result<AdType> {
         let kinds = [AdType::Short, AdType::Long, AdType::Extended, AdType::EmbeddedInIcb];
         kinds.get(usize::from(flags & 7)).copied().map_or_else(malformed, Ok)
@@ -145,6 +157,10 @@ impl FileEntry {
     pub const EFE_PREFIX_SIZE: usize = 216;
 
     /// The entry at the front of these bytes. An extent that is compressed is refused by 4, as in a read.
+    ///
+    /// # Errors
+    ///
+    /// Refused by 2 where the bytes are too few, or are no entry, and by 4 where an extent is compressed.
     pub fn parse(bytes: &[u8]) -> Result<FileEntry> {
         let raw = parsing::file_entry(bytes)?;
         let area = bytes.get(raw.area_at..).and_then(|rest| rest.get(..raw.area_length)).unwrap_or_default();

@@ -28,7 +28,8 @@
 //!
 //! # Where a call was refused
 //!
-//! A refusal is a number and a count. [`Vault::diagnose`], [`Drive::diagnose`] and, of an opening, [`diagnose()`] and [`Unopened::diagnose`] go over the
+//! A refusal is a number and a count, [`Refused`]. [`Error`], which the calls of [`Vault`] and [`Drive`] give, has the cause beside them where it is known, says it,
+//! and is made of an [`io::Error`](std::io::Error) too. [`Vault::diagnose`], [`Drive::diagnose`] and, of an opening, [`diagnose()`] and [`Unopened::diagnose`] go over the
 //! refused call again and name the last sector that it asked for, what for and what stands there ([`Place`]), and which of its causes the refusal had
 //! ([`Cause`]): another block size, a partition map of another form, an extent that isn't recorded.
 //!
@@ -114,12 +115,14 @@ mod counted_drive;
 mod diagnosis;
 mod drive;
 mod entries;
+mod error;
 mod how;
 mod mapped;
 mod maps;
 mod matching;
 mod opening;
 mod parsing;
+mod paths;
 mod records;
 mod room;
 mod runs;
@@ -139,16 +142,18 @@ mod replays;
 #[path = "../tests/common/asked.rs"]
 mod stored;
 
-pub use answer::{Answer, Answered, Refusal, Refused, Result};
+pub use answer::{Answer, Answered, Refusal, Refused};
 pub use cause::Cause;
 pub use counted::{Counted, SECTOR_SIZE};
 pub use counted_drive::{CountedDrive, Uncopied, Unopened};
 pub use diagnosis::{Asked, Diagnosis, Place, Sought, Standing, diagnose};
 pub use drive::Drive;
+pub use error::{Error, Result};
 pub use how::How;
 pub use mapped::Mapped;
 pub use maps::PartitionMap;
 pub use matching::Matching;
+pub use paths::PathText;
 pub use records::{AllocExtent, DirEntry, LbAddr, LongAd, ShowEntry};
 pub use runs::{Run, Runs};
 pub use sequence::{Kind, VolumeDescriptor, volume_descriptors};
@@ -158,6 +163,7 @@ pub use strandlodge_sys::vault::UNLIMITED;
 pub use survey::{Figure, Figures, Survey, survey, survey_image, survey_shelf, survey_total};
 pub use table::{MapForm, MapTable, map_table};
 pub use tree::Show;
+pub use udf::AVDP_SECTOR;
 pub use vault::{Vault, probe_vrs, read_volume_label, read_volume_label_as};
 pub use writer::{write, write_staged, write_total};
 

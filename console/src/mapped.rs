@@ -49,6 +49,10 @@ impl Mapped {
     /// Nobody writes to the file while it is mapped: a `&[u8]` says so of its bytes, and no map can see to it. Who can't keep that reads the
     /// file into memory, or uses [`Drive`](crate::Drive). A file that is cut short meanwhile, and a drive that can't read a sector, end the program
     /// by SIGBUS where what is gone is looked at; bytes that are added at a file's end aren't in the map.
+    ///
+    /// # Errors
+    ///
+    /// What the system says where the file can't be opened or mapped.
     pub unsafe fn open(path: impl AsRef<Path>) -> io::Result<Mapped> {
         let mut file = File::open(path)?;
         // Where the end is: a device has no length in its metadata.
@@ -62,6 +66,10 @@ impl Mapped {
     /// # Safety
     ///
     /// As for [`Mapped::open`].
+    ///
+    /// # Errors
+    ///
+    /// What the system says where the file can't be mapped.
     pub unsafe fn front(file: &File, length: usize) -> io::Result<Mapped> {
         if length == 0 {
             return Ok(Mapped { at: None, length });

@@ -4,11 +4,8 @@ use crate::diagnosis::Sought;
 use crate::how::How;
 use crate::source::Source;
 use crate::table::{MapForm, MapTable, table};
-use crate::udf::{AnchorVolumeDescriptorPointer, LogicalVolumeDescriptor, PartitionDescriptor};
+use crate::udf::{AVDP_SECTOR, AnchorVolumeDescriptorPointer, LogicalVolumeDescriptor, PartitionDescriptor};
 use std::io::{Read, Seek};
-
-/// The sector of the anchor.
-pub const ANCHOR: u64 = 256;
 
 const SECTOR: u32 = 2048;
 
@@ -27,7 +24,7 @@ pub struct Sequence {
 
 impl Sequence {
     pub fn read<R: Read + Seek>(source: &mut Source<R>) -> Sequence {
-        let Some(anchor) = source.look(ANCHOR).and_then(|bytes| AnchorVolumeDescriptorPointer::parse(&bytes).ok()) else {
+        let Some(anchor) = source.look(AVDP_SECTOR).and_then(|bytes| AnchorVolumeDescriptorPointer::parse(&bytes).ok()) else {
             return Sequence::default();
         };
         let main = anchor.main_volume_descriptor_sequence;
@@ -57,7 +54,7 @@ impl Sequence {
     /// The sector that was asked for as the n-th, and for what.
     pub fn asked(&self, how: How, n: u64) -> Option<(u64, Sought)> {
         match n.checked_sub(1)? {
-            0 => Some((ANCHOR, Sought::Anchor)),
+            0 => Some((AVDP_SECTOR, Sought::Anchor)),
             n if n <= self.visited => Some((self.first + n - 1, Sought::VolumeDescriptor)),
             _ => Some((self.file_set(how)?, Sought::FileSet)),
         }

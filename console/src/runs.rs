@@ -1,11 +1,13 @@
 //! A file as runs of the image: its bytes where they stand, and none of them copied.
 
-use crate::answer::{Answered, Result};
+use crate::answer::Answered;
 use crate::calls;
 use crate::counted::{Counted, FIRST_SLOTS, MOST_SLOTS};
+use crate::diagnosis::Asked;
+use crate::error::Result;
 use crate::records::LongAd;
 use crate::room::{Room, retry};
-use crate::vault::{Vault, plain};
+use crate::vault::Vault;
 use std::fmt;
 use std::iter::FusedIterator;
 use strandlodge_sys::vault as face;
@@ -155,6 +157,10 @@ impl<'a> Counted<'a> {
     /// # Ok(())
     /// # }
     /// ```
+    ///
+    /// # Errors
+    ///
+    /// Refused as the read is, but for want of memory; by 7 where there is none for the runs.
     pub fn runs(&self, icb: impl Into<LongAd>) -> Answered<Runs<'a>> {
         let (icb, volume, image) = (icb.into(), self.volume(), self.image());
         // An extent gives one run at most, and an embedded file is one.
@@ -186,7 +192,12 @@ impl<B: AsRef<[u8]>> Vault<B> {
     /// # Ok(())
     /// # }
     /// ```
+    ///
+    /// # Errors
+    ///
+    /// Refused as the read is, but for want of memory; by 7 where there is none for the runs.
     pub fn runs(&self, icb: impl Into<LongAd>) -> Result<Runs<'_>> {
-        plain(self.counted().runs(icb))
+        let icb = icb.into();
+        self.told(Asked::ReadFile(icb), self.counted().runs(icb))
     }
 }

@@ -4,13 +4,14 @@
 use crate::answer::{Refusal, Refused};
 use crate::calls;
 use crate::how::How;
+use crate::udf::AVDP_SECTOR;
 use std::collections::HashMap;
 use std::fmt;
 
 pub(crate) const SECTOR: usize = 2048;
 
 /// The sector of the anchor, where the place and the length of the sequence stand.
-const ANCHOR: usize = 256;
+const ANCHOR: usize = AVDP_SECTOR as usize;
 
 /// The id of the descriptor that ends the sequence.
 const TERMINATING: u16 = 8;

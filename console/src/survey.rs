@@ -149,6 +149,10 @@ pub struct Survey {
 /// # Ok(())
 /// # }
 /// ```
+///
+/// # Errors
+///
+/// Refused by 15 where there is no memory for the figures. What refuses an image is in its figures.
 pub fn survey(images: &[impl AsRef<[u8]>], how: How, most: u64) -> Result<Survey, Refusal> {
     let mut figures = Vec::new();
     figures.try_reserve_exact(images.len()).map_err(|_| Refusal::BadShelf)?;
@@ -202,6 +206,10 @@ pub fn survey_image(image: &[u8], how: How, most: u64) -> Figures {
 /// # Ok(())
 /// # }
 /// ```
+///
+/// # Errors
+///
+/// Refused by 15 where the lengths pass the shelf, or there is no memory for the figures. What refuses an image is in its figures.
 pub fn survey_shelf(shelf: &[u8], lengths: &[u64], how: How, most: u64, work: &mut [u8]) -> Result<Survey, Refusal> {
     let mut row = zeros(lengths.len())?;
     done(calls::survey_in(shelf, lengths, how.number(), most, &mut row, work))?;
@@ -222,6 +230,10 @@ pub fn survey_shelf(shelf: &[u8], lengths: &[u64], how: How, most: u64, work: &m
 /// # Ok(())
 /// # }
 /// ```
+///
+/// # Errors
+///
+/// Refused by 15 where there is no memory for the figures.
 pub fn survey_total(images: &[Figures]) -> Result<Figures, Refusal> {
     let mut row = zeros(images.len())?;
     row.iter_mut().zip(images.iter().flat_map(Figures::place)).for_each(|(to, number)| *to = number);

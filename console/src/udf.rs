@@ -20,6 +20,11 @@ pub use crate::records::{AllocExtent, DirEntry, LbAddr, LongAd};
 pub use crate::vault::{probe_vrs, read_volume_label};
 use strandlodge_sys::records as face;
 
+pub use crate::counted::SECTOR_SIZE;
+
+/// The sector in which the anchor stands (3/10.2).
+pub const AVDP_SECTOR: u64 = 256;
+
 macro_rules! ids {
     ($($name:ident = $number:literal, $says:literal;)*) => {
         /// The kinds of descriptors (ECMA-167 3/7.2.1, 4/7.2.1), by the ids of their tags.
@@ -94,6 +99,10 @@ impl DescriptorTag {
     pub const SIZE: usize = 16;
 
     /// The tag at the front of these bytes: its checksum and its id are right.
+    ///
+    /// # Errors
+    ///
+    /// Refused by 2 where the bytes are too few, or aren't such a record.
     pub fn parse(bytes: &[u8]) -> Result<DescriptorTag> {
         DescriptorTag::of_c(parsing::tag(bytes)?)
     }
@@ -143,6 +152,10 @@ macro_rules! small {
             pub const SIZE: usize = $size;
 
             /// The record at the front of these bytes.
+            ///
+            /// # Errors
+            ///
+            /// Refused by 2 where the bytes are too few, or aren't such a record.
             pub fn parse(bytes: &[u8]) -> Result<$name> {
                 let face::$name { $($field,)* } = parsing::$parse(bytes)?;
                 Ok($name { $($field: $field.into(),)* })
@@ -182,6 +195,10 @@ impl LbAddr {
     pub const SIZE: usize = 6;
 
     /// The record at the front of these bytes.
+    ///
+    /// # Errors
+    ///
+    /// Refused by 2 where the bytes are too few, or aren't such a record.
     pub fn parse(bytes: &[u8]) -> Result<LbAddr> {
         parsing::lb_addr(bytes).map(LbAddr::from)
     }
@@ -197,6 +214,10 @@ impl LongAd {
     pub const SIZE: usize = 16;
 
     /// The record at the front of these bytes.
+    ///
+    /// # Errors
+    ///
+    /// Refused by 2 where the bytes are too few, or aren't such a record.
     pub fn parse(bytes: &[u8]) -> Result<LongAd> {
         parsing::long_ad(bytes).map(LongAd::from)
     }
@@ -216,11 +237,19 @@ impl From<face::LongAd> for LongAd {
 }
 
 /// The name in a d-string (OSTA UDF 2.1.1). One of id 254 or 255, a deleted one, is empty, where the original refuses it.
+///
+/// # Errors
+///
+/// Refused by 2 where the bytes aren't a name.
 pub fn decode_dstring(payload: &[u8]) -> Result<String> {
     parsing::dstring(payload)
 }
 
 /// The name in a field, whose last byte says how many of the others it has (1/7.2.12).
+///
+/// # Errors
+///
+/// Refused by 2 where the field isn't a name.
 pub fn decode_dstring_field(field: &[u8]) -> Result<String> {
     parsing::dstring_field(field)
 }
@@ -238,6 +267,10 @@ macro_rules! descriptors {
 
         impl $name {
             /// The descriptor at the front of these bytes.
+            ///
+            /// # Errors
+            ///
+            /// Refused by 2 where the bytes are too few, or aren't such a record.
             pub fn parse(bytes: &[u8]) -> Result<$name> {
                 let raw = parsing::$parse(bytes)?;
                 Ok($name { tag: DescriptorTag::of_c(raw.tag)?, $($field: { let make: fn(_) -> Result<$kind> = $make; make(raw.$field)? },)* })

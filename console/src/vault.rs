@@ -1,12 +1,14 @@
 //! The calls, over an image that is owned or borrowed.
 
-use crate::answer::{Answer, Answered, Refused, Result};
+use crate::answer::{Answer, Answered, Refused};
 use crate::calls;
 use crate::counted::Counted;
-use crate::diagnosis::{Asked, Diagnosis};
+use crate::diagnosis::{Asked, Diagnosis, diagnose};
+use crate::error::{Error, Result};
 use crate::how::How;
 use crate::maps::PartitionMap;
 use crate::matching::Matching;
+use crate::paths::{PathText, component};
 use crate::records::{AllocExtent, DirEntry, LbAddr, LongAd};
 use crate::stack::Item;
 use crate::tree::Show;
@@ -34,6 +36,11 @@ pub fn probe_vrs(image: &[u8]) -> bool {
 /// # Ok(())
 /// # }
 /// ```
+///
+/// # Errors
+///
+/// Refused by 1 where a sector isn't there, 2 where a descriptor isn't what it must be, 3 where one is missing, 4 where the volume has a
+/// form that isn't read, and, with bodies checked, 10 where one is wrong.
 pub fn read_volume_label(image: &[u8]) -> Result<String> {
     read_volume_label_as(image, How::default())
 }
@@ -47,13 +54,23 @@ pub fn read_volume_label(image: &[u8]) -> Result<String> {
 /// # Ok(())
 /// # }
 /// ```
+///
+/// # Errors
+///
+/// Refused by 1 where a sector isn't there, 2 where a descriptor isn't what it must be, 3 where one is missing, 4 where the volume has a
+/// form that isn't read, and, with bodies checked, 10 where one is wrong.
 pub fn read_volume_label_as(image: &[u8], how: How) -> Result<String> {
-    plain(Counted::label_of(image, how))
+    Counted::label_of(image, how).map(|label| label.value).map_err(|refused| unopened(image, how, refused))
+}
+
+/// An opening that was refused, with its cause.
+fn unopened(image: &[u8], how: How, refused: Refused) -> Error {
+    Error::caused(refused, diagnose(image, how, &refused).cause)
 }
 
 /// The value alone.
 pub(crate) fn plain<T>(answered: Answered<T>) -> Result<T> {
-    answered.map(|answer| answer.value)
+    Ok(answered?.value)
 }
 
 /// An opened volume with its image, which it owns, as a `Vec<u8>`, a `Box<[u8]>` or a map, or borrows, as a `&[u8]`, a `&Vec<u8>` or an `Arc<[u8]>`.
@@ -104,6 +121,11 @@ impl<B: AsRef<[u8]>> Vault<B> {
     /// # Ok(())
     /// # }
     /// ```
+    ///
+    /// # Errors
+    ///
+    /// Refused by 1 where a sector isn't there, 2 where a descriptor isn't what it must be, 3 where one is missing, 4 where the volume has
+    /// a form that isn't read, and, with bodies checked, 10 where one is wrong.
     pub fn open(image: B) -> Result<Vault<B>> {
         Vault::open_as(image, How::default())
     }
@@ -118,8 +140,13 @@ impl<B: AsRef<[u8]>> Vault<B> {
     /// # Ok(())
     /// # }
     /// ```
+    ///
+    /// # Errors
+    ///
+    /// Refused by 1 where a sector isn't there, 2 where a descriptor isn't what it must be, 3 where one is missing, 4 where the volume has
+    /// a form that isn't read, and, with bodies checked, 10 where one is wrong.
     pub fn open_as(image: B, how: How) -> Result<Vault<B>> {
-        let Answer { value, sectors } = Counted::open_as(image.as_ref(), how)?;
+        let Answer { value, sectors } = Counted::open_as(image.as_ref(), how).map_err(|refused| unopened(image.as_ref(), how, refused))?;
         let volume = value.volume();
         Ok(Vault { image, volume, how, sectors })
     }
@@ -137,6 +164,11 @@ impl<B: AsRef<[u8]>> Vault<B> {
     /// ```
     pub fn counted(&self) -> Counted<'_> {
         Counted::over(self.image.as_ref(), self.volume, self.how)
+    }
+
+    /// The value alone; of a call that was refused the cause too.
+    pub(crate) fn told<T>(&self, asked: Asked, answered: Answered<T>) -> Result<T> {
+        answered.map(|answer| answer.value).map_err(|refused| Error::caused(refused, self.counted().cause(asked, &refused)))
     }
 
     /// The sectors that opening asked for.
@@ -237,6 +269,10 @@ impl<B: AsRef<[u8]>> Vault<B> {
     /// # Ok(())
     /// # }
     /// ```
+    ///
+    /// # Errors
+    ///
+    /// Refused as opening is: the image is opened again.
     pub fn label(&self) -> Result<String> {
         plain(self.counted().label())
     }
@@ -253,8 +289,12 @@ impl<B: AsRef<[u8]>> Vault<B> {
     /// # Ok(())
     /// # }
     /// ```
+    ///
+    /// # Errors
+    ///
+    /// Refused by 3 where nothing has a name of the path, and as a listing is for each directory on the way.
     pub fn lookup(&self, path: impl AsRef<[u8]>) -> Result<LongAd> {
-        plain(self.counted().lookup(path))
+        self.lookup_as(path, Matching::CaseIgnored)
     }
 
     /// The same, with components matched as is said.
@@ -266,21 +306,32 @@ impl<B: AsRef<[u8]>> Vault<B> {
     /// # Ok(())
     /// # }
     /// ```
+    ///
+    /// # Errors
+    ///
+    /// Refused by 3 where nothing has a name of the path, by 9 where two or more entries match one that is to be unambiguous, and as a
+    /// listing is for each directory on the way.
     pub fn lookup_as(&self, path: impl AsRef<[u8]>, matching: Matching) -> Result<LongAd> {
-        plain(self.counted().lookup_as(path, matching))
+        let path = path.as_ref();
+        self.told(Asked::Lookup(path, matching), self.counted().lookup_as(path, matching))
     }
 
-    /// The component at which [`Vault::lookup`] finds nothing, as a part of the path; none where the path is there.
+    /// The component at which [`Vault::lookup`] finds nothing, as a part of the path, text of text and bytes of bytes; none where the path is
+    /// there.
     ///
     /// ```no_run
     /// # fn main() -> Result<(), Box<dyn std::error::Error>> {
     /// # let disc = strandlodge::Vault::open(std::fs::read("show.img")?)?;
-    /// assert_eq!(disc.failed("SHOW/12")?, Some(&b"12"[..]));
+    /// assert_eq!(disc.failed("SHOW/12")?, Some("12"));
     /// # Ok(())
     /// # }
     /// ```
-    pub fn failed<'p>(&self, path: &'p (impl AsRef<[u8]> + ?Sized)) -> Result<Option<&'p [u8]>> {
-        plain(self.counted().failed(path))
+    ///
+    /// # Errors
+    ///
+    /// Refused as the lookup is, but for 3.
+    pub fn failed<'p, P: PathText + ?Sized>(&self, path: &'p P) -> Result<Option<&'p P::Component>> {
+        self.failed_as(path, Matching::CaseIgnored)
     }
 
     /// The same for [`Vault::lookup_as`]. A component that is ambiguous isn't one at which nothing is found: the call is then refused as the
@@ -289,12 +340,18 @@ impl<B: AsRef<[u8]>> Vault<B> {
     /// ```no_run
     /// # fn main() -> Result<(), Box<dyn std::error::Error>> {
     /// # let disc = strandlodge::Vault::open(std::fs::read("show.img")?)?;
-    /// assert_eq!(disc.failed_as("show/9", strandlodge::Matching::AsWritten)?, Some(&b"show"[..]));
+    /// assert_eq!(disc.failed_as("show/9", strandlodge::Matching::AsWritten)?, Some("show"));
     /// # Ok(())
     /// # }
     /// ```
-    pub fn failed_as<'p>(&self, path: &'p (impl AsRef<[u8]> + ?Sized), matching: Matching) -> Result<Option<&'p [u8]>> {
-        plain(self.counted().failed_as(path, matching))
+    ///
+    /// # Errors
+    ///
+    /// Refused as the lookup is, but for 3.
+    pub fn failed_as<'p, P: PathText + ?Sized>(&self, path: &'p P, matching: Matching) -> Result<Option<&'p P::Component>> {
+        let bytes = path.bytes();
+        let found = self.told(Asked::Lookup(bytes, matching), self.counted().failed_as(bytes, matching))?;
+        Ok(found.and_then(|found| component(path, found)))
     }
 
     /// The entries of a directory in the disc's order, without those that are deleted and the parent.
@@ -308,8 +365,14 @@ impl<B: AsRef<[u8]>> Vault<B> {
     /// # Ok(())
     /// # }
     /// ```
+    ///
+    /// # Errors
+    ///
+    /// Refused by 1 where a sector isn't there, 2 where a descriptor or a name isn't what it must be, 4 where the directory has a form that
+    /// isn't read, and 10 where bodies are checked and one is wrong; by 5 or 6 where there is no memory for it.
     pub fn read_directory(&self, icb: impl Into<LongAd>) -> Result<Vec<DirEntry>> {
-        plain(self.counted().read_directory(icb))
+        let icb = icb.into();
+        self.told(Asked::ReadDirectory(icb), self.counted().read_directory(icb))
     }
 
     /// All that stands on the volume, down to so many levels, 1 to 16: an entry for each path, each before what stands under it, and those of a
@@ -330,8 +393,13 @@ impl<B: AsRef<[u8]>> Vault<B> {
     /// # Ok(())
     /// # }
     /// ```
+    ///
+    /// # Errors
+    ///
+    /// Refused by 11 where a directory stands at the last level, or the levels aren't 1 to 16; by 16 where more sectors would be asked for
+    /// than were lent; and as a listing is for each directory on the way.
     pub fn show(&self, levels: u32, most: u64) -> Result<Show> {
-        plain(self.counted().show(levels, most))
+        self.told(Asked::Show(levels), self.counted().show(levels, most))
     }
 
     /// A file's bytes, or a directory's own.
@@ -343,8 +411,14 @@ impl<B: AsRef<[u8]>> Vault<B> {
     /// # Ok(())
     /// # }
     /// ```
+    ///
+    /// # Errors
+    ///
+    /// Refused by 1 where a sector isn't there, 2 where a descriptor isn't what it must be, 4 where the file has a form that isn't read,
+    /// and 10 where bodies are checked and one is wrong; by 5 where there is no memory for its bytes.
     pub fn read_file(&self, icb: impl Into<LongAd>) -> Result<Vec<u8>> {
-        plain(self.counted().read_file(icb))
+        let icb = icb.into();
+        self.told(Asked::ReadFile(icb), self.counted().read_file(icb))
     }
 
     /// How many bytes [`Vault::read_file`] gives: what its extents have, as far as its entry says that it goes. It is refused as the read is, but
@@ -357,8 +431,13 @@ impl<B: AsRef<[u8]>> Vault<B> {
     /// # Ok(())
     /// # }
     /// ```
+    ///
+    /// # Errors
+    ///
+    /// Refused as the read is, but for want of memory.
     pub fn measure(&self, icb: impl Into<LongAd>) -> Result<u64> {
-        plain(self.counted().measure(icb))
+        let icb = icb.into();
+        self.told(Asked::ReadFile(icb), self.counted().measure(icb))
     }
 
     /// Looks a path up and reads what it names.
@@ -368,8 +447,12 @@ impl<B: AsRef<[u8]>> Vault<B> {
     ///     Ok(disc.read_path(cue)?)
     /// }
     /// ```
+    ///
+    /// # Errors
+    ///
+    /// Refused as the lookup is, and then as the read of what it names.
     pub fn read_path(&self, path: impl AsRef<[u8]>) -> Result<Vec<u8>> {
-        plain(self.counted().read_path(path))
+        self.read_path_as(path, Matching::CaseIgnored)
     }
 
     /// The same, with components matched as is said.
@@ -381,8 +464,13 @@ impl<B: AsRef<[u8]>> Vault<B> {
     /// # Ok(())
     /// # }
     /// ```
+    ///
+    /// # Errors
+    ///
+    /// Refused as the lookup is, and then as the read of what it names.
     pub fn read_path_as(&self, path: impl AsRef<[u8]>, matching: Matching) -> Result<Vec<u8>> {
-        plain(self.counted().read_path_as(path, matching))
+        let path = path.as_ref();
+        self.told(Asked::ReadPath(path, matching), self.counted().read_path_as(path, matching))
     }
 
     /// Reads what each of many paths names: for each, in their order, its bytes or why there are none, as [`Vault::read_path`] gives them. One that
@@ -401,6 +489,10 @@ impl<B: AsRef<[u8]>> Vault<B> {
     /// # Ok(())
     /// # }
     /// ```
+    ///
+    /// # Errors
+    ///
+    /// Refused by 12 where there is no memory for the list. What refuses a path is in its item.
     pub fn read_all(&self, paths: &[impl AsRef<[u8]>]) -> Result<Vec<Item>> {
         plain(self.counted().read_all(paths))
     }
@@ -414,6 +506,10 @@ impl<B: AsRef<[u8]>> Vault<B> {
     /// # Ok(())
     /// # }
     /// ```
+    ///
+    /// # Errors
+    ///
+    /// Refused by 12 where there is no memory for the list. What refuses a path is in its item.
     pub fn read_all_as(&self, paths: &[impl AsRef<[u8]>], matching: Matching) -> Result<Vec<Item>> {
         plain(self.counted().read_all_as(paths, matching))
     }
@@ -430,8 +526,13 @@ impl<B: AsRef<[u8]>> Vault<B> {
     /// # Ok(())
     /// # }
     /// ```
+    ///
+    /// # Errors
+    ///
+    /// Refused as the read is before it comes to the file's bytes, and by 7 where there is no memory for the extents.
     pub fn extents(&self, icb: impl Into<LongAd>) -> Result<Vec<AllocExtent>> {
-        plain(self.counted().extents(icb))
+        let icb = icb.into();
+        self.told(Asked::ReadFile(icb), self.counted().extents(icb))
     }
 
     /// An embedded file's bytes where they stand in the image; none for any other file that can be read.
@@ -443,7 +544,12 @@ impl<B: AsRef<[u8]>> Vault<B> {
     /// # Ok(())
     /// # }
     /// ```
+    ///
+    /// # Errors
+    ///
+    /// Refused as the read is before it comes to the file's bytes.
     pub fn part(&self, icb: impl Into<LongAd>) -> Result<&[u8]> {
-        plain(self.counted().part(icb))
+        let icb = icb.into();
+        self.told(Asked::ReadFile(icb), self.counted().part(icb))
     }
 }

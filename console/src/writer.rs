@@ -18,6 +18,10 @@ use crate::counted::SECTOR_SIZE;
 /// # Ok(())
 /// # }
 /// ```
+///
+/// # Errors
+///
+/// Refused by 13 for a name, by 14 for the files, and by 5 where there is no memory for the image.
 pub fn write(files: &[(impl AsRef<[u8]>, impl AsRef<[u8]>)]) -> Result<Vec<u8>, Refusal> {
     let names = ended(files.iter().map(|(name, _)| name.as_ref()))?;
     let lengths: Vec<u64> = files.iter().map(|(_, bytes)| bytes.as_ref().len() as u64).collect();
@@ -40,6 +44,10 @@ pub fn write(files: &[(impl AsRef<[u8]>, impl AsRef<[u8]>)]) -> Result<Vec<u8>, 
 /// # Ok(())
 /// # }
 /// ```
+///
+/// # Errors
+///
+/// Refused by 13 for a name, by 14 for the files or what is staged of them, and by 5 where the image is too short.
 pub fn write_staged(names: &[impl AsRef<[u8]>], lengths: &[u64], staging: &[u8], image: &mut [u8]) -> Result<u64, Refusal> {
     calls::write(&ended(names.iter().map(AsRef::as_ref))?, lengths, staging, image)
 }
@@ -50,6 +58,10 @@ pub fn write_staged(names: &[impl AsRef<[u8]>], lengths: &[u64], staging: &[u8],
 /// assert_eq!(strandlodge::write_total(&["9", "11"], &[5, 6]), Ok(384));
 /// assert_eq!(strandlodge::write_total(&["a/b"], &[5]), Err(strandlodge::Refusal::BadName));
 /// ```
+///
+/// # Errors
+///
+/// Refused by 13 for a name, and by 14 for the files.
 pub fn write_total(names: &[impl AsRef<[u8]>], lengths: &[u64]) -> Result<u64, Refusal> {
     calls::write_total(&ended(names.iter().map(AsRef::as_ref))?, lengths)
 }

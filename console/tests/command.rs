@@ -10,6 +10,7 @@ use std::os::unix::ffi::OsStrExt;
 use std::process::{Command, Stdio};
 use strandlodge::{Counted, ShowEntry, UNLIMITED};
 use strandlodge_sys::asked::Image;
+use strandlodge_sys::sparse;
 
 const BLACKOUT: &str = "cue 11\nblackout\n";
 
@@ -49,7 +50,8 @@ fn no_words_give_the_tour() {
 fn the_tour_can_be_typed() {
     let folder = Folder::new();
     answers(&folder.vault(&["sample", "show.img"]), "");
-    assert!(std::fs::read(folder.at("show.img")).unwrap() == show());
+    let stored = sparse::expand(include_bytes!("../src/bin/vault/sample")).unwrap();
+    assert!(std::fs::read(folder.at("show.img")).unwrap() == stored);
     let tour = folder.vault::<&str>(&[]).out;
     let mut typed = 0;
     for step in tour.split("\n\n").filter_map(|step| step.strip_prefix("$ vault ")) {
@@ -59,6 +61,42 @@ fn the_tour_can_be_typed() {
         typed += 1;
     }
     assert_eq!(typed, 10);
+}
+
+/// The sample is a disc with all that one has, read in each way that there is.
+#[test]
+fn the_sample_is_a_whole_disc() {
+    let folder = Folder::new();
+    answers(&folder.vault(&["sample", "show.img"]), "");
+    answers(&folder.vault(&["probe", "show.img"]), "yes\n");
+    for how in [&[][..], &["--checked"], &["--maps"], &["--highest"], &["--checked", "--maps", "--highest"]] {
+        let right = "21 descriptors, each in place and with a right body\n";
+        answers(&folder.vault(&[how, &["check", "show.img"]].concat()), right);
+        answers(&folder.vault(&[how, &["cat", "show.img", "SHOW/11"]].concat()), BLACKOUT);
+        answers(&folder.vault(&[how, &["ls", "-R", "show.img"]].concat()), "SHOW/\nSHOW/9\nSHOW/10.1A\nSHOW/10.1a\nSHOW/11\n");
+    }
+    let info = folder.vault(&["info", "show.img"]).out;
+    for line in
+        ["label    SHOW 1", "volume   SHOW 1", "revision UDF 1.02", "state    closed, by sector 64", "holds    files: 4, directories: 2"]
+    {
+        assert!(info.lines().any(|there| there == line), "{line} {info}");
+    }
+    // Its files are those of the show that the other tests look at.
+    folder.write("bare.img", &show());
+    for path in ["9", "10.1A", "10.1a", "11"].map(|cue| format!("SHOW/{cue}")) {
+        let cat = |image| folder.vault(&["cat", "--as-written", image, &path]).out;
+        assert_eq!(cat("show.img"), cat("bare.img"));
+    }
+}
+
+/// The stored sample is what its tool writes.
+#[test]
+fn the_sample_is_that_of_its_tool() {
+    let Some(python) = tool("python3") else {
+        return left_out("the sample beside its tool", "python3");
+    };
+    let script = concat!(env!("CARGO_MANIFEST_DIR"), "/../tools/sample_image.py");
+    answers(&Said::of(Command::new(python).args([script, "--check"]).output().unwrap()), "");
 }
 
 #[test]

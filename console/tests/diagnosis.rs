@@ -6,6 +6,7 @@ use common::asked::images;
 use common::command::Folder;
 use common::{Disc, SECTOR, VOLUME_BODY, continuation, continued, named, reclosed, seal, short_ad, show};
 use std::cell::Cell;
+use std::error;
 use std::io::{self, Cursor, Read, Seek, SeekFrom};
 use std::rc::Rc;
 use strandlodge::udf::{ExtAd, TagId};
@@ -75,10 +76,18 @@ fn stored_volumes_that_are_not_opened() {
             let Err(refused) = Counted::open_as(&image, how) else { continue };
             let why = diagnose(&image, how, &refused);
             assert!(why.place.is_some(), "{name} {how:?} {why:?}");
+            says_why(Vault::open_as(&image, how), &why, &name);
             sound(&why, &image, &name);
         }
     }
     assert!(refusals[1] > 3 && refusals[2] > 10 && refusals[3] > 2 && refusals[4] > 2, "{refusals:?}");
+}
+
+/// What `Vault` says of a refusal is what a diagnosis says, whether or not it is asked for one.
+fn says_why<T>(given: strandlodge::Result<T>, why: &Diagnosis, about: &str) {
+    let error = given.map(|_| ()).unwrap_err();
+    assert_eq!((error.refused(), error.cause()), (why.refused, why.cause.as_ref()), "{about}");
+    assert_eq!((error.to_string(), error::Error::source(&error).is_some()), (why.what(), why.cause.is_some()), "{about}");
 }
 
 /// The same call on a drive, and how it was refused.
@@ -89,6 +98,7 @@ fn stored_volumes_whose_files_are_not_read() {
     let mut refusals = [0; 15];
     for Image { name, bytes: image, queries, .. } in images("directories") {
         let Ok(vault) = Counted::open(&image) else { continue };
+        let plain = Vault::open(&image).unwrap();
         let (reader, last) = Watched::of(&image);
         let mut drive = CountedDrive::open(reader).unwrap().value;
         let mut hold = |asked: Asked, refused: Option<Refused>, again: Again| {
@@ -99,6 +109,13 @@ fn stored_volumes_whose_files_are_not_read() {
             let why = vault.diagnose(asked, &refused);
             assert_eq!((&why, why.place.map(|place| place.sector)), (&drive.diagnose(&refused), sector), "{name} {asked:?}");
             sound(&why, &image, &name);
+            match asked {
+                Asked::Lookup(path, by) => says_why(plain.lookup_as(path, by), &why, &name),
+                Asked::ReadPath(path, by) => says_why(plain.read_path_as(path, by), &why, &name),
+                Asked::ReadFile(icb) => says_why(plain.read_file(icb), &why, &name),
+                Asked::ReadDirectory(icb) => says_why(plain.read_directory(icb), &why, &name),
+                Asked::Show(levels) => says_why(plain.show(levels, UNLIMITED), &why, &name),
+            }
             refusals[refused.number() as usize] += 1;
         };
         for q in queries {

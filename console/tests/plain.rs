@@ -6,8 +6,9 @@ use common::command::Folder;
 use common::show;
 use std::collections::HashSet;
 use std::io::Cursor;
+use std::path::Path;
 use std::sync::Arc;
-use strandlodge::{Counted, CountedDrive, DirEntry, Drive, How, LongAd, Mapped, Matching, Refusal, Result, Vault};
+use strandlodge::{Answered, Counted, CountedDrive, DirEntry, Drive, How, LongAd, Mapped, Matching, Refusal, Refused, Result, Vault};
 use strandlodge::{UNLIMITED, read_volume_label, read_volume_label_as};
 
 /// The lines that were promised to stand, word for word; and the disc is either kind.
@@ -131,6 +132,15 @@ fn an_image_may_be_a_map_of_a_file() {
     assert_eq!((map("empty").unwrap().len(), map("none").unwrap_err().kind()), (0, std::io::ErrorKind::NotFound));
 }
 
+/// The value of a counted answer; and a component as text.
+fn plain<T>(answered: Answered<T>) -> Result<T> {
+    Ok(answered?.value)
+}
+
+fn text(answered: Answered<Option<&[u8]>>) -> Result<Option<&str>> {
+    plain(answered).map(|part| part.map(|part| std::str::from_utf8(part).unwrap()))
+}
+
 /// Every call gives the value, or the refusal, that the counted one gives.
 #[test]
 fn plain_answers_are_the_counted_ones() {
@@ -142,29 +152,29 @@ fn plain_answers_are_the_counted_ones() {
         assert_eq!((vault.maps(), vault.root_directory_icb()), (counted.maps(), counted.root_directory_icb()));
         assert_eq!((vault.label(), read_volume_label_as(&image, how)), (Ok("SHOW 1".to_string()), Ok("SHOW 1".to_string())));
         for path in ["", "SHOW", "SHOW/9", "show/10.1a", "SHOW/12", "SHOW/9/x"] {
-            assert_eq!(vault.lookup(path), counted.lookup(path).map(|answer| answer.value), "{path}");
-            assert_eq!(vault.failed(path), counted.failed(path).map(|answer| answer.value), "{path}");
-            assert_eq!(vault.read_path(path), counted.read_path(path).map(|answer| answer.value), "{path}");
+            assert_eq!(vault.lookup(path), plain(counted.lookup(path)), "{path}");
+            assert_eq!(vault.failed(path), text(counted.failed(path)), "{path}");
+            assert_eq!(vault.read_path(path), plain(counted.read_path(path)), "{path}");
             for matching in [Matching::CaseIgnored, Matching::AsWritten, Matching::Unambiguous] {
-                assert_eq!(vault.lookup_as(path, matching), counted.lookup_as(path, matching).map(|answer| answer.value));
-                assert_eq!(vault.failed_as(path, matching), counted.failed_as(path, matching).map(|answer| answer.value));
-                assert_eq!(vault.read_path_as(path, matching), counted.read_path_as(path, matching).map(|answer| answer.value));
-                assert_eq!(vault.read_all_as(&[path], matching), counted.read_all_as(&[path], matching).map(|answer| answer.value));
+                assert_eq!(vault.lookup_as(path, matching), plain(counted.lookup_as(path, matching)));
+                assert_eq!(vault.failed_as(path, matching), text(counted.failed_as(path, matching)));
+                assert_eq!(vault.read_path_as(path, matching), plain(counted.read_path_as(path, matching)));
+                assert_eq!(vault.read_all_as(&[path], matching), plain(counted.read_all_as(&[path], matching)));
             }
             let Ok(icb) = vault.lookup(path) else { continue };
-            assert_eq!(vault.read_file(icb), counted.read_file(icb).map(|answer| answer.value));
-            assert_eq!(vault.read_directory(icb), counted.read_directory(icb).map(|answer| answer.value));
-            assert_eq!(vault.extents(icb), counted.extents(icb).map(|answer| answer.value));
-            assert_eq!(vault.part(icb), counted.part(icb).map(|answer| answer.value));
+            assert_eq!(vault.read_file(icb), plain(counted.read_file(icb)));
+            assert_eq!(vault.read_directory(icb), plain(counted.read_directory(icb)));
+            assert_eq!(vault.extents(icb), plain(counted.extents(icb)));
+            assert_eq!(vault.part(icb), plain(counted.part(icb)));
             assert_eq!((vault.icb_sector(icb), vault.sector_of(icb.location)), (counted.icb_sector(icb), counted.sector_of(icb.location)));
             for extent in &vault.extents(icb).unwrap() {
                 assert_eq!(vault.extent_sector(icb, extent), counted.extent_sector(icb, extent));
             }
         }
-        assert_eq!(vault.read_all(&["SHOW/9", "x"]), counted.read_all(&["SHOW/9", "x"]).map(|answer| answer.value));
+        assert_eq!(vault.read_all(&["SHOW/9", "x"]), plain(counted.read_all(&["SHOW/9", "x"])));
         for levels in [0, 1, 2, 16] {
             let (show, other) = (vault.show(levels, UNLIMITED), counted.show(levels, UNLIMITED));
-            assert_eq!(show.map(Iterator::collect::<Vec<_>>), other.map(|answer| answer.value.collect::<Vec<_>>()));
+            assert_eq!(show.map(Iterator::collect::<Vec<_>>), plain(other).map(Iterator::collect::<Vec<_>>));
         }
     }
     assert_eq!(read_volume_label(&image), Ok("SHOW 1".to_string()));
@@ -180,17 +190,17 @@ fn a_drive_s_plain_answers_are_the_counted_ones() {
     assert_eq!((drive.sectors(), drive.partition_start_sector(), drive.partition_number()), (counted.sectors, 288, 5));
     assert_eq!((drive.label(), drive.root_directory_icb()), (Ok("SHOW 1".to_string()), counted.root_directory_icb()));
     for path in ["", "SHOW", "SHOW/9", "show/10.1a", "SHOW/12"] {
-        assert_eq!(drive.lookup(path), counted.lookup(path).map(|answer| answer.value));
-        assert_eq!(drive.failed(path), counted.failed(path).map(|answer| answer.value));
-        assert_eq!(drive.read_path(path), counted.read_path(path).map(|answer| answer.value));
+        assert_eq!(drive.lookup(path), plain(counted.lookup(path)));
+        assert_eq!(drive.failed(path), text(counted.failed(path)));
+        assert_eq!(drive.read_path(path), plain(counted.read_path(path)));
         for matching in [Matching::AsWritten, Matching::Unambiguous] {
-            assert_eq!(drive.lookup_as(path, matching), counted.lookup_as(path, matching).map(|answer| answer.value));
-            assert_eq!(drive.failed_as(path, matching), counted.failed_as(path, matching).map(|answer| answer.value));
-            assert_eq!(drive.read_path_as(path, matching), counted.read_path_as(path, matching).map(|answer| answer.value));
+            assert_eq!(drive.lookup_as(path, matching), plain(counted.lookup_as(path, matching)));
+            assert_eq!(drive.failed_as(path, matching), text(counted.failed_as(path, matching)));
+            assert_eq!(drive.read_path_as(path, matching), plain(counted.read_path_as(path, matching)));
         }
         let Ok(icb) = drive.lookup(path) else { continue };
-        assert_eq!(drive.read_file(icb), counted.read_file(icb).map(|answer| answer.value));
-        assert_eq!(drive.read_directory(icb), counted.read_directory(icb).map(|answer| answer.value));
+        assert_eq!(drive.read_file(icb), plain(counted.read_file(icb)));
+        assert_eq!(drive.read_directory(icb), plain(counted.read_directory(icb)));
         let mut copy = Vec::new();
         assert_eq!(drive.copy_file(icb, &mut copy).unwrap(), copy.len() as u64);
         assert_eq!(Ok(copy), drive.read_file(icb));
@@ -214,6 +224,48 @@ fn a_counted_answer_stands_for_its_value() {
     assert_eq!(icb, vault.lookup("SHOW").unwrap().value);
 }
 
+/// Of a path that is text a component is text, and of bytes it is bytes.
+#[test]
+fn the_component_that_failed_is_of_the_path_s_kind() {
+    let (vault, mut drive) = (Vault::open(show()).unwrap(), Drive::open(Cursor::new(show())).unwrap());
+    assert_eq!((vault.failed("SHOW/12").unwrap(), drive.failed("SHOW/12").unwrap()), (Some("12"), Some("12")));
+    assert_eq!((vault.failed("SHÖW/12").unwrap(), vault.failed(&"SHOW/é".to_string()).unwrap()), (Some("SHÖW"), Some("é")));
+    assert_eq!((vault.failed(b"SHOW/\xff").unwrap(), drive.failed(&b"x/9".to_vec()).unwrap()), (Some(&b"\xff"[..]), Some(&b"x"[..])));
+    assert_eq!(vault.failed_as(&"SHOW/10.1b", Matching::AsWritten).unwrap(), Some("10.1b"));
+    assert_eq!((vault.failed("SHOW/9").unwrap(), drive.failed(&[0u8; 0][..]).unwrap()), (None, None));
+}
+
+/// A cue of a file, as a function had it over the original: `?` takes what the system says too.
+fn loaded(file: &Path, cue: &str) -> Result<Vec<u8>> {
+    let mut disc = Drive::open(std::fs::File::open(file)?)?;
+    let mut copy = Vec::new();
+    disc.copy_file(disc.root_directory_icb(), &mut copy)?;
+    let vault = Vault::open(std::fs::read(file)?)?;
+    let again = strandlodge::write(&[(cue, vault.read_path(cue)?)])?;
+    Vault::open(again)?.read_path(cue)
+}
+
+#[test]
+fn one_error_is_of_refusals_and_of_files() {
+    let folder = Folder::new();
+    folder.write("show.img", &show());
+    folder.write("cut.img", &show()[..9000]);
+    folder.write("none.img", &[0; 600_000]);
+    let error = |name: &str, cue: &str| loaded(&folder.at(name), cue).unwrap_err();
+    let missing = error("no.img", "9");
+    assert_eq!((missing.refused(), missing.io().unwrap().kind()), (Refused { why: Refusal::Io, sectors: 0 }, std::io::ErrorKind::NotFound));
+    assert_eq!(missing.to_string(), missing.io().unwrap().to_string());
+    // What the reader said, and what a number means.
+    assert_eq!(error("cut.img", "9").to_string(), "sector 256 isn't there: the disc or image ends before it");
+    assert_eq!((error("cut.img", "9").number(), error("cut.img", "9").sectors), (1, 1));
+    assert_eq!(error("none.img", "9").to_string(), Refusal::Malformed.to_string());
+    assert_eq!(error("show.img", "SHOW/12").to_string(), Refusal::NotBluray.to_string());
+    assert_eq!(error("show.img", "SHOW/9").why, Refusal::BadName);
+    let (refused, why): (Refused, Refusal) = (error("show.img", "x").into(), error("show.img", "x").into());
+    assert_eq!((refused.why, why), (Refusal::NotBluray, Refusal::NotBluray));
+    assert!(format!("{missing:?}").starts_with("Error { refused: Refused { why: Io, sectors: 0 }, cause: None, error: Some("));
+}
+
 #[test]
 fn places_can_be_kept_in_a_set() {
     let vault = Vault::open(show()).unwrap();
@@ -223,9 +275,9 @@ fn places_can_be_kept_in_a_set() {
     assert_eq!(entries.len(), 4);
 }
 
-/// Every call has an example in its documentation, which the tests compile.
+/// Every call has an example in its documentation, which the tests compile, and says how it is refused.
 #[test]
-fn every_call_has_an_example() {
+fn every_call_has_an_example_and_its_errors() {
     let mut calls = 0;
     for source in [include_str!("../src/vault.rs"), include_str!("../src/drive.rs"), include_str!("../src/writer.rs")] {
         let mut documented = String::new();
@@ -234,7 +286,7 @@ fn every_call_has_an_example() {
                 documented += line;
             } else if line.starts_with("pub fn ") {
                 // What can be refused is a call; a number or a record that is kept is none.
-                assert!(!line.contains("Result<") || documented.contains("```"), "{line}");
+                assert!(!line.contains("Result<") || documented.contains("```") && documented.contains("# Errors"), "{line}");
                 calls += usize::from(line.contains("Result<"));
                 documented.clear();
             } else if !line.starts_with("#[") {

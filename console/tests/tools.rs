@@ -3,7 +3,7 @@
 
 mod common;
 
-use common::command::{Folder, left_out, tool};
+use common::command::{Folder, Said, left_out, tool};
 use common::{SECTOR, noise, seal};
 use std::path::Path;
 use std::process::Command;
@@ -315,4 +315,58 @@ fn newfs_udf_with_files_of_udfclient() {
     assert!(Command::new(&make).args(words).current_dir(&folder.0).output().unwrap().status.success());
     assert_eq!(folder.vault(&["label", "--checked", "disc.img"]).out, "DISC\n");
     fill_by(&client, &folder, "SET:DISC:DISC:fileset");
+}
+
+/// The sample show in a folder of its own, and what a program says of it there.
+fn sample_by(program: &Path, words: &[&str]) -> (Folder, Said) {
+    let folder = Folder::new();
+    assert_eq!(folder.vault(&["sample", "show.img"]).status, 0);
+    let said = Said::of(Command::new(program).args(words).current_dir(&folder.0).output().unwrap());
+    assert!(said.status == 0 && said.error.is_empty() && !said.out.to_lowercase().contains("warning"), "{said:?}");
+    (folder, said)
+}
+
+/// The cues of the sample show.
+const CUES: [&str; 4] = ["9", "10.1A", "10.1a", "11"];
+
+#[test]
+fn seven_zip_reads_the_sample() {
+    let Some(program) = ["7z", "7zz", "7za"].iter().find_map(|name| tool(name)) else {
+        return left_out("the sample that 7-Zip reads", "7z");
+    };
+    let (_, said) = sample_by(&program, &["l", "-slt", "show.img"]);
+    assert!(said.out.contains("Type = Udf\n") && CUES.iter().all(|cue| said.out.contains(&format!("Path = SHOW/{cue}\n"))), "{said:?}");
+    let (folder, said) = sample_by(&program, &["x", "-y", "-oto", "show.img"]);
+    assert!(said.out.contains("Everything is Ok"), "{said:?}");
+    std::fs::create_dir(folder.at("ours")).unwrap();
+    assert_eq!(folder.vault(&["get", "-r", "show.img", "-o", "ours"]).status, 0);
+    for cue in CUES {
+        let bytes = |at: &str| std::fs::read(folder.at(at).join("SHOW").join(cue)).unwrap();
+        assert_eq!(bytes("to"), bytes("ours"), "{cue}");
+    }
+}
+
+#[test]
+fn udfinfo_reads_the_sample() {
+    let Some(program) = tool("udfinfo") else {
+        return left_out("the sample that udfinfo reads", "udfinfo");
+    };
+    let (_, said) = sample_by(&program, &["show.img"]);
+    for line in
+        ["label=SHOW 1", "udfrev=1.02", "integrity=closed", "numfiles=4", "numdirs=2", "blocks=352", "start=351, blocks=1, type=ANCHOR"]
+    {
+        assert!(said.out.lines().any(|there| there == line), "{line} {said:?}");
+    }
+}
+
+#[test]
+fn grub_reads_the_sample() {
+    let Some(program) = tool("grub-fstest") else {
+        return left_out("the sample that GRUB reads", "grub-fstest");
+    };
+    assert_eq!(sample_by(&program, &["show.img", "ls", "/SHOW/"]).1.out.split_whitespace().collect::<Vec<_>>(), CUES);
+    for cue in CUES {
+        let (folder, said) = sample_by(&program, &["show.img", "cat", &format!("/SHOW/{cue}")]);
+        assert_eq!(said.out, folder.vault(&["cat", "--as-written", "show.img", &format!("SHOW/{cue}")]).out);
+    }
 }

@@ -13,7 +13,8 @@ fn sector(image: &[u8], number: usize) -> &[u8] {
 #[test]
 fn the_show_s_descriptors_are_parsed() {
     let image = show();
-    let anchor = AnchorVolumeDescriptorPointer::parse(sector(&image, 256)).unwrap();
+    let anchor = AnchorVolumeDescriptorPointer::parse(sector(&image, AVDP_SECTOR as usize)).unwrap();
+    assert_eq!((AVDP_SECTOR, strandlodge::AVDP_SECTOR, SECTOR_SIZE), (256, 256, 2048));
     assert_eq!((anchor.tag.id, anchor.tag.location), (TagId::AnchorVolumeDescriptorPointer, 256));
     assert_eq!(anchor.main_volume_descriptor_sequence.location, 32);
     let primary = PrimaryVolumeDescriptor::parse(sector(&image, 32)).unwrap();

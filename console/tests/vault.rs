@@ -555,6 +555,6 @@ fn a_directory_that_is_too_large_is_refused_at_once() {
     disc.root(root);
     let vault = Vault::open(&disc.0).unwrap();
     let (root, sectors) = (vault.root_directory_icb(), 1 + 17 * size.div_ceil(SECTOR) as u64);
-    assert_eq!(vault.read_directory(root), Err(Refused { why: Refusal::NoWork, sectors }));
+    assert_eq!(vault.read_directory(root).unwrap_err().refused(), Refused { why: Refusal::NoWork, sectors });
     assert_eq!(vault.measure(root), Ok(17 * size as u64));
 }

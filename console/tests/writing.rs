@@ -44,7 +44,7 @@ fn vaults() -> Vec<Files> {
 /// The files in a folder, and the words of a command that makes a vault of them. A name may begin as an option does.
 fn staged(folder: &Folder, files: &Files) -> Vec<String> {
     std::fs::create_dir_all(folder.at("from")).unwrap();
-    let words = ["make", "v.img", "--"].map(str::to_string).into_iter();
+    let words = ["make", "--force", "v.img", "--"].map(str::to_string).into_iter();
     words
         .chain(files.iter().map(|(name, bytes)| {
             put(folder.at("from").join(name), bytes).unwrap();
@@ -53,8 +53,14 @@ fn staged(folder: &Folder, files: &Files) -> Vec<String> {
         .collect()
 }
 
+/// A folder with the vault of these files. One of no files is written by the library alone.
 fn made(files: &Files) -> Folder {
     let folder = Folder::new();
+    if files.is_empty() {
+        std::fs::create_dir(folder.at("from")).unwrap();
+        folder.write("v.img", &write(files).unwrap());
+        return folder;
+    }
     let said = folder.vault(&staged(&folder, files));
     assert_eq!((said.status, said.error.as_str()), (0, ""), "{said:?}");
     folder
@@ -137,7 +143,7 @@ fn a_refused_vault_leaves_nothing_behind() {
     std::fs::File::create(folder.at("long")).unwrap().set_len(MOST + 1).unwrap();
     let before = folder.names();
     let refuses = |words: &[&str], status: i32, phrase: &str| {
-        let said = folder.vault(&[&["make"], words].concat());
+        let said = folder.vault(&[&["make", "--force"], words].concat());
         assert_eq!((said.status, said.out.as_str(), said.error.lines().count()), (status, "", 1), "{words:?} {said:?}");
         assert!(said.error.contains(phrase), "{words:?} {said:?}");
         assert_eq!(folder.names(), before, "{words:?}");
@@ -159,10 +165,36 @@ fn a_refused_vault_leaves_nothing_behind() {
     refuses(&["folder", "a"], 74, "this is a directory");
     refuses(&["no/v.img", "a"], 74, "the file can't be written");
     refuses(&[], 64, "make needs IMAGE");
-    // What was there is replaced, also by a vault of nothing.
-    let said = folder.vault(&["make", "v.img"]);
-    assert_eq!((said.status, said.out.as_str()), (0, "v.img: 0 files, 384 sectors\n"));
-    assert!(read(folder.at("v.img")).unwrap() == write(&Files::new()).unwrap());
+    // No vault of nothing, with what is there replaced or not.
+    refuses(&["v.img"], 64, "make needs FILE");
+    refuses(&["new.img"], 64, "make needs FILE");
+}
+
+/// What is there is replaced where that is forced, and else left as it is: a file of a forgotten image's place, too.
+#[test]
+fn what_is_there_is_replaced_by_force_alone() {
+    let folder = Folder::new();
+    let cues = ["9", "10.1A", "11"];
+    cues.iter().for_each(|cue| folder.write(cue, cue.as_bytes()));
+    std::os::unix::fs::symlink("9", folder.at("link")).unwrap();
+    let says = "there is a file of this name: it is replaced with --force alone";
+    for words in [&["make", "9", "10.1A", "11"][..], &["make", "link", "11"], &["make", "9", "9"], &["sample", "9"], &["sample", "link"]] {
+        let said = folder.vault(words);
+        let hint = if words[0] == "make" { "; IMAGE, which is written, stands before the files" } else { "" };
+        assert_eq!((said.status, said.out.as_str(), said.error), (74, "", format!("vault: {}: {says}{hint}\n", words[1])), "{words:?}");
+    }
+    assert!(cues.iter().all(|cue| read(folder.at(cue)).unwrap() == cue.as_bytes()));
+    assert_eq!(folder.names(), ["10.1A", "11", "9", "link"]);
+    let said = folder.vault(&["make", "new.img", "9", "11"]);
+    assert_eq!((said.status, said.out.as_str()), (0, "new.img: 2 files, 384 sectors\n"));
+    assert_eq!(folder.vault(&["make", "new.img", "11"]).status, 74);
+    let said = folder.vault(&["make", "new.img", "11", "--force"]);
+    assert_eq!((said.status, said.out.as_str()), (0, "new.img: 1 file, 384 sectors\n"));
+    assert_eq!(folder.vault(&["ls", "new.img"]).out, "11\n");
+    assert_eq!(folder.vault(&["sample", "--force", "new.img"]).status, 0);
+    assert_eq!(folder.vault(&["ls", "new.img"]).out, "SHOW/\n");
+    // Standard output is no file that is there.
+    assert!(folder.vault(&["sample", "/dev/stdout"]).bytes == read(folder.at("new.img")).unwrap());
 }
 
 /// The library's calls: 13, 14 and 5 in this order, and nothing written.

@@ -1,4 +1,4 @@
-//! What the tests share: the sample show, and larger discs made from it.
+//! What the tests share: the sample show, bare, and larger discs made from it.
 #![allow(dead_code)]
 
 pub mod asked;
@@ -6,7 +6,8 @@ pub mod command;
 
 use strandlodge_sys::sparse;
 
-/// The sample show: its partition starts at 288, and its root is block 3.
+/// The sample show as the program `first_cue` has it, with what the reader asks for alone: its partition starts at 288 and has number 5, and its root is
+/// block 3. (`vault sample` writes the same files in the same blocks, on a disc that other readers take too.)
 pub fn show() -> Vec<u8> {
     sparse::expand(include_bytes!("../../../crates/first_cue/stdin")).unwrap()
 }

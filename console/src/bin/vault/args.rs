@@ -19,10 +19,12 @@ pub enum Command {
     Tour,
     Sample {
         file: OsString,
+        force: bool,
     },
     Make {
         image: OsString,
         files: Vec<OsString>,
+        force: bool,
     },
     Survey {
         images: Vec<OsString>,
@@ -117,7 +119,7 @@ const WALKS: &[&str] = &["tree", "ls", "get", "check", "survey"];
 const FOR_WALKS: &str = "--limit and --no-limit are for tree, ls -R, get -r, check and survey";
 
 /// Options that aren't for every command, those that they are for, and what is said else.
-const OPTIONS: [(&str, &[&str], &str); 19] = [
+const OPTIONS: [(&str, &[&str], &str); 20] = [
     ("--as-written", PATHS, FOR_PATHS),
     ("--unambiguous", PATHS, FOR_PATHS),
     ("--raw", PATHS, "--raw is for a PATH: that of ls, tree, cat, get or stat"),
@@ -132,6 +134,7 @@ const OPTIONS: [(&str, &[&str], &str); 19] = [
     ("--levels", &["tree", "ls"], "--levels is for tree and ls -R"),
     ("--limit", WALKS, FOR_WALKS),
     ("--no-limit", WALKS, FOR_WALKS),
+    ("--force", &["make", "sample"], "--force is for make and sample: it replaces a file that is there"),
     ("--wait", &["cat", "get"], FOR_ONE_FILE),
     ("--from", &["cat", "get"], FOR_A_PART),
     ("--bytes", &["cat", "get"], FOR_A_PART),
@@ -342,8 +345,11 @@ fn command(words: Vec<OsString>, options: &Options) -> Result<Command, Failure> 
         return Ok(Command::Tour);
     };
     let command = match name.as_bytes() {
-        b"sample" => Command::Sample { file: take(&mut words, &name, "FILE")? },
-        b"make" => Command::Make { image: take(&mut words, &name, "IMAGE")?, files: words.by_ref().collect() },
+        b"sample" => Command::Sample { file: take(&mut words, &name, "FILE")?, force: options.has("--force") },
+        b"make" => {
+            let (image, first) = (take(&mut words, &name, "IMAGE")?, take(&mut words, &name, "FILE")?);
+            Command::Make { image, files: [first].into_iter().chain(words.by_ref()).collect(), force: options.has("--force") }
+        }
         b"survey" => {
             let first = take(&mut words, &name, "IMAGE")?;
             Command::Survey { images: [first].into_iter().chain(words.by_ref()).collect(), limit: options.limit()? }
@@ -455,10 +461,15 @@ mod tests {
 
     #[test]
     fn a_vault_is_made_of_any_number_of_files() {
-        for (line, files) in [("make a", &[][..]), ("make a b", &["b"]), ("make a b c -- --copy", &["b", "c", "--copy"])] {
+        for (line, files, force) in [
+            ("make a b", &["b"][..], false),
+            ("make --force a b", &["b"], true),
+            ("make a b c -- --copy --force", &["b", "c", "--copy", "--force"], false),
+        ] {
             let files = files.iter().map(OsString::from).collect();
-            assert_eq!(parsed(line).unwrap().command, Command::Make { image: "a".into(), files }, "{line}");
+            assert_eq!(parsed(line).unwrap().command, Command::Make { image: "a".into(), files, force }, "{line}");
         }
+        assert_eq!(parsed("sample a --force").unwrap().command, Command::Sample { file: "a".into(), force: true });
     }
 
     #[test]
@@ -673,6 +684,10 @@ mod tests {
             "survey a -R",
             "sample",
             "make",
+            "make a",
+            "make --force a",
+            "get a b c --force",
+            "--force",
             "make a b --as-written",
             "make a b --wait 1",
             "make a b -o c",

@@ -77,6 +77,15 @@ impl<'a> Target<'a> {
         Ok(Target { name, place: Some(place) })
     }
 
+    /// The same of a file that isn't there yet, unless one may be replaced. `hint` goes behind what is said of one that is there.
+    pub fn fresh(name: &'a OsStr, force: bool, hint: &str) -> Result<Target<'a>, Failure> {
+        let target = Target::at(name)?;
+        if !force && target.place.as_ref().is_some_and(|place| fs::symlink_metadata(place).is_ok()) {
+            return Err(Failure::file(NO_OUTPUT, name, format!("there is a file of this name: it is replaced with --force alone{hint}")));
+        }
+        Ok(target)
+    }
+
     /// The same where no link is followed: what is written stands in its folder, or isn't written.
     pub fn inside(name: &'a OsStr) -> Result<Target<'a>, Failure> {
         match fs::symlink_metadata(name) {

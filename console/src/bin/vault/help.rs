@@ -120,10 +120,16 @@ const COMMANDS: [(&str, &str, [bool; 3]); 13] = [
     (
         "make",
         "vault make IMAGE FILE..\nWrites a vault of up to 64 files to IMAGE, each under the last part of its\n\
-         path, and prints how many sectors it has.\n",
+         path, and prints how many sectors it has.\n  --force    replace an IMAGE that is there: else it is left as it is\n",
         [false, false, false],
     ),
-    ("sample", "vault sample FILE\nWrites the image of a sample show, that of the tour.\n", [false, false, false]),
+    (
+        "sample",
+        "vault sample FILE\nWrites the image of a sample show, that of the tour. It is a whole disc of UDF\n\
+         1.02, which other readers take too.\n\
+         \x20 --force    replace a FILE that is there: else it is left as it is\n",
+        [false, false, false],
+    ),
     ("tour", "vault\nGives a short tour of a sample show.\n", [false, false, false]),
 ];
 

@@ -69,8 +69,8 @@ fn answer(args: &Args, out: &mut impl Write, log: &mut Log) -> Result<(), Failur
         Command::Help(command) => help::print(command.as_deref(), out),
         Command::Version => help::version(out),
         Command::Tour => tour::give(out),
-        Command::Sample { file } => file::Target::at(file)?.write(&tour::sample()?),
-        Command::Make { image, files } => make::make(image, files, out),
+        Command::Sample { file, force } => file::Target::fresh(file, *force, "")?.write(&tour::sample()?),
+        Command::Make { image, files, force } => make::make(image, files, *force, out),
         Command::Survey { images, limit } => {
             survey::survey(images, Taken { how: args.how, copied: args.copy, limit: *limit }, args.style.is_json, out, log)
         }

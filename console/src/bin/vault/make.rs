@@ -12,6 +12,9 @@ use std::os::unix::ffi::OsStrExt;
 use std::path::Path;
 use strandlodge::{Refusal, SECTOR_SIZE, write_staged, write_total};
 
+/// Said of an image that is there: it may be a file that was to go on the vault.
+const FIRST: &str = "; IMAGE, which is written, stands before the files";
+
 /// A file that goes on the vault, with the bytes that it had when it was opened.
 struct Source<'a> {
     path: &'a OsStr,
@@ -42,9 +45,9 @@ fn source<'a>(image: &OsStr, path: &'a OsString) -> Result<Source<'a>, Failure> 
     Ok(Source { path, file, length: about.len() })
 }
 
-/// Writes a vault of these files to `image`, which is made or replaced, and prints how many sectors it has.
-pub fn make(image: &OsStr, files: &[OsString], out: &mut impl Write) -> Result<(), Failure> {
-    let target = Target::at(image)?;
+/// Writes a vault of these files to `image`, which is made, or replaced where that is forced, and prints how many sectors it has.
+pub fn make(image: &OsStr, files: &[OsString], force: bool, out: &mut impl Write) -> Result<(), Failure> {
+    let target = Target::fresh(image, force, FIRST)?;
     let names: Vec<&[u8]> = files.iter().map(|file| name(file)).collect();
     // Before any is opened: of too many there may be more than can be open at once.
     write_total(&names, &vec![0; names.len()]).map_err(|why| misnamed(image, files, &names, why))?;

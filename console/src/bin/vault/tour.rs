@@ -15,8 +15,8 @@ use std::io::Write;
 use strandlodge::{How, Matching, SECTOR_SIZE};
 use strandlodge_sys::sparse;
 
-/// The input of the program `first_cue`: a show with four cues, kept sparse. tools/show_image.py writes it.
-const PACKED: &[u8] = include_bytes!("../../../../crates/first_cue/stdin");
+/// A show with four cues, that of the program `first_cue`, as a disc that other readers take too. It is kept sparse, and tools/sample_image.py writes it.
+const PACKED: &[u8] = include_bytes!("sample");
 
 /// The name that the image has in the tour.
 const NAME: &str = "show.img";

@@ -1,0 +1,31 @@
+//! Reads a cue by its very name from the image of a disc: `cargo run --example cue IMAGE PATH > FILE`.
+
+use std::io::Write;
+use std::process::ExitCode;
+use strandlodge::{Matching, Result, Vault};
+
+/// The cue's bytes. `?` takes a refusal of the disc, and what the system says of the file.
+fn cue(image: &str, path: &str) -> Result<Vec<u8>> {
+    let vault = Vault::open(std::fs::read(image)?)?;
+    if let Some(component) = vault.failed_as(path, Matching::AsWritten)? {
+        eprintln!("there is nothing named {component:?} on {}", vault.label()?);
+    }
+    vault.read_path_as(path, Matching::AsWritten)
+}
+
+fn main() -> ExitCode {
+    let words: Vec<String> = std::env::args().skip(1).collect();
+    let [image, path] = &words[..] else {
+        eprintln!("cue IMAGE PATH");
+        return ExitCode::from(64);
+    };
+    let written = cue(image, path).and_then(|bytes| Ok(std::io::stdout().write_all(&bytes)?));
+    // The error says its cause; its number is the one of the table in include/vault.h.
+    written.map_or_else(
+        |error| {
+            eprintln!("{error} ({})", error.number());
+            ExitCode::FAILURE
+        },
+        |()| ExitCode::SUCCESS,
+    )
+}
