@@ -4,6 +4,7 @@ use crate::failure::Failure;
 use crate::limit::Limit;
 use crate::names::{self, shown};
 use crate::runs::Span;
+use crate::steps::Rule;
 use crate::style::Style;
 use crate::tree::{Bounds, Form};
 use crate::wanted::{Icb, Wanted};
@@ -99,7 +100,7 @@ pub struct Args {
     /// The choices on opening.
     pub how: How,
     /// How names on a path are matched.
-    pub matching: Matching,
+    pub matching: Rule,
     /// So many seconds are waited for what isn't there yet.
     pub wait: Option<u32>,
     /// How entries are printed.
@@ -110,14 +111,15 @@ pub struct Args {
 
 /// The commands that look at what a disc holds.
 const PATHS: &[&str] = &["ls", "tree", "cat", "get", "stat"];
-const FOR_PATHS: &str = "--as-written and --unambiguous are for a PATH: that of ls, tree, cat, get or stat";
+const FOR_PATHS: &str = "--as-written, --unambiguous and --as-original are for a PATH: that of ls, tree, cat, get or stat";
 
 /// The commands that walk a disc.
 const WALKS: &[&str] = &["tree", "ls", "get", "check", "survey"];
 const FOR_WALKS: &str = "--limit and --no-limit are for tree, ls -R, get -r, check and survey";
 
 /// Options that aren't for every command, those that they are for, and what is said else.
-const OPTIONS: [(&str, &[&str], &str); 19] = [
+const OPTIONS: [(&str, &[&str], &str); 20] = [
+    ("--as-original", PATHS, FOR_PATHS),
     ("--as-written", PATHS, FOR_PATHS),
     ("--unambiguous", PATHS, FOR_PATHS),
     ("--raw", PATHS, "--raw is for a PATH: that of ls, tree, cat, get or stat"),
@@ -212,8 +214,8 @@ impl Options {
         if self.has("-r") && (self.levels.is_some() || self.folder.is_none()) {
             return Err(Failure::usage("get -r needs -o TO, a folder, and takes no --levels"));
         }
-        if self.icb.is_some() && (self.folder.is_some() || self.has("--raw") || self.matching()? != Matching::default()) {
-            return Err(Failure::usage("--icb stands in place of a PATH: it goes with none of -o, --raw, --as-written and --unambiguous"));
+        if self.icb.is_some() && (self.folder.is_some() || self.has("--raw") || self.matching()? != Rule::default()) {
+            return Err(Failure::usage("--icb stands in place of a PATH: it goes with none of -o, --raw and the choices of matching"));
         }
         if self.has("--json") && (self.has("-0") || self.has("-i")) {
             return Err(Failure::usage("--json has the names and the ICBs: it goes with neither -0 nor -i"));
@@ -234,12 +236,17 @@ impl Options {
         Ok(Bounds { levels: self.levels.unwrap_or(Bounds::MOST_LEVELS), limit: self.limit()? })
     }
 
-    fn matching(&self) -> Result<Matching, Failure> {
-        match (self.has("--as-written"), self.has("--unambiguous")) {
-            (false, false) => Ok(Matching::CaseIgnored),
-            (true, false) => Ok(Matching::AsWritten),
-            (false, true) => Ok(Matching::Unambiguous),
-            (true, true) => Err(Failure::usage("--as-written and --unambiguous are two choices, of which one can be taken")),
+    fn matching(&self) -> Result<Rule, Failure> {
+        let choices = [
+            ("--as-original", Matching::CaseIgnored),
+            ("--as-written", Matching::AsWritten),
+            ("--unambiguous", Matching::Unambiguous),
+        ];
+        let given: Vec<Matching> = choices.into_iter().filter(|(option, _)| self.has(option)).map(|(_, choice)| choice).collect();
+        match given[..] {
+            [] => Ok(Rule::Safe),
+            [choice] => Ok(Rule::Call(choice)),
+            _ => Err(Failure::usage("--as-written, --unambiguous and --as-original are choices, of which one can be taken")),
         }
     }
 
@@ -280,7 +287,7 @@ pub fn parse(given: impl IntoIterator<Item = OsString>) -> Result<Args, Failure>
     let (sectors, copy, drive) = (options.sectors, options.has("--copy"), options.has("--drive"));
     let (how, wait, span) = (options.how, options.wait, options.span);
     if options.help || options.version {
-        return Ok(Args { command, sectors, copy, drive, how, matching: Matching::default(), wait, style, span });
+        return Ok(Args { command, sectors, copy, drive, how, matching: Rule::default(), wait, style, span });
     }
     if wait.is_some() && !command.is_of_one_file() {
         return Err(Failure::usage(FOR_ONE_FILE));
@@ -410,7 +417,7 @@ mod tests {
     #[test]
     fn options_stand_anywhere() {
         let label = |image: &str| Command::Ask { image: image.into(), question: Question::Label };
-        let (how, matching, wait) = (How::default(), Matching::CaseIgnored, None);
+        let (how, matching, wait) = (How::default(), Rule::Safe, None);
         let asked = |sectors, copy| Args {
             command: label("a"),
             sectors,
@@ -581,12 +588,13 @@ mod tests {
     #[test]
     fn matching_is_for_paths() {
         for (line, matching) in [
-            ("ls a", Matching::CaseIgnored),
-            ("ls a --as-written", Matching::AsWritten),
-            ("--as-written cat a b --as-written", Matching::AsWritten),
-            ("get --unambiguous a b c", Matching::Unambiguous),
-            ("stat a b --unambiguous", Matching::Unambiguous),
-            ("stat a -- --unambiguous", Matching::CaseIgnored),
+            ("ls a", Rule::Safe),
+            ("ls a --as-written", Rule::Call(Matching::AsWritten)),
+            ("--as-written cat a b --as-written", Rule::Call(Matching::AsWritten)),
+            ("get --unambiguous a b c", Rule::Call(Matching::Unambiguous)),
+            ("stat a b --unambiguous", Rule::Call(Matching::Unambiguous)),
+            ("stat a b --as-original", Rule::Call(Matching::CaseIgnored)),
+            ("stat a -- --unambiguous", Rule::Safe),
         ] {
             assert_eq!(parsed(line).unwrap().matching, matching, "{line}");
         }
@@ -684,6 +692,8 @@ mod tests {
             "label a -v",
             "--as-writen ls a",
             "--as-written --unambiguous ls a",
+            "--as-written --as-original ls a",
+            "--as-original label a",
             "--as-written label a",
             "probe a --unambiguous",
             "sample a --as-written",

@@ -14,6 +14,7 @@ use crate::maps;
 use crate::names::{shown, shown_name};
 use crate::runs::{self, Span};
 use crate::sizes::Sizes;
+use crate::steps::Rule;
 use crate::style::{Style, listed};
 use crate::tree;
 use crate::wanted::Wanted;
@@ -21,14 +22,14 @@ use std::ffi::OsStr;
 use std::io::{self, Write};
 use std::os::unix::ffi::OsStrExt;
 use std::path::Path;
-use strandlodge::{AllocExtent, Asked, Counted, How, LongAd, Matching, Refusal, Runs, VolumeDescriptor};
+use strandlodge::{AllocExtent, Asked, Counted, How, LongAd, Refusal, Runs, VolumeDescriptor};
 use strandlodge::{map_table, probe_vrs, volume_descriptors};
 
 /// How a question is asked: how the image is opened, how names are matched, how the answer is printed, and what of a file is wanted.
 #[derive(Clone, Copy)]
 pub struct Manner {
     pub how: How,
-    pub matching: Matching,
+    pub matching: Rule,
     pub style: Style,
     pub span: Span,
 }
@@ -37,6 +38,7 @@ pub struct Manner {
 pub fn ask(question: &Question, manner: Manner, image: &[u8], name: &OsStr, out: &mut impl Write, log: &mut Log) -> Result<(), Failure> {
     let (file, name, Manner { how, matching, style, span }) = (name, &shown(name.as_bytes()), manner);
     let open = |log| Disc::open(image, how, name, matching, log);
+    let watched = |log| open(log).map(Disc::watch);
     match question {
         Question::Probe => probe(image, out),
         Question::Label => {
@@ -44,9 +46,9 @@ pub fn ask(question: &Question, manner: Manner, image: &[u8], name: &OsStr, out:
             line(out, &shown(label.as_bytes()))
         }
         Question::Info => info::info(image, how, name, style, out, log),
-        Question::Ls { wanted } => ls(&mut open(log)?, wanted, style, out),
+        Question::Ls { wanted } => ls(&mut watched(log)?, wanted, style, out),
         Question::Tree { wanted, form, bounds } => tree::show(&mut open(log)?, wanted, *form, *bounds, style, out),
-        Question::Stat { wanted } => stat(&mut open(log)?, wanted, style, out),
+        Question::Stat { wanted } => stat(&mut watched(log)?, wanted, style, out),
         Question::Descriptors if style.is_json => descriptors_json(image, how, &mut open(log)?, out),
         Question::Descriptors => {
             // Before opening: where it is refused, what it was refused for may be seen in them.
@@ -56,16 +58,16 @@ pub fn ask(question: &Question, manner: Manner, image: &[u8], name: &OsStr, out:
         }
         Question::Check { limit } => check::check(image, manner, *limit, name, out, log),
         Question::Cat { wanted } => {
-            let runs = find(&mut open(log)?, wanted, span)?;
+            let runs = find(&mut watched(log)?, wanted, span)?;
             runs::print(runs, out)
         }
         Question::Get { wanted, file } => {
             let target = Target::at(file)?;
-            let runs = find(&mut open(log)?, wanted, span)?;
+            let runs = find(&mut watched(log)?, wanted, span)?;
             runs::put(runs, &target).map(|_| ())
         }
-        Question::GetAll { paths, folder } => many::get(&mut open(log)?, paths, Path::new(folder), file, out),
-        Question::GetTree { paths, folder, limit } => folder::get(&mut open(log)?, paths, Path::new(folder), *limit, file, out),
+        Question::GetAll { paths, folder } => many::get(&mut watched(log)?, paths, Path::new(folder), file, out),
+        Question::GetTree { paths, folder, limit } => folder::get(&mut watched(log)?, paths, Path::new(folder), *limit, file, out),
     }
 }
 
@@ -91,7 +93,11 @@ pub fn ls<V: Volume>(disc: &mut Disc<V>, wanted: &Wanted, style: Style, out: &mu
     let found = disc.find(wanted)?;
     let entries = match found.entry {
         Some(entry) if !entry.is_directory => vec![entry],
-        _ => disc.list(&wanted.text(), found.icb)?,
+        _ => {
+            let entries = disc.list(&wanted.text(), found.icb)?;
+            disc.see_directory(&wanted.text(), found.icb);
+            entries
+        }
     };
     if style.is_json {
         let mut rows = Rows::new(out);
@@ -134,6 +140,7 @@ fn stat(disc: &mut Disc<Counted>, wanted: &Wanted, style: Style, out: &mut impl 
     let asked = Asked::ReadFile(found.icb);
     let part = disc.count(&path, asked, "part", disc.volume.part(found.icb))?;
     let extents = disc.count(&path, asked, "extents", disc.volume.extents(found.icb))?;
+    disc.see_file(&path, found.icb);
     let measured = disc.log.count("measure", disc.volume.measure(found.icb)).map_err(Refusal::from);
     let information = disc.volume.entry(found.icb).map(|entry| entry.information_length);
     let sizes = Sizes { information, read: Some(measured), extents: Some(extents.len() as u64) };

@@ -118,7 +118,10 @@ impl Plan {
             self.see(disc)?;
             match listed {
                 // The last one pushed is the next one looked at.
-                Ok(entries) => pending.extend(self.entries(disc, &path, &entries, &to)?.into_iter().rev()),
+                Ok(entries) => {
+                    disc.see_directory(&path, icb);
+                    pending.extend(self.entries(disc, &path, &entries, &to)?.into_iter().rev())
+                }
                 Err(refused) => self.missed.tell(disc.refused(&path, Asked::ReadDirectory(icb), refused), disc),
             }
         }

@@ -12,10 +12,11 @@ use crate::map::copied;
 use crate::maps;
 use crate::names::shown;
 use crate::records;
+use crate::steps::Rule;
 use crate::style::Style;
 use crate::walk::sector;
 use std::io::Write;
-use strandlodge::{How, Kind, MapTable, Matching, SECTOR_SIZE, VolumeDescriptor, map_table, probe_vrs, volume_descriptors};
+use strandlodge::{How, Kind, MapTable, SECTOR_SIZE, VolumeDescriptor, map_table, probe_vrs, volume_descriptors};
 
 /// Where in a logical volume descriptor its name, its domain's revision and the extent of the integrity sequence stand.
 const NAME: std::ops::Range<usize> = 84..212;
@@ -67,7 +68,7 @@ struct Partition {
 
 pub fn info(image: &[u8], how: How, name: &str, style: Style, out: &mut impl Write, log: &mut Log) -> Result<(), Failure> {
     let volume = Volume::of(image, how);
-    let opened = Disc::open(image, how, name, Matching::default(), log).and_then(|mut disc| disc.label());
+    let opened = Disc::open(image, how, name, Rule::default(), log).and_then(|mut disc| disc.label());
     let sectors = image.len() as u64 / SECTOR_SIZE;
     // Where it can't be opened, what there is is printed all the same, and then why.
     let label = opened.as_ref().ok();

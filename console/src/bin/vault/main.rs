@@ -57,7 +57,7 @@ fn run() -> Result<(), Failure> {
     let args = args::parse(std::env::args_os().skip(1))?;
     let (mut out, mut log) = (BufWriter::new(io::stdout().lock()), Log::default());
     let done = answer(&args, &mut out, &mut log).and_then(|()| out.flush().map_err(Failure::output));
-    log.remarks.iter().for_each(|text| say(text));
+    log.said().for_each(|text| say(&text));
     if args.sectors {
         say(&format!("sectors asked for: {}", log.sectors()));
     }

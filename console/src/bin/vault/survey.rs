@@ -12,10 +12,11 @@ use crate::json::Json;
 use crate::limit::{self, Limit};
 use crate::log::Log;
 use crate::names::shown;
+use crate::steps::Rule;
 use std::ffi::{OsStr, OsString};
 use std::io::{self, IsTerminal, Write};
 use std::os::unix::ffi::OsStrExt;
-use strandlodge::{Asked, Figure, Figures, How, Matching, Refusal, Refused, UNLIMITED, survey_image, survey_total};
+use strandlodge::{Asked, Figure, Figures, How, Refusal, Refused, UNLIMITED, survey_image, survey_total};
 
 /// The levels of a survey's tree.
 const LEVELS: u32 = 16;
@@ -95,7 +96,7 @@ fn surveyed(name: &OsStr, taken: Taken) -> Surveyed {
 /// Why an image wasn't surveyed: its opening is gone over again, and then its tree.
 fn why_not(image: &[u8], how: How, name: &str, why: Refusal) -> Failure {
     let refused = Refused { why, sectors: 0 };
-    match Disc::open(image, how, name, Matching::default(), &mut Log::default()) {
+    match Disc::open(image, how, name, Rule::default(), &mut Log::default()) {
         Ok(disc) => Failure::diagnosed(name, &disc.volume.diagnose(Asked::Show(LEVELS), &refused)),
         Err(failure) => failure,
     }
