@@ -1,6 +1,7 @@
 //! What the command line asks for.
 
 use crate::failure::Failure;
+use crate::help;
 use crate::limit::Limit;
 use crate::names::{self, shown};
 use crate::runs::Span;
@@ -156,6 +157,7 @@ struct Options {
     sectors: bool,
     help: bool,
     version: bool,
+    short_version: bool,
     how: How,
     icb: Option<Icb>,
     folder: Option<OsString>,
@@ -180,7 +182,8 @@ impl Options {
             b"--checked" => self.how.checked = true,
             b"--maps" => self.how.maps = true,
             b"--help" | b"-h" => self.help = true,
-            b"--version" | b"-V" => self.version = true,
+            b"--version" => self.version = true,
+            b"-V" => self.short_version = true,
             b"-o" => self.folder = Some(rest.next().ok_or_else(|| Failure::usage("-o needs TO, a folder"))?),
             b"--icb" => self.icb = Some(icb(rest.next())?),
             b"--levels" => {
@@ -194,6 +197,41 @@ impl Options {
             other => return Err(Failure::usage(format!("there is no option {}", shown(other)))),
         }
         Ok(())
+    }
+
+    /// Takes a word that begins with a dash: `--levels 2`, `--levels=2`, or letters that stand together, as in `-Rl`.
+    fn take_word(&mut self, word: OsString, rest: &mut impl Iterator<Item = OsString>) -> Result<(), Failure> {
+        let bytes = word.as_bytes();
+        let equals = bytes.iter().position(|byte| *byte == b'=');
+        match (bytes, equals) {
+            ([b'-', b'-', ..], Some(at)) => {
+                let (option, value) = (OsStr::from_bytes(&bytes[..at]), OsStr::from_bytes(&bytes[at + 1..]).to_os_string());
+                let mut value = [value].into_iter();
+                self.take(option, &mut value)?;
+                let left = value.next().map(|_| Failure::usage(format!("{} takes no value", shown(&bytes[..at]))));
+                left.map_or(Ok(()), Err)
+            }
+            ([b'-', letter, _, ..], _) if *letter != b'-' => self.take_letters(&bytes[1..], rest),
+            _ => self.take(&word, rest),
+        }
+    }
+
+    /// What stands behind an o is the folder.
+    fn take_letters(&mut self, letters: &[u8], rest: &mut impl Iterator<Item = OsString>) -> Result<(), Failure> {
+        let (at, folder) = match letters.iter().position(|letter| *letter == b'o') {
+            Some(at) if at + 1 < letters.len() => (at, Some(OsStr::from_bytes(&letters[at + 1..]).to_os_string())),
+            at => (at.unwrap_or(letters.len()), None),
+        };
+        let known = |letter: &u8| OPTIONS.iter().any(|(name, ..)| name.as_bytes() == [b'-', *letter]) || b"hV".contains(letter);
+        if !letters[..at].iter().all(known) {
+            return Err(Failure::usage(format!("there is no option -{}", shown(letters))));
+        }
+        letters[..at].iter().try_for_each(|letter| self.take(OsStr::from_bytes(&[b'-', *letter]), rest))?;
+        match folder {
+            Some(folder) => self.take(OsStr::new("-o"), &mut [folder].into_iter()),
+            None if at < letters.len() => self.take(OsStr::new("-o"), rest),
+            None => Ok(()),
+        }
     }
 
     /// Fails where there is one of another command.
@@ -265,28 +303,53 @@ impl Options {
     }
 }
 
+/// What is wrong with a line is said with the command whose help has it, where there is one.
 pub fn parse(given: impl IntoIterator<Item = OsString>) -> Result<Args, Failure> {
+    let given: Vec<OsString> = given.into_iter().collect();
+    let command = given.iter().filter_map(|word| word.to_str()).find(|word| help::has(word)).map(String::from);
+    let words = read(given);
+    let first = words.as_ref().ok().and_then(|(_, words)| words.first()).map(|word| word.to_string_lossy().into_owned());
+    let about = first.or(command).filter(|name| help::has(name));
+    words.and_then(|(options, words)| args(options, words)).map_err(|failure| failure.of_command(about.as_deref()))
+}
+
+/// The options, and the words beside them.
+fn read(given: Vec<OsString>) -> Result<(Options, Vec<OsString>), Failure> {
     let (mut options, mut words) = (Options::default(), Vec::new());
     let mut given = given.into_iter();
     while let Some(word) = given.next() {
         match word.as_bytes() {
             b"--" => words.extend(given.by_ref()),
-            [b'-', _, ..] => options.take(&word, &mut given)?,
+            [b'-', _, ..] => options.take_word(word, &mut given)?,
             _ => words.push(word),
         }
     }
-    let command = if options.help {
-        Command::Help(words.first().map(|word| word.to_string_lossy().into_owned()))
-    } else if options.version {
-        Command::Version
-    } else {
-        command(words, &options)?
-    };
+    Ok((options, words))
+}
+
+/// What is asked for beside the options, or in their place: help, or the version.
+fn asked(words: Vec<OsString>, options: &Options) -> Result<Command, Failure> {
+    let text = |word: &OsString| word.to_string_lossy().into_owned();
+    let is_help = words.first().is_some_and(|word| word == "help");
+    if options.help || is_help {
+        return Ok(Command::Help(words.get(usize::from(is_help)).map(text)));
+    }
+    if options.version || options.short_version && words.is_empty() {
+        return Ok(Command::Version);
+    }
+    match words.first().filter(|_| options.short_version) {
+        Some(name) => Err(Failure::usage(format!("-V is the version of vault, and no option of {}", shown(name.as_bytes())))),
+        None => command(words, options),
+    }
+}
+
+fn args(options: Options, words: Vec<OsString>) -> Result<Args, Failure> {
+    let command = asked(words, &options)?;
     let style =
         Style { is_json: options.has("--json"), is_raw: options.has("-0"), has_icbs: options.has("-i"), is_long: options.has("-l") };
     let (sectors, copy, drive) = (options.sectors, options.has("--copy"), options.has("--drive"));
     let (how, wait, span) = (options.how, options.wait, options.span);
-    if options.help || options.version {
+    if matches!(command, Command::Help(_) | Command::Version) {
         return Ok(Args { command, sectors, copy, drive, how, matching: Rule::default(), wait, style, span });
     }
     if wait.is_some() && !command.is_of_one_file() {
@@ -445,7 +508,12 @@ mod tests {
         }
         assert_eq!(parsed("label a --help").unwrap().command, Command::Help(Some("label".to_string())));
         assert_eq!(parsed("-h").unwrap().command, Command::Help(None));
-        assert_eq!((parsed("--version").unwrap().command, parsed("ls -V").unwrap().command), (Command::Version, Command::Version));
+        for line in ["--version", "-V", "ls --version"] {
+            assert_eq!(parsed(line).unwrap().command, Command::Version, "{line}");
+        }
+        for (line, of) in [("help", None), ("help ls", Some("ls")), ("ls -h", Some("ls")), ("-h", None)] {
+            assert_eq!(parsed(line).unwrap().command, Command::Help(of.map(String::from)), "{line}");
+        }
         assert_eq!(parsed("label -- --help").unwrap().command, label("--help"));
         assert_eq!(parsed("").unwrap().command, Command::Tour);
     }
@@ -585,6 +653,35 @@ mod tests {
         }
     }
 
+    /// `-Rl`, `--levels=2` and `-oTO`.
+    #[test]
+    fn options_are_taken_as_they_are_typed() {
+        for (line, plain) in [
+            ("ls -Rl a", "ls -R -l a"),
+            ("ls -l0i a", "ls -l -0 -i a"),
+            ("tree --levels=2 a", "tree --levels 2 a"),
+            ("ls -Rl a --levels=2 --limit=7", "ls -R -l --levels 2 --limit 7 a"),
+            ("get -ro d a", "get -r -o d a"),
+            ("get -rod a", "get -r -o d a"),
+            ("get a -oro b", "get a -o ro b"),
+            ("cat a b --wait=5 --from=0 --bytes=3", "cat a b --wait 5 --from 0 --bytes 3"),
+            ("cat a --icb=7:5", "cat a --icb 7:5"),
+        ] {
+            assert_eq!(parsed(line).unwrap(), parsed(plain).unwrap(), "{line}");
+        }
+    }
+
+    #[test]
+    fn what_is_wrong_is_said_with_the_command_s_help() {
+        let says = |line: &str| parsed(line).unwrap_err().says.unwrap();
+        for line in ["tree a --levels 17", "tree --levels x a", "tree --levls=2 a", "--levels=0 tree a", "tree", "-V tree a", "tree -Rx a"] {
+            assert!(says(line).ends_with(" (`vault tree --help` says how)"), "{line} {}", says(line));
+        }
+        for line in ["lable a", "--levls", "-x", "--limit 7"] {
+            assert!(says(line).ends_with(" (`vault --help` says how)"), "{line} {}", says(line));
+        }
+    }
+
     #[test]
     fn matching_is_for_paths() {
         for (line, matching) in [
@@ -605,6 +702,13 @@ mod tests {
     fn wrong_words_are_usage() {
         for line in [
             "lable a",
+            "make -V NAME a b",
+            "ls -V",
+            "ls -Rx a",
+            "ls -R=2 a",
+            "ls --json=yes a",
+            "ls --nothing=2 a",
+            "tree a --levels=",
             "cat a b\\",
             "cat a b\\n",
             "cat a b\\u{2f}c",

@@ -24,6 +24,9 @@ pub const NO_OUTPUT: u8 = 74;
 /// What to try where a body is wrong.
 const TO_TRY: &str = "`vault check` says which descriptors are so, and without --checked they are taken as they stand";
 
+/// Where usage is said.
+const HELP: &str = " (`vault --help` says how)";
+
 /// An exit status, and the sentence that goes to standard error.
 #[derive(Debug)]
 pub struct Failure {
@@ -37,7 +40,16 @@ impl Failure {
     }
 
     pub fn usage(says: impl Into<String>) -> Failure {
-        Failure::new(USAGE, format!("{} (`vault --help` says how)", says.into()))
+        Failure::new(USAGE, format!("{}{HELP}", says.into()))
+    }
+
+    /// Wrong usage of a command, whose own help says how.
+    pub fn of_command(mut self, command: Option<&str>) -> Failure {
+        if let (Some(command), Some(says)) = (command, self.says.as_mut().filter(|says| says.ends_with(HELP))) {
+            says.truncate(says.len() - HELP.len());
+            *says += &format!(" (`vault {command} --help` says how)");
+        }
+        self
     }
 
     /// `about` is what was asked for.

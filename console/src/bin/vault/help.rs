@@ -137,6 +137,11 @@ vault get -r IMAGE -o TO [PATH..]  all below each PATH, or all of the disc
 An old FILE keeps its mode; -r follows no link. /dev/stdout is written to.
 ";
 
+/// Whether there is such a command.
+pub fn has(command: &str) -> bool {
+    COMMANDS.iter().any(|(name, ..)| *name == command && *name != "tour")
+}
+
 /// The help of a command, where there is such a command.
 fn of(command: &str) -> Option<String> {
     let (_, says, [paths, image, drive]) = COMMANDS.iter().find(|(name, ..)| *name == command)?;

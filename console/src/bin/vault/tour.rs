@@ -33,7 +33,7 @@ pub fn sample() -> Result<Vec<u8>, Failure> {
 }
 
 pub fn give(out: &mut impl Write) -> Result<(), Failure> {
-    let (original, written) = (Rule::Call(Matching::CaseIgnored), Rule::Call(Matching::AsWritten));
+    let (original, only) = (Rule::Call(Matching::CaseIgnored), Rule::Call(Matching::Unambiguous));
     let image = sample()?;
     let cat = |path: &[u8]| Question::Cat { wanted: Wanted::Path(path.into()) };
     text(out, BEGIN)?;
@@ -48,8 +48,8 @@ pub fn give(out: &mut impl Write) -> Result<(), Failure> {
     step(&image, cat(b"show/9"), Rule::Safe, "cat show.img show/9", out)?;
     text(out, ORIGINAL)?;
     step(&image, cat(LOWER), original, "cat --as-original show.img SHOW/10.1a", out)?;
-    text(out, WRITTEN)?;
-    step(&image, cat(b"show/9"), written, "cat --as-written show.img show/9", out)?;
+    text(out, CHOICES)?;
+    step(&image, cat(LOWER), only, "cat --unambiguous show.img SHOW/10.1a", out)?;
     step(&image, Question::Stat { wanted: Wanted::Path(LOWER.into()) }, Rule::Safe, "stat show.img SHOW/10.1a", out)?;
     text(out, CONSOLE)?;
     text(out, MAKING)?;
@@ -79,9 +79,9 @@ what a path gave may have another name than was asked for. --as-original does so
 
 ";
 
-const WRITTEN: &str = "\
---as-written takes no other case, and --unambiguous refuses a name that two
-entries match, though one is the very name:
+const CHOICES: &str = "\
+There are two more choices: --as-written takes the very name alone, and
+--unambiguous refuses a name that two entries match, one of them exactly:
 
 ";
 
