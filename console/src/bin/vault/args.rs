@@ -7,6 +7,7 @@ use crate::names::{self, shown};
 use crate::runs::Span;
 use crate::steps::Rule;
 use crate::style::Style;
+use crate::survey;
 use crate::tree::{Bounds, Form};
 use crate::wanted::{Icb, Wanted};
 use std::ffi::{OsStr, OsString};
@@ -29,6 +30,12 @@ pub enum Command {
     Survey {
         images: Vec<OsString>,
         limit: Limit,
+        form: survey::Form,
+    },
+    /// The sum of rows of surveys.
+    Total {
+        rows: Vec<OsString>,
+        form: survey::Form,
     },
     Ask {
         image: OsString,
@@ -119,7 +126,7 @@ const WALKS: &[&str] = &["tree", "ls", "get", "check", "survey"];
 const FOR_WALKS: &str = "--limit and --no-limit are for tree, ls -R, get -r, check and survey";
 
 /// Options that aren't for every command, those that they are for, and what is said else.
-const OPTIONS: [(&str, &[&str], &str); 20] = [
+const OPTIONS: [(&str, &[&str], &str); 22] = [
     ("--as-original", PATHS, FOR_PATHS),
     ("--as-written", PATHS, FOR_PATHS),
     ("--unambiguous", PATHS, FOR_PATHS),
@@ -132,6 +139,8 @@ const OPTIONS: [(&str, &[&str], &str); 20] = [
     ("-0", &["ls"], "-0 is for ls"),
     ("-l", &["ls"], "-l is for ls"),
     ("--json", &["ls", "tree", "stat", "info", "check", "survey"], "--json is for ls, tree, stat, info, check and survey"),
+    ("--rows", &["survey"], "--rows is for survey"),
+    ("--total", &["survey"], "--total is for survey"),
     ("--levels", &["tree", "ls"], "--levels is for tree and ls -R"),
     ("--limit", WALKS, FOR_WALKS),
     ("--no-limit", WALKS, FOR_WALKS),
@@ -275,11 +284,8 @@ impl Options {
     }
 
     fn matching(&self) -> Result<Rule, Failure> {
-        let choices = [
-            ("--as-original", Matching::CaseIgnored),
-            ("--as-written", Matching::AsWritten),
-            ("--unambiguous", Matching::Unambiguous),
-        ];
+        let choices =
+            [("--as-original", Matching::CaseIgnored), ("--as-written", Matching::AsWritten), ("--unambiguous", Matching::Unambiguous)];
         let given: Vec<Matching> = choices.into_iter().filter(|(option, _)| self.has(option)).map(|(_, choice)| choice).collect();
         match given[..] {
             [] => Ok(Rule::Safe),
@@ -415,8 +421,8 @@ fn command(words: Vec<OsString>, options: &Options) -> Result<Command, Failure> 
         b"sample" => Command::Sample { file: take(&mut words, &name, "FILE")? },
         b"make" => Command::Make { image: take(&mut words, &name, "IMAGE")?, files: words.by_ref().collect() },
         b"survey" => {
-            let first = take(&mut words, &name, "IMAGE")?;
-            Command::Survey { images: [first].into_iter().chain(words.by_ref()).collect(), limit: options.limit()? }
+            let first = take(&mut words, &name, if options.has("--total") { "ROWS" } else { "IMAGE" })?;
+            surveyed([first].into_iter().chain(words.by_ref()).collect(), options)?
         }
         b"label" | b"info" | b"ls" | b"tree" | b"cat" | b"get" | b"stat" | b"probe" | b"check" => {
             let image = take(&mut words, &name, "IMAGE")?;
@@ -428,6 +434,24 @@ fn command(words: Vec<OsString>, options: &Options) -> Result<Command, Failure> 
         None => Ok(command),
         Some(word) => Err(Failure::usage(format!("{} takes no more words, and {} follows", name.display(), shown(word.as_bytes())))),
     }
+}
+
+/// A survey of images, or the sum of rows.
+fn surveyed(files: Vec<OsString>, options: &Options) -> Result<Command, Failure> {
+    let form = match (options.has("--json"), options.has("--rows")) {
+        (true, true) => return Err(Failure::usage("--rows writes lines for --total: it doesn't go with --json")),
+        (true, false) => survey::Form::Document,
+        (false, true) => survey::Form::Rows,
+        (false, false) => survey::Form::Table,
+    };
+    if !options.has("--total") {
+        return Ok(Command::Survey { images: files, limit: options.limit()?, form });
+    }
+    let is_bare = options.limit()? == Limit::Usual && options.how == How::default() && !options.has("--copy") && !options.sectors;
+    if !is_bare || form == survey::Form::Rows {
+        return Err(Failure::usage("--total adds up rows, and looks at no image: of the options --json alone goes with it"));
+    }
+    Ok(Command::Total { rows: files, form })
 }
 
 fn question(name: &OsStr, words: &mut impl Iterator<Item = OsString>, options: &Options) -> Result<Question, Failure> {
@@ -538,13 +562,17 @@ mod tests {
 
     #[test]
     fn a_survey_is_of_any_number_of_images() {
-        for (line, images, limit) in [
-            ("survey a", &["a"][..], Limit::Usual),
-            ("survey a b --json --limit 7", &["a", "b"], Limit::Most(7)),
-            ("--maps survey --no-limit a -- --copy", &["a", "--copy"], Limit::None),
+        for (line, images, limit, form) in [
+            ("survey a", &["a"][..], Limit::Usual, survey::Form::Table),
+            ("survey a b --json --limit 7", &["a", "b"], Limit::Most(7), survey::Form::Document),
+            ("--maps survey --no-limit a -- --copy", &["a", "--copy"], Limit::None, survey::Form::Table),
+            ("survey --rows a --limit=7", &["a"], Limit::Most(7), survey::Form::Rows),
         ] {
             let images = images.iter().map(OsString::from).collect();
-            assert_eq!(parsed(line).unwrap().command, Command::Survey { images, limit }, "{line}");
+            assert_eq!(parsed(line).unwrap().command, Command::Survey { images, limit, form }, "{line}");
+        }
+        for (line, form) in [("survey --total a b", survey::Form::Table), ("--json survey a b --total", survey::Form::Document)] {
+            assert_eq!(parsed(line).unwrap().command, Command::Total { rows: vec!["a".into(), "b".into()], form }, "{line}");
         }
     }
 
@@ -674,7 +702,8 @@ mod tests {
     #[test]
     fn what_is_wrong_is_said_with_the_command_s_help() {
         let says = |line: &str| parsed(line).unwrap_err().says.unwrap();
-        for line in ["tree a --levels 17", "tree --levels x a", "tree --levls=2 a", "--levels=0 tree a", "tree", "-V tree a", "tree -Rx a"] {
+        for line in ["tree a --levels 17", "tree --levels x a", "tree --levls=2 a", "--levels=0 tree a", "tree", "-V tree a", "tree -Rx a"]
+        {
             assert!(says(line).ends_with(" (`vault tree --help` says how)"), "{line} {}", says(line));
         }
         for line in ["lable a", "--levls", "-x", "--limit 7"] {
@@ -779,6 +808,14 @@ mod tests {
             "check a b",
             "survey",
             "survey --json",
+            "survey --total",
+            "survey --total a --rows",
+            "survey --total a --limit 7",
+            "survey --total a --maps",
+            "survey --total a --copy",
+            "survey --rows a --json",
+            "ls a --rows",
+            "check a --total",
             "survey a --drive",
             "survey a --as-written",
             "survey a --wait 5",

@@ -19,7 +19,10 @@ const TERMINATOR: u16 = 8;
 pub fn check(image: &[u8], manner: Manner, limit: Limit, name: &str, out: &mut impl Write, log: &mut Log) -> Result<(), Failure> {
     let (how, mut report, most) = (manner.how, Report::new(out, manner.style), limit.of(image.len() as u64));
     volume(image, &mut report)?;
-    let vault = Disc::open(image, how, name, Rule::default(), log)?.volume;
+    let vault = match Disc::open(image, how, name, Rule::default(), log) {
+        Ok(disc) => disc.volume,
+        Err(failure) => return report.refused(&failure).and(Err(failure)),
+    };
     let mut walk = Walk::new(image, vault, most.saturating_sub(log.total()), &mut report);
     walk.file_set(file_set(image, how))?;
     let is_whole = walk.root()?;

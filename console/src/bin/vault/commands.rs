@@ -15,7 +15,7 @@ use crate::names::{shown, shown_name};
 use crate::runs::{self, Span};
 use crate::sizes::Sizes;
 use crate::steps::Rule;
-use crate::style::{Style, listed};
+use crate::style::{Style, bytes, listed};
 use crate::tree;
 use crate::wanted::Wanted;
 use std::ffi::OsStr;
@@ -90,7 +90,7 @@ fn find<'a>(disc: &mut Disc<Counted<'a>>, wanted: &Wanted, span: Span) -> Result
 
 /// A directory's entries, or a file's own.
 pub fn ls<V: Volume>(disc: &mut Disc<V>, wanted: &Wanted, style: Style, out: &mut impl Write) -> Result<(), Failure> {
-    let found = disc.find(wanted)?;
+    let found = disc.find_listed(wanted)?;
     let entries = match found.entry {
         Some(entry) if !entry.is_directory => vec![entry],
         _ => {
@@ -132,7 +132,7 @@ pub fn say_volume(label: &str, start: u64, number: u16, root: LongAd, out: &mut 
     let (place, length, kind) = (root.location, root.length, root.extent_type);
     line(out, &format!("label    {}", shown(label.as_bytes())))?;
     line(out, &format!("start    sector {start}, partition {number}"))?;
-    line(out, &format!("root     block {}, partition {}, {length} bytes, type {kind}", place.block, place.partition_ref))
+    line(out, &format!("root     block {}, partition {}, {}, type {kind}", place.block, place.partition_ref, bytes(length)))
 }
 
 fn stat(disc: &mut Disc<Counted>, wanted: &Wanted, style: Style, out: &mut impl Write) -> Result<(), Failure> {
@@ -209,23 +209,23 @@ pub fn say_found(found: &Found, path: &[u8], out: &mut impl Write) -> io::Result
     writeln!(out, "entry    {}", found.entry.as_ref().map_or(none.to_string(), listed))?;
     writeln!(out, "kind     {}", if found.is_directory { "directory" } else { "file" })?;
     let place = icb.location;
-    writeln!(out, "icb      block {}, partition {}, {} bytes, type {}", place.block, place.partition_ref, icb.length, icb.extent_type)
+    writeln!(out, "icb      block {}, partition {}, {}, type {}", place.block, place.partition_ref, bytes(icb.length), icb.extent_type)
 }
 
 /// How the bytes are stored: in the entry itself, which has then no extents, or in extents. Where each begins is said of a volume with maps: else
 /// that is the block and the start that `stat` says without a path.
 fn say_extents(vault: Counted, icb: LongAd, embedded: usize, extents: &[AllocExtent], out: &mut impl Write) -> io::Result<()> {
     if extents.is_empty() {
-        let storage = if embedded > 0 { format!("embedded, {embedded} bytes") } else { "no bytes, no extents".to_string() };
+        let storage = if embedded > 0 { format!("embedded, {}", bytes(embedded as u64)) } else { "no bytes, no extents".to_string() };
         return writeln!(out, "storage  {storage}");
     }
     writeln!(out, "storage  extents: {}", extents.len())?;
     extents.iter().try_for_each(|extent| {
         let kind = ["recorded", "not recorded", "not allocated"].get(usize::from(extent.extent_type)).unwrap_or(&"a continuation");
         let partition = extent.partition_ref.map_or("none".to_string(), |number| number.to_string());
-        let (length, number, block) = (extent.length, extent.extent_type, extent.block);
+        let (length, number, block) = (bytes(extent.length), extent.extent_type, extent.block);
         let sector =
             vault.how().maps.then(|| vault.extent_sector(icb, extent).map_or(", in no partition".to_string(), |n| format!(", sector {n}")));
-        writeln!(out, "extent   {length} bytes, type {number} ({kind}), block {block}, partition {partition}{}", sector.unwrap_or_default())
+        writeln!(out, "extent   {length}, type {number} ({kind}), block {block}, partition {partition}{}", sector.unwrap_or_default())
     })
 }

@@ -46,6 +46,10 @@ pub trait Volume {
     fn missed(&self) -> Option<String>;
     /// Where the last call was refused, and why.
     fn diagnose(&mut self, asked: Asked, refused: &Refused) -> Diagnosis;
+    /// The volume by its descriptors of the highest number, where that is another.
+    fn by_highest(&self) -> Option<Self>
+    where
+        Self: Sized;
 }
 
 impl Volume for Counted<'_> {
@@ -110,6 +114,12 @@ impl Volume for Counted<'_> {
     fn diagnose(&mut self, asked: Asked, refused: &Refused) -> Diagnosis {
         Counted::diagnose(self, asked, refused)
     }
+
+    fn by_highest(&self) -> Option<Self> {
+        let highest = Counted::open_as(self.image(), How { highest: true, ..self.how() }).ok()?.value;
+        let led = |volume: &Counted| (volume.partition_start_sector(), volume.root_directory_icb());
+        (led(self) != led(&highest)).then_some(highest)
+    }
 }
 
 impl Volume for CountedDrive<File> {
@@ -170,6 +180,11 @@ impl Volume for CountedDrive<File> {
     fn diagnose(&mut self, _: Asked, refused: &Refused) -> Diagnosis {
         CountedDrive::diagnose(self, refused)
     }
+
+    /// A drive has no such choice.
+    fn by_highest(&self) -> Option<Self> {
+        None
+    }
 }
 
 /// A writer that takes what comes first.
@@ -222,7 +237,9 @@ impl<'a, 'l> Disc<'l, Counted<'a>> {
         if !how.checked {
             match Counted::open_as(self.volume.image(), How { checked: true, ..how }) {
                 Ok(checked) => self.checked = Some(checked.value),
-                Err(refused) if refused.why == Refusal::BadCrc => self.log.ruin(format!("{}: a descriptor of the volume {RUINED}", self.name)),
+                Err(refused) if refused.why == Refusal::BadCrc => {
+                    self.log.ruin(format!("{}: a descriptor of the volume {RUINED}", self.name))
+                }
                 Err(_) => {}
             }
         }
@@ -251,8 +268,25 @@ impl<V: Volume> Disc<'_, V> {
         let about = format!("{}: {}", self.name, quoted(path));
         match self.volume.missed().filter(|_| refused.why == Refusal::Io) {
             Some(missed) => Failure::with_number(refused, format!("{about}: {missed}")),
-            None => Failure::diagnosed(about, &self.volume.diagnose(asked, &refused)),
+            None => {
+                let diagnosis = self.volume.diagnose(asked, &refused);
+                self.with_cure(asked, Failure::diagnosed(about, &diagnosis))
+            }
         }
+    }
+
+    /// With what to try where a disc was closed again, and an older descriptor leads elsewhere.
+    fn with_cure(&self, asked: Asked, mut failure: Failure) -> Failure {
+        let is_there = self.volume.by_highest().is_some_and(|mut highest| match asked {
+            Asked::Lookup(path, matching) | Asked::ReadPath(path, matching) => highest.lookup_as(path, matching).is_ok(),
+            Asked::ReadDirectory(icb) => highest.read_directory(icb).is_ok(),
+            Asked::ReadFile(icb) => highest.measure(icb).is_some_and(|measured| measured.is_ok()),
+            Asked::Show(_) => false,
+        });
+        if let Some(says) = failure.says.as_mut().filter(|_| is_there) {
+            *says += "; the disc was closed again, and by its descriptors of the highest number this is there, with --highest";
+        }
+        failure
     }
 
     pub fn list(&mut self, path: &[u8], icb: LongAd) -> Result<Vec<DirEntry>, Failure> {
@@ -295,6 +329,16 @@ impl<V: Volume> Disc<'_, V> {
                 Ok(Found { icb, entry: None, is_directory: self.is_directory(icb) })
             }
         }
+    }
+
+    /// The same, for what is listed. The bytes of a file may be those of an empty listing, and then nothing would be said.
+    pub fn find_listed(&mut self, wanted: &Wanted) -> Result<Found, Failure> {
+        let found = self.find(wanted)?;
+        if matches!(wanted, Wanted::Icb(_)) && !found.is_directory && self.volume.entry(found.icb).is_some() {
+            let says = "is a file, whose name isn't known here: `vault stat` shows it, and `vault cat` gives its bytes";
+            return Err(Failure::new(USAGE, format!("{}: {} {says}", self.name, quoted(&wanted.text()))));
+        }
+        Ok(found)
     }
 
     /// Looks a path up, and then walks it over the directories' listings: for the entry that it gives, and for what has to be remarked of each
@@ -366,7 +410,7 @@ impl<V: Volume> Disc<'_, V> {
             _ => return self.refused(path, Asked::Lookup(written, self.matching.call()), refused),
         };
         let says = says.unwrap_or_else(|| format!("{}: {refused}", quoted(path)));
-        Failure::with_number(refused, format!("{}: {says}", self.name))
+        self.with_cure(Asked::Lookup(written, self.matching.call()), Failure::with_number(refused, format!("{}: {says}", self.name)))
     }
 
     /// Which name isn't there, and what is in another case where that was not enough.
