@@ -405,7 +405,7 @@ fn bash_completes_what_stands_on_a_disc() {
     assert_eq!(completed(&folder, &bash, &["vault", "cat", "sh"]), ["show.img"]);
     assert_eq!(completed(&folder, &bash, &["vault", "cat", "show.img", "SH"]), ["SHOW/"]);
     assert_eq!(completed(&folder, &bash, &["vault", "cat", "--as-written", "show.img", "SHOW/10"]), ["SHOW/10.1A", "SHOW/10.1a"]);
-    assert_eq!(completed(&folder, &bash, &["vault", "ls", "--as"]), ["--as-original", "--as-written"]);
+    assert_eq!(completed(&folder, &bash, &["vault", "ls", "--as"]), ["--as-written", "--as-original"]);
     assert_eq!(completed(&folder, &bash, &["vault", "survey", "--r"]), ["--rows"]);
     assert_eq!(completed(&folder, &bash, &["vault", "help", "la"]), ["label"]);
 }

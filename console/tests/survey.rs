@@ -450,7 +450,7 @@ fn the_command_surveys_as_it_is_chosen() {
 fn a_terminal_sees_what_the_figures_are() {
     let folder = shelf();
     let Some(script) = tool("script") else { return left_out("a_terminal_sees_what_the_figures_are", "script") };
-    let line = format!("'{}' survey show.img", env!("CARGO_BIN_EXE_vault"));
+    let line = format!("'{}' survey show.img 2>/dev/null", env!("CARGO_BIN_EXE_vault"));
     let seen = Said::of(Command::new(script).args(["-qec", &line, "/dev/null"]).current_dir(&folder.0).output().unwrap());
     let lines: Vec<&str> = seen.out.lines().map(str::trim_end).collect();
     assert!(lines.len() == 2 && lines[0].ends_with(" chain refused image") && lines[1].ends_with(" show.img"), "{seen:?}");

@@ -88,7 +88,11 @@ pub fn add_up(files: &[OsString], form: Form, out: &mut impl Write) -> Result<()
 }
 
 fn head(form: Form, out: &mut impl Write) -> Result<(), Failure> {
-    if form == Form::Table && io::stdout().is_terminal() { line(out, HEAD) } else { Ok(()) }
+    if form != Form::Table || !io::stdout().is_terminal() {
+        return Ok(());
+    }
+    line(out, HEAD)?;
+    out.flush().map_err(Failure::output)
 }
 
 fn total(all: &[Surveyed]) -> Result<Figures, Failure> {
