@@ -1,7 +1,8 @@
 # Completion of vault for bash.
 _vault() {
     local word=${COMP_WORDS[COMP_CWORD]} before=${COMP_WORDS[COMP_CWORD-1]} command= image= i
-    local commands="label info ls tree cat get stat probe check survey make sample"
+    local commands="label info ls tree cat get stat probe check survey make sample help"
+    local matching="--as-written --unambiguous --as-original --raw --icb"
     for ((i = 1; i < COMP_CWORD; i++)); do
         case ${COMP_WORDS[i]} in
             -o | --icb | --levels | --limit | --wait | --from | --bytes) ((i++)) ;;
@@ -16,18 +17,19 @@ _vault() {
     if [[ $word == -* ]]; then
         local options="--help --sectors --checked --highest --maps --copy --drive"
         case $command in
-            ls) options+=" -R -i -l -0 --json --levels --limit --no-limit --as-written --unambiguous --raw --icb" ;;
-            tree) options+=" --json --levels --limit --no-limit --as-written --unambiguous --raw --icb" ;;
-            cat) options+=" --from --bytes --wait --as-written --unambiguous --raw --icb" ;;
-            get) options+=" -o -r --limit --no-limit --from --bytes --wait --as-written --unambiguous --raw --icb" ;;
-            stat) options+=" --json --as-written --unambiguous --raw --icb" ;;
+            ls) options+=" -R -i -l -0 --json --levels --limit --no-limit $matching" ;;
+            tree) options+=" --json --levels --limit --no-limit $matching" ;;
+            cat) options+=" --from --bytes --wait $matching" ;;
+            get) options+=" -o -r --limit --no-limit --from --bytes --wait $matching" ;;
+            stat) options+=" --json $matching" ;;
             info) options+=" --json" ;;
             make | sample) options="--help --force" ;;
-            check | survey) options+=" --json --limit --no-limit" ;;
+            check) options+=" --json --limit --no-limit" ;;
+            survey) options+=" --json --limit --no-limit --rows --total" ;;
             "") options+=" --version" ;;
         esac
         COMPREPLY=($(compgen -W "$options" -- "$word"))
-    elif [ -z "$command" ]; then
+    elif [ -z "$command" ] || [ "$command" = help ]; then
         COMPREPLY=($(compgen -W "$commands" -- "$word"))
     elif [ -z "$image" ] || [ "$command" = make ] || [ "$command" = survey ]; then
         compopt -o filenames 2>/dev/null

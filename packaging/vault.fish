@@ -1,11 +1,12 @@
 # Completion of vault for fish.
-set -l commands label info ls tree cat get stat probe check survey make sample
+set -l commands label info ls tree cat get stat probe check survey make sample help
 complete -c vault -n "not __fish_seen_subcommand_from $commands" -f -a "$commands"
 complete -c vault -s h -l help -d "What there is"
 complete -c vault -s V -l version -d "Which it is"
 complete -c vault -l sectors -d "Say how many sectors each call asked for"
 complete -c vault -l as-written -d "Take a name byte for byte"
 complete -c vault -l unambiguous -d "Refuse a name that several entries match"
+complete -c vault -l as-original -d "Ignore case and take the first entry"
 complete -c vault -l raw -d "Take PATH as it is"
 complete -c vault -l icb -x -d "What stands there, in place of PATH"
 complete -c vault -l checked -d "Refuse a descriptor whose body is ruined"
@@ -24,6 +25,9 @@ complete -c vault -n "__fish_seen_subcommand_from tree ls" -l levels -x -d "So m
 complete -c vault -n "__fish_seen_subcommand_from tree ls get check survey" -l limit -x -d "So many sectors"
 complete -c vault -n "__fish_seen_subcommand_from tree ls get check survey" -l no-limit -d "Any number of sectors"
 complete -c vault -n "__fish_seen_subcommand_from make sample" -l force -d "Replace a file that is there"
+complete -c vault -n "__fish_seen_subcommand_from survey" -l rows -d "A row of numbers for each image"
+complete -c vault -n "__fish_seen_subcommand_from survey" -l total -d "Add up files of rows"
+complete -c vault -n "__fish_seen_subcommand_from help" -f -a "$commands"
 complete -c vault -n "__fish_seen_subcommand_from cat get" -l wait -x -d "So many seconds"
 complete -c vault -n "__fish_seen_subcommand_from cat get" -l from -x -d "From this byte on"
 complete -c vault -n "__fish_seen_subcommand_from cat get" -l bytes -x -d "So many bytes at most"

@@ -68,6 +68,27 @@ pub struct Figures {
 }
 
 impl Figures {
+    /// How many numbers a place of a row has: two for each figure.
+    pub const NUMBERS: usize = FIGURES;
+
+    /// The numbers of its place, as they cross the interface (docs/RULES.md, 16.3): of each figure its number, and 1 where it is over or else 0.
+    pub fn numbers(&self) -> [u64; Figures::NUMBERS] {
+        let mut numbers = [0; FIGURES];
+        numbers.iter_mut().zip(self.place()).for_each(|(to, number)| *to = number);
+        numbers
+    }
+
+    /// The figures that have these numbers, as [`Figures::numbers`] gives them. So they can be kept, or sent elsewhere, and added up by [`survey_total`].
+    ///
+    /// ```
+    /// use strandlodge::{Figures, How, UNLIMITED, survey_image};
+    /// let figures = survey_image(b"no disc", How::default(), UNLIMITED);
+    /// assert_eq!(Figures::of_numbers(&figures.numbers()), figures);
+    /// ```
+    pub fn of_numbers(numbers: &[u64; Figures::NUMBERS]) -> Figures {
+        Figures::of(numbers)
+    }
+
     /// Why an image wasn't surveyed; of a shelf, the first of these by its number. None where each was.
     pub fn refusal(&self) -> Option<Refusal> {
         refused(&self.images_by_answer).next().map(|(why, _)| why)
@@ -270,7 +291,7 @@ mod tests {
     fn a_place_is_read_as_it_is_written() {
         let place: Row = std::array::from_fn(|n| if n % 2 == 0 { 100 + n as u64 } else { (n as u64 / 2) % 2 });
         let figures = Figures::of(&place);
-        assert_eq!(figures.place().collect::<Vec<_>>(), place);
+        assert_eq!((figures.numbers(), Figures::of_numbers(&place)), (place, figures));
         assert_eq!((figures.files.number, figures.directories.number, figures.sectors.number, figures.chain.number), (100, 102, 108, 178));
         assert_eq!((figures.files_by_answer[0].number, figures.images_by_answer[0].number), (110, 144));
         assert_eq!((figures.files_refused(Refusal::Io).number, figures.images_refused(Refusal::OverBudget).number), (112, 176));

@@ -4,7 +4,7 @@ mod common;
 
 use common::asked::images;
 use common::command::{Folder, Said, left_out, tool};
-use common::{Disc, SECTOR, harm, identifier, named, noise, reclosed, show};
+use common::{Disc, SECTOR, VOLUME_BODY, harm, identifier, named, noise, reclosed, seal, show};
 use std::ffi::OsStr;
 use std::os::unix::ffi::OsStrExt;
 use std::process::{Command, Stdio};
@@ -35,13 +35,18 @@ fn no_words_give_the_tour() {
     let folder = Folder::new();
     let said = folder.vault::<&str>(&[]);
     assert_eq!((said.status, said.error.as_str()), (0, ""));
-    for line in ["10.1A\n10.1a\n", "front wash 80", "$ vault cat show.img SHOW/10.1a\ncue 10.1A\n", "is ambiguous, 2 entries match"] {
+    // Either cue by its own name, and by the original's rule the first; and the other choices.
+    for line in [
+        "10.1A\n10.1a\n",
+        "front wash 80",
+        "$ vault cat show.img SHOW/10.1A\ncue 10.1A\n",
+        "$ vault cat show.img SHOW/10.1a\ncue 10.1a\n",
+        "$ vault cat --as-original show.img SHOW/10.1a\ncue 10.1A\n",
+        "is ambiguous, 2 entries match",
+        "entry    10.1a\n",
+    ] {
         assert!(said.out.contains(line), "{line}");
     }
-    // It ends with how the other cue is had.
-    let last = said.out.split("$ vault cat ").last().unwrap();
-    assert!(last.starts_with("--as-written show.img SHOW/10.1a\ncue 10.1a\nfront wash 20"), "{last}");
-    assert!(last.contains("entry    10.1a\n"), "{last}");
     assert!(folder.names().is_empty());
 }
 
@@ -60,7 +65,7 @@ fn the_tour_can_be_typed() {
         assert_eq!((said.out + &said.error).trim_end(), answer, "{line}");
         typed += 1;
     }
-    assert_eq!(typed, 10);
+    assert_eq!(typed, 11);
 }
 
 /// The sample is a disc with all that one has, read in each way that there is.
@@ -190,7 +195,7 @@ fn a_check_stops_at_its_limit() {
         assert!(said.error.starts_with(&front) && said.error.contains(cure), "{said:?}");
     }
     let said = folder.vault(&["check", "show.img", "--limit", "15", "--json"]);
-    assert!(said.status == 68 && said.out.contains("\"unread\": 0, \"stopped\": 15, \"findings\": []}"), "{said:?}");
+    assert!(said.status == 68 && said.out.contains("\"unread\": 0, \"stopped\": 15, \"refused\": null, \"findings\": []}"), "{said:?}");
     assert!(folder.vault(&["check", "show.img", "--json"]).out.contains("\"stopped\": null"));
 }
 
@@ -272,7 +277,7 @@ fn a_directory_that_holds_itself() {
     assert!(said.error.contains("65536 directories at level 16, the last, not looked into"), "{}", said.error);
 }
 
-/// What was drawn before a directory that can't be read stays, and the directory is named.
+/// A directory that can't be read is named, and what stands behind it is shown; the status is that of its refusal.
 #[test]
 fn a_tree_names_what_it_cannot_read() {
     let folder = Folder::new();
@@ -282,12 +287,107 @@ fn a_tree_names_what_it_cannot_read() {
     disc.root(root);
     folder.write("a.img", &disc.0);
     let said = folder.vault(&["tree", "a.img"]);
-    assert_eq!((said.status, said.out.as_str()), (1, "/\n├── a\n├── d/\n│   ├── x\n│   ├── gone/\n"));
+    let drawn = "/\n├── a\n├── d/\n│   ├── x\n│   ├── gone/\n│   └── z\n└── b\n2 directories, 4 files\n";
+    assert_eq!((said.status, said.out.as_str()), (1, drawn));
+    let place = "(refusal 1); the last sector asked for was 900288, for a file entry: it isn't there";
+    let lines: Vec<&str> = said.error.lines().collect();
+    assert!(lines[0].starts_with("vault: a.img: \"d/gone\": a sector that was asked for") && lines[0].ends_with(place), "{said:?}");
+    assert_eq!(lines[1..], ["vault: a.img: 1 directory can't be listed, and the rest is shown"]);
+    for drive in [&[][..], &["--drive"]] {
+        let said = folder.vault(&[&["ls", "-R", "a.img"], drive].concat());
+        assert_eq!((said.status, said.out.as_str(), said.error.lines().count()), (1, "a\nd/\nd/x\nd/gone/\nd/z\nb\n", 2), "{said:?}");
+    }
+    let said = folder.vault(&["ls", "-R", "--json", "a.img"]);
+    assert!(said.status == 1 && said.out.lines().count() == 7 && said.out.ends_with("}]\n"), "{said:?}");
+    let row = " {\"level\": 2, \"path\": \"d/gone\", \"refused\": {\"answer\": 1, \"status\": 1, \"says\": \"a.img: ";
+    assert!(said.out.lines().nth(4).unwrap().starts_with(row), "{said:?}");
+    // What is asked for itself, and the status of the first of several, also where one stands too deep.
+    assert_eq!(folder.vault(&["ls", "-R", "a.img", "d/gone"]).status, 1);
+    let bad: Vec<Vec<u8>> = (0..10).map(|n| named(&format!("b{n}"), if n == 0 { 0 } else { 900_000 + n }, true)).collect();
+    let root = disc.directory(&[bad, vec![named("d", below, true)]].concat());
+    disc.root(root);
+    folder.write("a.img", &disc.0);
+    let said = folder.vault(&["tree", "a.img", "--levels", "2"]);
+    assert_eq!((said.status, said.out.lines().count(), said.error.lines().count()), (2, 16, 10), "{said:?}");
     assert!(
-        said.error.starts_with("vault: a.img: \"d/gone\": a sector that was asked for")
-            && said.error.ends_with("(refusal 1); the last sector asked for was 900288, for a file entry: it isn't there\n"),
+        said.error.contains("the last, not looked into: \"d/gone\"") && said.error.contains("10 directories can't be listed"),
         "{said:?}"
     );
+}
+
+/// What is listed by its place and is a file isn't an empty directory.
+#[test]
+fn a_file_by_its_place_is_not_listed() {
+    let folder = with_show();
+    folder.write("empty.img", &{
+        let mut disc = Disc::new();
+        let (file, directory) = (disc.file(b""), disc.entry(3, b"", 0));
+        let root = disc.directory(&[named("file", file, false), named("directory", directory, true)]);
+        disc.root(root);
+        // The type of a directory (4/14.6.6): what holds nothing says so by nothing else.
+        let at = (288 + directory as usize) * SECTOR;
+        disc.0[at + 27] = 4;
+        seal(&mut disc.0[at..], 160);
+        disc.0
+    });
+    let says = "is a file, whose name isn't known here: `vault stat` shows it, and `vault cat` gives its bytes";
+    for (words, image) in
+        [(&["ls"][..], "show.img"), (&["ls", "-R"], "show.img"), (&["tree"], "show.img"), (&["ls", "--drive"], "show.img")]
+    {
+        refuses(&folder, &[words, &[image, "--icb", "9:5"]].concat(), 64, says);
+    }
+    let places: Vec<String> =
+        folder.vault(&["ls", "-i", "empty.img"]).out.lines().map(|line| line.split(' ').next().unwrap().to_string()).collect();
+    refuses(&folder, &["ls", "empty.img", "--icb", &places[0]], 64, says);
+    answers(&folder.vault(&["ls", "empty.img", "--icb", &places[1]]), "");
+    refuses(&folder, &["ls", "show.img", "--icb", "0"], 2, "(refusal 2)");
+    answers(&folder.vault(&["ls", "show.img", "--icb", "4:5"]), "9\n10.1A\n10.1a\n11\n");
+}
+
+/// With `--json` what is refused is a document too: an object, whatever the answer would be.
+#[test]
+fn a_refusal_is_a_document() {
+    let folder = with_show();
+    folder.write("short", &show()[..290 * 2048]);
+    for (words, answer, status) in [
+        (&["ls", "show.img", "no"][..], "3", 3),
+        (&["ls", "-R", "show.img", "no"], "3", 3),
+        (&["tree", "short"], "1", 1),
+        (&["stat", "show.img", "show/10.1A/x"], "3", 3),
+        (&["stat", "none"], "null", 66),
+        (&["info", "none"], "null", 66),
+        (&["check", "none"], "null", 66),
+        (&["ls", "--drive", "short"], "1", 1),
+    ] {
+        let said = folder.vault(&[words, &["--json"]].concat());
+        let front = format!("{{\"refused\": {{\"answer\": {answer}, \"status\": {status}, \"says\": \"");
+        assert!(said.status == status && said.out.starts_with(&front) && said.out.ends_with("\"}}\n"), "{words:?} {said:?}");
+        // The same sentence as on standard error, written out.
+        let says = said.error.trim_end().strip_prefix("vault: ").unwrap().replace('\\', "\\\\").replace('"', "\\\"");
+        assert!(said.out.contains(&says), "{words:?} {said:?}");
+    }
+    // Documents that say more than that have a field for it.
+    for words in [&["info", "short", "--json"][..], &["check", "short", "--json"]] {
+        let said = folder.vault(words);
+        assert!(said.status == 1 && said.out.contains("\"refused\": {\"answer\": 1, \"status\": 1,"), "{words:?} {said:?}");
+        assert!(said.out.lines().count() == 1 && !said.out.starts_with("{\"refused"), "{words:?} {said:?}");
+    }
+    assert_eq!(folder.vault(&["ls", "show.img", "--json", "--levels", "2"]).out, "");
+}
+
+#[test]
+fn numbers_are_said_as_they_are_counted() {
+    let (folder, mut disc) = (Folder::new(), Disc::new());
+    let (one, short) = (disc.file(b"1"), disc.entry(3, b"1", 1));
+    let root = disc.directory(&[named("one", one, false), named("short", short, false)]);
+    disc.root(root);
+    folder.write("a.img", &disc.0);
+    std::fs::create_dir(folder.at("to")).unwrap();
+    let stat = folder.vault(&["stat", "a.img", "one"]).out;
+    assert!(stat.contains("length   1 byte, as its entry says\nread     1 byte\n") && stat.contains("extent   1 byte, type 0"), "{stat}");
+    assert!(folder.vault(&["stat", "a.img", "short"]).out.contains("storage  embedded, 1 byte\n"));
+    assert_eq!(folder.vault(&["get", "a.img", "-o", "to", "one"]).out, "one: 1 byte, to to/one\n");
+    assert_eq!(folder.vault(&["get", "-r", "a.img", "-o", "to"]).out, "one: 1 byte, to to/one\nshort: 1 byte, to to/short\n");
 }
 
 /// What `ls -R` prints is what a show gives, or the show is refused.
@@ -379,7 +479,8 @@ fn a_disc_with_right_bodies_is_read_checked_as_it_is_unchecked() {
     assert_eq!(std::fs::read_to_string(folder.at("cue")).unwrap(), BLACKOUT);
 }
 
-/// A wrong body on the way of a command refuses it where bodies are checked, with what to try; elsewhere, and unchecked, nothing is seen of it.
+/// A wrong body on the way of a command refuses it where bodies are checked, with what to try. Unchecked it is remarked on, by who looks at a path; elsewhere
+/// nothing is seen of it.
 #[test]
 fn every_command_that_opens_can_check_bodies() {
     let (folder, sound) = (Folder::new(), Folder::new());
@@ -389,7 +490,7 @@ fn every_command_that_opens_can_check_bodies() {
         for words in OPENING {
             let shown = sound.vault(words);
             let (plain, checked) = (folder.vault(words), folder.vault(&[&["--checked"], words].concat()));
-            assert_eq!((plain.status, &plain.out, plain.error.as_str()), (0, &shown.out, ""), "{words:?} {sector}");
+            assert_eq!((plain.status, &plain.out), (0, &shown.out), "{words:?} {sector}");
             // Of the entries the root's is on the way of every path, and then SHOW's and the cue's.
             let on_the_way = match words {
                 ["label", _] | ["stat", _] => i < 5,
@@ -397,6 +498,12 @@ fn every_command_that_opens_can_check_bodies() {
                 ["ls", ..] => i < 7,
                 _ => true,
             };
+            let is_said = on_the_way && !matches!(words, ["label", _] | ["stat", _]);
+            assert_eq!(
+                plain.error.lines().filter(|line| line.contains("has a wrong body")).count(),
+                usize::from(is_said),
+                "{words:?} {plain:?}"
+            );
             if !on_the_way {
                 assert_eq!((checked.status, checked.out, checked.error.as_str()), (0, shown.out, ""), "{words:?} {sector}");
                 continue;
@@ -406,7 +513,8 @@ fn every_command_that_opens_can_check_bodies() {
             assert!(says.iter().all(|part| checked.error.contains(part)), "{words:?} {checked:?}");
         }
         refuses(&folder, &["get", "--checked", "a.img", "SHOW/9", "cue"], 10, "(refusal 10)");
-        answers(&folder.vault(&["get", "a.img", "SHOW/9", "cue"]), "");
+        let said = folder.vault(&["get", "a.img", "SHOW/9", "cue"]);
+        assert_eq!((said.status, said.error.lines().count()), (0, 1), "{said:?}");
         std::fs::remove_file(folder.at("cue")).unwrap();
         // The check finds it either way.
         assert_eq!((folder.vault(&["check", "a.img"]).status, folder.vault(&["check", "a.img"]).out.lines().count()), (65, 1));
@@ -460,6 +568,11 @@ fn sectors_are_counted_on_standard_error() {
     assert_eq!((said.status, said.out.as_str()), (0, BLACKOUT));
     assert_eq!(said.error, "vault: sectors asked for: open 6, lookup 2, read_directory 1, read_directory 1, read_file 2\n");
     let said = folder.vault(&["ls", "show.img", "no", "--sectors"]);
+    assert_eq!(
+        (said.status, said.error.lines().next()),
+        (3, Some("vault: sectors asked for: open 6, lookup 1, read_directory 1, failed 1"))
+    );
+    let said = folder.vault(&["ls", "show.img", "no", "--sectors", "--as-original"]);
     assert_eq!((said.status, said.error.lines().next()), (3, Some("vault: sectors asked for: open 6, lookup 1, failed 1")));
     assert_eq!(folder.vault(&["--sectors", "probe", "show.img"]).error, "vault: sectors asked for: none are counted\n");
 }
@@ -509,13 +622,28 @@ fn bad_images_are_refused_by_every_command() {
 #[test]
 fn a_pipe_is_no_image() {
     let folder = with_show();
-    for words in [&["label", "/dev/stdin"][..], &["--copy", "label", "/dev/stdin"]] {
-        let mut child = folder.command(words).stdin(Stdio::piped()).stderr(Stdio::piped()).spawn().unwrap();
-        drop(child.stdin.take());
-        let said = Said::of(child.wait_with_output().unwrap());
-        assert_eq!(said.status, 66);
-        assert!(said.error.contains("this is a pipe"), "{said:?}");
-    }
+    let piped = |words: &[&str], bytes: &[u8]| {
+        let mut child = folder.command(words).stdin(Stdio::piped()).stdout(Stdio::piped()).stderr(Stdio::piped()).spawn().unwrap();
+        // Where nobody reads it, it can't be written.
+        let _ = std::io::Write::write_all(&mut child.stdin.take().unwrap(), bytes);
+        Said::of(child.wait_with_output().unwrap())
+    };
+    let said = piped(&["label", "/dev/stdin"], b"");
+    assert_eq!(
+        (said.status, said.error.contains("this is a pipe or the like") && said.error.contains("--copy reads it")),
+        (66, true),
+        "{said:?}"
+    );
+    // Read into memory it is one.
+    answers(&piped(&["--copy", "label", "/dev/stdin"], &show()), "SHOW 1\n");
+    answers(&piped(&["cat", "/dev/stdin", "SHOW/11", "--copy"], &show()), BLACKOUT);
+    assert_eq!(piped(&["--copy", "survey", "/dev/stdin"], &show()).status, 0);
+    let (big, mut disc) = (noise(5_000_000), Disc::new());
+    let file = disc.file(&big);
+    let root = disc.directory(&[named("big", file, false)]);
+    disc.root(root);
+    assert!(piped(&["cat", "--copy", "/dev/stdin", "big"], &disc.0).bytes == big);
+    assert_eq!(piped(&["--copy", "label", "/dev/stdin"], b"").status, 1);
 }
 
 #[test]
@@ -552,7 +680,12 @@ fn wrong_usage_is_said() {
     refuses(&folder, &["ls", "show.img", "SHOW", "more"], 64, "more follows");
     refuses(&folder, &["-l", "show.img"], 64, "-l is for ls");
     refuses(&folder, &["-q", "show.img"], 64, "there is no option -q");
-    refuses(&folder, &["--as-written", "--unambiguous", "ls", "show.img"], 64, "two choices");
+    refuses(&folder, &["--as-written", "--unambiguous", "ls", "show.img"], 64, "are choices, of which one can be taken");
+    refuses(&folder, &["ls", "show.img", "--levels=2"], 64, "--levels is for tree and ls -R (`vault ls --help` says how)");
+    refuses(&folder, &["make", "-V", "NAME", "show.img"], 64, "-V is the version of vault, and no option of make");
+    assert_eq!(folder.vault(&["help", "ls"]).out, folder.vault(&["ls", "--help"]).out);
+    assert_eq!(folder.vault(&["help"]).out, folder.vault(&["--help"]).out);
+    assert_eq!(folder.vault(&["ls", "-Rl", "show.img", "--levels=2"]).out, folder.vault(&["ls", "-R", "-l", "show.img"]).out);
     refuses(&folder, &["--as-written", "label", "show.img"], 64, "are for a PATH");
     refuses(&folder, &["--unambiguous"], 64, "are for a PATH");
     refuses(&folder, &["\u{1b}[2J"], 64, "\\u{1b}[2J");
@@ -622,8 +755,7 @@ fn many_files_go_on_past_a_refused_one() {
     assert_eq!(said.status, 67, "{said:?}");
     assert!(said.out.starts_with("SHOW/11: 16 bytes, to to/11\nSHOW/9: ") && said.out.lines().count() == 2, "{said:?}");
     let errors: Vec<&str> = said.error.lines().collect();
-    let place = "the last sector asked for was 292, for a file entry: it has tag 261 (file entry)";
-    assert_eq!(errors[0], format!("vault: show.img: there is nothing named \"12\" under \"SHOW\" (refusal 3); {place}"));
+    assert_eq!(errors[0], "vault: show.img: there is nothing named \"12\" under \"SHOW\" (refusal 3)");
     assert!(errors[1].contains("\"SHOW\" is a directory") && errors[2].contains("\"no\" under the root"), "{said:?}");
     assert_eq!(errors[3..], ["vault: show.img: 3 of 5 files not written"]);
     assert_eq!(taken(&folder), ["11", "9"]);
@@ -653,7 +785,7 @@ fn many_files_go_on_past_a_refused_one() {
 #[test]
 fn many_files_have_their_own_names() {
     let folder = with_folder();
-    let said = folder.vault(&["get", "show.img", "-o", "to", "show/10.1a", "SHOW/10.1A"]);
+    let said = folder.vault(&["get", "--as-original", "show.img", "-o", "to", "show/10.1a", "SHOW/10.1A"]);
     assert_eq!((said.status, said.out.as_str()), (67, "show/10.1a: 57 bytes, to to/10.1A\n"));
     assert!(said.error.contains("\"10.1a\" under \"show\" gives \"10.1A\" in block 7, the first of 2"), "{said:?}");
     assert!(said.error.contains("\"SHOW/10.1A\" would be written over \"show/10.1a\", to to/10.1A"), "{said:?}");
@@ -725,7 +857,7 @@ fn a_copy_that_does_not_fit_is_said() {
     let (folder, _) = with_big();
     let said = within(&folder, "ulimit -v 30000", &["--copy", "ls", "big.img"]);
     let length = std::fs::metadata(folder.at("big.img")).unwrap().len();
-    let sentence = format!("vault: big.img: there is no memory for a copy of {length} bytes: without --copy the image is mapped\n");
+    let sentence = format!("vault: big.img: there is no memory for a copy of {length} bytes: without --copy a file is mapped\n");
     assert_eq!((said.status, said.error, said.out), (66, sentence, String::new()));
     assert_eq!(within(&folder, "ulimit -v 65000", &["--copy", "ls", "big.img"]).out, "big\n");
 }
@@ -784,6 +916,7 @@ fn a_terminal_is_not_tricked_by_names() {
     disc.root(listing);
     // The label, in the primary volume descriptor of sector 32.
     disc.0[32 * 2048 + 25] = 0x1b;
+    seal(&mut disc.0[32 * 2048..], VOLUME_BODY);
     let folder = Folder::new();
     folder.write("tricks.img", &disc.0);
     answers(&folder.vault(&["ls", "tricks.img"]), "a\\u{1b}[2J\\u{202e}\\u{200b}\\u{a}\\\\\nb\\u{9b}c/\n");

@@ -469,6 +469,6 @@ fn a_pipe_is_no_drive() {
     let Some(sh) = tool("sh") else { return left_out("a_pipe_is_no_drive", "sh") };
     let words = ["-c", "\"$0\" ls /dev/stdin --drive < show.img; cat show.img | \"$0\" ls /dev/stdin --drive", env!("CARGO_BIN_EXE_vault")];
     let said = Said::of(Command::new(sh).args(words).current_dir(folder.at("")).output().unwrap());
-    let error = "vault: /dev/stdin: this is a pipe or the like, and no file or device: copy it to a file\n";
+    let error = "vault: /dev/stdin: this is a pipe or the like, and no file or device: --copy reads it into memory\n";
     assert_eq!((said.status, said.out.as_str(), said.error.as_str()), (66, "SHOW/\n", error));
 }

@@ -197,6 +197,7 @@ fn remarks(said: &Said, out: &str, lines: &[&str]) {
 }
 
 const CASE: &str = "(--as-written takes the very name alone, --unambiguous refuses where several match)";
+const SAFE: &str = "(--as-written takes the very name alone)";
 const BOTH: &str = "(--as-written takes the very name alone, --unambiguous refuses)";
 
 #[test]
@@ -205,20 +206,113 @@ fn the_wrong_look_is_not_given_without_a_word() {
     for (path, name) in [("SHOW/10.1A", "10.1A"), ("SHOW/10.1a", "10.1a")] {
         let line =
             format!("\"{name}\" under \"SHOW\" gives \"10.1A\" in block 7, the first of 2 that match, and not \"10.1a\" in block 9 {BOTH}");
-        remarks(&folder.vault(&["cat", "a.img", path]), UPPER, &[&line]);
-        remarks(&folder.vault(&["ls", "a.img", path]), "10.1A\n", &[&line]);
-        remarks(&folder.vault(&["get", "a.img", path, "cue"]), "", &[&line]);
+        remarks(&folder.vault(&["cat", "--as-original", "a.img", path]), UPPER, &[&line]);
+        remarks(&folder.vault(&["ls", "--as-original", "a.img", path]), "10.1A\n", &[&line]);
+        remarks(&folder.vault(&["get", "--as-original", "a.img", path, "cue"]), "", &[&line]);
         assert_eq!(std::fs::read_to_string(folder.at("cue")).unwrap(), UPPER);
-        let stat = folder.vault(&["stat", "a.img", path]);
+        let stat = folder.vault(&["stat", "--as-original", "a.img", path]);
         assert!(stat.out.contains("entry    10.1A\n") && stat.error.contains(&line), "{stat:?}");
     }
-    remarks(&folder.vault(&["cat", "--as-written", "a.img", "SHOW/10.1a"]), LOWER, &[]);
-    remarks(&folder.vault(&["cat", "--as-written", "a.img", "SHOW/10.1A"]), UPPER, &[]);
-    remarks(&folder.vault(&["get", "a.img", "SHOW/10.1a", "cue", "--as-written"]), "", &[]);
-    assert_eq!(std::fs::read_to_string(folder.at("cue")).unwrap(), LOWER);
-    let stat = folder.vault(&["stat", "--as-written", "a.img", "SHOW/10.1a"]);
-    assert!(stat.out.contains("entry    10.1a\n") && stat.out.contains("block 9,") && stat.error.is_empty(), "{stat:?}");
-    remarks(&folder.vault(&["ls", "--as-written", "a.img", "SHOW/10.1a"]), "10.1a\n", &[]);
+    // The very name is taken where nothing else is said.
+    for choice in [&[][..], &["--as-written"]] {
+        let vault = |words: &[&str]| folder.vault(&[words, choice].concat());
+        remarks(&vault(&["cat", "a.img", "SHOW/10.1a"]), LOWER, &[]);
+        remarks(&vault(&["cat", "a.img", "SHOW/10.1A"]), UPPER, &[]);
+        remarks(&vault(&["get", "a.img", "SHOW/10.1a", "cue"]), "", &[]);
+        assert_eq!(std::fs::read_to_string(folder.at("cue")).unwrap(), LOWER);
+        let stat = vault(&["stat", "a.img", "SHOW/10.1a"]);
+        assert!(stat.out.contains("entry    10.1a\n") && stat.out.contains("block 9,") && stat.error.is_empty(), "{stat:?}");
+        remarks(&vault(&["ls", "a.img", "SHOW/10.1a"]), "10.1a\n", &[]);
+    }
+}
+
+/// What the command gives on any path, held to the choices of the calls, name by name: the very name, else the only one, else 9.
+#[test]
+fn the_command_s_own_rule_is_made_of_the_choices() {
+    let (folder, disc) = (Folder::new(), plain(&["b", "B", "Ab", "aB", "AB", "one", "x", "x", "Cd", "cD"]));
+    folder.write("a.img", &disc.0);
+    for path in ["b", "B", "ab", "AB", "aB", "one", "ONE", "x", "X", "cd", "CD", "cD", "on", "none"] {
+        let [_, written, only] = reads(&disc, path);
+        let expected = if written == Err(3) { only } else { written };
+        for drive in [&[][..], &["--drive"]] {
+            let said = folder.vault(&[&["cat", "a.img", path], drive].concat());
+            let given = if said.status == 0 { Ok(said.out) } else { Err(said.status as u64) };
+            assert_eq!(given, expected, "{path}");
+        }
+    }
+}
+
+/// A name that is written as the disc has it isn't refused for its twin because another name of the path is in another case.
+#[test]
+fn each_name_of_a_path_has_the_rule_by_itself() {
+    let folder = with(&folders());
+    let second = |above: &str| format!("\"Second\" under \"{above}\" gives \"second\", in another case {SAFE}");
+    for drive in [&[][..], &["--drive"]] {
+        let vault = |words: &[&str]| folder.vault(&[words, drive].concat());
+        remarks(&vault(&["cat", "a.img", "ACT/Second"]), "3", &[&second("ACT")]);
+        remarks(&vault(&["cat", "a.img", "//Act//Second/"]), "1", &[&second("//Act")]);
+        let other = format!("\"OTHER\" under the root gives \"other\", in another case {SAFE}");
+        remarks(&vault(&["cat", "a.img", "OTHER/Second"]), "5", &[&other, &second("OTHER")]);
+        let acts = "\"act\" under the root is ambiguous, 2 entries match: \"Act\" in block 21, \"ACT\" in block 27";
+        refuses(&folder, &[&["cat", "a.img", "act/second"], drive].concat(), 9, acts);
+        refuses(&folder, &[&["ls", "a.img", "OTHER/none/x"], drive].concat(), 3, "there is nothing named \"none\" under \"OTHER\"");
+        refuses(&folder, &[&["ls", "a.img", "ACT/First/x"], drive].concat(), 3, "there is nothing named \"x\" under \"ACT/First\"");
+    }
+    // What is asked for beside the calls of a path that is written as it stands.
+    let said = folder.vault(&["--sectors", "ls", "a.img", "ACT/Second"]);
+    let calls = "open 6, lookup 4, read_directory 2, read_directory 2, lookup 4";
+    assert_eq!(said.error.lines().nth(1), Some(format!("vault: sectors asked for: {calls}").as_str()), "{said:?}");
+}
+
+/// A body that isn't the one that its tag has the CRC of, on the way to a file: it is taken as it stands, and said.
+#[test]
+fn a_wrong_body_on_the_way_is_said() {
+    let folder = Folder::new();
+    std::fs::create_dir(folder.at("to")).unwrap();
+    let (start, whole) = (288 * common::SECTOR, show());
+    let says = "has a wrong body, and is taken as it stands (--checked refuses it, and `vault check` lists all such descriptors)";
+    // The root's entry, that of SHOW, and that of cue 9: bytes that nothing is read by.
+    for (block, line) in [
+        (3, format!("a.img: \"SHOW/9\": a descriptor on the way to it {says}")),
+        (4, format!("a.img: \"SHOW/9\": a descriptor on the way to it {says}")),
+        (5, format!("a.img: \"SHOW/9\": a descriptor on the way to it {says}")),
+    ] {
+        let mut image = whole.clone();
+        image[start + block * common::SECTOR + 40] ^= 1;
+        folder.write("a.img", &image);
+        for words in [
+            &["cat", "a.img", "SHOW/9"][..],
+            &["get", "a.img", "SHOW/9", "cue"],
+            &["get", "a.img", "-o", "to", "SHOW/9"],
+            &["stat", "a.img", "SHOW/9"],
+        ] {
+            let said = folder.vault(words);
+            assert_eq!((said.status, said.error), (0, format!("vault: {line}\n")), "{block} {words:?}");
+            assert_eq!(folder.vault(&[words, &["--checked"]].concat()).status, if words[0] == "get" && words.len() == 5 { 67 } else { 10 });
+        }
+        // What isn't on the way isn't looked at.
+        let other = folder.vault(&["cat", "a.img", "SHOW/11"]);
+        assert_eq!((other.status, other.error.lines().count()), (0, usize::from(block != 5)), "{other:?}");
+        // All of the disc, and what a directory holds.
+        let said = folder.vault(&["get", "-r", "a.img", "-o", "to"]);
+        let about = [("the root", "of this directory"), ("\"SHOW\"", "of this directory"), ("\"SHOW/9\"", "on the way to it")][block - 3];
+        assert_eq!((said.status, said.error), (0, format!("vault: a.img: {}: a descriptor {} {says}\n", about.0, about.1)));
+        let said = folder.vault(&["ls", "a.img", "SHOW"]);
+        assert_eq!((said.status, said.error.lines().count()), (0, [1, 1, 0][block - 3].max(usize::from(block == 4))), "{said:?}");
+    }
+    // The volume's own; and of a disc on which all are wrong a few are named.
+    let mut image = whole.clone();
+    image[32 * common::SECTOR + 100] ^= 1;
+    folder.write("a.img", &image);
+    let said = folder.vault(&["cat", "a.img", "SHOW/9"]);
+    assert_eq!((said.status, said.error), (0, format!("vault: a.img: a descriptor of the volume {says}\n")));
+    let mut disc = plain(&["0", "1", "2", "3", "4", "5", "6", "7", "8", "9"]);
+    let entries: Vec<usize> = (0..10).map(|n| (288 + 17 + 2 * n) * common::SECTOR).collect();
+    entries.iter().for_each(|at| disc.0[at + 40] ^= 1);
+    folder.write("a.img", &disc.0);
+    let said = folder.vault(&["get", "-r", "a.img", "-o", "to"]);
+    assert_eq!((said.status, said.error.lines().count()), (0, 9), "{said:?}");
+    assert!(said.error.ends_with("vault: 2 more paths have a descriptor with a wrong body: `vault check` lists them\n"), "{said:?}");
 }
 
 /// A disc that holds 10.1a alone, asked for 10.1A; and every name of a path.
@@ -226,12 +320,13 @@ fn the_wrong_look_is_not_given_without_a_word() {
 fn a_name_in_another_case_is_remarked() {
     let folder = with(&plain(&["9", "10.1a"]));
     let line = format!("\"10.1A\" under the root gives \"10.1a\", in another case {CASE}");
-    remarks(&folder.vault(&["cat", "a.img", "10.1A"]), "1", &[&line]);
+    remarks(&folder.vault(&["cat", "--as-original", "a.img", "10.1A"]), "1", &[&line]);
     remarks(&folder.vault(&["cat", "--unambiguous", "a.img", "/10.1A"]), "1", &[&line]);
+    remarks(&folder.vault(&["cat", "a.img", "10.1A"]), "1", &[&line.replace(CASE, SAFE)]);
     remarks(&folder.vault(&["cat", "a.img", "10.1a"]), "1", &[]);
     remarks(&folder.vault(&["cat", "--unambiguous", "a.img", "10.1a"]), "1", &[]);
     let folder = with_show();
-    let line = format!("\"show\" under the root gives \"SHOW\", in another case {CASE}");
+    let line = format!("\"show\" under the root gives \"SHOW\", in another case {SAFE}");
     remarks(&folder.vault(&["cat", "a.img", "show/9"]), "cue 9\nhouse lights to half\n", &[&line]);
     remarks(&folder.vault(&["ls", "a.img", "/show/"]), "9\n10.1A\n10.1a\n11\n", &[&line]);
     remarks(&folder.vault(&["ls", "a.img"]), "SHOW/\n", &[]);
@@ -242,9 +337,9 @@ fn each_name_of_a_path_has_its_line() {
     let folder = with(&folders());
     let act = format!("\"act\" under the root gives \"Act\" in block 21, the first of 2 that match, and not \"ACT\" in block 27 {BOTH}");
     let second = format!("\"Second\" under \"act\" gives \"second\", in another case {CASE}");
-    remarks(&folder.vault(&["cat", "a.img", "act/Second"]), "1", &[&act, &second]);
-    remarks(&folder.vault(&["cat", "a.img", "act//second"]), "1", &[&act]);
-    remarks(&folder.vault(&["ls", "a.img", "act"]), "first\nsecond\n", &[&act]);
+    remarks(&folder.vault(&["cat", "--as-original", "a.img", "act/Second"]), "1", &[&act, &second]);
+    remarks(&folder.vault(&["cat", "--as-original", "a.img", "act//second"]), "1", &[&act]);
+    remarks(&folder.vault(&["ls", "--as-original", "a.img", "act"]), "first\nsecond\n", &[&act]);
     remarks(&folder.vault(&["cat", "--as-written", "a.img", "ACT/second"]), "3", &[]);
     remarks(&folder.vault(&["cat", "a.img", "other/second"]), "5", &[]);
 }
@@ -265,14 +360,19 @@ fn every_command_with_a_path_remarks() {
             &["get", "a.img", "show/10.1a", "cue"],
             &["get", "-r", "a.img", "-o", "to", "show/10.1a"],
         ] {
-            let said = folder.vault(&[words, drive].concat());
+            let said = folder.vault(&[words, drive, &["--as-original"]].concat());
             let lines: Vec<&str> = said.error.lines().collect();
             assert!(said.status == 0 && lines.len() == 2, "{words:?} {said:?}");
             assert!(lines.iter().all(|line| line.contains("--as-written") && line.contains("--unambiguous")), "{words:?} {said:?}");
+            // By the command's own rule it is one line: the cue has the very name.
+            let said = folder.vault(&[words, drive].concat());
+            let line = format!("vault: \"show\" under the root gives \"SHOW\", in another case {SAFE}\n");
+            assert_eq!((said.status, said.error), (0, line), "{words:?}");
         }
     }
-    assert_eq!(folder.vault(&["get", "a.img", "-o", "to", "show/10.1a"]).error.lines().count(), 2);
-    assert_eq!(folder.vault(&["cat", "--wait", "0", "a.img", "show/10.1a"]).error.lines().count(), 2);
+    assert_eq!(folder.vault(&["get", "--as-original", "a.img", "-o", "to", "show/10.1a"]).error.lines().count(), 2);
+    assert_eq!(folder.vault(&["cat", "--as-original", "--wait", "0", "a.img", "show/10.1a"]).error.lines().count(), 2);
+    assert_eq!(folder.vault(&["cat", "--wait", "0", "a.img", "show/10.1a"]).out, LOWER);
 }
 
 /// No choice gives the second of two entries with one name; both that answer say so.
@@ -288,6 +388,8 @@ fn a_second_entry_of_the_very_name_is_remarked() {
     let said = folder.vault(&["cat", "--as-written", "a.img", "x"]);
     assert!(said.out == "1" && said.error.contains("the first of 2 that match") && said.error.lines().count() == 1, "{said:?}");
     let said = folder.vault(&["cat", "a.img", "x"]);
+    assert!(said.out == "1" && said.error.contains("the first of 2 that match") && said.error.lines().count() == 1, "{said:?}");
+    let said = folder.vault(&["cat", "--as-original", "a.img", "x"]);
     assert!(said.out == "0" && said.error.contains("the first of 3 that match") && said.error.contains(BOTH), "{said:?}");
 }
 
@@ -295,19 +397,18 @@ fn a_second_entry_of_the_very_name_is_remarked() {
 fn what_is_not_listed_is_not_remarked() {
     for mark in [DELETED, PARENT] {
         let folder = with(&disc_of(&["a", "A", "a"], |i, entry| if i == 2 { entry } else { marked(entry, mark) }));
-        for choice in [&[][..], &["--as-written"], &["--unambiguous"]] {
+        for choice in [&[][..], &["--as-written"], &["--unambiguous"], &["--as-original"]] {
             remarks(&folder.vault(&[choice, &["cat", "a.img", "a"]].concat()), "2", &[]);
         }
     }
 }
 
-/// One sentence, the number of the refusal as the status, and nothing written.
+/// One sentence, with the number of the refusal, which is the status, and with no sector behind it: no sector is at fault. Nothing is written.
 fn refuses(folder: &Folder, words: &[&str], status: i32, sentence: &str) {
     let before = folder.names();
     let said = folder.vault(words);
-    let expected = format!("vault: a.img: {sentence} (refusal {status}); the last sector asked for was ");
-    assert_eq!((said.status, said.out.as_str(), said.error.lines().count()), (status, "", 1), "{words:?}");
-    assert!(said.error.starts_with(&expected), "{words:?} {said:?}");
+    let expected = format!("vault: a.img: {sentence} (refusal {status})\n");
+    assert_eq!((said.status, said.out.as_str(), said.error.as_str()), (status, "", expected.as_str()), "{words:?}");
     assert_eq!(folder.names(), before, "{words:?}");
 }
 
@@ -326,7 +427,7 @@ fn an_ambiguous_name_is_refused_with_the_entries() {
     let many = with(&plain(&["x"; 20]));
     let said = many.vault(&["--unambiguous", "cat", "a.img", "X"]);
     assert!(said.status == 9 && said.error.contains("is ambiguous, 20 entries match: \"x\" in block 17, "), "{said:?}");
-    assert!(said.error.contains(", 12 more (refusal 9); ") && said.error.lines().count() == 1, "{said:?}");
+    assert!(said.error.ends_with(", 12 more (refusal 9)\n") && said.error.lines().count() == 1, "{said:?}");
 }
 
 #[test]
@@ -337,6 +438,36 @@ fn a_name_that_is_not_there_as_written() {
     refuses(&folder, &["--as-written", "ls", "a.img", "SHOW/12"], 3, "there is nothing named \"12\" under \"SHOW\"");
     refuses(&folder, &["--as-written", "ls", "a.img", "SHOW/9/x"], 3, "there is nothing named \"x\" under \"SHOW/9\"");
     refuses(&folder, &["--unambiguous", "ls", "a.img", "SHOW/9/x"], 3, "there is nothing named \"x\" under \"SHOW/9\"");
+}
+
+/// A disc that was closed again, and whose older descriptor leads to an older show: what isn't there is there by the highest.
+#[test]
+fn an_older_show_names_the_newer() {
+    let (folder, mut image) = (Folder::new(), common::reclosed());
+    // The older partition starts 20 sectors further on, and has a copy of the first blocks with a root in which nothing stands.
+    image.resize(image.len().max(340 * common::SECTOR), 0);
+    image[35 * common::SECTOR + 188..][..4].copy_from_slice(&308u32.to_le_bytes());
+    common::seal(&mut image[35 * common::SECTOR..], common::VOLUME_BODY);
+    image.copy_within(288 * common::SECTOR..292 * common::SECTOR, 308 * common::SECTOR);
+    let root = 311 * common::SECTOR;
+    image[root + 56..root + 64].fill(0);
+    image[root + 172..root + 176].fill(0);
+    folder.write("a.img", &image);
+    let cure = "; the disc was closed again, and by its descriptors of the highest number this is there, with --highest\n";
+    let said = folder.vault(&["cat", "a.img", "SHOW/9"]);
+    assert_eq!(said.error, format!("vault: a.img: there is nothing named \"SHOW\" under the root (refusal 3){cure}"));
+    assert_eq!(folder.vault(&["cat", "--highest", "a.img", "SHOW/9"]).status, 0);
+    assert!(!folder.vault(&["cat", "a.img", "SHOW/none"]).error.contains("--highest"));
+    // One that doesn't open otherwise.
+    folder.write("a.img", &common::reclosed());
+    for words in [&["label", "a.img"][..], &["ls", "a.img"], &["check", "a.img"], &["survey", "a.img"]] {
+        let said = folder.vault(words);
+        let cure = "; it was closed again, and opens by its descriptors of the highest number, with --highest; the last sector asked for";
+        assert!(said.status != 0 && said.error.contains(cure), "{words:?} {said:?}");
+        // The older descriptors don't stand where they say.
+        assert_eq!(folder.vault(&[words, &["--highest"]].concat()).status, if words[0] == "check" { 65 } else { 0 }, "{words:?}");
+    }
+    assert!(!folder.vault(&["ls", "a.img", "--drive"]).error.contains("--highest"));
 }
 
 #[test]

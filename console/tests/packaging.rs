@@ -70,7 +70,71 @@ fn everything_is_installed_and_taken_away() {
     let mut remove = Command::new(root().join("install"));
     assert_eq!(said(remove.args(["--remove", "/usr"]).env("DESTDIR", folder.at("at"))).status, 0);
     assert!(files.iter().all(|file| !at.join(file).exists()));
-    assert_eq!(said(Command::new(root().join("install")).arg("relative")).status, 64);
+}
+
+/// What is put somewhere by the script, with a command and archives that are nothing of the kind.
+fn put(folder: &Folder, words: &[&str]) -> Said {
+    fs::create_dir_all(folder.at("archives")).unwrap();
+    ["vault_c", "drives_c", "surveys_c", "records_c"].iter().for_each(|name| folder.write(&format!("archives/lib{name}.a"), b""));
+    folder.write("vault", b"#!/bin/sh\necho 'Its proofs were checked where it was built.'\n");
+    fs::set_permissions(folder.at("vault"), Permissions::from_mode(0o755)).unwrap();
+    let mut command = Command::new(root().join("install"));
+    said(command.args(words).env_remove("DESTDIR").env("BUILT", folder.at("vault")).env("ARCHIVES", folder.at("archives")))
+}
+
+/// All below a folder.
+fn below(folder: &Path) -> Vec<String> {
+    let listed = said(Command::new("find").arg(".").current_dir(folder));
+    let mut lines: Vec<String> = listed.out.lines().map(String::from).collect();
+    lines.sort();
+    lines
+}
+
+/// What is taken away leaves what was there, empty folders too, and none that was made for it.
+#[test]
+fn folders_that_were_made_are_taken_away() {
+    let folder = Folder::new();
+    fs::create_dir_all(folder.at("at/share/man")).unwrap();
+    fs::create_dir_all(folder.at("at/share/fish/vendor_completions.d")).unwrap();
+    fs::create_dir_all(folder.at("at/lib")).unwrap();
+    folder.write("at/lib/other", b"");
+    let (before, at) = (below(&folder.at("at")), folder.at("at").display().to_string());
+    // Installed twice, as an update is.
+    for _ in 0..2 {
+        let done = put(&folder, &[&at]);
+        assert!(done.status == 0 && folder.at("at/share/man/man1/vault.1").is_file(), "{done:?}");
+    }
+    assert_eq!(put(&folder, &["--remove", &at]).status, 0);
+    assert_eq!(below(&folder.at("at")), before);
+    // A prefix that wasn't there, with what stands above it; and one in which something else was put meanwhile.
+    let deep = folder.at("new/deep/prefix").display().to_string();
+    assert_eq!((put(&folder, &[&deep]).status, put(&folder, &["--remove", &deep]).status), (0, 0));
+    assert!(!folder.at("new").exists());
+    assert_eq!(put(&folder, &[&deep]).status, 0);
+    folder.write("new/deep/prefix/share/zsh/mine", b"");
+    assert_eq!(put(&folder, &["--remove", &deep]).status, 0);
+    assert_eq!(
+        below(&folder.at("new")),
+        [".", "./deep", "./deep/prefix", "./deep/prefix/share", "./deep/prefix/share/zsh", "./deep/prefix/share/zsh/mine"]
+    );
+    // What isn't there is taken away already.
+    assert_eq!(put(&folder, &["--remove", &folder.at("none").display().to_string()]).status, 0);
+}
+
+#[test]
+fn installing_says_how_it_is_done() {
+    let script = || Command::new(root().join("install"));
+    for word in ["--help", "-h"] {
+        let help = said(script().arg(word));
+        assert!(help.status == 0 && help.error.is_empty(), "{help:?}");
+        for line in ["./install [PREFIX]", "./install --remove [PREFIX]", "DESTDIR", "/usr/local", "BUILT", "ARCHIVES"] {
+            assert!(help.out.contains(line), "{line} {help:?}");
+        }
+    }
+    for words in [&["relative"][..], &["--prefix=/usr"], &["/usr", "more"], &["--remove", "relative"]] {
+        let wrong = said(script().args(words));
+        assert!(wrong.status == 64 && wrong.error.contains("./install --help"), "{words:?} {wrong:?}");
+    }
 }
 
 /// What isn't proved, or isn't known to be, isn't installed.
@@ -241,7 +305,7 @@ fn options_are_told_of() {
         let fished = long.map_or_else(|| format!("-s {}", short.unwrap()), |long| format!("-l {long}"));
         assert!(man.contains(option) && bash.contains(option) && zsh.contains(option) && fish.contains(&fished), "{option}");
     }
-    for command in ["label", "info", "ls", "tree", "cat", "get", "stat", "probe", "check", "make", "sample"] {
+    for command in ["label", "info", "ls", "tree", "cat", "get", "stat", "probe", "check", "survey", "make", "sample", "help"] {
         assert!([&man, &bash, &zsh, &fish].iter().all(|text| text.contains(command)), "{command}");
     }
     if let Some(bash) = tool("bash") {
@@ -411,7 +475,9 @@ fn bash_completes_what_stands_on_a_disc() {
     assert_eq!(completed(&folder, &bash, &["vault", "cat", "sh"]), ["show.img"]);
     assert_eq!(completed(&folder, &bash, &["vault", "cat", "show.img", "SH"]), ["SHOW/"]);
     assert_eq!(completed(&folder, &bash, &["vault", "cat", "--as-written", "show.img", "SHOW/10"]), ["SHOW/10.1A", "SHOW/10.1a"]);
-    assert_eq!(completed(&folder, &bash, &["vault", "ls", "--as"]), ["--as-written"]);
+    assert_eq!(completed(&folder, &bash, &["vault", "ls", "--as"]), ["--as-written", "--as-original"]);
+    assert_eq!(completed(&folder, &bash, &["vault", "survey", "--r"]), ["--rows"]);
+    assert_eq!(completed(&folder, &bash, &["vault", "help", "la"]), ["label"]);
     assert_eq!(completed(&folder, &bash, &["vault", "make", "--fo"]), ["--force"]);
 }
 

@@ -372,8 +372,10 @@ fn the_command_goes_on_behind_a_disc_that_was_made_to_do_harm() {
         format!("harm.img: stopped after {limit} sectors, the limit (refusal 16). {cure}")
     };
     let total = "       8           2              308        8         16     0       - total";
-    assert_eq!(said.out.lines().collect::<Vec<_>>(), [&line("show.img"), &stopped(limit), &line("show.img"), total]);
-    assert_eq!((said.status, said.error.as_str()), (67, "vault: survey: images: 3, not surveyed: 1; files: 8, of which can be read: 8\n"));
+    // Lines of figures alone go to standard output.
+    assert_eq!(said.out.lines().collect::<Vec<_>>(), [&line("show.img"), &line("show.img"), total]);
+    let last = "vault: survey: images: 3, not surveyed: 1; files: 8, of which can be read: 8\n";
+    assert_eq!((said.status, said.error), (67, format!("vault: {}\n{last}", stopped(limit))));
     let said = folder.vault(&["survey", "harm.img", "show.img", "--limit", "16", "--json"]);
     let front =
         format!("{{\"images\": [{{\"image\": \"harm.img\", \"answer\": 16, \"says\": \"{}\", \"limit\": 16, \"files\": 0,", stopped(16));
@@ -388,7 +390,7 @@ fn the_command_goes_on_behind_a_disc_that_was_made_to_do_harm() {
     let most = 6 + 1 + 20 + 400 + 8000;
     assert_eq!(folder.vault(&["survey", "small.img", "--limit", &most.to_string()]).out, no_limit.out);
     let fewer = folder.vault(&["survey", "small.img", "--limit", &(most - 1).to_string()]);
-    assert!(fewer.status == 67 && fewer.out.contains("(refusal 16)"), "{fewer:?}");
+    assert!(fewer.status == 67 && fewer.out.is_empty() && fewer.error.contains("(refusal 16)"), "{fewer:?}");
 }
 
 /// Two images of which one is refused, one that isn't there, and a file that can't be read.
@@ -409,20 +411,19 @@ fn the_command_surveys_a_shelf() {
     let line = "       4           1              154        4          8     0       - show.img\n";
     assert_eq!((said.status, said.out.as_str(), said.error.as_str()), (0, line, ""), "{said:?}");
     let said = folder.vault(&["survey", "show.img", "cut.img"]);
-    let lines: Vec<&str> = said.out.lines().collect();
-    assert_eq!((said.status, lines.len(), lines[0]), (67, 3, line.trim_end()), "{said:?}");
+    assert_eq!((said.status, said.out.as_str()), (67, format!("{line}{}", line.replace("show.img", "total")).as_str()), "{said:?}");
+    let errors: Vec<&str> = said.error.lines().collect();
     assert!(
-        lines[1].starts_with("cut.img: a sector that was asked for isn't") && lines[1].contains("(refusal 1); the last sector"),
+        errors[0].starts_with("vault: cut.img: a sector that was asked for isn't") && errors[0].contains("(refusal 1); the last sector"),
         "{said:?}"
     );
-    assert_eq!(lines[2], line.trim_end().replace("show.img", "total"));
-    assert_eq!(said.error, "vault: survey: images: 2, not surveyed: 1; files: 4, of which can be read: 4\n");
+    assert_eq!(errors[1..], ["vault: survey: images: 2, not surveyed: 1; files: 4, of which can be read: 4"]);
     let said = folder.vault(&["survey", "ruined.img", "none.img", "show.img", "--copy"]);
     let lines: Vec<&str> = said.out.lines().collect();
-    assert_eq!((said.status, lines.len(), lines[1]), (67, 4, "none.img: there is no such file"), "{said:?}");
     let total = "       8           2              281        7         15     0     2:1 total";
-    assert!(lines[0].ends_with("     0     2:1 ruined.img") && lines[3] == total, "{said:?}");
-    assert_eq!(said.error, "vault: survey: images: 3, not surveyed: 1; files: 8, of which can be read: 7\n");
+    assert!(said.status == 67 && lines.len() == 3 && lines[0].ends_with("     0     2:1 ruined.img") && lines[2] == total, "{said:?}");
+    let last = "vault: survey: images: 3, not surveyed: 1; files: 8, of which can be read: 7\n";
+    assert_eq!(said.error, format!("vault: none.img: there is no such file\n{last}"));
     assert_eq!(folder.vault(&["survey", "ruined.img"]).status, 67);
 }
 
@@ -441,7 +442,121 @@ fn the_command_surveys_as_it_is_chosen() {
     let [last, highest] = [&["survey", "reclosed.img"][..], &["survey", "reclosed.img", "--highest"]].map(|words| folder.vault(words));
     assert_eq!((last.status, highest.status), (67, 0), "{last:?} {highest:?}");
     let said = folder.vault(&["survey", "show.img", "--maps"]);
-    assert!(said.status == 67 && said.out.contains("(refusal 4)"), "{said:?}");
+    assert!(said.status == 67 && said.out.is_empty() && said.error.contains("(refusal 4)"), "{said:?}");
+}
+
+/// A terminal has a line above the figures; a pipe has figures alone.
+#[test]
+fn a_terminal_sees_what_the_figures_are() {
+    let folder = shelf();
+    let Some(script) = tool("script") else { return left_out("a_terminal_sees_what_the_figures_are", "script") };
+    let line = format!("'{}' survey show.img 2>/dev/null", env!("CARGO_BIN_EXE_vault"));
+    let seen = Said::of(Command::new(script).args(["-qec", &line, "/dev/null"]).current_dir(&folder.0).output().unwrap());
+    let lines: Vec<&str> = seen.out.lines().map(str::trim_end).collect();
+    assert!(lines.len() == 2 && lines[0].ends_with(" chain refused image") && lines[1].ends_with(" show.img"), "{seen:?}");
+    assert_eq!(lines[0].find("image"), lines[1].find("show.img"));
+    assert_eq!(folder.vault(&["survey", "show.img"]).out.lines().count(), 1);
+}
+
+/// Images of many kinds, with names that are hard to write.
+fn many(folder: &Folder) -> Vec<String> {
+    let images = images("trees").into_iter().map(|image| image.bytes).chain([show(), show()[..300_000].to_vec(), harm(3).0]);
+    let mut names = Vec::new();
+    for (n, image) in images.enumerate() {
+        let name = format!("{n} a\\b\u{1b}.img");
+        folder.write(&name, &image);
+        names.push(name);
+    }
+    names
+}
+
+/// Rows that were made one by one, in several files and in any order, add up to one survey of all.
+#[test]
+fn rows_add_up_to_one_survey() {
+    let folder = shelf();
+    let names = many(&folder);
+    let all: Vec<&str> = names.iter().map(String::as_str).chain(["ruined.img", "cut.img"]).collect();
+    for how in [&[][..], &["--checked"], &["--limit", "100"]] {
+        let whole = folder.vault(&[&["survey"], how, &all].concat());
+        let rows = folder.vault(&[&["survey", "--rows"], how, &all].concat());
+        assert_eq!((rows.status, rows.error.as_str(), rows.out.lines().count()), (whole.status, whole.error.as_str(), all.len()));
+        folder.write("rows", rows.out.as_bytes());
+        let total = folder.vault(&["survey", "--total", "rows"]);
+        assert_eq!((total.status, total.out.as_str()), (whole.status, whole.out.as_str()));
+        let last = |said: &Said| said.error.lines().last().map(String::from);
+        assert_eq!(last(&total), last(&whole));
+        // Cut anywhere into files, and those in another order.
+        let lines: Vec<&str> = rows.out.split_inclusive('\n').collect();
+        let (front, back) = lines.split_at(lines.len() / 3);
+        folder.write("front", front.concat().as_bytes());
+        folder.write("back", back.concat().as_bytes());
+        let again = folder.vault(&["survey", "--total", "back", "front"]);
+        assert_eq!((again.status, again.out.lines().last()), (whole.status, whole.out.lines().last()));
+        // As a document: all figures.
+        let [whole, total] =
+            [[&["survey", "--json"], how, &all].concat(), vec!["survey", "--json", "--total", "rows"]].map(|words| folder.vault(&words));
+        let sum = |said: &Said| said.out.split("\"total\": ").nth(1).map(String::from).unwrap();
+        assert_eq!((total.status, sum(&total)), (whole.status, sum(&whole)));
+    }
+    // None are none, and an image that isn't there has no row.
+    folder.write("rows", b"");
+    let said = folder.vault(&["survey", "--total", "rows"]);
+    assert_eq!((said.status, said.out.as_str()), (0, "       0           0                0        0          0     0       - total\n"));
+    let said = folder.vault(&["survey", "--rows", "none.img"]);
+    assert_eq!((said.status, said.out.as_str(), said.error.lines().count()), (67, "", 2), "{said:?}");
+}
+
+/// A sum of which a part is lost isn't given.
+#[test]
+fn a_row_that_is_not_whole_is_refused() {
+    let folder = shelf();
+    let row = folder.vault(&["survey", "--rows", "show.img"]).out;
+    assert!(row.starts_with("80 4 0 1 0 154 0 4 0 8 0 4 0 ") && row.ends_with(" 0 0 show.img\n") && row.split(' ').count() == 82, "{row}");
+    for (rows, line) in [
+        (row.trim_end().to_string(), 1),
+        (format!("{row}{}", &row[..40]), 2),
+        (format!("{row}\n"), 2),
+        (format!("{row}{row}{}", row.replacen("80", "78", 1)), 3),
+        (row.replacen("154", "18446744073709551616", 1), 1),
+        ("   4  1  154 show.img\n".to_string(), 1),
+    ] {
+        folder.write("rows", rows.as_bytes());
+        let said = folder.vault(&["survey", "--total", "rows"]);
+        let error = format!("vault: rows: line {line} is no whole row of `vault survey --rows`\n");
+        assert_eq!((said.status, said.out.as_str(), said.error), (65, "", error));
+    }
+    assert_eq!(folder.vault(&["survey", "--total", "none"]).status, 66);
+    assert!(folder.vault(&["survey", "--total", "none", "--json"]).out.starts_with("{\"refused\": {\"answer\": null, \"status\": 66"));
+}
+
+/// A line of console/README.md, on this machine alone: an image to a process, by GNU parallel, or else by xargs.
+#[test]
+fn a_shelf_is_surveyed_by_many_processes() {
+    let folder = shelf();
+    let names = many(&folder);
+    let all: Vec<&str> = names.iter().map(String::as_str).collect();
+    folder.write("images", format!("{}\0", all.join("\0")).as_bytes());
+    std::fs::create_dir(folder.at("made")).unwrap();
+    // It tells of images that were refused by its status.
+    let by_parallel = "parallel -0 --jobs 2 --will-cite -q vault survey --rows {} <images >made/rows";
+    // No two processes write to one file.
+    let by_xargs = "xargs -0 -n 7 -P 2 sh -c 'vault survey --rows \"$@\" >\"made/rows-$$\"' sh <images";
+    let Some(sh) = tool("sh") else { return left_out("a_shelf_is_surveyed_by_many_processes", "sh") };
+    let path =
+        format!("{}:{}", std::path::Path::new(env!("CARGO_BIN_EXE_vault")).parent().unwrap().display(), std::env::var("PATH").unwrap());
+    let line = if tool("parallel").is_some() { by_parallel } else { by_xargs };
+    let ran = Said::of(Command::new(sh).args(["-c", line]).env("PATH", path).current_dir(&folder.0).output().unwrap());
+    let made: Vec<String> =
+        std::fs::read_dir(folder.at("made")).unwrap().map(|file| format!("made/{}", file.unwrap().file_name().display())).collect();
+    let made: Vec<&str> = made.iter().map(String::as_str).collect();
+    let (total, whole) = (folder.vault(&[&["survey", "--total"], &made[..]].concat()), folder.vault(&[&["survey"], &all[..]].concat()));
+    let sorted = |said: &Said| {
+        let mut lines: Vec<String> = said.out.lines().map(String::from).collect();
+        lines.sort();
+        lines
+    };
+    assert!(whole.status == 67 && sorted(&whole).len() > 20, "{whole:?}");
+    assert_eq!((total.status, sorted(&total)), (67, sorted(&whole)), "{ran:?}");
 }
 
 /// One document, which another program reads, also where the name of an image is hard to write.

@@ -433,14 +433,15 @@ fn documents_are_json() {
         said.out.contains("\"extents\": [{\"length\": 16, \"type\": 0, \"block\": 12, \"partition\": null, \"sector\": 300}]"),
         "{said:?}"
     );
-    let check = "{\"descriptors\": 19, \"misplaced\": 0, \"ruined\": 0, \"unread\": 0, \"stopped\": null, \"findings\": []}\n";
+    let check =
+        "{\"descriptors\": 19, \"misplaced\": 0, \"ruined\": 0, \"unread\": 0, \"stopped\": null, \"refused\": null, \"findings\": []}\n";
     answers(&folder.vault(&["check", "--json", "show.img"]), check);
     folder.write("ruined.img", &ruined());
     let said = folder.vault(&["check", "--json", "ruined.img"]);
     assert!(
         said.status == 65
             && said.out.contains(
-                "\"ruined\": 1, \"unread\": 0, \"stopped\": null, \"findings\": [{\"kind\": \"ruined\", \"says\": \"/SHOW/9: file entry"
+                "\"findings\": [{\"kind\": \"ruined\", \"of\": \"/SHOW/9\", \"descriptor\": \"file entry\", \"id\": 261, \"sector\": 293, \"block\": 5, \"crc\": "
             ),
         "{said:?}"
     );

@@ -151,14 +151,17 @@ fn a_refused_vault_leaves_nothing_behind() {
     };
     let all: Vec<String> = (0..65).map(|i| i.to_string()).collect();
     let all: Vec<&str> = all.iter().map(String::as_str).collect();
-    refuses(&["v.img", "a", "a b"], 13, "a b: a name of a vault is");
-    refuses(&["v.img", "0", "a", "A"], 13, "vault: A: a name");
-    refuses(&["v.img", "a", "other/a"], 13, "vault: other/a: a name");
-    refuses(&["v.img", &"n".repeat(128)], 13, "(refusal 13)");
-    refuses(&["v.img", ".."], 13, "(refusal 13)");
-    refuses(&[&["v.img"], &all[..]].concat(), 14, "v.img: a vault has up to 64 files");
+    // Which name or file, which rule, and the twin.
+    let equal = "on a vault no two names are equal with ASCII case ignored, and a has this one (refusal 13)";
+    refuses(&["v.img", "a", "a b"], 13, "a b: the name has the byte 20, and on a vault those from 21 to 7E without the slash (refusal 13)");
+    refuses(&["v.img", "0", "a", "A"], 13, &format!("vault: A: {equal}"));
+    refuses(&["v.img", "a", "other/a"], 13, &format!("vault: other/a: {equal}"));
+    refuses(&["v.img", &"n".repeat(128)], 13, "n: the name has 128 bytes, and on a vault up to 127 (refusal 13)");
+    refuses(&["v.img", ".."], 13, "..: this path ends in no name, and a file on a vault has one (refusal 13)");
+    refuses(&[&["v.img"], &all[..]].concat(), 14, "v.img: these are 65 files, and a vault has up to 64 (refusal 14)");
     refuses(&[&["v.img", "a b"], &all[..]].concat(), 13, "a b: ");
-    refuses(&["v.img", "a", "long"], 14, "long: a vault has");
+    let long = "long: the file has 1073739777 bytes, and on a vault up to 1073739776 (refusal 14)";
+    refuses(&["v.img", "a", "long"], 14, long);
     refuses(&["v.img", "a", "none"], 66, "none: the file can't be opened");
     refuses(&["v.img", "a", "folder"], 66, "folder: this is no ordinary file");
     refuses(&["v.img", "./v.img"], 64, "this is the image itself");

@@ -1,10 +1,13 @@
 //! What the command line asks for.
 
 use crate::failure::Failure;
+use crate::help;
 use crate::limit::Limit;
 use crate::names::{self, shown};
 use crate::runs::Span;
+use crate::steps::Rule;
 use crate::style::Style;
+use crate::survey;
 use crate::tree::{Bounds, Form};
 use crate::wanted::{Icb, Wanted};
 use std::ffi::{OsStr, OsString};
@@ -29,6 +32,12 @@ pub enum Command {
     Survey {
         images: Vec<OsString>,
         limit: Limit,
+        form: survey::Form,
+    },
+    /// The sum of rows of surveys.
+    Total {
+        rows: Vec<OsString>,
+        form: survey::Form,
     },
     Ask {
         image: OsString,
@@ -101,7 +110,7 @@ pub struct Args {
     /// The choices on opening.
     pub how: How,
     /// How names on a path are matched.
-    pub matching: Matching,
+    pub matching: Rule,
     /// So many seconds are waited for what isn't there yet.
     pub wait: Option<u32>,
     /// How entries are printed.
@@ -112,14 +121,15 @@ pub struct Args {
 
 /// The commands that look at what a disc holds.
 const PATHS: &[&str] = &["ls", "tree", "cat", "get", "stat"];
-const FOR_PATHS: &str = "--as-written and --unambiguous are for a PATH: that of ls, tree, cat, get or stat";
+const FOR_PATHS: &str = "--as-written, --unambiguous and --as-original are for a PATH: that of ls, tree, cat, get or stat";
 
 /// The commands that walk a disc.
 const WALKS: &[&str] = &["tree", "ls", "get", "check", "survey"];
 const FOR_WALKS: &str = "--limit and --no-limit are for tree, ls -R, get -r, check and survey";
 
 /// Options that aren't for every command, those that they are for, and what is said else.
-const OPTIONS: [(&str, &[&str], &str); 20] = [
+const OPTIONS: [(&str, &[&str], &str); 23] = [
+    ("--as-original", PATHS, FOR_PATHS),
     ("--as-written", PATHS, FOR_PATHS),
     ("--unambiguous", PATHS, FOR_PATHS),
     ("--raw", PATHS, "--raw is for a PATH: that of ls, tree, cat, get or stat"),
@@ -131,6 +141,8 @@ const OPTIONS: [(&str, &[&str], &str); 20] = [
     ("-0", &["ls"], "-0 is for ls"),
     ("-l", &["ls"], "-l is for ls"),
     ("--json", &["ls", "tree", "stat", "info", "check", "survey"], "--json is for ls, tree, stat, info, check and survey"),
+    ("--rows", &["survey"], "--rows is for survey"),
+    ("--total", &["survey"], "--total is for survey"),
     ("--levels", &["tree", "ls"], "--levels is for tree and ls -R"),
     ("--limit", WALKS, FOR_WALKS),
     ("--no-limit", WALKS, FOR_WALKS),
@@ -157,6 +169,7 @@ struct Options {
     sectors: bool,
     help: bool,
     version: bool,
+    short_version: bool,
     how: How,
     icb: Option<Icb>,
     folder: Option<OsString>,
@@ -181,7 +194,8 @@ impl Options {
             b"--checked" => self.how.checked = true,
             b"--maps" => self.how.maps = true,
             b"--help" | b"-h" => self.help = true,
-            b"--version" | b"-V" => self.version = true,
+            b"--version" => self.version = true,
+            b"-V" => self.short_version = true,
             b"-o" => self.folder = Some(rest.next().ok_or_else(|| Failure::usage("-o needs TO, a folder"))?),
             b"--icb" => self.icb = Some(icb(rest.next())?),
             b"--levels" => {
@@ -195,6 +209,41 @@ impl Options {
             other => return Err(Failure::usage(format!("there is no option {}", shown(other)))),
         }
         Ok(())
+    }
+
+    /// Takes a word that begins with a dash: `--levels 2`, `--levels=2`, or letters that stand together, as in `-Rl`.
+    fn take_word(&mut self, word: OsString, rest: &mut impl Iterator<Item = OsString>) -> Result<(), Failure> {
+        let bytes = word.as_bytes();
+        let equals = bytes.iter().position(|byte| *byte == b'=');
+        match (bytes, equals) {
+            ([b'-', b'-', ..], Some(at)) => {
+                let (option, value) = (OsStr::from_bytes(&bytes[..at]), OsStr::from_bytes(&bytes[at + 1..]).to_os_string());
+                let mut value = [value].into_iter();
+                self.take(option, &mut value)?;
+                let left = value.next().map(|_| Failure::usage(format!("{} takes no value", shown(&bytes[..at]))));
+                left.map_or(Ok(()), Err)
+            }
+            ([b'-', letter, _, ..], _) if *letter != b'-' => self.take_letters(&bytes[1..], rest),
+            _ => self.take(&word, rest),
+        }
+    }
+
+    /// What stands behind an o is the folder.
+    fn take_letters(&mut self, letters: &[u8], rest: &mut impl Iterator<Item = OsString>) -> Result<(), Failure> {
+        let (at, folder) = match letters.iter().position(|letter| *letter == b'o') {
+            Some(at) if at + 1 < letters.len() => (at, Some(OsStr::from_bytes(&letters[at + 1..]).to_os_string())),
+            at => (at.unwrap_or(letters.len()), None),
+        };
+        let known = |letter: &u8| OPTIONS.iter().any(|(name, ..)| name.as_bytes() == [b'-', *letter]) || b"hV".contains(letter);
+        if !letters[..at].iter().all(known) {
+            return Err(Failure::usage(format!("there is no option -{}", shown(letters))));
+        }
+        letters[..at].iter().try_for_each(|letter| self.take(OsStr::from_bytes(&[b'-', *letter]), rest))?;
+        match folder {
+            Some(folder) => self.take(OsStr::new("-o"), &mut [folder].into_iter()),
+            None if at < letters.len() => self.take(OsStr::new("-o"), rest),
+            None => Ok(()),
+        }
     }
 
     /// Fails where there is one of another command.
@@ -215,8 +264,8 @@ impl Options {
         if self.has("-r") && (self.levels.is_some() || self.folder.is_none()) {
             return Err(Failure::usage("get -r needs -o TO, a folder, and takes no --levels"));
         }
-        if self.icb.is_some() && (self.folder.is_some() || self.has("--raw") || self.matching()? != Matching::default()) {
-            return Err(Failure::usage("--icb stands in place of a PATH: it goes with none of -o, --raw, --as-written and --unambiguous"));
+        if self.icb.is_some() && (self.folder.is_some() || self.has("--raw") || self.matching()? != Rule::default()) {
+            return Err(Failure::usage("--icb stands in place of a PATH: it goes with none of -o, --raw and the choices of matching"));
         }
         if self.has("--json") && (self.has("-0") || self.has("-i")) {
             return Err(Failure::usage("--json has the names and the ICBs: it goes with neither -0 nor -i"));
@@ -237,12 +286,14 @@ impl Options {
         Ok(Bounds { levels: self.levels.unwrap_or(Bounds::MOST_LEVELS), limit: self.limit()? })
     }
 
-    fn matching(&self) -> Result<Matching, Failure> {
-        match (self.has("--as-written"), self.has("--unambiguous")) {
-            (false, false) => Ok(Matching::CaseIgnored),
-            (true, false) => Ok(Matching::AsWritten),
-            (false, true) => Ok(Matching::Unambiguous),
-            (true, true) => Err(Failure::usage("--as-written and --unambiguous are two choices, of which one can be taken")),
+    fn matching(&self) -> Result<Rule, Failure> {
+        let choices =
+            [("--as-original", Matching::CaseIgnored), ("--as-written", Matching::AsWritten), ("--unambiguous", Matching::Unambiguous)];
+        let given: Vec<Matching> = choices.into_iter().filter(|(option, _)| self.has(option)).map(|(_, choice)| choice).collect();
+        match given[..] {
+            [] => Ok(Rule::Safe),
+            [choice] => Ok(Rule::Call(choice)),
+            _ => Err(Failure::usage("--as-written, --unambiguous and --as-original are choices, of which one can be taken")),
         }
     }
 
@@ -261,29 +312,54 @@ impl Options {
     }
 }
 
+/// What is wrong with a line is said with the command whose help has it, where there is one.
 pub fn parse(given: impl IntoIterator<Item = OsString>) -> Result<Args, Failure> {
+    let given: Vec<OsString> = given.into_iter().collect();
+    let command = given.iter().filter_map(|word| word.to_str()).find(|word| help::has(word)).map(String::from);
+    let words = read(given);
+    let first = words.as_ref().ok().and_then(|(_, words)| words.first()).map(|word| word.to_string_lossy().into_owned());
+    let about = first.or(command).filter(|name| help::has(name));
+    words.and_then(|(options, words)| args(options, words)).map_err(|failure| failure.of_command(about.as_deref()))
+}
+
+/// The options, and the words beside them.
+fn read(given: Vec<OsString>) -> Result<(Options, Vec<OsString>), Failure> {
     let (mut options, mut words) = (Options::default(), Vec::new());
     let mut given = given.into_iter();
     while let Some(word) = given.next() {
         match word.as_bytes() {
             b"--" => words.extend(given.by_ref()),
-            [b'-', _, ..] => options.take(&word, &mut given)?,
+            [b'-', _, ..] => options.take_word(word, &mut given)?,
             _ => words.push(word),
         }
     }
-    let command = if options.help {
-        Command::Help(words.first().map(|word| word.to_string_lossy().into_owned()))
-    } else if options.version {
-        Command::Version
-    } else {
-        command(words, &options)?
-    };
+    Ok((options, words))
+}
+
+/// What is asked for beside the options, or in their place: help, or the version.
+fn asked(words: Vec<OsString>, options: &Options) -> Result<Command, Failure> {
+    let text = |word: &OsString| word.to_string_lossy().into_owned();
+    let is_help = words.first().is_some_and(|word| word == "help");
+    if options.help || is_help {
+        return Ok(Command::Help(words.get(usize::from(is_help)).map(text)));
+    }
+    if options.version || options.short_version && words.is_empty() {
+        return Ok(Command::Version);
+    }
+    match words.first().filter(|_| options.short_version) {
+        Some(name) => Err(Failure::usage(format!("-V is the version of vault, and no option of {}", shown(name.as_bytes())))),
+        None => command(words, options),
+    }
+}
+
+fn args(options: Options, words: Vec<OsString>) -> Result<Args, Failure> {
+    let command = asked(words, &options)?;
     let style =
         Style { is_json: options.has("--json"), is_raw: options.has("-0"), has_icbs: options.has("-i"), is_long: options.has("-l") };
     let (sectors, copy, drive) = (options.sectors, options.has("--copy"), options.has("--drive"));
     let (how, wait, span) = (options.how, options.wait, options.span);
-    if options.help || options.version {
-        return Ok(Args { command, sectors, copy, drive, how, matching: Matching::default(), wait, style, span });
+    if matches!(command, Command::Help(_) | Command::Version) {
+        return Ok(Args { command, sectors, copy, drive, how, matching: Rule::default(), wait, style, span });
     }
     if wait.is_some() && !command.is_of_one_file() {
         return Err(Failure::usage(FOR_ONE_FILE));
@@ -351,8 +427,8 @@ fn command(words: Vec<OsString>, options: &Options) -> Result<Command, Failure> 
             Command::Make { image, files: [first].into_iter().chain(words.by_ref()).collect(), force: options.has("--force") }
         }
         b"survey" => {
-            let first = take(&mut words, &name, "IMAGE")?;
-            Command::Survey { images: [first].into_iter().chain(words.by_ref()).collect(), limit: options.limit()? }
+            let first = take(&mut words, &name, if options.has("--total") { "ROWS" } else { "IMAGE" })?;
+            surveyed([first].into_iter().chain(words.by_ref()).collect(), options)?
         }
         b"label" | b"info" | b"ls" | b"tree" | b"cat" | b"get" | b"stat" | b"probe" | b"check" => {
             let image = take(&mut words, &name, "IMAGE")?;
@@ -364,6 +440,24 @@ fn command(words: Vec<OsString>, options: &Options) -> Result<Command, Failure> 
         None => Ok(command),
         Some(word) => Err(Failure::usage(format!("{} takes no more words, and {} follows", name.display(), shown(word.as_bytes())))),
     }
+}
+
+/// A survey of images, or the sum of rows.
+fn surveyed(files: Vec<OsString>, options: &Options) -> Result<Command, Failure> {
+    let form = match (options.has("--json"), options.has("--rows")) {
+        (true, true) => return Err(Failure::usage("--rows writes lines for --total: it doesn't go with --json")),
+        (true, false) => survey::Form::Document,
+        (false, true) => survey::Form::Rows,
+        (false, false) => survey::Form::Table,
+    };
+    if !options.has("--total") {
+        return Ok(Command::Survey { images: files, limit: options.limit()?, form });
+    }
+    let is_bare = options.limit()? == Limit::Usual && options.how == How::default() && !options.has("--copy") && !options.sectors;
+    if !is_bare || form == survey::Form::Rows {
+        return Err(Failure::usage("--total adds up rows, and looks at no image: of the options --json alone goes with it"));
+    }
+    Ok(Command::Total { rows: files, form })
 }
 
 fn question(name: &OsStr, words: &mut impl Iterator<Item = OsString>, options: &Options) -> Result<Question, Failure> {
@@ -416,7 +510,7 @@ mod tests {
     #[test]
     fn options_stand_anywhere() {
         let label = |image: &str| Command::Ask { image: image.into(), question: Question::Label };
-        let (how, matching, wait) = (How::default(), Matching::CaseIgnored, None);
+        let (how, matching, wait) = (How::default(), Rule::Safe, None);
         let asked = |sectors, copy| Args {
             command: label("a"),
             sectors,
@@ -444,7 +538,12 @@ mod tests {
         }
         assert_eq!(parsed("label a --help").unwrap().command, Command::Help(Some("label".to_string())));
         assert_eq!(parsed("-h").unwrap().command, Command::Help(None));
-        assert_eq!((parsed("--version").unwrap().command, parsed("ls -V").unwrap().command), (Command::Version, Command::Version));
+        for line in ["--version", "-V", "ls --version"] {
+            assert_eq!(parsed(line).unwrap().command, Command::Version, "{line}");
+        }
+        for (line, of) in [("help", None), ("help ls", Some("ls")), ("ls -h", Some("ls")), ("-h", None)] {
+            assert_eq!(parsed(line).unwrap().command, Command::Help(of.map(String::from)), "{line}");
+        }
         assert_eq!(parsed("label -- --help").unwrap().command, label("--help"));
         assert_eq!(parsed("").unwrap().command, Command::Tour);
     }
@@ -474,13 +573,17 @@ mod tests {
 
     #[test]
     fn a_survey_is_of_any_number_of_images() {
-        for (line, images, limit) in [
-            ("survey a", &["a"][..], Limit::Usual),
-            ("survey a b --json --limit 7", &["a", "b"], Limit::Most(7)),
-            ("--maps survey --no-limit a -- --copy", &["a", "--copy"], Limit::None),
+        for (line, images, limit, form) in [
+            ("survey a", &["a"][..], Limit::Usual, survey::Form::Table),
+            ("survey a b --json --limit 7", &["a", "b"], Limit::Most(7), survey::Form::Document),
+            ("--maps survey --no-limit a -- --copy", &["a", "--copy"], Limit::None, survey::Form::Table),
+            ("survey --rows a --limit=7", &["a"], Limit::Most(7), survey::Form::Rows),
         ] {
             let images = images.iter().map(OsString::from).collect();
-            assert_eq!(parsed(line).unwrap().command, Command::Survey { images, limit }, "{line}");
+            assert_eq!(parsed(line).unwrap().command, Command::Survey { images, limit, form }, "{line}");
+        }
+        for (line, form) in [("survey --total a b", survey::Form::Table), ("--json survey a b --total", survey::Form::Document)] {
+            assert_eq!(parsed(line).unwrap().command, Command::Total { rows: vec!["a".into(), "b".into()], form }, "{line}");
         }
     }
 
@@ -589,15 +692,46 @@ mod tests {
         }
     }
 
+    /// `-Rl`, `--levels=2` and `-oTO`.
+    #[test]
+    fn options_are_taken_as_they_are_typed() {
+        for (line, plain) in [
+            ("ls -Rl a", "ls -R -l a"),
+            ("ls -l0i a", "ls -l -0 -i a"),
+            ("tree --levels=2 a", "tree --levels 2 a"),
+            ("ls -Rl a --levels=2 --limit=7", "ls -R -l --levels 2 --limit 7 a"),
+            ("get -ro d a", "get -r -o d a"),
+            ("get -rod a", "get -r -o d a"),
+            ("get a -oro b", "get a -o ro b"),
+            ("cat a b --wait=5 --from=0 --bytes=3", "cat a b --wait 5 --from 0 --bytes 3"),
+            ("cat a --icb=7:5", "cat a --icb 7:5"),
+        ] {
+            assert_eq!(parsed(line).unwrap(), parsed(plain).unwrap(), "{line}");
+        }
+    }
+
+    #[test]
+    fn what_is_wrong_is_said_with_the_command_s_help() {
+        let says = |line: &str| parsed(line).unwrap_err().says.unwrap();
+        for line in ["tree a --levels 17", "tree --levels x a", "tree --levls=2 a", "--levels=0 tree a", "tree", "-V tree a", "tree -Rx a"]
+        {
+            assert!(says(line).ends_with(" (`vault tree --help` says how)"), "{line} {}", says(line));
+        }
+        for line in ["lable a", "--levls", "-x", "--limit 7"] {
+            assert!(says(line).ends_with(" (`vault --help` says how)"), "{line} {}", says(line));
+        }
+    }
+
     #[test]
     fn matching_is_for_paths() {
         for (line, matching) in [
-            ("ls a", Matching::CaseIgnored),
-            ("ls a --as-written", Matching::AsWritten),
-            ("--as-written cat a b --as-written", Matching::AsWritten),
-            ("get --unambiguous a b c", Matching::Unambiguous),
-            ("stat a b --unambiguous", Matching::Unambiguous),
-            ("stat a -- --unambiguous", Matching::CaseIgnored),
+            ("ls a", Rule::Safe),
+            ("ls a --as-written", Rule::Call(Matching::AsWritten)),
+            ("--as-written cat a b --as-written", Rule::Call(Matching::AsWritten)),
+            ("get --unambiguous a b c", Rule::Call(Matching::Unambiguous)),
+            ("stat a b --unambiguous", Rule::Call(Matching::Unambiguous)),
+            ("stat a b --as-original", Rule::Call(Matching::CaseIgnored)),
+            ("stat a -- --unambiguous", Rule::Safe),
         ] {
             assert_eq!(parsed(line).unwrap().matching, matching, "{line}");
         }
@@ -608,6 +742,13 @@ mod tests {
     fn wrong_words_are_usage() {
         for line in [
             "lable a",
+            "make -V NAME a b",
+            "ls -V",
+            "ls -Rx a",
+            "ls -R=2 a",
+            "ls --json=yes a",
+            "ls --nothing=2 a",
+            "tree a --levels=",
             "cat a b\\",
             "cat a b\\n",
             "cat a b\\u{2f}c",
@@ -678,6 +819,14 @@ mod tests {
             "check a b",
             "survey",
             "survey --json",
+            "survey --total",
+            "survey --total a --rows",
+            "survey --total a --limit 7",
+            "survey --total a --maps",
+            "survey --total a --copy",
+            "survey --rows a --json",
+            "ls a --rows",
+            "check a --total",
             "survey a --drive",
             "survey a --as-written",
             "survey a --wait 5",
@@ -699,6 +848,8 @@ mod tests {
             "label a -v",
             "--as-writen ls a",
             "--as-written --unambiguous ls a",
+            "--as-written --as-original ls a",
+            "--as-original label a",
             "--as-written label a",
             "probe a --unambiguous",
             "sample a --as-written",

@@ -7,9 +7,10 @@ use crate::limit::Limit;
 use crate::log::Log;
 use crate::records;
 use crate::report::{Place, Report};
+use crate::steps::Rule;
 use crate::walk::{Walk, sector};
 use std::io::Write;
-use strandlodge::{How, Kind, LbAddr, Matching, volume_descriptors};
+use strandlodge::{How, Kind, LbAddr, volume_descriptors};
 
 const ANCHOR: u64 = 256;
 const SECTOR: u32 = 2048;
@@ -18,7 +19,10 @@ const TERMINATOR: u16 = 8;
 pub fn check(image: &[u8], manner: Manner, limit: Limit, name: &str, out: &mut impl Write, log: &mut Log) -> Result<(), Failure> {
     let (how, mut report, most) = (manner.how, Report::new(out, manner.style), limit.of(image.len() as u64));
     volume(image, &mut report)?;
-    let vault = Disc::open(image, how, name, Matching::default(), log)?.volume;
+    let vault = match Disc::open(image, how, name, Rule::default(), log) {
+        Ok(disc) => disc.volume,
+        Err(failure) => return report.refused(&failure).and(Err(failure)),
+    };
     let mut walk = Walk::new(image, vault, most.saturating_sub(log.total()), &mut report);
     walk.file_set(file_set(image, how))?;
     let is_whole = walk.root()?;

@@ -14,21 +14,22 @@ use crate::maps;
 use crate::names::{shown, shown_name};
 use crate::runs::{self, Span};
 use crate::sizes::Sizes;
-use crate::style::{Style, listed};
+use crate::steps::Rule;
+use crate::style::{Style, bytes, listed};
 use crate::tree;
 use crate::wanted::Wanted;
 use std::ffi::OsStr;
 use std::io::{self, Write};
 use std::os::unix::ffi::OsStrExt;
 use std::path::Path;
-use strandlodge::{AllocExtent, Asked, Counted, How, LongAd, Matching, Refusal, Runs, VolumeDescriptor};
+use strandlodge::{AllocExtent, Asked, Counted, How, LongAd, Refusal, Runs, VolumeDescriptor};
 use strandlodge::{map_table, probe_vrs, volume_descriptors};
 
 /// How a question is asked: how the image is opened, how names are matched, how the answer is printed, and what of a file is wanted.
 #[derive(Clone, Copy)]
 pub struct Manner {
     pub how: How,
-    pub matching: Matching,
+    pub matching: Rule,
     pub style: Style,
     pub span: Span,
 }
@@ -37,6 +38,7 @@ pub struct Manner {
 pub fn ask(question: &Question, manner: Manner, image: &[u8], name: &OsStr, out: &mut impl Write, log: &mut Log) -> Result<(), Failure> {
     let (file, name, Manner { how, matching, style, span }) = (name, &shown(name.as_bytes()), manner);
     let open = |log| Disc::open(image, how, name, matching, log);
+    let watched = |log| open(log).map(Disc::watch);
     match question {
         Question::Probe => probe(image, out),
         Question::Label => {
@@ -44,9 +46,9 @@ pub fn ask(question: &Question, manner: Manner, image: &[u8], name: &OsStr, out:
             line(out, &shown(label.as_bytes()))
         }
         Question::Info => info::info(image, how, name, style, out, log),
-        Question::Ls { wanted } => ls(&mut open(log)?, wanted, style, out),
+        Question::Ls { wanted } => ls(&mut watched(log)?, wanted, style, out),
         Question::Tree { wanted, form, bounds } => tree::show(&mut open(log)?, wanted, *form, *bounds, style, out),
-        Question::Stat { wanted } => stat(&mut open(log)?, wanted, style, out),
+        Question::Stat { wanted } => stat(&mut watched(log)?, wanted, style, out),
         Question::Descriptors if style.is_json => descriptors_json(image, how, &mut open(log)?, out),
         Question::Descriptors => {
             // Before opening: where it is refused, what it was refused for may be seen in them.
@@ -56,16 +58,16 @@ pub fn ask(question: &Question, manner: Manner, image: &[u8], name: &OsStr, out:
         }
         Question::Check { limit } => check::check(image, manner, *limit, name, out, log),
         Question::Cat { wanted } => {
-            let runs = find(&mut open(log)?, wanted, span)?;
+            let runs = find(&mut watched(log)?, wanted, span)?;
             runs::print(runs, out)
         }
         Question::Get { wanted, file } => {
             let target = Target::at(file)?;
-            let runs = find(&mut open(log)?, wanted, span)?;
+            let runs = find(&mut watched(log)?, wanted, span)?;
             runs::put(runs, &target).map(|_| ())
         }
-        Question::GetAll { paths, folder } => many::get(&mut open(log)?, paths, Path::new(folder), file, out),
-        Question::GetTree { paths, folder, limit } => folder::get(&mut open(log)?, paths, Path::new(folder), *limit, file, out),
+        Question::GetAll { paths, folder } => many::get(&mut watched(log)?, paths, Path::new(folder), file, out),
+        Question::GetTree { paths, folder, limit } => folder::get(&mut watched(log)?, paths, Path::new(folder), *limit, file, out),
     }
 }
 
@@ -88,10 +90,14 @@ fn find<'a>(disc: &mut Disc<Counted<'a>>, wanted: &Wanted, span: Span) -> Result
 
 /// A directory's entries, or a file's own.
 pub fn ls<V: Volume>(disc: &mut Disc<V>, wanted: &Wanted, style: Style, out: &mut impl Write) -> Result<(), Failure> {
-    let found = disc.find(wanted)?;
+    let found = disc.find_listed(wanted)?;
     let entries = match found.entry {
         Some(entry) if !entry.is_directory => vec![entry],
-        _ => disc.list(&wanted.text(), found.icb)?,
+        _ => {
+            let entries = disc.list(&wanted.text(), found.icb)?;
+            disc.see_directory(&wanted.text(), found.icb);
+            entries
+        }
     };
     if style.is_json {
         let mut rows = Rows::new(out);
@@ -126,7 +132,7 @@ pub fn say_volume(label: &str, start: u64, number: u16, root: LongAd, out: &mut 
     let (place, length, kind) = (root.location, root.length, root.extent_type);
     line(out, &format!("label    {}", shown(label.as_bytes())))?;
     line(out, &format!("start    sector {start}, partition {number}"))?;
-    line(out, &format!("root     block {}, partition {}, {length} bytes, type {kind}", place.block, place.partition_ref))
+    line(out, &format!("root     block {}, partition {}, {}, type {kind}", place.block, place.partition_ref, bytes(length)))
 }
 
 fn stat(disc: &mut Disc<Counted>, wanted: &Wanted, style: Style, out: &mut impl Write) -> Result<(), Failure> {
@@ -134,6 +140,7 @@ fn stat(disc: &mut Disc<Counted>, wanted: &Wanted, style: Style, out: &mut impl 
     let asked = Asked::ReadFile(found.icb);
     let part = disc.count(&path, asked, "part", disc.volume.part(found.icb))?;
     let extents = disc.count(&path, asked, "extents", disc.volume.extents(found.icb))?;
+    disc.see_file(&path, found.icb);
     let measured = disc.log.count("measure", disc.volume.measure(found.icb)).map_err(Refusal::from);
     let information = disc.volume.entry(found.icb).map(|entry| entry.information_length);
     let sizes = Sizes { information, read: Some(measured), extents: Some(extents.len() as u64) };
@@ -202,23 +209,23 @@ pub fn say_found(found: &Found, path: &[u8], out: &mut impl Write) -> io::Result
     writeln!(out, "entry    {}", found.entry.as_ref().map_or(none.to_string(), listed))?;
     writeln!(out, "kind     {}", if found.is_directory { "directory" } else { "file" })?;
     let place = icb.location;
-    writeln!(out, "icb      block {}, partition {}, {} bytes, type {}", place.block, place.partition_ref, icb.length, icb.extent_type)
+    writeln!(out, "icb      block {}, partition {}, {}, type {}", place.block, place.partition_ref, bytes(icb.length), icb.extent_type)
 }
 
 /// How the bytes are stored: in the entry itself, which has then no extents, or in extents. Where each begins is said of a volume with maps: else
 /// that is the block and the start that `stat` says without a path.
 fn say_extents(vault: Counted, icb: LongAd, embedded: usize, extents: &[AllocExtent], out: &mut impl Write) -> io::Result<()> {
     if extents.is_empty() {
-        let storage = if embedded > 0 { format!("embedded, {embedded} bytes") } else { "no bytes, no extents".to_string() };
+        let storage = if embedded > 0 { format!("embedded, {}", bytes(embedded as u64)) } else { "no bytes, no extents".to_string() };
         return writeln!(out, "storage  {storage}");
     }
     writeln!(out, "storage  extents: {}", extents.len())?;
     extents.iter().try_for_each(|extent| {
         let kind = ["recorded", "not recorded", "not allocated"].get(usize::from(extent.extent_type)).unwrap_or(&"a continuation");
         let partition = extent.partition_ref.map_or("none".to_string(), |number| number.to_string());
-        let (length, number, block) = (extent.length, extent.extent_type, extent.block);
+        let (length, number, block) = (bytes(extent.length), extent.extent_type, extent.block);
         let sector =
             vault.how().maps.then(|| vault.extent_sector(icb, extent).map_or(", in no partition".to_string(), |n| format!(", sector {n}")));
-        writeln!(out, "extent   {length} bytes, type {number} ({kind}), block {block}, partition {partition}{}", sector.unwrap_or_default())
+        writeln!(out, "extent   {length}, type {number} ({kind}), block {block}, partition {partition}{}", sector.unwrap_or_default())
     })
 }

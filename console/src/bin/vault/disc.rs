@@ -7,7 +7,7 @@ use crate::maps;
 use crate::names::shown;
 use crate::records::{self, FileEntry};
 use crate::runs::{self, Span};
-use crate::steps::{Step, names, quoted};
+use crate::steps::{Rule, Step, names, quoted, spelled};
 use crate::walk::sector;
 use crate::wanted::Wanted;
 use std::fs::File;
@@ -16,6 +16,9 @@ use std::os::unix::fs::FileExt;
 use strandlodge::{
     Answer, Asked, Counted, CountedDrive, Diagnosis, DirEntry, How, LongAd, Matching, Refusal, Refused, SECTOR_SIZE, Uncopied,
 };
+
+/// What is said of a descriptor that was taken all the same.
+const RUINED: &str = "has a wrong body, and is taken as it stands (--checked refuses it, and `vault check` lists all such descriptors)";
 
 /// The file type of a directory's entry (ECMA-167 4/14.6.6).
 const DIRECTORY: u8 = 4;
@@ -43,6 +46,10 @@ pub trait Volume {
     fn missed(&self) -> Option<String>;
     /// Where the last call was refused, and why.
     fn diagnose(&mut self, asked: Asked, refused: &Refused) -> Diagnosis;
+    /// The volume by its descriptors of the highest number, where that is another.
+    fn by_highest(&self) -> Option<Self>
+    where
+        Self: Sized;
 }
 
 impl Volume for Counted<'_> {
@@ -107,6 +114,12 @@ impl Volume for Counted<'_> {
     fn diagnose(&mut self, asked: Asked, refused: &Refused) -> Diagnosis {
         Counted::diagnose(self, asked, refused)
     }
+
+    fn by_highest(&self) -> Option<Self> {
+        let highest = Counted::open_as(self.image(), How { highest: true, ..self.how() }).ok()?.value;
+        let led = |volume: &Counted| (volume.partition_start_sector(), volume.root_directory_icb());
+        (led(self) != led(&highest)).then_some(highest)
+    }
 }
 
 impl Volume for CountedDrive<File> {
@@ -167,6 +180,11 @@ impl Volume for CountedDrive<File> {
     fn diagnose(&mut self, _: Asked, refused: &Refused) -> Diagnosis {
         CountedDrive::diagnose(self, refused)
     }
+
+    /// A drive has no such choice.
+    fn by_highest(&self) -> Option<Self> {
+        None
+    }
 }
 
 /// A writer that takes what comes first.
@@ -191,9 +209,11 @@ pub struct Disc<'l, V> {
     pub volume: V,
     pub log: &'l mut Log,
     pub name: &'l str,
-    pub matching: Matching,
+    pub matching: Rule,
     /// How long the image or the drive is.
     pub bytes: u64,
+    /// The same volume with bodies checked, to say where a call that was answered would be refused by 10; none where it is checked anyway, or isn't looked at.
+    pub checked: Option<V>,
 }
 
 /// What a path gives.
@@ -205,9 +225,25 @@ pub struct Found {
 }
 
 impl<'a, 'l> Disc<'l, Counted<'a>> {
-    pub fn open(image: &'a [u8], how: How, name: &'l str, matching: Matching, log: &'l mut Log) -> Result<Self, Failure> {
+    pub fn open(image: &'a [u8], how: How, name: &'l str, matching: Rule, log: &'l mut Log) -> Result<Self, Failure> {
         let volume = log.count("open", Counted::open_as(image, how)).map_err(|refused| maps::refused(image, how, name, refused))?;
-        Ok(Disc { volume, log, name, matching, bytes: image.len() as u64 })
+        Ok(Disc { volume, log, name, matching, bytes: image.len() as u64, checked: None })
+    }
+
+    /// The same, for who takes a file: a descriptor with a wrong body on the way to it is said, though it is taken as it stands. What is looked at for that
+    /// isn't counted.
+    pub fn watch(mut self) -> Self {
+        let how = self.volume.how();
+        if !how.checked {
+            match Counted::open_as(self.volume.image(), How { checked: true, ..how }) {
+                Ok(checked) => self.checked = Some(checked.value),
+                Err(refused) if refused.why == Refusal::BadCrc => {
+                    self.log.ruin(format!("{}: a descriptor of the volume {RUINED}", self.name))
+                }
+                Err(_) => {}
+            }
+        }
+        self
     }
 
     /// The volume's name. Opening is gone over again for it.
@@ -232,8 +268,25 @@ impl<V: Volume> Disc<'_, V> {
         let about = format!("{}: {}", self.name, quoted(path));
         match self.volume.missed().filter(|_| refused.why == Refusal::Io) {
             Some(missed) => Failure::with_number(refused, format!("{about}: {missed}")),
-            None => Failure::diagnosed(about, &self.volume.diagnose(asked, &refused)),
+            None => {
+                let diagnosis = self.volume.diagnose(asked, &refused);
+                self.with_cure(asked, Failure::diagnosed(about, &diagnosis))
+            }
         }
+    }
+
+    /// With what to try where a disc was closed again, and an older descriptor leads elsewhere.
+    fn with_cure(&self, asked: Asked, mut failure: Failure) -> Failure {
+        let is_there = self.volume.by_highest().is_some_and(|mut highest| match asked {
+            Asked::Lookup(path, matching) | Asked::ReadPath(path, matching) => highest.lookup_as(path, matching).is_ok(),
+            Asked::ReadDirectory(icb) => highest.read_directory(icb).is_ok(),
+            Asked::ReadFile(icb) => highest.measure(icb).is_some_and(|measured| measured.is_ok()),
+            Asked::Show(_) => false,
+        });
+        if let Some(says) = failure.says.as_mut().filter(|_| is_there) {
+            *says += "; the disc was closed again, and by its descriptors of the highest number this is there, with --highest";
+        }
+        failure
     }
 
     pub fn list(&mut self, path: &[u8], icb: LongAd) -> Result<Vec<DirEntry>, Failure> {
@@ -249,6 +302,24 @@ impl<V: Volume> Disc<'_, V> {
         entry.icb_tag.file_type == DIRECTORY || records::file_identifier(&self.volume.front(icb)).is_some()
     }
 
+    /// Says so where a call that was answered is refused by 10 with bodies checked; of a path once.
+    fn see_bodies<T>(&mut self, path: &[u8], what: &str, ask: impl FnOnce(&mut V) -> Option<strandlodge::Answered<T>>) {
+        let refused = self.checked.as_mut().and_then(ask).and_then(Result::err);
+        if refused.is_some_and(|refused| refused.why == Refusal::BadCrc) {
+            self.log.ruin(format!("{}: {}: a descriptor {what} {RUINED}", self.name, quoted(path)));
+        }
+    }
+
+    /// A file that was read.
+    pub fn see_file(&mut self, path: &[u8], icb: LongAd) {
+        self.see_bodies(path, "on the way to it", |checked| checked.measure(icb));
+    }
+
+    /// A directory that was listed.
+    pub fn see_directory(&mut self, path: &[u8], icb: LongAd) {
+        self.see_bodies(path, "of this directory", |checked| Some(checked.read_directory(icb)));
+    }
+
     /// What is asked for. A place is that of an entry, or the call that reads it refuses it.
     pub fn find(&mut self, wanted: &Wanted) -> Result<Found, Failure> {
         match wanted {
@@ -260,12 +331,27 @@ impl<V: Volume> Disc<'_, V> {
         }
     }
 
+    /// The same, for what is listed. The bytes of a file may be those of an empty listing, and then nothing would be said.
+    pub fn find_listed(&mut self, wanted: &Wanted) -> Result<Found, Failure> {
+        let found = self.find(wanted)?;
+        if matches!(wanted, Wanted::Icb(_)) && !found.is_directory && self.volume.entry(found.icb).is_some() {
+            let says = "is a file, whose name isn't known here: `vault stat` shows it, and `vault cat` gives its bytes";
+            return Err(Failure::new(USAGE, format!("{}: {} {says}", self.name, quoted(&wanted.text()))));
+        }
+        Ok(found)
+    }
+
     /// Looks a path up, and then walks it over the directories' listings: for the entry that it gives, and for what has to be remarked of each
     /// name. Both go by one rule, so they give the same entry of an image that stands still.
     pub fn find_path(&mut self, path: &[u8]) -> Result<Found, Failure> {
-        let found = self.volume.lookup_as(path, self.matching);
-        let icb = self.log.count("lookup", found).map_err(|refused| self.lost(path, refused))?;
-        let steps = self.steps(path)?;
+        let call = self.matching.call();
+        let found = self.volume.lookup_as(path, call);
+        let (icb, steps) = match self.log.count("lookup", found) {
+            Err(refused) if self.matching == Rule::Safe && refused.why == Refusal::NotBluray => self.find_spelled(path, refused)?,
+            found => (found.map_err(|refused| self.lost(path, path, refused))?, self.steps(path)?),
+        };
+        let written = spelled(path, &steps, self.matching);
+        self.see_bodies(path, "on the way to it", |checked| Some(checked.lookup_as(&written, call)));
         let Some(last) = steps.last() else {
             return Ok(Found { icb, entry: None, is_directory: true });
         };
@@ -276,6 +362,21 @@ impl<V: Volume> Disc<'_, V> {
         };
         self.log.remarks.extend(steps.iter().filter_map(|step| step.remark(self.matching)));
         Ok(Found { icb, is_directory: entry.is_directory, entry: Some(entry) })
+    }
+
+    /// A path of which not all names are written as the disc has them: it is walked, and then looked up as it is spelled there.
+    fn find_spelled<'p>(&mut self, path: &'p [u8], refused: Refused) -> Result<(LongAd, Vec<Step<'p>>), Failure> {
+        let steps = self.steps(path)?;
+        if let Some(says) = steps.last().and_then(|step| step.ambiguity(self.matching)) {
+            return Err(Failure::with_number(Refusal::Ambiguous, format!("{}: {says}", self.name)));
+        }
+        let written = spelled(path, &steps, self.matching);
+        if written == path {
+            return Err(self.lost(path, path, refused));
+        }
+        let found = self.volume.lookup_as(&written, self.matching.call());
+        let icb = self.log.count("lookup", found).map_err(|refused| self.lost(path, &written, refused))?;
+        Ok((icb, steps))
     }
 
     /// The same, for what must be a file.
@@ -300,30 +401,27 @@ impl<V: Volume> Disc<'_, V> {
         Ok(steps)
     }
 
-    /// A lookup that was refused: where nothing was found, with the name that isn't there, and where too much was, with the entries.
-    fn lost(&mut self, path: &[u8], refused: Refused) -> Failure {
-        let asked = Asked::Lookup(path, self.matching);
-        if !matches!(refused.why, Refusal::NotBluray | Refusal::Ambiguous) {
-            return self.refused(path, asked, refused);
-        }
-        // Before any other call is made.
-        let diagnosis = self.volume.diagnose(asked, &refused);
+    /// A lookup that was refused: where nothing was found, with the name that isn't there, and where too much was, with the entries. These say all there is
+    /// to say: no sector is at fault. `written` is the path as it was looked up.
+    fn lost(&mut self, path: &[u8], written: &[u8], refused: Refused) -> Failure {
         let says = match refused.why {
-            Refusal::NotBluray => self.not_there(path),
-            _ => self.steps(path).ok().and_then(|steps| steps.last()?.ambiguity()),
+            Refusal::NotBluray => self.not_there(path, written),
+            Refusal::Ambiguous => self.steps(path).ok().and_then(|steps| steps.last()?.ambiguity(self.matching)),
+            _ => return self.refused(path, Asked::Lookup(written, self.matching.call()), refused),
         };
         let says = says.unwrap_or_else(|| format!("{}: {refused}", quoted(path)));
-        Failure::with_number(refused, format!("{}: {says}", self.name)).at(&diagnosis)
+        self.with_cure(Asked::Lookup(written, self.matching.call()), Failure::with_number(refused, format!("{}: {says}", self.name)))
     }
 
     /// Which name isn't there, and what is in another case where that was not enough.
-    fn not_there(&mut self, path: &[u8]) -> Option<String> {
-        let failed = self.volume.failed_as(path, self.matching);
+    fn not_there(&mut self, path: &[u8], written: &[u8]) -> Option<String> {
+        let failed = self.volume.failed_as(written, self.matching.call());
         let component = self.log.count("failed", failed).ok()??;
-        // The component is a part of the path, so its place is the distance of the two.
-        let above = path.get(..component.as_ptr().addr() - path.as_ptr().addr()).unwrap_or_default();
+        // The component is a part of the path, so its place is the distance of the two. What is said is the path as it was typed.
+        let at = component.as_ptr().addr() - written.as_ptr().addr();
+        let (above, component) = (path.get(..at)?, path.get(at..at + component.len())?);
         let mut says = format!("there is nothing named \"{}\" under {}", shown(component), quoted(above));
-        if self.matching == Matching::AsWritten
+        if self.matching == Rule::Call(Matching::AsWritten)
             && let Some(alike) = self.steps(path).ok()?.last().filter(|step| step.above == above).and_then(Step::in_another_case)
         {
             says += &format!("; {alike}");

@@ -12,6 +12,7 @@ use crate::json::Json;
 use crate::log::Log;
 use crate::names::{self, shown};
 use crate::runs;
+use crate::steps::Rule;
 use crate::style::Style;
 use crate::tree;
 use crate::wanted::Wanted;
@@ -20,7 +21,7 @@ use std::fs::File;
 use std::io::{self, IoSlice, Write};
 use std::os::unix::ffi::OsStrExt;
 use std::path::Path;
-use strandlodge::{CountedDrive, LongAd, Matching, Uncopied, Unopened};
+use strandlodge::{CountedDrive, LongAd, Uncopied, Unopened};
 
 /// Answers a question on a drive. Nothing of it is kept in memory but the directories on the way, one at a time.
 pub fn ask(question: &Question, manner: Manner, name: &OsStr, out: &mut impl Write, log: &mut Log) -> Result<(), Failure> {
@@ -52,7 +53,7 @@ pub fn ask(question: &Question, manner: Manner, name: &OsStr, out: &mut impl Wri
     }
 }
 
-fn open<'l>(name: &OsStr, shown: &'l str, matching: Matching, log: &'l mut Log) -> Result<Disc<'l, CountedDrive<File>>, Failure> {
+fn open<'l>(name: &OsStr, shown: &'l str, matching: Rule, log: &'l mut Log) -> Result<Disc<'l, CountedDrive<File>>, Failure> {
     let mut failed = None;
     let opened = CountedDrive::open(image::file(name)?).map_err(|unopened| {
         let refused = unopened.refused;
@@ -64,7 +65,8 @@ fn open<'l>(name: &OsStr, shown: &'l str, matching: Matching, log: &'l mut Log) 
         None => Failure::refused(shown, refused),
     })?;
     let bytes = image::length(name).map_or(0, |length| length as u64);
-    Ok(Disc { volume, log, name: shown, matching, bytes })
+    // No call of a drive checks bodies.
+    Ok(Disc { volume, log, name: shown, matching, bytes, checked: None })
 }
 
 /// Why a disc wasn't opened: which sector can't be had, or what there is in the last one.

@@ -1,5 +1,6 @@
 //! How the command ends when it can't do what it was asked.
 
+use crate::json::Json;
 use crate::names::shown;
 use std::ffi::OsStr;
 use std::io;
@@ -24,6 +25,12 @@ pub const NO_OUTPUT: u8 = 74;
 /// What to try where a body is wrong.
 const TO_TRY: &str = "`vault check` says which descriptors are so, and without --checked they are taken as they stand";
 
+/// The last number of the answer table.
+const LAST: u8 = 16;
+
+/// Where usage is said.
+const HELP: &str = " (`vault --help` says how)";
+
 /// An exit status, and the sentence that goes to standard error.
 #[derive(Debug)]
 pub struct Failure {
@@ -37,7 +44,16 @@ impl Failure {
     }
 
     pub fn usage(says: impl Into<String>) -> Failure {
-        Failure::new(USAGE, format!("{} (`vault --help` says how)", says.into()))
+        Failure::new(USAGE, format!("{}{HELP}", says.into()))
+    }
+
+    /// Wrong usage of a command, whose own help says how.
+    pub fn of_command(mut self, command: Option<&str>) -> Failure {
+        if let (Some(command), Some(says)) = (command, self.says.as_mut().filter(|says| says.ends_with(HELP))) {
+            says.truncate(says.len() - HELP.len());
+            *says += &format!(" (`vault {command} --help` says how)");
+        }
+        self
     }
 
     /// `about` is what was asked for.
@@ -66,6 +82,16 @@ impl Failure {
             why @ Refusal::BadCrc => Failure::new(why.number() as u8, format!("{says} (refusal {}); {TO_TRY}", why.number())),
             why => Failure::new(why.number() as u8, format!("{says} (refusal {})", why.number())),
         }
+    }
+
+    /// For a document. The answer is the number of the refusal, where it is one.
+    pub fn json(&self) -> Json {
+        let is_refusal = (1..=LAST).contains(&self.status);
+        Json::Object(vec![
+            ("answer", Json::maybe(is_refusal.then_some(self.status), Json::number)),
+            ("status", Json::number(self.status)),
+            ("says", Json::maybe(self.says.as_ref(), Json::text)),
+        ])
     }
 
     /// A refusal that more of the image may undo: its number is the status.

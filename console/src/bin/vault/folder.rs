@@ -15,6 +15,7 @@ use crate::many::{Missed, Written};
 use crate::names::{is_tricky, shown};
 use crate::records::FileEntry;
 use crate::steps::{quoted, trimmed};
+use crate::style::bytes;
 use std::collections::{HashMap, HashSet};
 use std::ffi::OsStr;
 use std::fs;
@@ -118,7 +119,10 @@ impl Plan {
             self.see(disc)?;
             match listed {
                 // The last one pushed is the next one looked at.
-                Ok(entries) => pending.extend(self.entries(disc, &path, &entries, &to)?.into_iter().rev()),
+                Ok(entries) => {
+                    disc.see_directory(&path, icb);
+                    pending.extend(self.entries(disc, &path, &entries, &to)?.into_iter().rev())
+                }
                 Err(refused) => self.missed.tell(disc.refused(&path, Asked::ReadDirectory(icb), refused), disc),
             }
         }
@@ -196,7 +200,7 @@ fn write<V: Volume>(disc: &mut Disc<V>, items: &[Item], image: &OsStr, missed: &
             Ok(None) => {}
             Ok(Some(length)) => {
                 bar.wipe();
-                line(out, &format!("{}: {length} bytes, to {}", shown(&item.path), shown(item.to.as_os_str().as_bytes())))?
+                line(out, &format!("{}: {}, to {}", shown(&item.path), bytes(length), shown(item.to.as_os_str().as_bytes())))?
             }
             Err(failure) => {
                 unmade.extend(item.file.is_none().then_some(&*item.to));

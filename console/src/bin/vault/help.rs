@@ -20,27 +20,26 @@ vault: look into a UDF disc. An image is a file or a drive, and is only read.
   vault survey IMAGE..         files, bytes, extents and refusals, in figures
   vault make IMAGE FILE..      writes a vault of up to 64 files, by their names
   vault sample FILE            writes a sample show; vault alone gives a tour
-  --as-written, --unambiguous   how names match; else in any case, the first
+  --as-written, --unambiguous, --as-original   how the names of PATH match
   --icb BLOCK[:REF]      what stands there, in place of PATH: ls -i shows it
   --checked, --highest, --maps   how the disc is opened; else as the original
   --copy, --drive   read to memory first, or a sector at a time; else mapped
   --limit N, --no-limit  of ls -R, tree, get -r, check, survey: sectors to want
   --json, --sectors      for other programs; the sectors that each call wanted
-vault COMMAND --help has the rest of a command, and vault --version what it is.
+vault help COMMAND has the rest of a command, and vault --version what it is.
 Status: 0 done, 1 to 16 refused by that number, 64 wrong usage, 65 wrong, or a
 no, 66 no image, 67 not all read, 68 limit, 70 unknown, 74 no output.
 ";
 
 /// Of a name on a path; for each command that takes one.
 const PATHS: &str = "
-PATH is names between slashes, as ls writes them: \\\\ is a backslash, \\u{..} a
-character, \\x.. a byte. ASCII case is ignored and the first entry taken, with a
-line on standard error where that gave another name, or one of several.
-  --as-written       take each name byte for byte
-  --unambiguous      refuse a name that several entries match
-  --raw              take PATH as it is, a backslash too
-  --icb BLOCK[:REF]  the entry in that block, in place of PATH: for a name with
-                     a slash in it, and the second of two entries of one name
+PATH is names between slashes. The very name is taken if there is one, else the
+only one with ASCII case ignored, and that is said; of several none (9).
+  --as-written       take each name byte for byte, and no other
+  --unambiguous      refuse a name that several entries match, in any case
+  --as-original      ignore case and take the first, as the original does
+  --raw              take PATH as it is: no \\\\, \\u{..} or \\x.. as in ls
+  --icb BLOCK[:REF]  the entry in that block, in place of PATH: ls -i shows it
 ";
 
 /// Of the image; for each command that reads one.
@@ -111,7 +110,9 @@ const COMMANDS: [(&str, &str, [bool; 3]); 13] = [
         "survey",
         "vault survey IMAGE..\nPrints a line of figures for each image, and one for all: files, directories,\n\
          bytes, extents, sectors that reading each file takes, the longest chain, and\n\
-         files that can't be read, as NUMBER:FILES; of an image that can't, why.\n\
+         files that can't be read, as NUMBER:FILES. Standard error has what can't.\n\
+         \x20 --rows     a row of numbers for each image, for --total\n\
+         \x20 --total    the words are files of such rows: add them up\n\
          \x20 --limit N  N sectors of each image at most; else 500000, and 4 for each that\n\
          \x20            it has. One that wants more is refused by 16, and the rest goes on\n\
          \x20 --no-limit any number\n  --json     as one document\n",
@@ -142,6 +143,11 @@ vault get -r IMAGE -o TO [PATH..]  all below each PATH, or all of the disc
   --limit N, --no-limit  of -r: sectors to want (500000, and 4 for each it has)
 An old FILE keeps its mode; -r follows no link. /dev/stdout is written to.
 ";
+
+/// Whether there is such a command.
+pub fn has(command: &str) -> bool {
+    COMMANDS.iter().any(|(name, ..)| *name == command && *name != "tour")
+}
 
 /// The help of a command, where there is such a command.
 fn of(command: &str) -> Option<String> {

@@ -4,9 +4,12 @@ use crate::failure::{Failure, NO_IMAGE};
 use crate::map::Map;
 use std::ffi::OsStr;
 use std::fs::File;
-use std::io::{self, Seek, SeekFrom};
+use std::io::{self, Read, Seek, SeekFrom};
 use std::ops::Deref;
 use std::os::unix::fs::FileExt;
+
+/// So much of a pipe is read at once, or more.
+const PIECE: usize = 1 << 20;
 
 /// A file's bytes, or a device's.
 pub enum Image {
@@ -19,7 +22,10 @@ pub enum Image {
 impl Image {
     /// Maps an image, or copies the whole of it.
     pub fn open(name: &OsStr, copied: bool) -> Result<Image, Failure> {
-        let (file, length) = found(name).map_err(|error| unopened(name, error))?;
+        let (file, length) = match found(name) {
+            Err(error) if copied && error.kind() == io::ErrorKind::NotSeekable => return piped(name).map(Image::Copied),
+            found => found.map_err(|error| unopened(name, error))?,
+        };
         if copied {
             return copy(&file, length).map(Image::Copied).map_err(|error| uncopied(name, length, error));
         }
@@ -73,11 +79,34 @@ fn copy(file: &File, length: usize) -> io::Result<Vec<u8>> {
     Ok(bytes)
 }
 
+/// All that a pipe gives, in memory. How much that is isn't known before.
+fn piped(name: &OsStr) -> Result<Vec<u8>, Failure> {
+    let mut file = file(name)?;
+    let (mut bytes, mut read) = (Vec::new(), 0);
+    loop {
+        if bytes.len() - read < PIECE {
+            let more = bytes.len().max(PIECE);
+            bytes.try_reserve_exact(more).map_err(|_| uncopied(name, read, io::ErrorKind::OutOfMemory.into()))?;
+            bytes.resize(bytes.len() + more, 0);
+        }
+        match file.read(&mut bytes[read..]) {
+            Ok(0) => break,
+            Ok(n) => read += n,
+            Err(error) if error.kind() == io::ErrorKind::Interrupted => {}
+            Err(error) => return Err(uncopied(name, read, error)),
+        }
+    }
+    bytes.truncate(read);
+    Ok(bytes)
+}
+
 pub fn unopened(name: &OsStr, error: io::Error) -> Failure {
     match error.kind() {
         io::ErrorKind::NotFound => Failure::file(NO_IMAGE, name, "there is no such file"),
         io::ErrorKind::IsADirectory => Failure::file(NO_IMAGE, name, "this is a directory, and not the image of a disc"),
-        io::ErrorKind::NotSeekable => Failure::file(NO_IMAGE, name, "this is a pipe or the like, and no file or device: copy it to a file"),
+        io::ErrorKind::NotSeekable => {
+            Failure::file(NO_IMAGE, name, "this is a pipe or the like, and no file or device: --copy reads it into memory")
+        }
         _ => Failure::file(NO_IMAGE, name, format!("the image can't be opened: {error}")),
     }
 }
@@ -85,7 +114,7 @@ pub fn unopened(name: &OsStr, error: io::Error) -> Failure {
 fn uncopied(name: &OsStr, length: usize, error: io::Error) -> Failure {
     match error.kind() {
         io::ErrorKind::OutOfMemory => {
-            Failure::file(NO_IMAGE, name, format!("there is no memory for a copy of {length} bytes: without --copy the image is mapped"))
+            Failure::file(NO_IMAGE, name, format!("there is no memory for a copy of {length} bytes: without --copy a file is mapped"))
         }
         io::ErrorKind::UnexpectedEof => Failure::file(NO_IMAGE, name, "the image was cut short while it was copied"),
         _ => Failure::file(NO_IMAGE, name, format!("the image can't be copied: {error}")),

@@ -12,10 +12,11 @@ use crate::map::copied;
 use crate::maps;
 use crate::names::shown;
 use crate::records;
+use crate::steps::Rule;
 use crate::style::Style;
 use crate::walk::sector;
 use std::io::Write;
-use strandlodge::{How, Kind, MapTable, Matching, SECTOR_SIZE, VolumeDescriptor, map_table, probe_vrs, volume_descriptors};
+use strandlodge::{How, Kind, MapTable, SECTOR_SIZE, VolumeDescriptor, map_table, probe_vrs, volume_descriptors};
 
 /// Where in a logical volume descriptor its name, its domain's revision and the extent of the integrity sequence stand.
 const NAME: std::ops::Range<usize> = 84..212;
@@ -67,12 +68,12 @@ struct Partition {
 
 pub fn info(image: &[u8], how: How, name: &str, style: Style, out: &mut impl Write, log: &mut Log) -> Result<(), Failure> {
     let volume = Volume::of(image, how);
-    let opened = Disc::open(image, how, name, Matching::default(), log).and_then(|mut disc| disc.label());
+    let opened = Disc::open(image, how, name, Rule::default(), log).and_then(|mut disc| disc.label());
     let sectors = image.len() as u64 / SECTOR_SIZE;
     // Where it can't be opened, what there is is printed all the same, and then why.
     let label = opened.as_ref().ok();
     if style.is_json {
-        volume.json(label, sectors, probe_vrs(image)).print(out)?;
+        volume.json(&opened, sectors, probe_vrs(image)).print(out)?;
     } else {
         volume.lines(label, sectors, probe_vrs(image)).iter().try_for_each(|text| line(out, text))?;
     }
@@ -118,7 +119,7 @@ impl Volume {
         lines
     }
 
-    fn json(&self, label: Option<&String>, sectors: u64, is_recognised: bool) -> Json {
+    fn json(&self, opened: &Result<String, Failure>, sectors: u64, is_recognised: bool) -> Json {
         let partition = |one: &Partition| {
             Json::Object(vec![
                 ("number", Json::number(one.number)),
@@ -127,7 +128,8 @@ impl Volume {
             ])
         };
         Json::Object(vec![
-            ("label", Json::maybe(label, Json::text)),
+            ("label", Json::maybe(opened.as_ref().ok(), Json::text)),
+            ("refused", Json::maybe(opened.as_ref().err(), Failure::json)),
             ("volume", Json::maybe(self.name.as_ref(), Json::text)),
             ("revision", Json::maybe(self.revision, |revision| Json::text(dotted(revision)))),
             ("sectors", Json::number(sectors)),
@@ -144,8 +146,13 @@ impl Integrity {
     fn lines(&self) -> Vec<String> {
         let mut lines = vec![format!("state    {}, by sector {}", if self.is_closed { "closed" } else { "open" }, self.sector)];
         for (reference, (free, size)) in self.space.iter().enumerate() {
-            let said = |number: &Option<u32>| number.map_or("an unknown number".to_string(), |number| number.to_string());
-            lines.push(format!("free     {} of {} blocks, in the partition of map {reference}", said(free), said(size)));
+            let blocks = match (free, size) {
+                (Some(free), Some(size)) => format!("{free} of {size} blocks"),
+                (Some(free), None) => format!("{free} blocks, of how many is not recorded"),
+                (None, Some(size)) => format!("not recorded, of {size} blocks"),
+                (None, None) => "not recorded".to_string(),
+            };
+            lines.push(format!("free     {blocks}, in the partition of map {reference}"));
         }
         lines.extend(self.counts.map(|(files, directories)| format!("holds    files: {files}, directories: {directories}")));
         lines

@@ -6,6 +6,7 @@ use std::fmt;
 use std::io::Write;
 use strandlodge::{DirEntry, LongAd};
 
+#[derive(Clone)]
 pub enum Json {
     Null,
     Bool(bool),

@@ -9,7 +9,12 @@ pub struct Log {
     calls: Vec<(&'static str, u64)>,
     total: u64,
     pub remarks: Vec<String>,
+    /// How many things have a descriptor with a wrong body, and what was said of the last.
+    ruined: (u64, String),
 }
+
+/// So many of one kind are remarked on, each in a line.
+const NAMED: u64 = 8;
 
 impl Log {
     /// Notes a call's count, refused or not, and gives its value.
@@ -35,6 +40,25 @@ impl Log {
             self.total = self.total.saturating_add(one.1);
             self.calls.push(one);
         }
+    }
+
+    /// Remarks on a descriptor with a wrong body, once in a row. On a disc whose writer got them all wrong that isn't one line for each file.
+    pub fn ruin(&mut self, text: String) {
+        if self.ruined.1 == text {
+            return;
+        }
+        self.ruined.0 += 1;
+        if self.ruined.0 <= NAMED {
+            self.remarks.push(text.clone());
+        }
+        self.ruined.1 = text;
+    }
+
+    /// What is said at the end: the remarks, and how many more wrong bodies there are.
+    pub fn said(&self) -> impl Iterator<Item = String> + '_ {
+        let more = self.ruined.0.saturating_sub(NAMED);
+        let last = (more > 0).then(|| format!("{more} more paths have a descriptor with a wrong body: `vault check` lists them"));
+        self.remarks.iter().cloned().chain(last)
     }
 
     /// All sectors that were asked for so far.

@@ -38,6 +38,7 @@ use args::{Args, Command, Question};
 use commands::Manner;
 use failure::Failure;
 use image::Image;
+use json::Json;
 use log::{Log, say};
 use std::io::{self, BufWriter, Write};
 use std::process::ExitCode;
@@ -55,13 +56,35 @@ fn main() -> ExitCode {
 
 fn run() -> Result<(), Failure> {
     let args = args::parse(std::env::args_os().skip(1))?;
-    let (mut out, mut log) = (BufWriter::new(io::stdout().lock()), Log::default());
-    let done = answer(&args, &mut out, &mut log).and_then(|()| out.flush().map_err(Failure::output));
-    log.remarks.iter().for_each(|text| say(text));
+    let (mut out, mut log) = (Noted { to: BufWriter::new(io::stdout().lock()), any: false }, Log::default());
+    let mut done = answer(&args, &mut out, &mut log);
+    // What was printed is a document of its own, and says what it can of the refusal.
+    if let Some(failure) = done.as_ref().err().filter(|failure| args.style.is_json && !out.any && failure.says.is_some()) {
+        done = Json::Object(vec![("refused", failure.json())]).print(&mut out).and(done);
+    }
+    let done = done.and(out.flush().map_err(Failure::output));
+    log.said().for_each(|text| say(&text));
     if args.sectors {
         say(&format!("sectors asked for: {}", log.sectors()));
     }
     done
+}
+
+/// A writer that notes whether anything was written.
+struct Noted<W> {
+    to: W,
+    any: bool,
+}
+
+impl<W: Write> Write for Noted<W> {
+    fn write(&mut self, bytes: &[u8]) -> io::Result<usize> {
+        self.any = true;
+        self.to.write(bytes)
+    }
+
+    fn flush(&mut self) -> io::Result<()> {
+        self.to.flush()
+    }
 }
 
 fn answer(args: &Args, out: &mut impl Write, log: &mut Log) -> Result<(), Failure> {
@@ -71,9 +94,10 @@ fn answer(args: &Args, out: &mut impl Write, log: &mut Log) -> Result<(), Failur
         Command::Tour => tour::give(out),
         Command::Sample { file, force } => file::Target::fresh(file, *force, "")?.write(&tour::sample()?),
         Command::Make { image, files, force } => make::make(image, files, *force, out),
-        Command::Survey { images, limit } => {
-            survey::survey(images, Taken { how: args.how, copied: args.copy, limit: *limit }, args.style.is_json, out, log)
+        Command::Survey { images, limit, form } => {
+            survey::survey(images, Taken { how: args.how, copied: args.copy, limit: *limit }, *form, out, log)
         }
+        Command::Total { rows, form } => survey::add_up(rows, *form, out),
         Command::Ask { image, question } => {
             if let Question::Get { file, .. } = question {
                 file::apart(image, file)?;

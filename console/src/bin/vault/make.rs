@@ -5,6 +5,7 @@ use crate::commands::line;
 use crate::failure::{Failure, NO_IMAGE};
 use crate::file::{Target, apart};
 use crate::names::shown;
+use crate::style::bytes;
 use std::ffi::{OsStr, OsString};
 use std::fs::File;
 use std::io::{Read, Write};
@@ -14,6 +15,11 @@ use strandlodge::{Refusal, SECTOR_SIZE, write_staged, write_total};
 
 /// Said of an image that is there: it may be a file that was to go on the vault.
 const FIRST: &str = "; IMAGE, which is written, stands before the files";
+
+/// What a vault has at most: files, bytes of a name, and bytes of a file (docs/LAYOUT.md).
+const MOST_FILES: usize = 64;
+const LONGEST: usize = 127;
+const MOST_BYTES: u64 = 1_073_739_776;
 
 /// A file that goes on the vault, with the bytes that it had when it was opened.
 struct Source<'a> {
@@ -78,15 +84,43 @@ fn refused(about: &OsStr, why: Refusal) -> Failure {
     Failure::refused(shown(about.as_bytes()), why)
 }
 
+/// A refusal for one file, with the rule that it breaks.
+fn breaks(about: &OsStr, why: Refusal, rule: String) -> Failure {
+    Failure::with_number(why, format!("{}: {rule}", shown(about.as_bytes())))
+}
+
 /// Why a vault isn't written, with the first file whose name is bad, or that of one before it.
 fn misnamed(image: &OsStr, files: &[OsString], names: &[&[u8]], why: Refusal) -> Failure {
+    if why == Refusal::BadFiles {
+        return breaks(image, why, format!("these are {} files, and a vault has up to {MOST_FILES}", files.len()));
+    }
     let counts: Vec<usize> = (1..=names.len()).collect();
     let good = counts.partition_point(|n| write_total(&names[..*n], &[]) != Err(Refusal::BadName));
-    refused(files.get(good).map_or(image, |file| file), why)
+    let twin = |name: &[u8]| names[..good].iter().position(|other| other.eq_ignore_ascii_case(name)).map(|twin| &*files[twin]);
+    match files.get(good).zip(names.get(good)) {
+        Some((file, name)) => breaks(file, why, rule(name, twin(name))),
+        None => refused(image, why),
+    }
+}
+
+/// Which rule a name breaks; `twin` is the file of an equal one.
+fn rule(name: &[u8], twin: Option<&OsStr>) -> String {
+    let is_bad = |byte: &&u8| !(0x21..=0x7e).contains(*byte) || **byte == b'/';
+    match (twin, name.iter().find(is_bad)) {
+        (Some(twin), _) => {
+            format!("on a vault no two names are equal with ASCII case ignored, and {} has this one", shown(twin.as_bytes()))
+        }
+        _ if name.is_empty() => "this path ends in no name, and a file on a vault has one".to_string(),
+        _ if name.len() > LONGEST => format!("the name has {} bytes, and on a vault up to {LONGEST}", name.len()),
+        (_, Some(byte)) => format!("the name has the byte {byte:02X}, and on a vault those from 21 to 7E without the slash"),
+        _ => "this is no name for a vault".to_string(),
+    }
 }
 
 /// The same with the first that is too long.
 fn too_long(image: &OsStr, sources: &[Source], why: Refusal) -> Failure {
-    let long = sources.iter().find(|source| write_total(&["a"], &[source.length]).is_err());
-    refused(long.map_or(image, |source| source.path), why)
+    match sources.iter().find(|source| write_total(&["a"], &[source.length]).is_err()) {
+        Some(long) => breaks(long.path, why, format!("the file has {}, and on a vault up to {MOST_BYTES}", bytes(long.length))),
+        None => refused(image, why),
+    }
 }

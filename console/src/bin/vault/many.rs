@@ -7,6 +7,7 @@ use crate::file::{Target, apart, identity};
 use crate::names::shown;
 use crate::runs::{self, Span};
 use crate::steps::quoted;
+use crate::style::bytes;
 use crate::wanted::Wanted;
 use std::collections::HashSet;
 use std::ffi::OsStr;
@@ -66,7 +67,7 @@ pub fn get(disc: &mut Disc<Counted>, paths: &[Vec<u8>], folder: &Path, image: &O
     }
     for file in &wanted {
         match put(disc, file, &mut written) {
-            Ok(length) => line(out, &format!("{}: {length} bytes, to {}", shown(file.path), shown(file.to.as_os_str().as_bytes())))?,
+            Ok(length) => line(out, &format!("{}: {}, to {}", shown(file.path), bytes(length), shown(file.to.as_os_str().as_bytes())))?,
             Err(failure) => missed.tell(failure, disc),
         }
     }

@@ -55,13 +55,19 @@ pub fn json(table: &MapTable) -> Json {
     ])
 }
 
-/// An opening that was refused, with what to try where the maps would have led on.
+/// An opening that was refused, with what to try where the maps, or the descriptors with the highest numbers, would have led on.
 pub fn refused(image: &[u8], how: How, name: &str, refused: Refused) -> Failure {
     let diagnosis = diagnose(image, how, &refused);
     let mut failure = Failure::with_number(refused, format!("{name}: {}", diagnosis.what()));
     let mapped = || Counted::open_as(image, How { maps: true, ..how }).is_ok();
     if refused.why == Refusal::Unsupported && !how.maps && mapped() {
         failure.says.iter_mut().for_each(|says| *says += "; its partition is found through its maps, with --maps");
+    }
+    if !how.highest && Counted::open_as(image, How { highest: true, ..how }).is_ok() {
+        failure
+            .says
+            .iter_mut()
+            .for_each(|says| *says += "; it was closed again, and opens by its descriptors of the highest number, with --highest");
     }
     failure.at(&diagnosis)
 }

@@ -14,6 +14,9 @@ use strandlodge::udf::TagId;
 /// The bytes of a tag.
 const TAG: usize = 16;
 
+/// Of an object.
+type Fields = Vec<(&'static str, Json)>;
+
 /// Where the first byte of a descriptor stands.
 #[derive(Clone, Copy, PartialEq, Eq, Hash, Debug)]
 pub struct Place {
@@ -48,6 +51,12 @@ impl Place {
     }
 }
 
+impl Place {
+    fn json(self) -> Fields {
+        vec![("sector", Json::number(self.sector)), ("block", Json::maybe(self.block, Json::number))]
+    }
+}
+
 impl fmt::Display for Place {
     fn fmt(&self, f: &mut fmt::Formatter<'_>) -> fmt::Result {
         match self.block {
@@ -79,13 +88,16 @@ impl<'o, W: Write> Report<'o, W> {
     pub fn descriptor(&mut self, of: impl Fn() -> String, tag: Tag, at: Place, bytes: &[u8]) -> Result<(), Failure> {
         self.descriptors += 1;
         let (what, id) = (TagId::from_raw(tag.id).map_or("descriptor", TagId::name), tag.id);
+        let fields = || vec![("of", Json::text(of())), ("descriptor", Json::text(what)), ("id", Json::number(id))];
         if !at.holds(tag) {
             self.misplaced += 1;
-            self.line("misplaced", format!("{}: {what} (id {id}) says {}, stands in {at}", of(), tag.location))?;
+            let fields = || [fields(), at.json(), vec![("location", Json::number(tag.location))]].concat();
+            self.line("misplaced", fields, format!("{}: {what} (id {id}) says {}, stands in {at}", of(), tag.location))?;
         }
         if !has_right_body(tag, bytes) {
             self.ruined += 1;
-            self.line("ruined", format!("{}: {what} (id {id}) in {at} has a wrong body: {}", of(), ruin(tag, bytes)))?;
+            let fields = || [fields(), at.json(), sums(tag, bytes)].concat();
+            self.line("ruined", fields, format!("{}: {what} (id {id}) in {at} has a wrong body: {}", of(), ruin(tag, bytes)))?;
         }
         Ok(())
     }
@@ -94,20 +106,30 @@ impl<'o, W: Write> Report<'o, W> {
     pub fn unread(&mut self, what: &str, why: &Diagnosis) -> Result<(), Failure> {
         self.unread += 1;
         let place = why.place.map_or(String::new(), |place| format!("; {place}"));
-        self.line("unread", format!("{what}: can't be read: {} (refusal {}){place}", why.what(), why.refused.number()))
+        let fields = || {
+            let sector = Json::maybe(why.place, |place| Json::number(place.sector));
+            vec![("of", Json::text(what)), ("answer", Json::number(why.refused.number())), ("sector", sector)]
+        };
+        self.line("unread", fields, format!("{what}: can't be read: {} (refusal {}){place}", why.what(), why.refused.number()))
     }
 
-    fn line(&mut self, kind: &'static str, text: String) -> Result<(), Failure> {
+    fn line(&mut self, kind: &'static str, fields: impl Fn() -> Fields, text: String) -> Result<(), Failure> {
         if let Some(findings) = &mut self.findings {
-            findings.push(Json::Object(vec![("kind", Json::text(kind)), ("says", Json::text(text))]));
+            let [kind, says] = [("kind", Json::text(kind)), ("says", Json::text(text))];
+            findings.push(Json::Object([vec![kind], fields(), vec![says]].concat()));
             return Ok(());
         }
         self.word = None;
         writeln!(self.out, "{text}").map_err(Failure::output)
     }
 
-    /// All that was found, where it is printed as a document, and at which limit it ends.
-    fn document(&mut self, stopped: Option<u64>) -> Result<(), Failure> {
+    /// What was found of a volume that can't be opened.
+    pub fn refused(mut self, failure: &Failure) -> Result<(), Failure> {
+        self.document(None, Some(failure))
+    }
+
+    /// All that was found, where it is printed as a document, at which limit it ends, and why the volume wasn't opened.
+    fn document(&mut self, stopped: Option<u64>, refused: Option<&Failure>) -> Result<(), Failure> {
         let Some(findings) = self.findings.take() else {
             return Ok(());
         };
@@ -118,6 +140,7 @@ impl<'o, W: Write> Report<'o, W> {
             ("ruined", Json::number(self.ruined)),
             ("unread", Json::number(self.unread)),
             ("stopped", Json::maybe(stopped, Json::number)),
+            ("refused", Json::maybe(refused, Failure::json)),
             ("findings", Json::List(findings)),
         ])
         .print(self.out)
@@ -130,17 +153,24 @@ impl<'o, W: Write> Report<'o, W> {
         let found = format!("descriptors: {descriptors}, {wrong}");
         let says = || format!("{name}: {found}");
         let is_document = self.findings.is_some();
-        self.document(stopped)?;
+        self.document(stopped, None)?;
         if let Some(most) = stopped {
             return Err(Failure::new(STOPPED, limit::stopped(name, most, &format!("; so far: {found}"))));
         }
         match (misplaced + ruined, unread) {
             (0, 0) if is_document => Ok(()),
-            (0, 0) => self.line("sound", format!("{descriptors} descriptors, each in place and with a right body")),
+            (0, 0) => self.line("sound", Vec::new, format!("{descriptors} descriptors, each in place and with a right body")),
             (0, _) => Err(Failure::new(UNREAD, says())),
             _ => Err(Failure::new(WRONG, says())),
         }
     }
+}
+
+/// The CRC of a tag, of how many bytes it is, and that of as many bytes behind it, where they are there.
+fn sums(tag: Tag, bytes: &[u8]) -> Fields {
+    let body = bytes.get(TAG..).and_then(|body| body.get(..tag.crc_length.into()));
+    let found = Json::maybe(body, |body| Json::number(crc(body)));
+    vec![("crc", Json::number(tag.crc)), ("crc_length", Json::number(tag.crc_length)), ("crc_found", found)]
 }
 
 /// What a wrong body's tag says, and what there is.

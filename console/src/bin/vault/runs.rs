@@ -52,7 +52,11 @@ pub fn counted<V: Volume, T>(disc: &mut Disc<V>, path: &[u8], icb: LongAd, answe
         Err(refused) if refused.why == Refusal::NoRoom => {
             Err(Failure::with_number(refused, format!("{}: {}: {says}", disc.name, quoted(path))))
         }
-        answer => answer.map_err(|refused| disc.refused(path, Asked::ReadFile(icb), refused)),
+        Err(refused) => Err(disc.refused(path, Asked::ReadFile(icb), refused)),
+        Ok(read) => {
+            disc.see_file(path, icb);
+            Ok(read)
+        }
     }
 }
 

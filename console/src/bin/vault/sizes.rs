@@ -2,6 +2,7 @@
 
 use crate::disc::{Disc, Volume};
 use crate::json::Json;
+use crate::style::bytes;
 use strandlodge::{LongAd, Refusal};
 
 /// The sizes of what an ICB names. What can't be told is none: on a drive the last two, which take an image.
@@ -38,9 +39,9 @@ impl Sizes {
 
     /// A line for what the entry says, and one for what a read gives, where that can be told.
     pub fn lines(self) -> Vec<String> {
-        let length = self.information.map(|length| format!("length   {length} bytes, as its entry says"));
+        let length = self.information.map(|length| format!("length   {}, as its entry says", bytes(length)));
         let read = self.read.map(|read| match read {
-            Ok(bytes) => format!("read     {bytes} bytes"),
+            Ok(read) => format!("read     {}", bytes(read)),
             Err(why) => format!("read     none: {why} (refusal {})", why.number()),
         });
         length.into_iter().chain(read).collect()

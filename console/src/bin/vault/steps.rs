@@ -9,6 +9,27 @@ const NAMED: usize = 8;
 /// What a choice does of which every remark speaks.
 const WRITTEN: &str = "--as-written takes the very name alone";
 
+/// How names on a path are matched.
+#[derive(Debug, Clone, Copy, PartialEq, Eq, Default)]
+pub enum Rule {
+    /// The command's own: the very name if there is one, else the only entry that is equal with case ignored, else none. It goes name by name: one that is
+    /// written as the disc has it isn't refused for its twin, whatever the others are.
+    #[default]
+    Safe,
+    /// A choice of the calls.
+    Call(Matching),
+}
+
+impl Rule {
+    /// The choice of the call that is made first, and with the names as the disc spells them.
+    pub fn call(self) -> Matching {
+        match self {
+            Rule::Safe => Matching::AsWritten,
+            Rule::Call(matching) => matching,
+        }
+    }
+}
+
 /// A name on a path, and the entries of its directory that are equal to it with case ignored, in the disc's order.
 pub struct Step<'p> {
     /// What stands in front of it.
@@ -24,8 +45,19 @@ impl<'p> Step<'p> {
     }
 
     /// The entries that match.
-    fn matches(&self, matching: Matching) -> Vec<&DirEntry> {
-        self.alike.iter().filter(|entry| matching != Matching::AsWritten || self.is_written(entry)).collect()
+    fn matches(&self, rule: Rule) -> Vec<&DirEntry> {
+        let is_there = self.alike.iter().any(|entry| self.is_written(entry));
+        let as_written = rule == Rule::Call(Matching::AsWritten) || rule == Rule::Safe && is_there;
+        self.alike.iter().filter(|entry| !as_written || self.is_written(entry)).collect()
+    }
+
+    /// More match than one, and none is taken.
+    fn is_ambiguous(&self, rule: Rule) -> bool {
+        let is_only = match rule {
+            Rule::Safe => !self.alike.iter().any(|entry| self.is_written(entry)),
+            Rule::Call(matching) => matching == Matching::Unambiguous,
+        };
+        is_only && self.alike.len() > 1
     }
 
     fn is_written(&self, entry: &DirEntry) -> bool {
@@ -33,20 +65,19 @@ impl<'p> Step<'p> {
     }
 
     /// The entry that a lookup takes: of several the first, or none.
-    pub fn taken(&self, matching: Matching) -> Option<&DirEntry> {
-        match self.matches(matching)[..] {
-            [_, _, ..] if matching == Matching::Unambiguous => None,
-            ref all => all.first().copied(),
-        }
+    pub fn taken(&self, rule: Rule) -> Option<&DirEntry> {
+        if self.is_ambiguous(rule) { None } else { self.matches(rule).first().copied() }
     }
 
     /// What has to be said where the entry that is taken has another name than was asked for, or isn't the only one that matches.
-    pub fn remark(&self, matching: Matching) -> Option<String> {
-        let matches = self.matches(matching);
+    pub fn remark(&self, rule: Rule) -> Option<String> {
+        let matches = self.matches(rule);
         let (given, others) = matches.split_first()?;
         if others.is_empty() {
             let says = format!("{} gives \"{}\", in another case", self.asked(), shown(given.name.as_bytes()));
-            return (!self.is_written(given)).then(|| says + &format!(" ({WRITTEN}, --unambiguous refuses where several match)"));
+            // Of several none is taken by the command's own rule.
+            let more = if rule == Rule::Safe { "" } else { ", --unambiguous refuses where several match" };
+            return (!self.is_written(given)).then(|| says + &format!(" ({WRITTEN}{more})"));
         }
         // Of entries that all have the very name no choice gives another than the first.
         let is_told = !matches.iter().all(|entry| self.is_written(entry));
@@ -55,15 +86,15 @@ impl<'p> Step<'p> {
         Some(format!("{} gives {given}, the first of {count} that match, and not {others} ({cure}, --unambiguous refuses)", self.asked()))
     }
 
-    /// Which entries match, where that is more than one.
-    pub fn ambiguity(&self) -> Option<String> {
-        let all = self.matches(Matching::Unambiguous);
-        (all.len() > 1).then(|| format!("{} is ambiguous, {} entries match: {}", self.asked(), all.len(), listed(&all)))
+    /// Which entries match, where that is more than one and none is taken.
+    pub fn ambiguity(&self, rule: Rule) -> Option<String> {
+        let all = self.matches(rule);
+        self.is_ambiguous(rule).then(|| format!("{} is ambiguous, {} entries match: {}", self.asked(), all.len(), listed(&all)))
     }
 
     /// What there is in another case.
     pub fn in_another_case(&self) -> Option<String> {
-        let all = self.matches(Matching::CaseIgnored);
+        let all = self.matches(Rule::Call(Matching::CaseIgnored));
         (!all.is_empty()).then(|| format!("in another case there is {}", listed(&all)))
     }
 
@@ -97,6 +128,18 @@ pub fn names(path: &[u8]) -> impl Iterator<Item = (&[u8], &[u8])> {
     parts.filter(|(_, name)| !name.is_empty())
 }
 
+/// A path with each name as the disc spells it, as far as the names are there. No byte changes its place: another case is as long.
+pub fn spelled(path: &[u8], steps: &[Step], rule: Rule) -> Vec<u8> {
+    let mut spelled = path.to_vec();
+    for step in steps {
+        let (at, taken) = (step.above.len(), step.taken(rule).map(|entry| entry.name.as_bytes()));
+        if let (Some(to), Some(name)) = (spelled.get_mut(at..at + step.name.len()), taken) {
+            to.copy_from_slice(name);
+        }
+    }
+    spelled
+}
+
 /// A path in quotes; the empty one is the root.
 pub fn quoted(path: &[u8]) -> String {
     match trimmed(path) {
@@ -115,8 +158,13 @@ pub fn trimmed(mut path: &[u8]) -> &[u8] {
 
 #[cfg(test)]
 mod tests {
-    use super::*;
-    use strandlodge::{LbAddr, LongAd};
+    use super::{Rule, Step, names, spelled};
+    use strandlodge::{DirEntry, LbAddr, LongAd, Matching};
+
+    const FIRST: Rule = Rule::Call(Matching::CaseIgnored);
+    const WRITTEN: Rule = Rule::Call(Matching::AsWritten);
+    const ONLY: Rule = Rule::Call(Matching::Unambiguous);
+    const ALL: [Rule; 4] = [Rule::Safe, FIRST, WRITTEN, ONLY];
 
     /// A step of entries in blocks 1, 2 and so on.
     fn step<'p>(name: &'p str, entries: &[&str]) -> Step<'p> {
@@ -135,26 +183,47 @@ mod tests {
 
     #[test]
     fn nothing_is_remarked_of_the_only_entry_of_its_name() {
-        use Matching::*;
-        for matching in [CaseIgnored, AsWritten, Unambiguous] {
+        for rule in ALL {
             let step = step("9", &["8", "9", "99"]);
-            assert_eq!((step.remark(matching), step.taken(matching).map(|e| e.icb.location.block)), (None, Some(2)));
-            assert_eq!(self::step("9", &["8"]).remark(matching), None);
+            assert_eq!((step.remark(rule), step.taken(rule).map(|e| e.icb.location.block)), (None, Some(2)));
+            assert_eq!(self::step("9", &["8"]).remark(rule), None);
         }
         // As it is written another case is another name.
-        assert_eq!(step("a", &["A", "a"]).remark(AsWritten), None);
-        assert_eq!(step("a", &["A", "a"]).taken(AsWritten).map(|e| e.icb.location.block), Some(2));
-        assert!(step("a", &["A", "a"]).taken(Unambiguous).is_none());
+        for rule in [WRITTEN, Rule::Safe] {
+            assert_eq!(step("a", &["A", "a"]).remark(rule), None);
+            assert_eq!(step("a", &["A", "a"]).taken(rule).map(|e| e.icb.location.block), Some(2));
+        }
+        assert!(step("a", &["A", "a"]).taken(ONLY).is_none());
+    }
+
+    /// The command's own rule: the very name, else the only one, else none.
+    #[test]
+    fn the_very_name_is_taken_before_any_other() {
+        let block = |name, entries: &[&str]| step(name, entries).taken(Rule::Safe).map(|e| e.icb.location.block);
+        assert_eq!((block("a", &["A", "a", "a"]), block("a", &["b", "A"]), block("a", &["b"])), (Some(2), Some(2), None));
+        assert_eq!((block("aB", &["AB", "ab"]), block("aB", &["AB", "AB"])), (None, None));
+        let both = "\"aB\" under \"SHOW\" is ambiguous, 2 entries match: \"AB\" in block 1, \"ab\" in block 2";
+        assert_eq!(step("aB", &["AB", "ab"]).ambiguity(Rule::Safe).as_deref(), Some(both));
+        assert_eq!((step("ab", &["AB", "ab"]).ambiguity(Rule::Safe), step("aB", &["ab"]).ambiguity(Rule::Safe)), (None, None));
+    }
+
+    #[test]
+    fn a_path_is_spelled_as_the_disc_has_it() {
+        let of = |name, entries: &[&str]| spelled(b"SHOW/10.1a/x", &[step(name, entries)], Rule::Safe);
+        assert_eq!(of("10.1a", &["9", "10.1A"]), b"SHOW/10.1A/x");
+        assert_eq!((of("10.1a", &["9"]), of("10.1a", &["10.1A", "10.1a"])), (b"SHOW/10.1a/x".to_vec(), b"SHOW/10.1a/x".to_vec()));
     }
 
     #[test]
     fn another_case_is_remarked() {
-        for matching in [Matching::CaseIgnored, Matching::Unambiguous] {
+        for rule in [FIRST, ONLY] {
             let says = "\"10.1A\" under \"SHOW\" gives \"10.1a\", in another case \
                         (--as-written takes the very name alone, --unambiguous refuses where several match)";
-            assert_eq!(step("10.1A", &["9", "10.1a"]).remark(matching).as_deref(), Some(says));
+            assert_eq!(step("10.1A", &["9", "10.1a"]).remark(rule).as_deref(), Some(says));
         }
-        assert_eq!(step("10.1A", &["9", "10.1a"]).remark(Matching::AsWritten), None);
+        let says = "\"10.1A\" under \"SHOW\" gives \"10.1a\", in another case (--as-written takes the very name alone)";
+        assert_eq!(step("10.1A", &["9", "10.1a"]).remark(Rule::Safe).as_deref(), Some(says));
+        assert_eq!(step("10.1A", &["9", "10.1a"]).remark(WRITTEN), None);
     }
 
     #[test]
@@ -163,17 +232,19 @@ mod tests {
         for (name, entries) in [("a", ["A", "a"]), ("A", ["A", "a"])] {
             let says =
                 format!("\"{name}\" under \"SHOW\" gives \"A\" in block 1, the first of 2 that match, and not \"a\" in block 2 {cure}");
-            assert_eq!(step(name, &entries).remark(Matching::CaseIgnored), Some(says));
+            assert_eq!(step(name, &entries).remark(FIRST), Some(says));
         }
         let cure = "(--as-written doesn't tell them apart and --icb does, --unambiguous refuses)";
         let says = format!("\"a\" under \"SHOW\" gives \"a\" in block 2, the first of 2 that match, and not \"a\" in block 3 {cure}");
-        assert_eq!(step("a", &["b", "a", "a"]).remark(Matching::CaseIgnored).as_ref(), Some(&says));
-        assert_eq!(step("a", &["A", "a", "a"]).remark(Matching::AsWritten), Some(says));
+        assert_eq!(step("a", &["b", "a", "a"]).remark(FIRST).as_ref(), Some(&says));
+        for rule in [WRITTEN, Rule::Safe] {
+            assert_eq!(step("a", &["A", "a", "a"]).remark(rule).as_ref(), Some(&says));
+        }
     }
 
     #[test]
     fn many_entries_are_counted() {
-        let says = step("a", &["A"; 11]).ambiguity().unwrap();
+        let says = step("a", &["A"; 11]).ambiguity(ONLY).unwrap();
         assert!(says.starts_with("\"a\" under \"SHOW\" is ambiguous, 11 entries match: \"A\" in block 1, "), "{says}");
         assert!(says.ends_with("\"A\" in block 8, 3 more"), "{says}");
     }

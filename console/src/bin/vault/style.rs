@@ -33,6 +33,14 @@ impl Style {
     }
 }
 
+/// So many bytes.
+pub fn bytes(n: impl Into<u64>) -> String {
+    match n.into() {
+        1 => "1 byte".to_string(),
+        n => format!("{n} bytes"),
+    }
+}
+
 /// An entry by its name.
 pub fn listed(entry: &DirEntry) -> String {
     shown_name(&entry.name) + if entry.is_directory { "/" } else { "" }

@@ -8,6 +8,7 @@ use crate::log::Log;
 use crate::make;
 use crate::names::shown;
 use crate::runs::Span;
+use crate::steps::Rule;
 use crate::style::Style;
 use crate::wanted::Wanted;
 use std::ffi::OsStr;
@@ -32,22 +33,24 @@ pub fn sample() -> Result<Vec<u8>, Failure> {
 }
 
 pub fn give(out: &mut impl Write) -> Result<(), Failure> {
-    use Matching::{AsWritten, CaseIgnored, Unambiguous};
+    let (original, only) = (Rule::Call(Matching::CaseIgnored), Rule::Call(Matching::Unambiguous));
     let image = sample()?;
     let cat = |path: &[u8]| Question::Cat { wanted: Wanted::Path(path.into()) };
     text(out, BEGIN)?;
-    step(&image, Question::Label, CaseIgnored, "label show.img", out)?;
-    step(&image, Question::Ls { wanted: Wanted::Path(DIRECTORY.into()) }, CaseIgnored, "ls show.img SHOW", out)?;
+    step(&image, Question::Label, Rule::Safe, "label show.img", out)?;
+    step(&image, Question::Ls { wanted: Wanted::Path(DIRECTORY.into()) }, Rule::Safe, "ls show.img SHOW", out)?;
     text(out, "Two cues have names that differ in case alone. They are two entries:\n\n")?;
     looks(&image, out)?;
     text(out, MATCHING)?;
-    step(&image, cat(UPPER), CaseIgnored, "cat show.img SHOW/10.1A", out)?;
-    step(&image, cat(LOWER), CaseIgnored, "cat show.img SHOW/10.1a", out)?;
-    text(out, MEANING)?;
-    step(&image, cat(LOWER), Unambiguous, "cat --unambiguous show.img SHOW/10.1a", out)?;
-    text(out, WRITTEN)?;
-    step(&image, cat(LOWER), AsWritten, "cat --as-written show.img SHOW/10.1a", out)?;
-    step(&image, Question::Stat { wanted: Wanted::Path(LOWER.into()) }, AsWritten, "stat --as-written show.img SHOW/10.1a", out)?;
+    step(&image, cat(UPPER), Rule::Safe, "cat show.img SHOW/10.1A", out)?;
+    step(&image, cat(LOWER), Rule::Safe, "cat show.img SHOW/10.1a", out)?;
+    text(out, ANY_CASE)?;
+    step(&image, cat(b"show/9"), Rule::Safe, "cat show.img show/9", out)?;
+    text(out, ORIGINAL)?;
+    step(&image, cat(LOWER), original, "cat --as-original show.img SHOW/10.1a", out)?;
+    text(out, CHOICES)?;
+    step(&image, cat(LOWER), only, "cat --unambiguous show.img SHOW/10.1a", out)?;
+    step(&image, Question::Stat { wanted: Wanted::Path(LOWER.into()) }, Rule::Safe, "stat show.img SHOW/10.1a", out)?;
     text(out, CONSOLE)?;
     text(out, MAKING)?;
     made(&image, out)
@@ -60,25 +63,32 @@ line behind a $ can be typed. `vault --help` has all commands.
 ";
 
 const MATCHING: &str = "\
-A path ignores ASCII case, and takes the first entry that is equal so. Either
-name gives 10.1A, and standard error has a remark:
+A path gives the entry that has the very name, and each cue is had by its own:
 
 ";
 
-const MEANING: &str = "\
-For a show this means: what a path gave may have another name than was asked
-for. Who would rather be refused than be given another says --unambiguous:
+const ANY_CASE: &str = "\
+Where no entry has the very name, the only one that has it in another case is
+given, with a remark. Of several none is given: the path is refused by 9.
 
 ";
 
-const WRITTEN: &str = "\
-And cue 10.1a itself is had by its name as it is written:
+const ORIGINAL: &str = "\
+The original ignores ASCII case and takes the first entry. For a show this means:
+what a path gave may have another name than was asked for. --as-original does so:
+
+";
+
+const CHOICES: &str = "\
+There are two more choices: --as-written takes the very name alone, and
+--unambiguous refuses a name that two entries match, one of them exactly:
 
 ";
 
 const CONSOLE: &str = "\
-A console has the same choice: lookup_as and read_path_as, with
-Matching::AsWritten or Matching::Unambiguous.
+A console's calls go by the original's rule, lookup and read_path, or by one that
+is chosen: lookup_as and read_path_as, with Matching::AsWritten or
+Matching::Unambiguous.
 ";
 
 const MAKING: &str = "
@@ -93,7 +103,7 @@ const NEW: &str = "new.img";
 /// Two cues taken off the show, and a vault made of them; in memory, as everything here.
 fn made(image: &[u8], out: &mut impl Write) -> Result<(), Failure> {
     let mut log = Log::default();
-    let disc = Disc::open(image, How::default(), NAME, Matching::CaseIgnored, &mut log)?;
+    let disc = Disc::open(image, How::default(), NAME, Rule::Safe, &mut log)?;
     let paths = STAGED.map(|name| format!("SHOW/{name}"));
     let cues = disc.volume.read_all(&paths).map_err(|refused| Failure::refused(NAME, refused))?;
     let cues = cues.value.into_iter().collect::<Result<Vec<_>, _>>().map_err(|why| Failure::refused(NAME, why))?;
@@ -105,7 +115,7 @@ fn made(image: &[u8], out: &mut impl Write) -> Result<(), Failure> {
     let vault = strandlodge::write(&files).map_err(|why| Failure::refused(NEW, why))?;
     let says = make::made(OsStr::new(NEW), files.len(), vault.len() as u64 / SECTOR_SIZE);
     text(out, &format!("\n$ vault make {NEW} {}\n{says}\n\n", STAGED.join(" ")))?;
-    step(&vault, Question::Ls { wanted: Wanted::Path(Vec::new()) }, Matching::CaseIgnored, &format!("ls {NEW}"), out)
+    step(&vault, Question::Ls { wanted: Wanted::Path(Vec::new()) }, Rule::Safe, &format!("ls {NEW}"), out)
 }
 
 fn text(out: &mut impl Write, text: &str) -> Result<(), Failure> {
@@ -113,7 +123,7 @@ fn text(out: &mut impl Write, text: &str) -> Result<(), Failure> {
 }
 
 /// A command as it is typed, its answer, and what it would say on standard error.
-fn step(image: &[u8], question: Question, matching: Matching, typed: &str, out: &mut impl Write) -> Result<(), Failure> {
+fn step(image: &[u8], question: Question, matching: Rule, typed: &str, out: &mut impl Write) -> Result<(), Failure> {
     let (mut log, manner) = (Log::default(), Manner { how: How::default(), matching, style: Style::default(), span: Span::default() });
     text(out, &format!("$ vault {typed}\n"))?;
     let refused = match commands::ask(&question, manner, image, OsStr::new(NAME), out, &mut log) {
@@ -130,7 +140,7 @@ fn step(image: &[u8], question: Question, matching: Matching, typed: &str, out: 
 /// The last line of each of the two cues, read by the ICB of its entry.
 fn looks(image: &[u8], out: &mut impl Write) -> Result<(), Failure> {
     let mut log = Log::default();
-    let mut disc = Disc::open(image, How::default(), NAME, Matching::CaseIgnored, &mut log)?;
+    let mut disc = Disc::open(image, How::default(), NAME, Rule::Safe, &mut log)?;
     let directory = disc.find_path(DIRECTORY)?.icb;
     for entry in disc.list(DIRECTORY, directory)?.iter().filter(|entry| entry.name.eq_ignore_ascii_case("10.1a")) {
         let cue = disc.read(DIRECTORY, entry.icb)?;

@@ -1,16 +1,16 @@
 //! `tree` and `ls -R`: all that stands below a directory.
 //!
 //! A directory is listed at its turn, and nothing is kept but the listings on the way down: what is drawn is written at once, and it can stop at any
-//! entry. The order is that of a show (`Vault::show`), and so is what is refused, but for a directory at the last level: it is drawn and not looked
-//! into, and the rest goes on.
+//! entry. The order is that of a show (`Vault::show`), and so is what is refused; but a directory at the last level is drawn and not looked into, one that
+//! can't be read is told of, and the rest goes on.
 
 use crate::bar::Count;
 use crate::commands::line;
 use crate::disc::{Disc, Volume};
-use crate::failure::Failure;
+use crate::failure::{Failure, STOPPED};
 use crate::json::{Json, Rows};
 use crate::limit::{self, Limit};
-use crate::log;
+use crate::log::{self, Log};
 use crate::names::{shown, shown_name};
 use crate::sizes::Sizes;
 use crate::steps::quoted;
@@ -18,6 +18,9 @@ use crate::style::{Style, listed};
 use crate::wanted::Wanted;
 use std::io::Write;
 use strandlodge::{Asked, DirEntry, Refusal};
+
+/// So many directories that can't be listed are named.
+const NAMED: u64 = 8;
 
 /// How far it goes.
 #[derive(Debug, Clone, Copy, PartialEq, Eq)]
@@ -113,6 +116,20 @@ impl<W: Write> Output<'_, W> {
     }
 }
 
+impl<W: Write> Output<'_, W> {
+    /// A directory that can't be listed, behind its own row: in a document. Else it is told of beside the lines.
+    fn refused(&mut self, levels: &[Level], failure: &Failure, path: &Path) -> Result<(), Failure> {
+        match self {
+            Output::Lines(..) => Ok(()),
+            Output::Document(rows, _) => rows.row(&Json::Object(vec![
+                ("level", Json::number(levels.len() as u64)),
+                ("path", Json::text(&path.text)),
+                ("refused", failure.json()),
+            ])),
+        }
+    }
+}
+
 /// What was seen so far.
 #[derive(Default)]
 struct Seen {
@@ -124,11 +141,25 @@ struct Seen {
     /// Sectors that the listings asked for, and how many may be asked for with all other calls.
     sectors: u64,
     most: u64,
+    /// Directories that can't be listed, and the status for the first.
+    unlisted: u64,
+    status: u8,
 }
 
 impl Seen {
     fn entries(&self) -> u64 {
         self.directories + self.files
+    }
+
+    /// Tells of a directory that can't be listed. Of many the first are named.
+    fn tell(&mut self, failure: &Failure, log: &mut Log) {
+        self.unlisted += 1;
+        if self.unlisted == 1 {
+            self.status = failure.status;
+        }
+        if self.unlisted <= NAMED {
+            log.remarks.extend(failure.says.clone());
+        }
     }
 }
 
@@ -141,7 +172,7 @@ pub fn show<V: Volume>(
     style: Style,
     out: &mut impl Write,
 ) -> Result<(), Failure> {
-    let (found, path) = (disc.find(wanted)?, wanted.text());
+    let (found, path) = (disc.find_listed(wanted)?, wanted.text());
     if let Some(entry) = found.entry.filter(|entry| !entry.is_directory) {
         let sizes = style.is_long.then(|| disc.sizes(entry.icb));
         return match style.is_json {
@@ -168,7 +199,13 @@ pub fn show<V: Volume>(
             line(out, &format!("{}, {}", counted(seen.directories, "directory", "directories"), counted(seen.files, "file", "files")))?;
         }
     }
-    too_deep(disc.name, &seen, bounds)
+    let deep = too_deep(disc.name, &seen, bounds);
+    if seen.unlisted == 0 {
+        return deep;
+    }
+    disc.log.remarks.extend(deep.err().and_then(|failure| failure.says));
+    let many = counted(seen.unlisted, "directory", "directories");
+    Err(Failure::new(seen.status, format!("{}: {many} can't be listed, and the rest is shown", disc.name)))
 }
 
 fn counted(n: u64, one: &str, more: &str) -> String {
@@ -220,7 +257,14 @@ fn walk<V: Volume, W: Write>(
             seen.deep += 1;
             continue;
         }
-        let entries = list(disc, &path.raw, entry.icb, seen)?;
+        let entries = match list(disc, &path.raw, entry.icb, seen) {
+            Err(failure) if failure.status != STOPPED => {
+                seen.tell(&failure, disc.log);
+                out.refused(&levels, &failure, &path)?;
+                continue;
+            }
+            listed => listed?,
+        };
         path.go_in();
         levels.push(Level { entries: entries.into_iter(), path: path.len() });
     }

@@ -7,11 +7,11 @@
 use crate::bar::Line;
 use crate::failure::{Failure, NO_IMAGE};
 use crate::image::{self, Image};
-use crate::steps::{Step, names};
+use crate::steps::{Rule, Step, names};
 use crate::wanted::Wanted;
 use std::ffi::OsStr;
 use std::time::{Duration, Instant};
-use strandlodge::{Counted, How, Matching, SECTOR_SIZE};
+use strandlodge::{Counted, How, SECTOR_SIZE};
 
 /// Between two looks at the image's length.
 const PAUSE: Duration = Duration::from_millis(50);
@@ -93,7 +93,7 @@ fn state(there: usize, missing: Option<u64>) -> String {
 }
 
 /// The sector for want of which the file that is asked for is refused by 1, where it can be named.
-pub fn missing(image: &[u8], how: How, matching: Matching, wanted: &Wanted) -> Option<u64> {
+pub fn missing(image: &[u8], how: How, matching: Rule, wanted: &Wanted) -> Option<u64> {
     let vault = match Counted::open_as(image, how) {
         Ok(vault) => vault.value,
         Err(refused) => return (refused.may_pass() && refused.sectors == 1).then_some(ANCHOR),
