@@ -303,6 +303,7 @@ fn a_tree_names_what_it_cannot_read() {
     assert!(said.out.lines().nth(4).unwrap().starts_with(row), "{said:?}");
     // What is asked for itself, and the status of the first of several, also where one stands too deep.
     assert_eq!(folder.vault(&["ls", "-R", "a.img", "d/gone"]).status, 1);
+    assert!(folder.vault(&["ls", "-R", "--json", "a.img", "d/gone"]).out.starts_with("{\"refused\": {\"answer\": 1,"));
     let bad: Vec<Vec<u8>> = (0..10).map(|n| named(&format!("b{n}"), if n == 0 { 0 } else { 900_000 + n }, true)).collect();
     let root = disc.directory(&[bad, vec![named("d", below, true)]].concat());
     disc.root(root);

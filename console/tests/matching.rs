@@ -300,8 +300,14 @@ fn a_wrong_body_on_the_way_is_said() {
         let said = folder.vault(&["ls", "a.img", "SHOW"]);
         assert_eq!((said.status, said.error.lines().count()), (0, [1, 1, 0][block - 3].max(usize::from(block == 4))), "{said:?}");
     }
-    // The volume's own; and of a disc on which all are wrong a few are named.
-    let mut image = whole.clone();
+}
+
+/// The volume's own; and of a disc on which all are wrong a few are named.
+#[test]
+fn wrong_bodies_are_not_a_line_each() {
+    let (folder, mut image) = (Folder::new(), show());
+    std::fs::create_dir(folder.at("to")).unwrap();
+    let says = "has a wrong body, and is taken as it stands (--checked refuses it, and `vault check` lists all such descriptors)";
     image[32 * common::SECTOR + 100] ^= 1;
     folder.write("a.img", &image);
     let said = folder.vault(&["cat", "a.img", "SHOW/9"]);

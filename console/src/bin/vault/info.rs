@@ -250,6 +250,12 @@ mod tests {
         bytes[TABLE + 16 + 32] = 3;
         bytes[TABLE + 16 + 36] = 4;
         assert_eq!(said(&bytes, 5).unwrap().counts, Some((3, 4)));
+        let space = vec![(Some(7), Some(9)), (Some(7), None), (None, Some(9)), (None, None)];
+        let lines = Integrity { sector: 5, is_closed: true, space, counts: None }.lines();
+        let front = ["7 of 9 blocks", "7 blocks, of how many is not recorded", "not recorded, of 9 blocks", "not recorded"];
+        let lines: Vec<&str> =
+            lines[1..].iter().map(|line| line["free     ".len()..].split(", in the partition").next().unwrap()).collect();
+        assert_eq!(lines, front);
         bytes[PARTITIONS + 3] = 255;
         assert_eq!(said(&bytes, 5), None);
     }

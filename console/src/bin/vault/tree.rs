@@ -151,6 +151,14 @@ impl Seen {
         self.directories + self.files
     }
 
+    /// A directory that isn't looked into.
+    fn pass(&mut self, path: &[u8]) {
+        if self.deep == 0 {
+            self.first = path.to_vec();
+        }
+        self.deep += 1;
+    }
+
     /// Tells of a directory that can't be listed. Of many the first are named.
     fn tell(&mut self, failure: &Failure, log: &mut Log) {
         self.unlisted += 1;
@@ -185,10 +193,10 @@ pub fn show<V: Volume>(
         line(out, &format!("{}/", shown(path.strip_suffix(b"/").unwrap_or(&path))))?;
     }
     let mut seen = Seen { most: bounds.limit.of(disc.bytes), ..Seen::default() };
-    let below = list(disc, &path, found.icb, &mut seen);
+    let below = list(disc, &path, found.icb, &mut seen).inspect_err(|_| disc.log.sums([("read_directory", seen.sectors)]))?;
     let from = Path::of(if let Wanted::Path(path) = wanted { path } else { b"" });
     let mut to = if style.is_json { Output::Document(Rows::new(out), style) } else { Output::Lines(out, form, style) };
-    let done = below.and_then(|entries| walk(disc, from, entries, bounds, &mut seen, &mut to));
+    let done = walk(disc, from, below, bounds, &mut seen, &mut to);
     disc.log.sums([("read_directory", seen.sectors)]);
     if let Output::Document(rows, _) = to {
         rows.end()?;
@@ -199,7 +207,12 @@ pub fn show<V: Volume>(
             line(out, &format!("{}, {}", counted(seen.directories, "directory", "directories"), counted(seen.files, "file", "files")))?;
         }
     }
-    let deep = too_deep(disc.name, &seen, bounds);
+    end(disc, &seen, bounds)
+}
+
+/// How it ends: well where all was shown.
+fn end<V: Volume>(disc: &mut Disc<V>, seen: &Seen, bounds: Bounds) -> Result<(), Failure> {
+    let deep = too_deep(disc.name, seen, bounds);
     if seen.unlisted == 0 {
         return deep;
     }
@@ -251,10 +264,7 @@ fn walk<V: Volume, W: Write>(
             continue;
         }
         if levels.len() == bounds.levels {
-            if seen.deep == 0 {
-                seen.first.clone_from(&path.raw);
-            }
-            seen.deep += 1;
+            seen.pass(&path.raw);
             continue;
         }
         let entries = match list(disc, &path.raw, entry.icb, seen) {
