@@ -1,15 +1,16 @@
 # Completion of vault for bash.
 _vault() {
     local word=${COMP_WORDS[COMP_CWORD]} before=${COMP_WORDS[COMP_CWORD-1]} command= image= i
-    local commands="label info ls tree cat get stat probe check survey make sample"
+    local commands="label info ls tree cat get stat probe check survey compare make sample"
     for ((i = 1; i < COMP_CWORD; i++)); do
         case ${COMP_WORDS[i]} in
-            -o | --icb | --levels | --limit | --wait | --from | --bytes) ((i++)) ;;
+            -o | --sums | --icb | --levels | --limit | --wait | --from | --bytes) ((i++)) ;;
             -*) ;;
             *) if [ -z "$command" ]; then command=${COMP_WORDS[i]}; elif [ -z "$image" ]; then image=${COMP_WORDS[i]}; fi ;;
         esac
     done
     case $before in
+        --sums) COMPREPLY=($(compgen -f -- "$word")); return ;;
         -o) COMPREPLY=($(compgen -d -- "$word")); return ;;
         --icb | --levels | --limit | --wait | --from | --bytes) return ;;
     esac
@@ -19,16 +20,16 @@ _vault() {
             ls) options+=" -R -i -l -0 --json --levels --limit --no-limit --as-written --unambiguous --raw --icb" ;;
             tree) options+=" --json --levels --limit --no-limit --as-written --unambiguous --raw --icb" ;;
             cat) options+=" --from --bytes --wait --as-written --unambiguous --raw --icb" ;;
-            get) options+=" -o -r --limit --no-limit --from --bytes --wait --as-written --unambiguous --raw --icb" ;;
+            get) options+=" -o -r --portable --sums --limit --no-limit --from --bytes --wait --as-written --unambiguous --raw --icb" ;;
             stat) options+=" --json --as-written --unambiguous --raw --icb" ;;
             info) options+=" --json" ;;
-            check | survey) options+=" --json --limit --no-limit" ;;
+            check | survey | compare) options+=" --json --limit --no-limit" ;;
             "") options+=" --version" ;;
         esac
         COMPREPLY=($(compgen -W "$options" -- "$word"))
     elif [ -z "$command" ]; then
         COMPREPLY=($(compgen -W "$commands" -- "$word"))
-    elif [ -z "$image" ] || [ "$command" = make ] || [ "$command" = survey ]; then
+    elif [ -z "$image" ] || [ "$command" = make ] || [ "$command" = survey ] || [ "$command" = compare ]; then
         compopt -o filenames 2>/dev/null
         COMPREPLY=($(compgen -f -- "$word"))
     else

@@ -574,7 +574,8 @@ mod tests {
             ("get a -o d -r --drive --no-limit", &[], Limit::None),
         ] {
             let paths = paths.iter().map(|path| path.as_bytes().to_vec()).collect();
-            let question = Question::GetTree { paths, folder: "d".into(), limit };
+            let tree = Tree { paths, limit, is_portable: false, sums: None };
+            let question = Question::GetTree { tree, folder: "d".into() };
             assert_eq!(parsed(line).unwrap().command, Command::Ask { image: "a".into(), question }, "{line}");
         }
     }

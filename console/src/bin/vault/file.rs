@@ -179,7 +179,7 @@ pub fn keep_at(new: &Path, old: &Metadata) -> io::Result<()> {
 /// A new file beside another, to be read too: a map needs both. Its name is one that nobody else has. Where the other is there, nobody may read it meanwhile
 /// who may not read that.
 pub fn created(place: &Path, what: &str, old: Option<&Metadata>) -> io::Result<(Unfinished, File)> {
-    let chance = RandomState::new().hash_one(std::process::id());
+    let chance = RandomState::new().hash_one(0);
     let unfinished = Unfinished::at(place.with_file_name(format!(".vault-{chance:016x}-{what}")))?;
     let mode = old.map_or(NEW, |old| old.mode() & MODE);
     let file = File::options().read(true).write(true).create_new(true).mode(mode).open(unfinished.path())?;
