@@ -58,37 +58,16 @@ impl Command {
 pub enum Question {
     Label,
     Info,
-    Ls {
-        wanted: Wanted,
-    },
-    Tree {
-        wanted: Wanted,
-        form: Form,
-        bounds: Bounds,
-    },
-    Cat {
-        wanted: Wanted,
-    },
-    Get {
-        wanted: Wanted,
-        file: OsString,
-    },
-    GetAll {
-        paths: Vec<Vec<u8>>,
-        folder: OsString,
-    },
-    GetTree {
-        tree: Tree,
-        folder: OsString,
-    },
-    Stat {
-        wanted: Wanted,
-    },
+    Ls { wanted: Wanted },
+    Tree { wanted: Wanted, form: Form, bounds: Bounds },
+    Cat { wanted: Wanted },
+    Get { wanted: Wanted, file: OsString },
+    GetAll { paths: Vec<Vec<u8>>, folder: OsString },
+    GetTree { tree: Tree, folder: OsString },
+    Stat { wanted: Wanted },
     Descriptors,
     Probe,
-    Check {
-        limit: Limit,
-    },
+    Check { limit: Limit },
 }
 
 #[derive(Debug, PartialEq, Eq)]
@@ -133,7 +112,11 @@ const OPTIONS: [(&str, &[&str], &str); 21] = [
     ("-i", &["ls"], "-i is for ls"),
     ("-0", &["ls"], "-0 is for ls"),
     ("-l", &["ls"], "-l is for ls"),
-    ("--json", &["ls", "tree", "stat", "info", "check", "survey", "compare"], "--json is for ls, tree, stat, info, check, survey and compare"),
+    (
+        "--json",
+        &["ls", "tree", "stat", "info", "check", "survey", "compare"],
+        "--json is for ls, tree, stat, info, check, survey and compare",
+    ),
     ("--levels", &["tree", "ls"], "--levels is for tree and ls -R"),
     ("--limit", WALKS, FOR_WALKS),
     ("--no-limit", WALKS, FOR_WALKS),

@@ -277,7 +277,7 @@ mod tests {
         let bytes: Vec<u8> = (0..9000u32).map(|i| (i % 251) as u8).collect();
         let mut other = bytes.clone();
         other[8999] ^= 1;
-        let image = strandlodge::write(&[("a", &bytes), ("b", &bytes), ("c", &other), ("d", &bytes[1..]), ("e", b"")]).unwrap();
+        let image = strandlodge::write(&[("a", &bytes[..]), ("b", &bytes), ("c", &other), ("d", &bytes[1..]), ("e", b"")]).unwrap();
         let vault = strandlodge::Vault::open(&image).unwrap();
         let runs = |name: &str| vault.runs(vault.lookup(name).unwrap()).unwrap();
         assert!(is_same(runs("a"), runs("b")) && is_same(runs("e"), runs("e")));

@@ -123,7 +123,8 @@ impl<'a> Target<'a> {
         let Some(place) = &self.place else {
             return Err(Failure::file(NO_OUTPUT, self.name, "a vault is written to a file, and not to standard output"));
         };
-        let (unfinished, file) = created(place, "space", fs::symlink_metadata(place).ok().as_ref()).map_err(|error| self.unwritten(error))?;
+        let (unfinished, file) =
+            created(place, "space", fs::symlink_metadata(place).ok().as_ref()).map_err(|error| self.unwritten(error))?;
         drop(unfinished);
         self.mapped(&file, length)
     }

@@ -74,9 +74,8 @@ impl Unfinished {
         static HANDLED: Once = Once::new();
         HANDLED.call_once(|| ENDING.into_iter().for_each(|number| on(number, end)));
         let name = CString::new(path.as_os_str().as_bytes())?.into_raw();
-        let is_free = |place: &&AtomicPtr<c_char>| {
-            place.compare_exchange(ptr::null_mut(), name, Ordering::SeqCst, Ordering::SeqCst).is_ok()
-        };
+        let is_free =
+            |place: &&AtomicPtr<c_char>| place.compare_exchange(ptr::null_mut(), name, Ordering::SeqCst, Ordering::SeqCst).is_ok();
         let Some(at) = UNFINISHED.iter().find(is_free) else {
             release(name);
             return Err(io::Error::other("too many files are unfinished"));

@@ -250,9 +250,64 @@ impl<'p> Store<'p> {
     pub fn sync(&mut self) -> Result<(), Failure> {
         self.waiting = (0, 0);
         for folder in self.synced.values() {
-            system::sync(folder)
-                .map_err(|error| Failure::file(NO_OUTPUT, folder.as_os_str(), format!("what was written here isn't on the disk: {error}")))?;
+            system::sync(folder).map_err(|error| {
+                Failure::file(NO_OUTPUT, folder.as_os_str(), format!("what was written here isn't on the disk: {error}"))
+            })?;
         }
         Ok(())
+    }
+}
+
+#[cfg(test)]
+mod tests {
+    use super::*;
+    use std::io::Write;
+
+    fn run(folder: &Path, names: &[&str]) -> Vec<String> {
+        let planned: Vec<PathBuf> = names.iter().map(|name| folder.join(name)).collect();
+        let mut store = Store::new(folder, OsStr::new("none"), false, planned.iter().map(|path| &**path)).unwrap();
+        let mut put = |to: &PathBuf| {
+            let put = store.file(to, |file| file.write_all(b"new").map(|()| 3).map_err(|error| unwritten(to, error))).unwrap();
+            let name = put.at.file_name().unwrap().to_string_lossy().into_owned();
+            put.waits.map_or(Ok(()), Waiting::end).unwrap();
+            name
+        };
+        planned.iter().map(&mut put).collect()
+    }
+
+    /// A folder where one name is there in spite of what it had before the run is what a folder that folds case looks like. Each call that takes a name
+    /// is tried: that of the system, and where there is none the file that holds the name.
+    #[test]
+    fn a_name_that_is_there_by_now_is_another_s() {
+        let folder = std::env::temp_dir().join(format!("vault-store-{}", std::process::id()));
+        fs::create_dir(&folder).unwrap();
+        assert_eq!(run(&folder, &["a", "b", "a", "a~2", "a"]), ["a", "b", "a~3", "a~2", "a~4"]);
+        fs::write(folder.join("b"), b"old").unwrap();
+        // What was there before is replaced, once.
+        assert_eq!(run(&folder, &["b", "b"]), ["b", "b~2"]);
+        for can_rename in [true, false] {
+            let mut store = Store::new(&folder, OsStr::new("none"), false, std::iter::empty()).unwrap();
+            store.can_rename = can_rename;
+            let (from, to) = (folder.join("from"), folder.join(format!("to {can_rename}")));
+            fs::write(&from, b"1").unwrap();
+            store.take(&from, &to).unwrap();
+            fs::write(&from, b"2").unwrap();
+            assert_eq!(store.take(&from, &to).unwrap_err().kind(), io::ErrorKind::AlreadyExists);
+            assert_eq!((fs::read(&to).unwrap(), fs::read(&from).unwrap()), (b"1".to_vec(), b"2".to_vec()));
+        }
+        fs::remove_dir_all(&folder).unwrap();
+    }
+
+    #[test]
+    fn a_folder_that_is_there_by_now_is_another_s() {
+        let folder = std::env::temp_dir().join(format!("vault-folders-{}", std::process::id()));
+        fs::create_dir_all(folder.join("old")).unwrap();
+        let mut store = Store::new(&folder, OsStr::new("none"), false, std::iter::empty()).unwrap();
+        assert_eq!(store.folder(&folder.join("old")).unwrap(), folder.join("old"));
+        // Made by the run, as by another spelling.
+        fs::create_dir(folder.join("new")).unwrap();
+        assert_eq!(store.folder(&folder.join("new")).unwrap(), folder.join("new~2"));
+        assert_eq!(store.actual(&folder.join("new/cue")), folder.join("new~2/cue"));
+        fs::remove_dir_all(&folder).unwrap();
     }
 }
