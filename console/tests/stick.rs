@@ -7,6 +7,7 @@ use common::{Disc, identifier, named, show};
 use std::fs;
 use std::os::unix::fs::MetadataExt;
 use std::process::Command;
+use std::sync::{Mutex, MutexGuard};
 
 /// A disc whose root has a file of each of these names, with its place among them as its bytes.
 fn disc_of(names: &[&str]) -> Vec<u8> {
@@ -26,42 +27,52 @@ fn with_show() -> Folder {
     folder
 }
 
+/// There may be one such device.
+static ONE: Mutex<()> = Mutex::new(());
+
 /// A stick of 16 MB, formatted with exFAT, at `to`; taken away when this is dropped.
-struct Stick(Folder);
+struct Stick {
+    folder: Folder,
+    device: String,
+    _one: MutexGuard<'static, ()>,
+}
+
+fn run(folder: &Folder, name: &str, words: &[&str]) -> Option<String> {
+    let said = Said::of(Command::new(tool(name)?).args(words).current_dir(&folder.0).output().ok()?);
+    (said.status == 0).then(|| said.out.trim().to_string())
+}
 
 impl Stick {
     fn new(test: &str) -> Option<Stick> {
-        let tools = ["mkfs.exfat", "mount.exfat-fuse", "umount"].map(|name| (name, tool(name)));
-        if let Some((name, _)) = tools.iter().find(|(_, at)| at.is_none()) {
-            left_out(test, name);
-            return None;
-        }
-        let folder = with_show();
+        let (one, folder) = (ONE.lock().unwrap_or_else(|held| held.into_inner()), with_show());
         fs::File::create(folder.at("stick")).unwrap().set_len(16 << 20).unwrap();
-        let run = |at: usize, words: &[&str]| {
-            let mut command = Command::new(tools[at].1.as_ref().unwrap());
-            Said::of(command.args(words).current_dir(&folder.0).output().unwrap()).status == 0
+        let device = run(&folder, "mkfs.exfat", &["stick"]).and_then(|_| run(&folder, "losetup", &["-f", "--show", "stick"]));
+        let Some(device) = device else {
+            left_out(test, "mkfs.exfat, or a loop device,");
+            return None;
         };
         let before = fs::metadata(folder.at("to")).unwrap().dev();
-        let is_there = run(0, &["stick"]) && run(1, &["stick", "to"]) && fs::metadata(folder.at("to")).is_ok_and(|at| at.dev() != before);
-        if !is_there {
-            left_out(test, "FUSE with exFAT");
-            return None;
+        let stick = Stick { folder, device, _one: one };
+        run(&stick.folder, "mount.exfat-fuse", &[&stick.device, "to"]);
+        if fs::metadata(stick.folder.at("to")).is_ok_and(|at| at.dev() != before) {
+            return Some(stick);
         }
-        Some(Stick(folder))
+        left_out(test, "exfat-fuse");
+        None
     }
 }
 
 impl Drop for Stick {
     fn drop(&mut self) {
-        let _ = Command::new("umount").arg(self.0.at("to")).output();
+        run(&self.folder, "umount", &["to"]);
+        run(&self.folder, "losetup", &["-d", &self.device]);
     }
 }
 
 #[test]
 fn twins_are_both_kept_on_a_stick() {
     let Some(stick) = Stick::new("twins on a stick") else { return };
-    let folder = &stick.0;
+    let folder = &stick.folder;
     let read = |name: &str| fs::read_to_string(folder.at("to/SHOW").join(name)).unwrap();
     // Again over what is there, it is the same.
     for again in 0..2 {
@@ -86,7 +97,7 @@ fn twins_are_both_kept_on_a_stick() {
 #[test]
 fn folders_that_differ_in_case_are_two_on_a_stick() {
     let Some(stick) = Stick::new("folders on a stick") else { return };
-    let (folder, mut disc) = (&stick.0, Disc::new());
+    let (folder, mut disc) = (&stick.folder, Disc::new());
     let (one, two) = (disc.file(b"one"), disc.file(b"two"));
     let (upper, lower) = (disc.directory(&[named("cue", one, false)]), disc.directory(&[named("cue", two, false)]));
     let root = disc.directory(&[named("ACT", upper, true), named("act", lower, true)]);
@@ -100,7 +111,7 @@ fn folders_that_differ_in_case_are_two_on_a_stick() {
 #[test]
 fn a_stick_takes_every_name() {
     let Some(stick) = Stick::new("names on a stick") else { return };
-    let folder = &stick.0;
+    let folder = &stick.folder;
     let names = ["a/b", "dot.", "space ", "per%cent", "new\nline", "q\"uote", "a:b", "back\\slash", "<|>*?", "NUL", ""];
     folder.write("a.img", &disc_of(&names));
     let said = folder.vault(&["get", "-r", "--portable", "a.img", "-o", "to"]);

@@ -119,9 +119,9 @@ const COMMANDS: [(&str, &str, [bool; 3]); 14] = [
     ),
     (
         "compare",
-        "vault compare IMAGE IMAGE\nPrints the paths that one image alone has, and the files whose bytes differ. The\n\
-         status is 0 where there are none, 1 where there are, and another where not all\n\
-         can be read: what is refused by 1 is 67 here.\n\
+        "vault compare IMAGE IMAGE\nPrints the paths that one image alone has, and the files whose bytes differ.\n\
+         Status 0: there are none, 1: there are. Another: not all can be read, and what\n\
+         is refused by 1 is 67 here.\n\
          \x20 --limit N  N sectors of each image at most; else 500000, and 4 for each that\n\
          \x20            it has\n  --no-limit any number\n  --json     as one document\n",
         [false, true, false],
