@@ -305,7 +305,7 @@ fn options_are_told_of() {
         let fished = long.map_or_else(|| format!("-s {}", short.unwrap()), |long| format!("-l {long}"));
         assert!(man.contains(option) && bash.contains(option) && zsh.contains(option) && fish.contains(&fished), "{option}");
     }
-    for command in ["label", "info", "ls", "tree", "cat", "get", "stat", "probe", "check", "survey", "make", "sample", "help"] {
+    for command in ["label", "info", "ls", "tree", "cat", "get", "stat", "probe", "check", "survey", "compare", "make", "sample", "help"] {
         assert!([&man, &bash, &zsh, &fish].iter().all(|text| text.contains(command)), "{command}");
     }
     if let Some(bash) = tool("bash") {

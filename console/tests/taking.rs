@@ -248,11 +248,11 @@ fn no_name_leads_out_of_the_folder() {
     folder.write("a.img", &disc.0);
     let said = folder.vault(&["get", "-r", "a.img", "-o", "to"]);
     assert_eq!(said.status, 0, "{said:?}");
-    let dots = "\\u{2e}\\u{2e}";
-    let mut safe =
-        [dots, "\\u{2e}", "unnamed", "..\\u{2f}out", "\\u{2f}out", "a\\u{2f}b", "twin", "twin~2", "new\\u{a}line", "\\u{1b}[2J", "a\\b"]
-            .map(String::from)
-            .to_vec();
+    let dots = ".%2E";
+    let safe = [dots, "%2E", "unnamed", "..%2Fout", "%2Fout", "a%2Fb", "twin", "twin~2", "new%0Aline", "%1B[2J", "a\\b"];
+    // On the left as ls writes them, and on the right too.
+    assert!(said.out.contains("a\\u{2f}b: 1 bytes, to to/a%2Fb\n") && said.out.contains("a\\\\b: 2 bytes, to to/a\\\\b\n"), "{said:?}");
+    let mut safe = safe.map(String::from).to_vec();
     for (i, name) in safe.iter().enumerate() {
         assert_eq!(fs::read_to_string(folder.at("to").join(name)).unwrap(), i.to_string());
     }
@@ -489,7 +489,7 @@ fn documents_are_read_by_another_program() {
 #[test]
 fn each_command_has_its_help() {
     let folder = Folder::new();
-    for command in ["label", "info", "ls", "tree", "cat", "get", "stat", "probe", "check", "make", "sample"] {
+    for command in ["label", "info", "ls", "tree", "cat", "get", "stat", "probe", "check", "compare", "make", "sample"] {
         let said = folder.vault(&[command, "--help"]);
         assert!(
             said.status == 0 && said.out.starts_with(&format!("vault {command} ")) && said.out != folder.vault(&["--help"]).out,
@@ -555,7 +555,7 @@ fn names_that_become_one_are_told_apart() {
     let long = ["x".repeat(126), "x".repeat(127)];
     // In a name of 8 bits a letter these have two bytes each.
     let wide = ["é".repeat(125), "é".repeat(126)];
-    let names = ["a/b", "a\\u{2f}b", "a\\u{2f}b~2", "..", "\\u{2e}\\u{2e}", "", "unnamed", &wide[0], &wide[1], &long[0], &long[1]];
+    let names = ["a/b", "a%2Fb", "a%2Fb~2", "..", ".%2E", "", "unnamed", &wide[0], &wide[1], &long[0], &long[1]];
     let recorded = |name: &str| -> Vec<u8> { std::iter::once(8).chain(name.chars().map(|c| c as u8)).collect() };
     let (folder, mut disc) = (with_folder(), Disc::new());
     let files: Vec<u32> = (0..names.len()).map(|i| disc.file(i.to_string().as_bytes())).collect();
@@ -566,7 +566,8 @@ fn names_that_become_one_are_told_apart() {
     let said = folder.vault(&["get", "-r", "a.img", "-o", "to"]);
     assert_eq!((said.status, said.out.lines().count()), (0, names.len()), "{said:?}");
     let cut = "é".repeat(120);
-    let mut safe = vec!["a\\u{2f}b", "a\\u{2f}b~2", "a\\u{2f}b~2~2", "\\u{2e}\\u{2e}", "\\u{2e}\\u{2e}~2", "unnamed", "unnamed~2"];
+    // A name that is made up stands back behind a real one.
+    let mut safe = vec!["a%2Fb", "a%252Fb", "a%252Fb~2", ".%2E", ".%252E", "unnamed~2", "unnamed"];
     let second = format!("{cut}~2");
     safe.extend([&cut, &second, &long[0], &long[1]].map(String::as_str));
     for (i, name) in safe.iter().enumerate() {

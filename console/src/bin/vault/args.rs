@@ -1,6 +1,7 @@
 //! What the command line asks for.
 
 use crate::failure::Failure;
+use crate::folder::Tree;
 use crate::help;
 use crate::limit::Limit;
 use crate::names::{self, shown};
@@ -39,6 +40,10 @@ pub enum Command {
         rows: Vec<OsString>,
         form: survey::Form,
     },
+    Compare {
+        images: [OsString; 2],
+        limit: Limit,
+    },
     Ask {
         image: OsString,
         question: Question,
@@ -64,39 +69,16 @@ impl Command {
 pub enum Question {
     Label,
     Info,
-    Ls {
-        wanted: Wanted,
-    },
-    Tree {
-        wanted: Wanted,
-        form: Form,
-        bounds: Bounds,
-    },
-    Cat {
-        wanted: Wanted,
-    },
-    Get {
-        wanted: Wanted,
-        file: OsString,
-    },
-    GetAll {
-        paths: Vec<Vec<u8>>,
-        folder: OsString,
-    },
-    /// All below each path, or where there is none all of the disc.
-    GetTree {
-        paths: Vec<Vec<u8>>,
-        folder: OsString,
-        limit: Limit,
-    },
-    Stat {
-        wanted: Wanted,
-    },
+    Ls { wanted: Wanted },
+    Tree { wanted: Wanted, form: Form, bounds: Bounds },
+    Cat { wanted: Wanted },
+    Get { wanted: Wanted, file: OsString },
+    GetAll { paths: Vec<Vec<u8>>, folder: OsString },
+    GetTree { tree: Tree, folder: OsString },
+    Stat { wanted: Wanted },
     Descriptors,
     Probe,
-    Check {
-        limit: Limit,
-    },
+    Check { limit: Limit },
 }
 
 #[derive(Debug, PartialEq, Eq)]
@@ -124,11 +106,11 @@ const PATHS: &[&str] = &["ls", "tree", "cat", "get", "stat"];
 const FOR_PATHS: &str = "--as-written, --unambiguous and --as-original are for a PATH: that of ls, tree, cat, get or stat";
 
 /// The commands that walk a disc.
-const WALKS: &[&str] = &["tree", "ls", "get", "check", "survey"];
-const FOR_WALKS: &str = "--limit and --no-limit are for tree, ls -R, get -r, check and survey";
+const WALKS: &[&str] = &["tree", "ls", "get", "check", "survey", "compare"];
+const FOR_WALKS: &str = "--limit and --no-limit are for tree, ls -R, get -r, check, survey and compare";
 
 /// Options that aren't for every command, those that they are for, and what is said else.
-const OPTIONS: [(&str, &[&str], &str); 23] = [
+const OPTIONS: [(&str, &[&str], &str); 25] = [
     ("--as-original", PATHS, FOR_PATHS),
     ("--as-written", PATHS, FOR_PATHS),
     ("--unambiguous", PATHS, FOR_PATHS),
@@ -136,11 +118,17 @@ const OPTIONS: [(&str, &[&str], &str); 23] = [
     ("--icb", PATHS, "--icb is for ls, tree, cat, get or stat, in place of PATH"),
     ("-o", &["get"], "-o is for get"),
     ("-r", &["get"], "-r is for get"),
+    ("--portable", &["get"], FOR_TREES),
+    ("--sums", &["get"], FOR_TREES),
     ("-R", &["ls"], "-R is for ls"),
     ("-i", &["ls"], "-i is for ls"),
     ("-0", &["ls"], "-0 is for ls"),
     ("-l", &["ls"], "-l is for ls"),
-    ("--json", &["ls", "tree", "stat", "info", "check", "survey"], "--json is for ls, tree, stat, info, check and survey"),
+    (
+        "--json",
+        &["ls", "tree", "stat", "info", "check", "survey", "compare"],
+        "--json is for ls, tree, stat, info, check, survey and compare",
+    ),
     ("--rows", &["survey"], "--rows is for survey"),
     ("--total", &["survey"], "--total is for survey"),
     ("--levels", &["tree", "ls"], "--levels is for tree and ls -R"),
@@ -153,10 +141,11 @@ const OPTIONS: [(&str, &[&str], &str); 23] = [
     ("--drive", &["label", "ls", "tree", "cat", "get", "stat"], FOR_DRIVES),
     (
         "--copy",
-        &["label", "info", "ls", "tree", "cat", "get", "stat", "probe", "check", "survey"],
+        &["label", "info", "ls", "tree", "cat", "get", "stat", "probe", "check", "survey", "compare"],
         "--copy is for a command that reads an IMAGE",
     ),
 ];
+const FOR_TREES: &str = "--portable and --sums are for get -r";
 const FOR_ONE_FILE: &str = "--wait is for one file: that of cat or get, without -o";
 const FOR_A_PART: &str = "--from and --bytes are for one file: that of cat or get, without -o";
 const FOR_DRIVES: &str = "--drive is for label, ls, tree, cat, stat, and get, with -o only where there is -r";
@@ -173,6 +162,7 @@ struct Options {
     how: How,
     icb: Option<Icb>,
     folder: Option<OsString>,
+    sums: Option<OsString>,
     levels: Option<usize>,
     limit: Option<u64>,
     wait: Option<u32>,
@@ -197,6 +187,7 @@ impl Options {
             b"--version" => self.version = true,
             b"-V" => self.short_version = true,
             b"-o" => self.folder = Some(rest.next().ok_or_else(|| Failure::usage("-o needs TO, a folder"))?),
+            b"--sums" => self.sums = Some(rest.next().ok_or_else(|| Failure::usage("--sums needs FILE"))?),
             b"--icb" => self.icb = Some(icb(rest.next())?),
             b"--levels" => {
                 self.levels = Some(number(rest.next(), "--levels needs a number, 1 to 16", Bounds::MOST_LEVELS as u64)? as usize)
@@ -263,6 +254,9 @@ impl Options {
         }
         if self.has("-r") && (self.levels.is_some() || self.folder.is_none()) {
             return Err(Failure::usage("get -r needs -o TO, a folder, and takes no --levels"));
+        }
+        if !self.has("-r") && (self.has("--portable") || self.has("--sums")) {
+            return Err(Failure::usage(FOR_TREES));
         }
         if self.icb.is_some() && (self.folder.is_some() || self.has("--raw") || self.matching()? != Rule::default()) {
             return Err(Failure::usage("--icb stands in place of a PATH: it goes with none of -o, --raw and the choices of matching"));
@@ -430,6 +424,10 @@ fn command(words: Vec<OsString>, options: &Options) -> Result<Command, Failure> 
             let first = take(&mut words, &name, if options.has("--total") { "ROWS" } else { "IMAGE" })?;
             surveyed([first].into_iter().chain(words.by_ref()).collect(), options)?
         }
+        b"compare" => {
+            let images = [take(&mut words, &name, "two IMAGEs")?, take(&mut words, &name, "two IMAGEs")?];
+            Command::Compare { images, limit: options.limit()? }
+        }
         b"label" | b"info" | b"ls" | b"tree" | b"cat" | b"get" | b"stat" | b"probe" | b"check" => {
             let image = take(&mut words, &name, "IMAGE")?;
             Command::Ask { image, question: question(&name, &mut words, options)? }
@@ -486,7 +484,8 @@ fn many(name: &OsStr, words: &mut impl Iterator<Item = OsString>, options: &Opti
     let (folder, paths) =
         (options.folder.clone().unwrap_or_default(), words.map(|word| options.path(word)).collect::<Result<Vec<_>, _>>()?);
     if options.has("-r") {
-        return Ok(Question::GetTree { paths, folder, limit: options.limit()? });
+        let (limit, is_portable, sums) = (options.limit()?, options.has("--portable"), options.sums.clone());
+        return Ok(Question::GetTree { tree: Tree { paths, limit, is_portable, sums }, folder });
     }
     if paths.is_empty() { Err(needs(name, "PATH")) } else { Ok(Question::GetAll { paths, folder }) }
 }
@@ -672,7 +671,8 @@ mod tests {
             ("get a -o d -r --drive --no-limit", &[], Limit::None),
         ] {
             let paths = paths.iter().map(|path| path.as_bytes().to_vec()).collect();
-            let question = Question::GetTree { paths, folder: "d".into(), limit };
+            let tree = Tree { paths, limit, is_portable: false, sums: None };
+            let question = Question::GetTree { tree, folder: "d".into() };
             assert_eq!(parsed(line).unwrap().command, Command::Ask { image: "a".into(), question }, "{line}");
         }
     }

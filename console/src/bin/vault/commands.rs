@@ -67,7 +67,7 @@ pub fn ask(question: &Question, manner: Manner, image: &[u8], name: &OsStr, out:
             runs::put(runs, &target).map(|_| ())
         }
         Question::GetAll { paths, folder } => many::get(&mut watched(log)?, paths, Path::new(folder), file, out),
-        Question::GetTree { paths, folder, limit } => folder::get(&mut watched(log)?, paths, Path::new(folder), *limit, file, out),
+        Question::GetTree { tree, folder } => folder::get(&mut watched(log)?, tree, Path::new(folder), file, out),
     }
 }
 

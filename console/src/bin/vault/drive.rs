@@ -46,7 +46,7 @@ pub fn ask(question: &Question, manner: Manner, name: &OsStr, out: &mut impl Wri
             };
             target.fill(write)
         }
-        Question::GetTree { paths, folder, limit } => folder::get(&mut disc, paths, Path::new(folder), *limit, name, out),
+        Question::GetTree { tree, folder } => folder::get(&mut disc, tree, Path::new(folder), name, out),
         Question::GetAll { .. } | Question::Probe | Question::Check { .. } | Question::Info => {
             Err(Failure::usage("--drive isn't for this command"))
         }

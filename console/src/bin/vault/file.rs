@@ -9,7 +9,7 @@ use std::fs::{self, File, Metadata, Permissions};
 use std::hash::{BuildHasher, RandomState};
 use std::io::{self, Write};
 use std::os::fd::AsFd;
-use std::os::unix::fs::{MetadataExt, OpenOptionsExt, PermissionsExt, fchown};
+use std::os::unix::fs::{MetadataExt, OpenOptionsExt, PermissionsExt, chown};
 use std::path::{Path, PathBuf};
 
 /// Written at a time, between two looks of the bar.
@@ -111,11 +111,20 @@ impl<'a> Target<'a> {
         let Some(place) = &self.place else {
             return write(&mut output().map_err(|error| self.unwritten(error))?);
         };
-        let (unfinished, mut file) = created(place, "new").map_err(|error| self.unwritten(error))?;
+        let old = fs::symlink_metadata(place).ok();
+        let (unfinished, mut file) = created(place, "new", old.as_ref()).map_err(|error| self.unwritten(error))?;
         write(&mut file)?;
         // Before the name is taken, so that a power cut or a pulled stick leaves the old file or the new one.
-        let named = keep(&file, place).and_then(|()| file.sync_all()).and_then(|()| fs::rename(unfinished.path(), place));
-        named.map_err(|error| self.unwritten(error))
+        let kept = old.map_or(Ok(()), |old| keep_at(unfinished.path(), &old));
+        let named = kept.and_then(|()| file.sync_all()).and_then(|()| fs::rename(unfinished.path(), place));
+        named.map_err(|error| self.unwritten(error))?;
+        unfinished.named();
+        Ok(())
+    }
+
+    /// Where the file stands; standard output has no place.
+    pub fn place(&self) -> Option<&Path> {
+        self.place.as_deref()
     }
 
     /// Memory of `length` bytes, all zero, that is kept in a file beside this one. The file has no name any more, and goes with the map.
@@ -123,7 +132,8 @@ impl<'a> Target<'a> {
         let Some(place) = &self.place else {
             return Err(Failure::file(NO_OUTPUT, self.name, "a vault is written to a file, and not to standard output"));
         };
-        let (unfinished, file) = created(place, "space").map_err(|error| self.unwritten(error))?;
+        let (unfinished, file) =
+            created(place, "space", fs::symlink_metadata(place).ok().as_ref()).map_err(|error| self.unwritten(error))?;
         drop(unfinished);
         self.mapped(&file, length)
     }
@@ -170,21 +180,18 @@ fn is_open(name: &OsStr) -> bool {
 }
 
 /// Gives a new file the mode of the one that it takes the place of, and its owner where that may be.
-fn keep(file: &File, place: &Path) -> io::Result<()> {
-    let Ok(old) = fs::symlink_metadata(place) else {
-        return Ok(());
-    };
+pub fn keep_at(new: &Path, old: &Metadata) -> io::Result<()> {
     // Only root may give a file away.
-    let _ = fchown(file, Some(old.uid()), Some(old.gid()));
-    file.set_permissions(Permissions::from_mode(old.mode() & MODE))
+    let _ = chown(new, Some(old.uid()), Some(old.gid()));
+    fs::set_permissions(new, Permissions::from_mode(old.mode() & MODE))
 }
 
 /// A new file beside another, to be read too: a map needs both. Its name is one that nobody else has. Where the other is there, nobody may read it meanwhile
 /// who may not read that.
-fn created(place: &Path, what: &str) -> io::Result<(Unfinished, File)> {
-    let chance = RandomState::new().hash_one(std::process::id());
+pub fn created(place: &Path, what: &str, old: Option<&Metadata>) -> io::Result<(Unfinished, File)> {
+    let chance = RandomState::new().hash_one(0);
     let unfinished = Unfinished::at(place.with_file_name(format!(".vault-{chance:016x}-{what}")))?;
-    let mode = fs::symlink_metadata(place).map_or(NEW, |old| old.mode() & MODE);
+    let mode = old.map_or(NEW, |old| old.mode() & MODE);
     let file = File::options().read(true).write(true).create_new(true).mode(mode).open(unfinished.path())?;
     Ok((unfinished, file))
 }
@@ -206,7 +213,7 @@ mod tests {
         let folder = std::env::temp_dir().join(format!("vault-modes-{}", std::process::id()));
         fs::create_dir(&folder).unwrap();
         let place = folder.join("cue");
-        let mode = || created(&place, "new").unwrap().1.metadata().unwrap().mode() & MODE;
+        let mode = || created(&place, "new", fs::symlink_metadata(&place).ok().as_ref()).unwrap().1.metadata().unwrap().mode() & MODE;
         let new = mode();
         assert!(new & 0o600 == 0o600 && new & 0o111 == 0, "{new:o}");
         fs::write(&place, b"old").unwrap();

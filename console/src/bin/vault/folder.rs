@@ -1,43 +1,54 @@
 //! `get -r`: all that stands below folders of a disc, or all of the disc, to a folder.
 //!
 //! First the disc is walked, and what is to be written noted; then it is written. A directory is taken once, however many entries name it: so the
-//! walk ends on directories that hold each other. No name of the disc leads out of the folder: each is made safe, and no link in the folder is
-//! followed.
+//! walk ends on directories that hold each other. No name of the disc leads out of the folder: each is made safe (`safe`), and no link in the folder is
+//! followed. Nothing is written over what the same run wrote (`store`).
 
 use crate::bar::{Bar, Count};
-use crate::commands::line;
 use crate::disc::{Disc, Volume};
 use crate::drive::{Drawn, copy};
 use crate::failure::{Failure, NO_OUTPUT, STOPPED, UNREAD};
-use crate::file::{Target, apart};
 use crate::limit::{self, Limit};
-use crate::many::{Missed, Written};
-use crate::names::{is_tricky, shown};
+use crate::many::{Lines, Missed};
+use crate::names::{shown, shown_name};
 use crate::records::FileEntry;
+use crate::safe;
 use crate::steps::{quoted, trimmed};
-use crate::style::bytes;
-use std::collections::{HashMap, HashSet};
-use std::ffi::OsStr;
-use std::fs;
+use crate::store::{Put, Store};
+use crate::sums::Sums;
+use std::collections::HashSet;
+use std::ffi::{OsStr, OsString};
 use std::io::Write;
-use std::os::unix::ffi::OsStrExt;
 use std::path::{Path, PathBuf};
 use strandlodge::{Asked, DirEntry, LongAd};
 
-/// A name has no more bytes on most systems, and room is left for a number.
-const LONGEST: usize = 240;
-
-/// Nor has a path. What would stand deeper isn't walked.
+/// A path has no more bytes on most systems. What would stand deeper isn't walked.
 const DEEPEST: usize = 4000;
 
 /// The paths of what is to be written have so many bytes together at most.
 const MOST_BYTES: usize = 256 << 20;
 
+/// What is asked for.
+#[derive(Debug, PartialEq, Eq)]
+pub struct Tree {
+    /// All below each, or where there is none all of the disc.
+    pub paths: Vec<Vec<u8>>,
+    pub limit: Limit,
+    /// The names are those that every file system takes.
+    pub is_portable: bool,
+    /// A file for the sums of what is written.
+    pub sums: Option<OsString>,
+}
+
 /// Something to be written: where it stands on the disc, and where it goes.
 struct Item {
     path: Vec<u8>,
+    /// The same as `ls -R` writes it.
+    text: String,
     icb: LongAd,
     to: PathBuf,
+    /// Its name is made up, since another entry has its own in another case.
+    is_twin: bool,
     /// About how many bytes a file has; a directory is made.
     file: Option<u64>,
 }
@@ -55,41 +66,66 @@ struct Plan {
     most: u64,
     missed: Missed,
     count: Count,
+    is_portable: bool,
+}
+
+/// Where an entry stands, and where it goes.
+struct Spot {
+    path: Vec<u8>,
+    text: String,
+    to: PathBuf,
+    is_twin: bool,
+}
+
+impl Spot {
+    /// One below a directory.
+    fn below(&self, name: &str, given: &safe::Name) -> Spot {
+        let slash = if self.path.is_empty() { "" } else { "/" };
+        let path = [&self.path, slash.as_bytes(), name.as_bytes()].concat();
+        let text = [&self.text, slash, &shown_name(name)].concat();
+        Spot { path, text, to: self.to.join(&given.own), is_twin: given.is_twin }
+    }
 }
 
 /// Writes what stands below each path, or all of the disc, to a folder.
-pub fn get<V: Volume>(
-    disc: &mut Disc<V>,
-    paths: &[Vec<u8>],
-    folder: &Path,
-    limit: Limit,
-    image: &OsStr,
-    out: &mut impl Write,
-) -> Result<(), Failure> {
-    let (taken, missed, most) = (HashSet::new(), Missed::default(), limit.of(disc.bytes));
-    let mut plan = Plan { items: Vec::new(), bytes: 0, taken, reads: 0, most, missed, count: Count::new("entries") };
-    let mut names = Names::default();
-    if paths.is_empty() {
-        let root = disc.volume.root_directory_icb();
-        plan.below(disc, Vec::new(), root, folder.to_path_buf())?;
+pub fn get<V: Volume>(disc: &mut Disc<V>, tree: &Tree, folder: &Path, image: &OsStr, out: &mut impl Write) -> Result<(), Failure> {
+    let sums = tree.sums.as_ref().map(|file| Sums::new(file, image)).transpose()?;
+    let Plan { items, mut missed, count, .. } = plan(disc, tree, folder)?;
+    drop(count);
+    let all = items.len() + missed.files;
+    let written = write(disc, &items, folder, image, &mut missed, out)?;
+    if let Some(sums) = sums {
+        sums.write(folder, &written)?;
     }
-    for path in paths {
+    missed.end(disc.name, all, "files and folders")
+}
+
+/// Walks the disc.
+fn plan<V: Volume>(disc: &mut Disc<V>, tree: &Tree, folder: &Path) -> Result<Plan, Failure> {
+    let (taken, missed, most) = (HashSet::new(), Missed::default(), tree.limit.of(disc.bytes));
+    let (items, count, is_portable) = (Vec::new(), Count::new("entries"), tree.is_portable);
+    let mut plan = Plan { items, bytes: 0, taken, reads: 0, most, missed, count, is_portable };
+    let top = || Spot { path: Vec::new(), text: String::new(), to: folder.to_path_buf(), is_twin: false };
+    let mut entries = Vec::new();
+    if tree.paths.is_empty() {
+        let root = disc.volume.root_directory_icb();
+        plan.below(disc, top(), root)?;
+    }
+    for path in &tree.paths {
         match disc.find_path(path) {
             Ok(found) => match found.entry {
-                Some(entry) => plan.add(disc, trimmed(path).to_vec(), &entry, folder.join(names.take(&entry.name)))?,
-                None => plan.below(disc, Vec::new(), found.icb, folder.to_path_buf())?,
+                Some(entry) => entries.push((trimmed(path), entry)),
+                None => plan.below(disc, top(), found.icb)?,
             },
             Err(failure) => plan.missed.tell(failure, disc),
         }
     }
-    let Plan { items, mut missed, count, .. } = plan;
-    drop(count);
-    let all = items.len() + missed.files;
-    write(disc, &items, image, &mut missed, out)?;
-    if missed.files > 0 {
-        return Err(Failure::new(missed.status, format!("{}: {} of {all} files and folders not written", disc.name, missed.files)));
+    let names = safe::names(entries.iter().map(|(_, entry)| &*entry.name), is_portable);
+    for ((path, entry), name) in entries.iter().zip(names) {
+        let spot = Spot { path: path.to_vec(), text: shown(path), to: folder.join(name.own), is_twin: name.is_twin };
+        plan.add(disc, spot, entry)?;
     }
-    Ok(())
+    Ok(plan)
 }
 
 impl Plan {
@@ -99,55 +135,50 @@ impl Plan {
     }
 
     /// Notes an entry, and what stands below it.
-    fn add<V: Volume>(&mut self, disc: &mut Disc<V>, path: Vec<u8>, entry: &DirEntry, to: PathBuf) -> Result<(), Failure> {
+    fn add<V: Volume>(&mut self, disc: &mut Disc<V>, spot: Spot, entry: &DirEntry) -> Result<(), Failure> {
         let first = self.items.len();
-        self.note(disc, path, entry, to)?;
-        if entry.is_directory && self.items.len() > first {
-            let (path, icb, to) = (self.items[first].path.clone(), entry.icb, self.items[first].to.clone());
-            return self.below(disc, path, icb, to);
+        self.note(disc, spot, entry)?;
+        match self.items.get(first).filter(|_| entry.is_directory) {
+            Some(item) => self.below(disc, item.spot(), entry.icb),
+            None => Ok(()),
         }
-        Ok(())
     }
 
     /// Notes all that stands below a directory, each before what stands in it.
-    fn below<V: Volume>(&mut self, disc: &mut Disc<V>, path: Vec<u8>, icb: LongAd, to: PathBuf) -> Result<(), Failure> {
+    fn below<V: Volume>(&mut self, disc: &mut Disc<V>, spot: Spot, icb: LongAd) -> Result<(), Failure> {
         self.taken.extend(disc.volume.icb_sector(icb));
-        let mut pending = vec![(path, icb, to)];
-        while let Some((path, icb, to)) = pending.pop() {
+        let mut pending = vec![(spot, icb)];
+        while let Some((spot, icb)) = pending.pop() {
             let listed = disc.volume.read_directory(icb);
             let listed = disc.log.add("read_directory", listed);
             self.see(disc)?;
             match listed {
                 // The last one pushed is the next one looked at.
                 Ok(entries) => {
-                    disc.see_directory(&path, icb);
-                    pending.extend(self.entries(disc, &path, &entries, &to)?.into_iter().rev())
+                    disc.see_directory(&spot.path, icb);
+                    pending.extend(self.entries(disc, &spot, &entries)?.into_iter().rev())
                 }
-                Err(refused) => self.missed.tell(disc.refused(&path, Asked::ReadDirectory(icb), refused), disc),
+                Err(refused) => self.missed.tell(disc.refused(&spot.path, Asked::ReadDirectory(icb), refused), disc),
             }
         }
         Ok(())
     }
 
     /// Notes the entries of a directory, and gives the directories among them.
-    fn entries<V: Volume>(
-        &mut self,
-        disc: &mut Disc<V>,
-        path: &[u8],
-        entries: &[DirEntry],
-        to: &Path,
-    ) -> Result<Vec<(Vec<u8>, LongAd, PathBuf)>, Failure> {
-        let (mut names, before) = (Names::default(), self.items.len());
-        for entry in entries {
-            self.note(disc, joined(path, &entry.name), entry, to.join(names.take(&entry.name)))?;
+    fn entries<V: Volume>(&mut self, disc: &mut Disc<V>, spot: &Spot, entries: &[DirEntry]) -> Result<Vec<(Spot, LongAd)>, Failure> {
+        let before = self.items.len();
+        let names = safe::names(entries.iter().map(|entry| &*entry.name), self.is_portable);
+        for (entry, name) in entries.iter().zip(&names) {
+            self.note(disc, spot.below(&entry.name, name), entry)?;
         }
         let directories = self.items[before..].iter().filter(|item| item.file.is_none());
-        Ok(directories.map(|item| (item.path.clone(), item.icb, item.to.clone())).collect())
+        Ok(directories.map(|item| (item.spot(), item.icb)).collect())
     }
 
     /// Notes an entry, unless it is a directory that was come to already, or stands too deep.
-    fn note<V: Volume>(&mut self, disc: &mut Disc<V>, path: Vec<u8>, entry: &DirEntry, to: PathBuf) -> Result<(), Failure> {
-        self.bytes = self.bytes.saturating_add(path.len()).saturating_add(to.as_os_str().len());
+    fn note<V: Volume>(&mut self, disc: &mut Disc<V>, spot: Spot, entry: &DirEntry) -> Result<(), Failure> {
+        let Spot { path, text, to, is_twin } = spot;
+        self.bytes = self.bytes.saturating_add(path.len() + text.len() + to.as_os_str().len());
         if self.bytes > MOST_BYTES {
             let why = format!("the paths of all entries have more than {MOST_BYTES} bytes: take a folder at a time; nothing is written");
             return Err(Failure::new(STOPPED, format!("{}: {why}", disc.name)));
@@ -169,147 +200,74 @@ impl Plan {
         }
         let bytes = |found: FileEntry| found.information_length;
         let file = if entry.is_directory { None } else { Some(disc.volume.entry(entry.icb).map_or(0, bytes)) };
-        self.items.push(Item { path, icb: entry.icb, to, file });
+        self.items.push(Item { path, text, icb: entry.icb, to, is_twin, file });
         self.count.at(self.items.len() as u64);
         Ok(())
     }
 }
 
-fn joined(path: &[u8], name: &str) -> Vec<u8> {
-    let slash = if path.is_empty() { &b""[..] } else { b"/" };
-    [path, slash, name.as_bytes()].concat()
+impl Item {
+    fn spot(&self) -> Spot {
+        Spot { path: self.path.clone(), text: self.text.clone(), to: self.to.clone(), is_twin: self.is_twin }
+    }
 }
 
-/// Makes the directories and writes the files. What can't be written is told of, and the rest goes on.
-fn write<V: Volume>(disc: &mut Disc<V>, items: &[Item], image: &OsStr, missed: &mut Missed, out: &mut impl Write) -> Result<(), Failure> {
+/// Makes the directories and writes the files, and gives where these are. What can't be written is told of, and the rest goes on.
+fn write<V: Volume>(
+    disc: &mut Disc<V>,
+    items: &[Item],
+    folder: &Path,
+    image: &OsStr,
+    missed: &mut Missed,
+    out: &mut impl Write,
+) -> Result<Vec<PathBuf>, Failure> {
     let total = items.iter().filter_map(|item| item.file).fold(0u64, u64::saturating_add);
-    let (mut bar, mut written) = (Bar::new(total), Written::default());
-    let mut unmade: HashSet<&Path> = HashSet::new();
+    let mut store = Store::new(folder, image, false, items.iter().map(|item| &*item.to))?;
+    let (mut bar, mut lines, mut unmade) = (Bar::new(total), Lines::default(), HashSet::new());
     for item in items {
         if item.to.parent().is_some_and(|folder| unmade.contains(folder)) {
             // Its folder isn't there, or is something else, and was told of.
-            unmade.insert(&item.to);
+            unmade.insert(&*item.to);
             missed.files += 1;
             continue;
         }
         let done = match item.file {
-            None => made(&item.to).map(|()| None),
-            Some(_) => put(disc, item, image, &mut bar, &mut written).map(Some),
+            None => store.folder(&item.to).map(|at| (at, None)),
+            Some(_) => {
+                let mut tried = put(disc, item, &mut store, &mut bar);
+                // The files that wait may be what there is no room for.
+                if tried.as_ref().is_err_and(|failure| failure.status == NO_OUTPUT) && lines.waits() {
+                    lines.end(&mut store, missed, disc, out)?;
+                    tried = put(disc, item, &mut store, &mut bar);
+                }
+                tried.map(|put| (put.at.clone(), Some(put)))
+            }
         };
         match done {
-            Ok(None) => {}
-            Ok(Some(length)) => {
-                bar.wipe();
-                line(out, &format!("{}: {}, to {}", shown(&item.path), bytes(length), shown(item.to.as_os_str().as_bytes())))?
+            Ok((at, put)) => {
+                missed.see(disc, &item.text, &item.to, &at, item.is_twin);
+                if let Some(put) = put {
+                    bar.wipe();
+                    lines.add(&item.text, put, out)?;
+                }
             }
             Err(failure) => {
                 unmade.extend(item.file.is_none().then_some(&*item.to));
                 missed.tell(failure, disc);
             }
         }
-    }
-    Ok(())
-}
-
-/// Writes one file; not over one that was written before, which has another name on the disc.
-fn put<V: Volume>(disc: &mut Disc<V>, item: &Item, image: &OsStr, bar: &mut Bar, written: &mut Written) -> Result<u64, Failure> {
-    let to = item.to.as_os_str();
-    if written.has(&item.to) {
-        return Err(Failure::file(NO_OUTPUT, to, "here this is the same file as one that was written before"));
-    }
-    apart(image, to)?;
-    let (target, mut length) = (Target::inside(to)?, 0);
-    target.fill(|file| {
-        length = copy(disc, &item.path, item.icb, &mut Drawn { to: file, bar }, |error| target.unwritten(error))?;
-        Ok(())
-    })?;
-    written.add(&item.to);
-    Ok(length)
-}
-
-/// Makes a directory, unless it is there. A link to one isn't followed.
-fn made(to: &Path) -> Result<(), Failure> {
-    match fs::symlink_metadata(to) {
-        Ok(there) if there.is_dir() => Ok(()),
-        Ok(_) => Err(Failure::file(NO_OUTPUT, to.as_os_str(), "this is there, and is no folder")),
-        Err(_) => {
-            fs::create_dir(to).map_err(|error| Failure::file(NO_OUTPUT, to.as_os_str(), format!("the folder can't be made: {error}")))
+        if store.is_full() {
+            lines.end(&mut store, missed, disc, out)?;
         }
     }
+    lines.end(&mut store, missed, disc, out)?;
+    Ok(lines.written)
 }
 
-/// The names that were given in one folder, and the number that the next one like it has.
-#[derive(Default)]
-struct Names {
-    given: HashSet<String>,
-    next: HashMap<String, u64>,
-}
-
-impl Names {
-    /// A name for this one that no other has: with a number behind it where two are alike.
-    fn take(&mut self, name: &str) -> String {
-        let safe = safe(name);
-        let (mut own, next) = (safe.clone(), self.next.entry(safe.clone()).or_insert(2));
-        while !self.given.insert(own.clone()) {
-            own = format!("{safe}~{next}");
-            *next += 1;
-        }
-        own
-    }
-}
-
-/// A name that stands in its folder, and is one line: what would not is written out as ls writes it.
-fn safe(name: &str) -> String {
-    let mut text = String::new();
-    for c in name.chars() {
-        if c == '/' || is_tricky(c) {
-            text.extend(c.escape_unicode());
-        } else {
-            text.push(c);
-        }
-    }
-    match text.as_str() {
-        "" => "unnamed".to_string(),
-        "." => "\\u{2e}".to_string(),
-        ".." => "\\u{2e}\\u{2e}".to_string(),
-        _ => {
-            let cut = (0..=text.len().min(LONGEST)).rfind(|at| text.is_char_boundary(*at));
-            text.truncate(cut.unwrap_or(0));
-            text
-        }
-    }
-}
-
-#[cfg(test)]
-mod tests {
-    use super::*;
-
-    #[test]
-    fn a_safe_name_stays_in_its_folder() {
-        for name in ["9", "10.1A", "a b", "naïve 日本", "a\\b", "...", ".hidden", "-x"] {
-            assert_eq!(safe(name), name);
-        }
-        for (name, safe) in [
-            ("", "unnamed"),
-            (".", "\\u{2e}"),
-            ("..", "\\u{2e}\\u{2e}"),
-            ("/", "\\u{2f}"),
-            ("../../etc/x", "..\\u{2f}..\\u{2f}etc\\u{2f}x"),
-            ("a\0\n\u{202e}", "a\\u{0}\\u{a}\\u{202e}"),
-        ] {
-            assert_eq!(super::safe(name), safe);
-        }
-        let long = safe(&"é".repeat(254));
-        assert!(long.len() <= LONGEST && long.len() > LONGEST - 2 && long.chars().all(|c| c == 'é'));
-    }
-
-    #[test]
-    fn no_two_names_are_one() {
-        let mut names = Names::default();
-        let given = ["a", "a", "a~2", "a", "A"].map(|name| names.take(name));
-        assert_eq!(given, ["a", "a~2", "a~2~2", "a~3", "A"]);
-        // Many of one name take no longer each.
-        let mut names = Names::default();
-        assert_eq!((0..100_000).map(|_| names.take("a")).last().unwrap(), "a~100000");
-    }
+/// Writes one file.
+fn put<V: Volume>(disc: &mut Disc<V>, item: &Item, store: &mut Store, bar: &mut Bar) -> Result<Put, Failure> {
+    store.file(&item.to, |file| {
+        let unwritten = |error| Failure::file(NO_OUTPUT, item.to.as_os_str(), format!("the file can't be written: {error}"));
+        copy(disc, &item.path, item.icb, &mut Drawn { to: file, bar }, unwritten)
+    })
 }

@@ -18,14 +18,14 @@ vault: look into a UDF disc. An image is a file or a drive, and is only read.
   vault probe IMAGE            whether it has a recognition sequence: yes or no
   vault check IMAGE            descriptors out of place, or with a ruined body
   vault survey IMAGE..         files, bytes, extents and refusals, in figures
+  vault compare IMAGE IMAGE    paths that one alone has, and files that differ
   vault make IMAGE FILE..      writes a vault of up to 64 files, by their names
   vault sample FILE            writes a sample show; vault alone gives a tour
   --as-written, --unambiguous, --as-original   how the names of PATH match
   --icb BLOCK[:REF]      what stands there, in place of PATH: ls -i shows it
   --checked, --highest, --maps   how the disc is opened; else as the original
   --copy, --drive   read to memory first, or a sector at a time; else mapped
-  --limit N, --no-limit  of ls -R, tree, get -r, check, survey: sectors to want
-  --json, --sectors      for other programs; the sectors that each call wanted
+  --json, --sectors, --limit N   for programs; sectors wanted; at most to want
 vault help COMMAND has the rest of a command, and vault --version what it is.
 Status: 0 done, 1 to 16 refused by that number, 64 wrong usage, 65 wrong, or a
 no, 66 no image, 67 not all read, 68 limit, 70 unknown, 74 no output.
@@ -54,7 +54,7 @@ const IMAGES: &str = "
 const DRIVES: &str = "  --drive    read it sector by sector, as they are wanted, without a map\n";
 
 /// A command, what it says of itself, and whether it has paths, reads an image, and can be asked of a drive.
-const COMMANDS: [(&str, &str, [bool; 3]); 13] = [
+const COMMANDS: [(&str, &str, [bool; 3]); 14] = [
     ("label", "vault label IMAGE\nPrints the volume's name.\n", [false, true, true]),
     (
         "info",
@@ -119,6 +119,15 @@ const COMMANDS: [(&str, &str, [bool; 3]); 13] = [
         [false, true, false],
     ),
     (
+        "compare",
+        "vault compare IMAGE IMAGE\nPrints the paths that one image alone has, and the files whose bytes differ.\n\
+         Status 0: there are none, 1: there are. Another: not all can be read, and what\n\
+         is refused by 1 is 67 here.\n\
+         \x20 --limit N  N sectors of each image at most; else 500000, and 4 for each that\n\
+         \x20            it has\n  --no-limit any number\n  --json     as one document\n",
+        [false, true, false],
+    ),
+    (
         "make",
         "vault make IMAGE FILE..\nWrites a vault of up to 64 files to IMAGE, each under the last part of its\n\
          path, and prints how many sectors it has.\n  --force    replace an IMAGE that is there: else it is left as it is\n",
@@ -138,9 +147,9 @@ const GET: &str = "\
 vault get IMAGE PATH FILE        a file to FILE: whole, or as it was
 vault get IMAGE -o TO PATH..     each to its own name in TO, a folder
 vault get -r IMAGE -o TO [PATH..]  all below each PATH, or all of the disc
-  --from N, --bytes N  of one file: from byte N on, the first is 0; N at most
-  --wait N   of one file: up to N seconds for an image copied front to back
+  --from N, --bytes N, --wait N  of one file: as of cat
   --limit N, --no-limit  of -r: sectors to want (500000, and 4 for each it has)
+  --sums FILE, --portable  of -r: sums for sha256sum -c; names for any stick
 An old FILE keeps its mode; -r follows no link. /dev/stdout is written to.
 ";
 

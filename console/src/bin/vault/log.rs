@@ -61,6 +61,12 @@ impl Log {
         self.remarks.iter().cloned().chain(last)
     }
 
+    /// Takes over what another has, behind what there is.
+    pub fn join(&mut self, other: Log) {
+        self.sums(other.calls);
+        self.remarks.extend(other.remarks);
+    }
+
     /// All sectors that were asked for so far.
     pub fn total(&self) -> u64 {
         self.total

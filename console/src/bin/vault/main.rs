@@ -4,6 +4,7 @@ mod args;
 mod bar;
 mod check;
 mod commands;
+mod compare;
 mod disc;
 mod drive;
 mod failure;
@@ -23,11 +24,15 @@ mod names;
 mod records;
 mod report;
 mod runs;
+mod safe;
 mod signals;
 mod sizes;
 mod steps;
+mod store;
 mod style;
+mod sums;
 mod survey;
+mod system;
 mod tour;
 mod tree;
 mod wait;
@@ -98,6 +103,9 @@ fn answer(args: &Args, out: &mut impl Write, log: &mut Log) -> Result<(), Failur
             survey::survey(images, Taken { how: args.how, copied: args.copy, limit: *limit }, *form, out, log)
         }
         Command::Total { rows, form } => survey::add_up(rows, *form, out),
+        Command::Compare { images, limit } => {
+            compare::compare(images, Taken { how: args.how, copied: args.copy, limit: *limit }, args.style.is_json, out, log)
+        }
         Command::Ask { image, question } => {
             if let Question::Get { file, .. } = question {
                 file::apart(image, file)?;

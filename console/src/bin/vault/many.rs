@@ -1,17 +1,17 @@
 //! `get -o`: many files, each to its own name in a folder.
 
+use crate::bar::Bar;
 use crate::commands::line;
 use crate::disc::Disc;
+use crate::drive::Drawn;
 use crate::failure::{Failure, NO_OUTPUT, UNREAD, USAGE};
-use crate::file::{Target, apart, identity};
+use crate::file::apart;
 use crate::names::shown;
 use crate::runs::{self, Span};
 use crate::steps::quoted;
-use crate::style::bytes;
+use crate::store::{Put, Store, Waiting};
 use crate::wanted::Wanted;
-use std::collections::HashSet;
 use std::ffi::OsStr;
-use std::fs;
 use std::io::Write;
 use std::os::unix::ffi::OsStrExt;
 use std::path::{Path, PathBuf};
@@ -24,11 +24,12 @@ struct Sought<'p> {
     to: PathBuf,
 }
 
-/// What couldn't be had: how many files, and the status for that.
+/// What couldn't be had: how many files, and the status for that; and how many were written under another name than their own.
 #[derive(Default)]
 pub struct Missed {
     pub files: usize,
     pub status: u8,
+    twins: usize,
 }
 
 impl Missed {
@@ -38,44 +39,97 @@ impl Missed {
         self.status = self.status.max(if failure.status == NO_OUTPUT { NO_OUTPUT } else { UNREAD });
         disc.log.remarks.extend(failure.says);
     }
-}
 
-/// The files that were written. Where case isn't told apart, as on a memory stick, or through a link, two names may be of one file.
-#[derive(Default)]
-pub struct Written(HashSet<(u64, u64)>);
-
-impl Written {
-    /// Whether a name is that of a file which was written before.
-    pub fn has(&self, name: &Path) -> bool {
-        fs::metadata(name).is_ok_and(|about| self.0.contains(&identity(&about)))
+    /// Looks at where one went, and tells of it where its own name was taken.
+    pub fn see<V>(&mut self, disc: &mut Disc<V>, path: &str, to: &Path, at: &Path, is_twin: bool) {
+        if !is_twin && at.file_name() == to.file_name() {
+            return;
+        }
+        self.twins += 1;
+        self.status = NO_OUTPUT;
+        let why = "its own name is another's here, as where case isn't told apart";
+        disc.log.remarks.push(format!("{}: \"{path}\" is written to {}, since {why}", disc.name, shown(at.as_os_str().as_bytes())));
     }
 
-    pub fn add(&mut self, name: &Path) {
-        self.0.extend(fs::metadata(name).map(|about| identity(&about)));
+    /// How a command ends that had so many to write.
+    pub fn end(&self, name: &str, all: usize, what: &str) -> Result<(), Failure> {
+        let files = (self.files > 0).then(|| format!("{} of {all} {what} not written", self.files));
+        let twins = (self.twins > 0).then(|| format!("{} of {all} {what} not under their own names", self.twins));
+        let says: Vec<String> = files.into_iter().chain(twins).collect();
+        if says.is_empty() { Ok(()) } else { Err(Failure::new(self.status, format!("{name}: {}", says.join(", ")))) }
+    }
+}
+
+/// The lines of what was written, in its order. Behind one of a file that waits the others wait too.
+#[derive(Default)]
+pub struct Lines {
+    held: Vec<(String, PathBuf, Option<Waiting>)>,
+    pub written: Vec<PathBuf>,
+}
+
+impl Lines {
+    pub fn add(&mut self, path: &str, put: Put, out: &mut impl Write) -> Result<(), Failure> {
+        let text = format!("{path}: {} bytes, to {}", put.length, shown(put.at.as_os_str().as_bytes()));
+        if self.held.is_empty() && put.waits.is_none() {
+            self.written.push(put.at);
+            return line(out, &text);
+        }
+        self.held.push((text, put.at, put.waits));
+        Ok(())
+    }
+
+    /// Has all written to the disk; then those that wait take their names.
+    pub fn end<V>(&mut self, store: &mut Store, missed: &mut Missed, disc: &mut Disc<V>, out: &mut impl Write) -> Result<(), Failure> {
+        if self.held.is_empty() && self.written.is_empty() {
+            return Ok(());
+        }
+        store.sync()?;
+        let waited = self.waits();
+        for (text, at, waits) in self.held.drain(..) {
+            match waits.map_or(Ok(()), Waiting::end) {
+                Ok(()) => {
+                    self.written.push(at);
+                    line(out, &text)?;
+                }
+                Err(failure) => missed.tell(failure, disc),
+            }
+        }
+        // Their names too.
+        if waited { store.sync() } else { Ok(()) }
+    }
+
+    /// Whether there is one that waits.
+    pub fn waits(&self) -> bool {
+        !self.held.is_empty()
     }
 }
 
 /// Writes each file that a path gives to its own name, as the disc has it, in a folder, and prints a line for it. What can't be had is told of, and
 /// the rest goes on.
 pub fn get(disc: &mut Disc<Counted>, paths: &[Vec<u8>], folder: &Path, image: &OsStr, out: &mut impl Write) -> Result<(), Failure> {
-    let (mut wanted, mut missed, mut written) = (Vec::new(), Missed::default(), Written::default());
+    let (mut wanted, mut missed) = (Vec::new(), Missed::default());
     for path in paths {
         match find(disc, path, folder, image, &wanted) {
             Ok(one) => wanted.push(one),
             Err(failure) => missed.tell(failure, disc),
         }
     }
+    let mut store = Store::new(folder, image, true, wanted.iter().map(|file| &*file.to))?;
+    let mut lines = Lines::default();
     for file in &wanted {
-        match put(disc, file, &mut written) {
-            Ok(length) => line(out, &format!("{}: {}, to {}", shown(file.path), bytes(length), shown(file.to.as_os_str().as_bytes())))?,
+        match put(disc, file, &mut store) {
+            Ok(put) => {
+                missed.see(disc, &shown(file.path), &file.to, &put.at, false);
+                lines.add(&shown(file.path), put, out)?;
+            }
             Err(failure) => missed.tell(failure, disc),
         }
+        if store.is_full() {
+            lines.end(&mut store, &mut missed, disc, out)?;
+        }
     }
-    if missed.files > 0 {
-        let says = format!("{}: {} of {} files not written", disc.name, missed.files, paths.len());
-        return Err(Failure::new(missed.status, says));
-    }
-    Ok(())
+    lines.end(&mut store, &mut missed, disc, out)?;
+    missed.end(disc.name, paths.len(), "files")
 }
 
 /// What a path gives, and where it goes: to a name that is neither the image's nor another path's.
@@ -91,13 +145,13 @@ fn find<'p>(disc: &mut Disc<Counted>, path: &'p [u8], folder: &Path, image: &OsS
     Ok(Sought { path, icb: found.icb, to })
 }
 
-/// Writes one file; not over one that was written before, which has another name on the disc.
-fn put(disc: &mut Disc<Counted>, file: &Sought, written: &mut Written) -> Result<u64, Failure> {
-    let (to, runs) = (file.to.as_os_str(), runs::find(disc, file.path, file.icb, Span::default())?);
-    if written.has(&file.to) {
-        return Err(Failure::file(USAGE, to, "this is the same file as one that was written before"));
-    }
-    let length = runs::put(runs, &Target::at(to)?)?;
-    written.add(&file.to);
-    Ok(length)
+/// Writes one file.
+fn put(disc: &mut Disc<Counted>, file: &Sought, store: &mut Store) -> Result<Put, Failure> {
+    let runs = runs::find(disc, file.path, file.icb, Span::default())?;
+    let (length, mut bar) = (runs.len(), Bar::new(runs.len()));
+    store.file(&file.to, |to| {
+        let unwritten = |error| Failure::file(NO_OUTPUT, file.to.as_os_str(), format!("the file can't be written: {error}"));
+        runs::write(runs, &mut Drawn { to, bar: &mut bar }).map_err(|error| runs::lost(error, unwritten))?;
+        Ok(length)
+    })
 }

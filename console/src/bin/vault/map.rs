@@ -1,5 +1,5 @@
 //! A file in memory: mapped, so that a disc of 25 GB opens at once and costs what is looked at; or made, of a given length, and mapped to be
-//! written. With `records` and `signals` this is the only module of the command with `unsafe` in it.
+//! written. With `records`, `signals` and `system` this is the only module of the command with `unsafe` in it.
 //!
 //! # What is relied on
 //!
@@ -12,7 +12,8 @@
 //!
 //! What still holds if someone does write: the Rust of this command looks at no byte of a map but for the few numbers of the volume's
 //! descriptors that `stat` shows and `check` goes by, and the sectors of a call that was refused, which are copied to say why: each byte by a load
-//! that isn't repeated. A file's bytes go from the map to where they are written by the system's own copy (`runs`). It hands the slice to the archive's calls,
+//! that isn't repeated. A file's bytes go from the map to where they are written by the system's own copy (`runs`), and `compare` holds those of two maps to
+//! each other, and nothing more. It hands the slice to the archive's calls,
 //! as a pointer and a length, and these stay inside what they are lent whatever the image holds from one look to the next (docs/PROMISES.md,
 //! "What is assumed", says how far that is proved and how far it is tried). The answer may then be that of no image: a mixture of before and
 //! after, with bytes in it that were never written. A file that is cut short meanwhile ends the command with a sentence.

@@ -45,18 +45,23 @@ pub fn find<'a>(disc: &mut Disc<Counted<'a>>, path: &[u8], icb: LongAd, span: Sp
     counted(disc, path, icb, runs)
 }
 
-/// Notes the count of what was asked of a file, and gives its value. Here memory is no reason for 5: the file has more bytes than its image.
+/// Notes the count of what was asked of a file, and gives its value.
 pub fn counted<V: Volume, T>(disc: &mut Disc<V>, path: &[u8], icb: LongAd, answer: Answered<T>) -> Result<T, Failure> {
-    let says = "the file has more bytes than its image, since its extents overlap; cat and get of one file take N of them with --bytes N";
     match disc.log.count("read_file", answer) {
-        Err(refused) if refused.why == Refusal::NoRoom => {
-            Err(Failure::with_number(refused, format!("{}: {}: {says}", disc.name, quoted(path))))
-        }
-        Err(refused) => Err(disc.refused(path, Asked::ReadFile(icb), refused)),
+        Err(answer) => Err(refused(disc, path, icb, answer)),
         Ok(read) => {
             disc.see_file(path, icb);
             Ok(read)
         }
+    }
+}
+
+/// Why a file isn't read. Here memory is no reason for 5: the file has more bytes than its image.
+pub fn refused<V: Volume>(disc: &mut Disc<V>, path: &[u8], icb: LongAd, refused: Refused) -> Failure {
+    let says = "the file has more bytes than its image, since its extents overlap; cat and get of one file take N of them with --bytes N";
+    match refused.why {
+        Refusal::NoRoom => Failure::with_number(refused, format!("{}: {}: {says}", disc.name, quoted(path))),
+        _ => disc.refused(path, Asked::ReadFile(icb), refused),
     }
 }
 

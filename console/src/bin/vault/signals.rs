@@ -1,7 +1,7 @@
 //! What a signal that ends the command leaves behind: nothing. A file that isn't whole yet stands under a temporary name, which is taken away first.
 //!
-//! Why it is sound: a handler makes calls alone that may be made from one (`unlink`, `signal`, `raise`), and reads one pointer, which is null or a name
-//! that nobody frees while it stands there. The command has one thread, and the handler doesn't come back, so that a name which it has read stays.
+//! Why it is sound: a handler makes calls alone that may be made from one (`unlink`, `signal`, `raise`), and reads pointers, each of which is null or a
+//! name that nobody frees while it stands there. The command has one thread, and the handler doesn't come back, so that a name which it has read stays.
 #![allow(unsafe_code)]
 
 use std::ffi::{CString, c_char, c_int};
@@ -23,8 +23,11 @@ unsafe extern "C" {
     fn unlink(name: *const c_char) -> c_int;
 }
 
-/// The name of the file that isn't whole yet.
-static UNFINISHED: AtomicPtr<c_char> = AtomicPtr::new(ptr::null_mut());
+/// So many files may be unfinished at once.
+pub const MOST: usize = 1024;
+
+/// The names of the files that aren't whole yet, or don't have their own name yet.
+static UNFINISHED: [AtomicPtr<c_char>; MOST] = [const { AtomicPtr::new(ptr::null_mut()) }; MOST];
 
 /// Has a signal handled. One that was ignored when the command was started, as by nohup, stays ignored.
 pub fn on(number: c_int, handler: extern "C" fn(c_int)) {
@@ -36,12 +39,14 @@ pub fn on(number: c_int, handler: extern "C" fn(c_int)) {
     }
 }
 
-/// Takes the file away that isn't whole yet. May be called from a handler.
+/// Takes the files away that aren't whole yet. May be called from a handler.
 pub fn take_away() {
-    let name = UNFINISHED.load(Ordering::SeqCst);
-    if !name.is_null() {
-        // SAFETY: a name that ends in a zero byte, and stays: the head of this module.
-        unsafe { unlink(name) };
+    for place in &UNFINISHED {
+        let name = place.load(Ordering::SeqCst);
+        if !name.is_null() {
+            // SAFETY: a name that ends in a zero byte, and stays: the head of this module.
+            unsafe { unlink(name) };
+        }
     }
 }
 
@@ -55,29 +60,46 @@ extern "C" fn end(number: c_int) {
     }
 }
 
-/// A temporary name, of which nothing is left where this is dropped or a signal ends the command. There is one at a time.
-pub struct Unfinished(PathBuf);
+/// A temporary name, of which nothing is left where this is dropped or a signal ends the command.
+pub struct Unfinished {
+    path: PathBuf,
+    /// Where its name stands for the handler.
+    at: &'static AtomicPtr<c_char>,
+    is_named: bool,
+}
 
 impl Unfinished {
     /// Before the file is made: a name that nobody else has.
     pub fn at(path: PathBuf) -> io::Result<Unfinished> {
         static HANDLED: Once = Once::new();
         HANDLED.call_once(|| ENDING.into_iter().for_each(|number| on(number, end)));
-        let name = CString::new(path.as_os_str().as_bytes())?;
-        release(UNFINISHED.swap(name.into_raw(), Ordering::SeqCst));
-        Ok(Unfinished(path))
+        let name = CString::new(path.as_os_str().as_bytes())?.into_raw();
+        let is_free =
+            |place: &&AtomicPtr<c_char>| place.compare_exchange(ptr::null_mut(), name, Ordering::SeqCst, Ordering::SeqCst).is_ok();
+        let Some(at) = UNFINISHED.iter().find(is_free) else {
+            release(name);
+            return Err(io::Error::other("too many files are unfinished"));
+        };
+        Ok(Unfinished { path, at, is_named: false })
     }
 
     pub fn path(&self) -> &Path {
-        &self.0
+        &self.path
+    }
+
+    /// The file has its own name now, and stays.
+    pub fn named(mut self) {
+        self.is_named = true;
     }
 }
 
 impl Drop for Unfinished {
     fn drop(&mut self) {
-        // Where it was renamed there is nothing. What can't be taken away either is told of by the first error.
-        let _ = fs::remove_file(&self.0);
-        release(UNFINISHED.swap(ptr::null_mut(), Ordering::SeqCst));
+        if !self.is_named {
+            // What can't be taken away either is told of by the first error.
+            let _ = fs::remove_file(&self.path);
+        }
+        release(self.at.swap(ptr::null_mut(), Ordering::SeqCst));
     }
 }
 
@@ -137,5 +159,12 @@ mod tests {
         fs::write(&name, b"half").unwrap();
         drop(unfinished);
         assert!(!name.exists());
+        let (one, other) = (Unfinished::at(name.clone()).unwrap(), Unfinished::at(name.with_extension("2")).unwrap());
+        fs::write(one.path(), b"whole").unwrap();
+        fs::write(other.path(), b"half").unwrap();
+        one.named();
+        drop(other);
+        assert!(name.exists() && !name.with_extension("2").exists());
+        fs::remove_file(&name).unwrap();
     }
 }
