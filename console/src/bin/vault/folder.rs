@@ -230,23 +230,22 @@ fn write<V: Volume>(
         }
         let done = match item.file {
             None => store.folder(&item.to).map(|at| (at, None)),
-            Some(_) => {
-                let mut tried = put(disc, item, &mut store, &mut bar);
-                // The files that wait may be what there is no room for.
-                if tried.as_ref().is_err_and(|failure| failure.status == NO_OUTPUT) && lines.waits() {
+            Some(_) => put(disc, item, &mut store, &mut bar)
+                .or_else(|failure| {
+                    // The files that wait may be what there is no room for.
+                    if failure.status != NO_OUTPUT || !lines.waits() {
+                        return Err(failure);
+                    }
                     lines.end(&mut store, missed, disc, out)?;
-                    tried = put(disc, item, &mut store, &mut bar);
-                }
-                tried.map(|put| (put.at.clone(), Some(put)))
-            }
+                    put(disc, item, &mut store, &mut bar)
+                })
+                .map(|put| (put.at.clone(), Some(put))),
         };
         match done {
             Ok((at, put)) => {
                 missed.see(disc, &item.text, &item.to, &at, item.is_twin);
-                if let Some(put) = put {
-                    bar.wipe();
-                    lines.add(&item.text, put, out)?;
-                }
+                bar.wipe();
+                put.map_or(Ok(()), |put| lines.add(&item.text, put, out))?;
             }
             Err(failure) => {
                 unmade.extend(item.file.is_none().then_some(&*item.to));
