@@ -229,13 +229,7 @@ fn write<V: Volume>(
         }
         let done = match item.file {
             None => store.folder(&item.to).map(|at| (at, None)),
-            Some(_) => {
-                let first = put(disc, item, &mut store, &mut bar);
-                // The files that wait may be what there is no room for.
-                let again = first.as_ref().is_err_and(|failure| failure.status == NO_OUTPUT) && lines.waits();
-                let put = if again { room(disc, item, &mut store, &mut bar, &mut lines, missed, out) } else { first };
-                put.map(|put| (put.at.clone(), Some(put)))
-            }
+            Some(_) => tried(disc, item, &mut store, &mut bar, &mut lines, missed, out).map(|put| (put.at.clone(), Some(put))),
         };
         match done {
             Ok((at, put)) => {
@@ -256,8 +250,8 @@ fn write<V: Volume>(
     Ok(lines.written)
 }
 
-/// Writes one file once those that wait have their names.
-fn room<V: Volume>(
+/// Writes one file; where that fails, again once those that wait have their names: they may be what there is no room for.
+fn tried<V: Volume>(
     disc: &mut Disc<V>,
     item: &Item,
     store: &mut Store,
@@ -266,6 +260,10 @@ fn room<V: Volume>(
     missed: &mut Missed,
     out: &mut impl Write,
 ) -> Result<Put, Failure> {
+    let first = put(disc, item, store, bar);
+    if !lines.waits() || first.as_ref().is_ok() || first.as_ref().is_err_and(|failure| failure.status != NO_OUTPUT) {
+        return first;
+    }
     lines.end(store, missed, disc, out)?;
     put(disc, item, store, bar)
 }
