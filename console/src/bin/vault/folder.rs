@@ -93,7 +93,8 @@ pub fn get<V: Volume>(disc: &mut Disc<V>, tree: &Tree, folder: &Path, image: &Os
     let Plan { items, mut missed, count, .. } = plan(disc, tree, folder)?;
     drop(count);
     let all = items.len() + missed.files;
-    let written = write(disc, &items, folder, image, &mut missed, out)?;
+    let store = Store::new(folder, image, false, items.iter().map(|item| &*item.to))?;
+    let written = write(disc, &items, store, &mut missed, out)?;
     if let Some(sums) = sums {
         sums.write(folder, &written)?;
     }
@@ -216,40 +217,28 @@ impl Item {
 fn write<V: Volume>(
     disc: &mut Disc<V>,
     items: &[Item],
-    folder: &Path,
-    image: &OsStr,
+    mut store: Store,
     missed: &mut Missed,
     out: &mut impl Write,
 ) -> Result<Vec<PathBuf>, Failure> {
     let total = items.iter().filter_map(|item| item.file).fold(0u64, u64::saturating_add);
-    let mut store = Store::new(folder, image, false, items.iter().map(|item| &*item.to))?;
     let (mut bar, mut lines, mut unmade) = (Bar::new(total), Lines::default(), HashSet::new());
     for item in items {
+        // Its folder isn't there, or is something else, and was told of.
         if item.to.parent().is_some_and(|folder| unmade.contains(folder)) {
-            // Its folder isn't there, or is something else, and was told of.
             unmade.insert(&*item.to);
             missed.files += 1;
             continue;
         }
         let done = match item.file {
             None => store.folder(&item.to).map(|at| (at, None)),
-            Some(_) => {
-                let mut tried = put(disc, item, &mut store, &mut bar);
-                // The files that wait may be what there is no room for.
-                if tried.as_ref().is_err_and(|failure| failure.status == NO_OUTPUT) && lines.waits() {
-                    lines.end(&mut store, missed, disc, out)?;
-                    tried = put(disc, item, &mut store, &mut bar);
-                }
-                tried.map(|put| (put.at.clone(), Some(put)))
-            }
+            Some(_) => tried(disc, item, &mut store, &mut bar, &mut lines, missed, out).map(|put| (put.at.clone(), Some(put))),
         };
         match done {
             Ok((at, put)) => {
                 missed.see(disc, &item.text, &item.to, &at, item.is_twin);
-                if let Some(put) = put {
-                    bar.wipe();
-                    lines.add(&item.text, put, out)?;
-                }
+                bar.wipe();
+                put.map_or(Ok(()), |put| lines.add(&item.text, put, out))?;
             }
             Err(failure) => {
                 unmade.extend(item.file.is_none().then_some(&*item.to));
@@ -262,6 +251,24 @@ fn write<V: Volume>(
     }
     lines.end(&mut store, missed, disc, out)?;
     Ok(lines.written)
+}
+
+/// Writes one file; where that fails, again once those that wait have their names: they may be what there is no room for.
+fn tried<V: Volume>(
+    disc: &mut Disc<V>,
+    item: &Item,
+    store: &mut Store,
+    bar: &mut Bar,
+    lines: &mut Lines,
+    missed: &mut Missed,
+    out: &mut impl Write,
+) -> Result<Put, Failure> {
+    let first = put(disc, item, store, bar);
+    if !lines.waits() || first.as_ref().is_ok() || first.as_ref().is_err_and(|failure| failure.status != NO_OUTPUT) {
+        return first;
+    }
+    lines.end(store, missed, disc, out)?;
+    put(disc, item, store, bar)
 }
 
 /// Writes one file.
