@@ -123,7 +123,7 @@ fn a_stick_takes_every_name() {
     }
     // Without the option what a Linux file system takes is left, and what the stick refuses is told of with what to do.
     let said = folder.vault(&["get", "-r", "a.img", "-o", "to"]);
-    assert!(said.status == 74 && said.out.contains("a\\u{2f}b: 1 bytes, to to/a%2Fb\n"), "{said:?}");
+    assert!(said.status == 74 && said.out.contains("a\\u{2f}b: 1 byte, to to/a%2Fb\n"), "{said:?}");
 }
 
 /// Where case is told apart, portable names differ by more.

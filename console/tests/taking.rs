@@ -251,7 +251,7 @@ fn no_name_leads_out_of_the_folder() {
     let dots = ".%2E";
     let safe = [dots, "%2E", "unnamed", "..%2Fout", "%2Fout", "a%2Fb", "twin", "twin~2", "new%0Aline", "%1B[2J", "a\\b"];
     // On the left as ls writes them, and on the right too.
-    assert!(said.out.contains("a\\u{2f}b: 1 bytes, to to/a%2Fb\n") && said.out.contains("a\\\\b: 2 bytes, to to/a\\\\b\n"), "{said:?}");
+    assert!(said.out.contains("a\\u{2f}b: 1 byte, to to/a%2Fb\n") && said.out.contains("a\\\\b: 2 bytes, to to/a\\\\b\n"), "{said:?}");
     let mut safe = safe.map(String::from).to_vec();
     for (i, name) in safe.iter().enumerate() {
         assert_eq!(fs::read_to_string(folder.at("to").join(name)).unwrap(), i.to_string());

@@ -10,6 +10,7 @@ use crate::names::shown;
 use crate::runs::{self, Span};
 use crate::steps::quoted;
 use crate::store::{Put, Store, Waiting};
+use crate::style::bytes;
 use crate::wanted::Wanted;
 use std::ffi::OsStr;
 use std::io::Write;
@@ -69,7 +70,7 @@ pub struct Lines {
 
 impl Lines {
     pub fn add(&mut self, path: &str, put: Put, out: &mut impl Write) -> Result<(), Failure> {
-        let text = format!("{path}: {} bytes, to {}", put.length, shown(put.at.as_os_str().as_bytes()));
+        let text = format!("{path}: {}, to {}", bytes(put.length), shown(put.at.as_os_str().as_bytes()));
         if self.held.is_empty() && put.waits.is_none() {
             self.written.push(put.at);
             return line(out, &text);
