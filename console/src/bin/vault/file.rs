@@ -186,11 +186,16 @@ pub fn keep_at(new: &Path, old: &Metadata) -> io::Result<()> {
     fs::set_permissions(new, Permissions::from_mode(old.mode() & MODE))
 }
 
+/// A name beside another that nobody else has, for a file that isn't whole yet.
+pub fn temporary(place: &Path, what: &str) -> io::Result<Unfinished> {
+    let chance = RandomState::new().hash_one(0);
+    Unfinished::at(place.with_file_name(format!(".vault-{chance:016x}-{what}")))
+}
+
 /// A new file beside another, to be read too: a map needs both. Its name is one that nobody else has. Where the other is there, nobody may read it meanwhile
 /// who may not read that.
 pub fn created(place: &Path, what: &str, old: Option<&Metadata>) -> io::Result<(Unfinished, File)> {
-    let chance = RandomState::new().hash_one(0);
-    let unfinished = Unfinished::at(place.with_file_name(format!(".vault-{chance:016x}-{what}")))?;
+    let unfinished = temporary(place, what)?;
     let mode = old.map_or(NEW, |old| old.mode() & MODE);
     let file = File::options().read(true).write(true).create_new(true).mode(mode).open(unfinished.path())?;
     Ok((unfinished, file))

@@ -5,7 +5,7 @@
 //! disk, with others, so that a power cut or a pulled stick leaves the old file or the new one.
 
 use crate::failure::{Failure, NO_OUTPUT, USAGE};
-use crate::file::{Target, created, identity, keep_at};
+use crate::file::{Target, created, identity, keep_at, temporary};
 use crate::safe::{folded, free};
 use crate::signals::{MOST, Unfinished};
 use crate::system;
@@ -41,6 +41,8 @@ pub struct Store<'p> {
     synced: HashMap<u64, PathBuf>,
     /// Whether a name can be taken by one call.
     can_rename: bool,
+    /// Whether a file may have no name until it is whole, as far as was seen.
+    can_link: bool,
     waiting: (usize, u64),
 }
 
@@ -91,7 +93,8 @@ impl<'p> Store<'p> {
         let folds = move || planned.map(|path| folded(&path.to_string_lossy())).collect();
         let planned: Planned = LazyCell::new(Box::new(folds));
         let (before, moved, next, written, synced) = Default::default();
-        let mut store = Store { before, moved, planned, next, follows, written, image, synced, can_rename: true, waiting: (0, 0) };
+        let mut store =
+            Store { before, moved, planned, next, follows, written, image, synced, can_rename: true, can_link: true, waiting: (0, 0) };
         store.open(folder).map_err(|error| Failure::file(NO_OUTPUT, folder.as_os_str(), format!("the folder can't be read: {error}")))?;
         Ok(store)
     }
@@ -166,6 +169,11 @@ impl<'p> Store<'p> {
     pub fn file(&mut self, planned: &Path, write: impl FnOnce(&mut File) -> Result<u64, Failure>) -> Result<Put, Failure> {
         let to = self.actual(planned);
         let old = if self.was(&to) { Some(self.old(&to)?) } else { None };
+        if old.is_none()
+            && let Some(file) = self.unnamed(&to)
+        {
+            return self.linked(file, planned, to, write);
+        }
         let place = old.as_ref().map_or(&to, |(place, _)| place);
         let made = created(place, "new", old.as_ref().map(|(_, about)| about));
         let (unfinished, mut file) = made.map_err(|error| unwritten(&to, error))?;
@@ -175,6 +183,37 @@ impl<'p> Store<'p> {
             Some((place, about)) => self.replaced(unfinished, to, place, &about, length),
             None => self.named(unfinished, planned, to, length),
         }
+    }
+
+    /// A new file with no name, where there are such.
+    fn unnamed(&mut self, to: &Path) -> Option<File> {
+        let file = self.can_link.then(|| system::unnamed(to.parent()?).ok()).flatten();
+        self.can_link = file.is_some();
+        file
+    }
+
+    /// Writes a new file, and then gives it its name. Where that is taken it goes on as a file with a temporary one.
+    fn linked(
+        &mut self,
+        mut file: File,
+        planned: &Path,
+        to: PathBuf,
+        write: impl FnOnce(&mut File) -> Result<u64, Failure>,
+    ) -> Result<Put, Failure> {
+        let length = write(&mut file)?;
+        let named = match system::link_new(&file, &to) {
+            Err(error) if error.kind() == io::ErrorKind::AlreadyExists => {
+                temporary(&to, "new").and_then(|unfinished| system::link_new(&file, unfinished.path()).map(|()| Some(unfinished)))
+            }
+            done => done.map(|()| None),
+        };
+        let unfinished = named.map_err(|error| unwritten(&to, error))?;
+        system::closed(file).map_err(|error| unwritten(&to, error))?;
+        if let Some(unfinished) = unfinished {
+            return self.named(unfinished, planned, to, length);
+        }
+        self.note(&to);
+        Ok(Put { at: to, length, waits: None })
     }
 
     /// Gives a new file its name, or the first with a number behind it that is free or was there before the run.

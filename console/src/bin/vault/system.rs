@@ -1,17 +1,25 @@
 //! Calls of the system that the standard library doesn't have: a name that is taken only where it is free, and a whole file system that is synced.
 #![allow(unsafe_code)]
 
-use std::ffi::{CString, c_int};
+use std::ffi::{CString, c_char, c_int};
 use std::fs::File;
 use std::io;
 use std::os::fd::{AsRawFd, IntoRawFd};
 use std::os::unix::ffi::OsStrExt;
+use std::os::unix::fs::OpenOptionsExt;
 use std::path::Path;
 
 unsafe extern "C" {
     fn syncfs(file: c_int) -> c_int;
     fn close(file: c_int) -> c_int;
+    fn linkat(from_at: c_int, from: *const c_char, to_at: c_int, to: *const c_char, flags: c_int) -> c_int;
 }
+
+/// Where the system has the open files of a program by their numbers.
+const OPEN: &str = "/proc/self/fd";
+
+/// Names go by the folder that the program runs in.
+const HERE: c_int = -100;
 
 fn done(answer: c_int) -> io::Result<()> {
     if answer == 0 { Ok(()) } else { Err(io::Error::last_os_error()) }
@@ -25,10 +33,9 @@ fn name(path: &Path) -> io::Result<CString> {
 /// call the error is one that `is_unknown` knows.
 #[cfg(any(target_arch = "x86_64", target_arch = "aarch64", target_arch = "riscv64"))]
 pub fn rename_new(from: &Path, to: &Path) -> io::Result<()> {
-    use std::ffi::{c_char, c_long, c_uint};
+    use std::ffi::{c_long, c_uint};
 
     const RENAMEAT2: c_long = if cfg!(target_arch = "x86_64") { 316 } else { 276 };
-    const HERE: c_int = -100;
     const NO_REPLACE: c_uint = 1;
 
     unsafe extern "C" {
@@ -47,6 +54,26 @@ pub fn rename_new(_: &Path, _: &Path) -> io::Result<()> {
 /// Whether `rename_new` isn't known here.
 pub fn is_unknown(error: &io::Error) -> bool {
     matches!(error.kind(), io::ErrorKind::InvalidInput | io::ErrorKind::Unsupported)
+}
+
+/// A file in a folder that has no name yet, and is gone where it gets none. Not every system and file system has such files.
+pub fn unnamed(folder: &Path) -> io::Result<File> {
+    // O_TMPFILE.
+    const UNNAMED: c_int = if cfg!(target_arch = "aarch64") { 0o20_040_000 } else { 0o20_200_000 };
+
+    if !Path::new(OPEN).exists() {
+        return Err(io::ErrorKind::Unsupported.into());
+    }
+    File::options().read(true).write(true).custom_flags(UNNAMED).open(folder)
+}
+
+/// Gives such a file its name, which nothing else may have: else this fails with `AlreadyExists`.
+pub fn link_new(file: &File, to: &Path) -> io::Result<()> {
+    const FOLLOW: c_int = 0x400;
+
+    let (from, to) = (name(Path::new(&format!("{OPEN}/{}", file.as_raw_fd())))?, name(to)?);
+    // SAFETY: two names that end in a zero byte, and stay while the call runs.
+    done(unsafe { linkat(HERE, from.as_ptr(), HERE, to.as_ptr(), FOLLOW) })
 }
 
 /// Closes a file. A file system may say only now that it can't be written.
