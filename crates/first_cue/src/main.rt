@@ -1,4 +1,4 @@
-// The first example of the README: opens the image on standard input, which is kept sparse, looks cue 10.1A up and prints it.
+// The example of docs/GUIDE.md: opens the image on standard input, which is kept sparse, looks cue 10.1A up and prints it.
 use listings::matchings::Matching;
 use programs::lent::front;
 use programs::lent::mebibyte;
