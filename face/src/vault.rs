@@ -10,8 +10,8 @@
 //! number that every call writes: they are never null. If the image changes during a call, the answer may be that of no
 //! image; the call still ends, with a number of the table, and stays inside the memory that it was lent.
 //!
-//! Stack, as measured on x86-64: vault_show takes about 15 KB and vault_survey about 17 KB on a tree of 16 levels, the
-//! most that they go down. Any other call takes less than 3 KB.
+//! Stack, as measured on x86-64: vault_show takes less than 16 KB and vault_survey less than 19 KB on a tree of 16
+//! levels, the most that they go down. Any other call takes less than 3 KB.
 //!
 //! Every call on an image but the probe answers with a number, which has its name below, and with a count of the
 //! sectors of 2,048 bytes that it asked for. A call that is refused (any number but 0) has zeros in every value but the
