@@ -124,6 +124,8 @@ fn a_stick_takes_every_name() {
     // Without the option what a Linux file system takes is left, and what the stick refuses is told of with what to do.
     let said = folder.vault(&["get", "-r", "a.img", "-o", "to"]);
     assert!(said.status == 74 && said.out.contains("a\\u{2f}b: 1 byte, to to/a%2Fb\n"), "{said:?}");
+    let refused = said.error.lines().find(|line| line.contains("a:b")).unwrap();
+    assert!(refused.ends_with("; get -r --portable writes names that every file system takes"), "{refused}");
 }
 
 /// Where case is told apart, portable names differ by more.

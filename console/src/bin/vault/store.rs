@@ -77,9 +77,9 @@ fn unmade(to: &Path, error: io::Error) -> Failure {
     Failure::file(NO_OUTPUT, to.as_os_str(), format!("the folder can't be made: {error}{}", cure(&error)))
 }
 
-/// What to try where a file system doesn't take a name.
+/// What to try where a file system doesn't take a name. exFAT in user space says of such a name that it isn't there.
 fn cure(error: &io::Error) -> &'static str {
-    if matches!(error.kind(), io::ErrorKind::InvalidInput | io::ErrorKind::InvalidFilename) {
+    if matches!(error.kind(), io::ErrorKind::InvalidInput | io::ErrorKind::InvalidFilename | io::ErrorKind::NotFound) {
         "; get -r --portable writes names that every file system takes"
     } else {
         ""
@@ -93,8 +93,19 @@ impl<'p> Store<'p> {
         let folds = move || planned.map(|path| folded(&path.to_string_lossy())).collect();
         let planned: Planned = LazyCell::new(Box::new(folds));
         let (before, moved, next, written, synced) = Default::default();
-        let mut store =
-            Store { before, moved, planned, next, follows, written, image, synced, can_rename: true, can_link: true, waiting: (0, 0) };
+        let mut store = Store {
+            before,
+            moved,
+            planned,
+            next,
+            follows,
+            written,
+            image,
+            synced,
+            can_rename: true,
+            can_link: system::can_link(),
+            waiting: (0, 0),
+        };
         store.open(folder).map_err(|error| Failure::file(NO_OUTPUT, folder.as_os_str(), format!("the folder can't be read: {error}")))?;
         Ok(store)
     }

@@ -56,14 +56,16 @@ pub fn is_unknown(error: &io::Error) -> bool {
     matches!(error.kind(), io::ErrorKind::InvalidInput | io::ErrorKind::Unsupported)
 }
 
+/// Whether a file that has no name can be given one here, as far as the system goes.
+pub fn can_link() -> bool {
+    Path::new(OPEN).exists()
+}
+
 /// A file in a folder that has no name yet, and is gone where it gets none. Not every system and file system has such files.
 pub fn unnamed(folder: &Path) -> io::Result<File> {
     // O_TMPFILE.
     const UNNAMED: c_int = if cfg!(target_arch = "aarch64") { 0o20_040_000 } else { 0o20_200_000 };
 
-    if !Path::new(OPEN).exists() {
-        return Err(io::ErrorKind::Unsupported.into());
-    }
     File::options().read(true).write(true).custom_flags(UNNAMED).open(folder)
 }
 
