@@ -4,12 +4,12 @@
     tools/calls.py              needs the archives of vault_c, drives_c, surveys_c and records_c (`rt staticlib NAME`)
     tools/calls.py --self-test  plants faults in copies of vault.h, and of the sources of the archives, each of which must be seen
 
-Compiles face/c/layouts.c, which asserts every size, offset, type and number of the two headers, as C11 and as C++17. Sees that a choice on opening isn't
+Compiles strandlodge-sys/c/layouts.c, which asserts every size, offset, type and number of the two headers, as C11 and as C++17. Sees that a choice on opening isn't
 taken for one of matching. Then it builds over the archives, and runs:
 
-    face/c/calls.c      every call of vault.h on a small show
-    face/c/records.c    every call of records.h, as C11 and as C++17
-    face/c/growing.c    reads in which row and output grow at every step, on the images of crates/drive_cases and on a file of 5 MB
+    strandlodge-sys/c/calls.c      every call of vault.h on a small show
+    strandlodge-sys/c/records.c    every call of records.h, as C11 and as C++17
+    strandlodge-sys/c/growing.c    reads in which row and output grow at every step, on the images of crates/drive_cases and on a file of 5 MB
     packaging/window.c  that file through a window of 2,048 bytes, which must be what vault_read gives; on x86-64, with cc's own library
     packaging/lookup.c  its name looked up a sector at a time; in the same way
 
@@ -166,14 +166,14 @@ def told_apart(folder):
 
 def made(archives, folder, headers=()):
     """Makes the calls over the archives."""
-    linked(ROOT / "face/c/calls.c", archives, f"{folder}/calls", headers=headers)
+    linked(ROOT / "strandlodge-sys/c/calls.c", archives, f"{folder}/calls", headers=headers)
     ran(f"{folder}/calls", SHOW.read_bytes())
 
 
 def small_records(archive, folder):
     """Makes the calls of records.h."""
     for language in (C, CPP):
-        linked(ROOT / "face/c/records.c", [archive], f"{folder}/records", language)
+        linked(ROOT / "strandlodge-sys/c/records.c", [archive], f"{folder}/records", language)
         ran(f"{folder}/records")
 
 
@@ -215,7 +215,7 @@ def long_disc():
 
 def grown(archives, folder, times):
     """Reads on the stored images whose memory grows at every step, so many in each way; what is said of them."""
-    linked(ROOT / "face/c/growing.c", archives, f"{folder}/growing")
+    linked(ROOT / "strandlodge-sys/c/growing.c", archives, f"{folder}/growing")
     return ran(f"{folder}/growing", (ROOT / "crates/drive_cases/data/images").read_bytes(), [times]).decode().strip()
 
 
@@ -282,7 +282,7 @@ def is_seen_in_header(fault, archives, folder):
     there = folder / "include"
     there.mkdir(exist_ok=True)
     (there / "vault.h").write_text(planted((ROOT / "include/vault.h").read_text(encoding="utf-8"), old, new, "vault.h"), encoding="utf-8")
-    linked(ROOT / "face/c/calls.c", archives, f"{folder}/calls", headers=[there])
+    linked(ROOT / "strandlodge-sys/c/calls.c", archives, f"{folder}/calls", headers=[there])
     return is_refused(archives, folder, [there])
 
 
@@ -303,9 +303,9 @@ def self_test():
 
 
 def check():
-    vault, records = uncalled("include/vault.h", "face/c/calls.c"), uncalled("include/records.h", "face/c/records.c")
-    did("cc", *C, *STRICT, "-fsyntax-only", ROOT / "face/c/layouts.c")
-    did("c++", *CPP, *STRICT, "-fsyntax-only", ROOT / "face/c/layouts.c")
+    vault, records = uncalled("include/vault.h", "strandlodge-sys/c/calls.c"), uncalled("include/records.h", "strandlodge-sys/c/records.c")
+    did("cc", *C, *STRICT, "-fsyntax-only", ROOT / "strandlodge-sys/c/layouts.c")
+    did("c++", *CPP, *STRICT, "-fsyntax-only", ROOT / "strandlodge-sys/c/layouts.c")
     archives = [ROOT / f"target/staticlib/lib{crate}.a" for crate in ARCHIVES]
     with tempfile.TemporaryDirectory() as folder:
         told_apart(folder)

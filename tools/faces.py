@@ -1,12 +1,12 @@
 #!/usr/bin/env python3
 """Writes what C and Rust are told of the archives, from the sources of the crates that the archives are made of.
 
-    tools/faces.py              writes include/vault.h, include/records.h, face/src/vault.rs, face/src/records.rs and face/c/layouts.c
+    tools/faces.py              writes include/vault.h, include/records.h, strandlodge-sys/src/vault.rs, strandlodge-sys/src/records.rs and strandlodge-sys/c/layouts.c
     tools/faces.py --check      says which line of which of them isn't what it would write, and ends with 1 if there is one
     tools/faces.py --self-test  plants faults in copies of sources and files, each of which --check must see
 
 The sources are the functions for C of crates/vault_c and crates/records_c, the structs that they name wherever these are declared, the answer
-numbers of crates/disc, and the comments above all of these; in vault.h also face/c/entries.h, which takes a listing's records apart. Needs nothing but
+numbers of crates/disc, and the comments above all of these; in vault.h also strandlodge-sys/c/entries.h, which takes a listing's records apart. Needs nothing but
 Python.
 """
 import pathlib
@@ -20,7 +20,7 @@ from interface.source import Unread
 ROOT = pathlib.Path(__file__).resolve().parents[1]
 CRATES = ("vault_c", "records_c")
 # C that stands in a crate's header behind its calls.
-BEHIND = {"vault_c": "face/c/entries.h"}
+BEHIND = {"vault_c": "strandlodge-sys/c/entries.h"}
 
 
 def made(root):
@@ -29,8 +29,8 @@ def made(root):
     files = {}
     for crate, interface in interfaces.items():
         files[f"include/{interface.prefix}.h"] = c.header(interface, crate, (root / BEHIND[crate]).read_text(encoding="utf-8") if crate in BEHIND else "")
-        files[f"face/src/{interface.prefix}.rs"] = rust.module(interface, crate)
-    files["face/c/layouts.c"] = c.layouts(interfaces.values())
+        files[f"strandlodge-sys/src/{interface.prefix}.rs"] = rust.module(interface, crate)
+    files["strandlodge-sys/c/layouts.c"] = c.layouts(interfaces.values())
     return files
 
 

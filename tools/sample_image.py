@@ -1,5 +1,5 @@
 #!/usr/bin/env python3
-"""Writes console/src/bin/vault/sample: the image that `vault sample` writes, packed (tools/udf.py). It has the cues of tools/show_image.py in the same
+"""Writes strandlodge/src/bin/vault/sample: the image that `vault sample` writes, packed (tools/udf.py). It has the cues of tools/show_image.py in the same
 blocks, and around them all that other readers look for: the recognition sequence, both sequences of descriptors, the integrity sequence, and the last
 anchor. Each is that of a vault (docs/LAYOUT.md), under another label and with a partition at 288 that holds a folder too.
 
@@ -19,7 +19,7 @@ from udf import BLOCK, MAIN, SECTOR, START
 from writer_model import CHARSPEC, DOMAIN, IMPLEMENTATION, STAMP
 from writer_model import anchor, block_at, descriptor, entity, numbers, padded, terminating, text_field, unallocated, whole
 
-FILE = ROOT / "console/src/bin/vault/sample"
+FILE = ROOT / "strandlodge/src/bin/vault/sample"
 SECTORS = 352  # A multiple of 32, as a vault has; the last one has an anchor, and the partition ends before it.
 BLOCKS = SECTORS - 1 - START
 RESERVE, INTEGRITY = 48, 64

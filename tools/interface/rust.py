@@ -1,8 +1,8 @@
-"""The declarations for Rust: a module of the crate in face/, whose macros assert the layouts."""
+"""The declarations for Rust: a module of the crate in strandlodge-sys/, whose macros assert the layouts."""
 from .model import Lent
 from .prose import documented
 
-WIDTH = 140  # of face/rustfmt.toml
+WIDTH = 140  # of strandlodge-sys/rustfmt.toml
 
 GENERIC = {
     "answer": """\

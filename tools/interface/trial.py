@@ -46,9 +46,9 @@ FAULTS = (
     ("two parameters of the header", "include/vault.h", r"(bool vault_probe\()(const uint8_t \*image), (size_t image_length)", r"\1\3, \2"),
     ("a field of the header", "include/records.h", r"uint16_t crc_length", "uint32_t crc_length"),
     ("a line more in the header", "include/records.h", r"#endif\n\Z", "#endif\n\n"),
-    ("a number for Rust", "face/src/vault.rs", r"NO_WORK: u64 = 6", "NO_WORK: u64 = 7"),
-    ("an offset for Rust", "face/src/records.rs", r"148 logical_block_size", "152 logical_block_size"),
-    ("a layout that isn't asserted", "face/c/layouts.c", r"FIELD\(vault_reply, length, .*\n", ""),
+    ("a number for Rust", "strandlodge-sys/src/vault.rs", r"NO_WORK: u64 = 6", "NO_WORK: u64 = 7"),
+    ("an offset for Rust", "strandlodge-sys/src/records.rs", r"148 logical_block_size", "152 logical_block_size"),
+    ("a layout that isn't asserted", "strandlodge-sys/c/layouts.c", r"FIELD\(vault_reply, length, .*\n", ""),
 )
 
 TO_COME = """
@@ -89,7 +89,7 @@ def copied(root, to):
     """The sources and what is made of them, and nothing else of the repository."""
     for source in (root / "crates").glob("*/src"):
         shutil.copytree(source, to / source.relative_to(root))
-    for folder in ("include", "face/src", "face/c"):
+    for folder in ("include", "strandlodge-sys/src", "strandlodge-sys/c"):
         shutil.copytree(root / folder, to / folder)
 
 
@@ -133,7 +133,7 @@ def to_come(there, made):
         (there / name).write_text(text, encoding="utf-8")
     for compiler in (["cc", "-std=c11"], ["c++", "-std=c++17", "-x", "c++"]):
         if shutil.which(compiler[0]):
-            words = [*compiler, "-Wall", "-Wextra", "-Werror", "-fsyntax-only", "-I", there / "include", there / "face/c/layouts.c"]
+            words = [*compiler, "-Wall", "-Wextra", "-Werror", "-fsyntax-only", "-I", there / "include", there / "strandlodge-sys/c/layouts.c"]
             said = subprocess.run(words, capture_output=True, text=True)
             missed += [f"{compiler[0]}: {said.stderr[:300]}"] if said.returncode else []
     return missed

@@ -327,20 +327,20 @@ fn options_are_told_of() {
 fn built() -> Folder {
     let folder = Folder::new();
     for name in
-        ["crates", "target/staticlib", "target/unproved", "console/src", "target/command/proved", "target/command/unproved", "face/src"]
+        ["crates", "target/staticlib", "target/unproved", "strandlodge/src", "target/command/proved", "target/command/unproved", "strandlodge-sys/src"]
     {
         fs::create_dir_all(folder.at(name)).unwrap();
     }
     for name in [
         "crates/a.rt",
-        "console/src/a.rs",
-        "console/Cargo.toml",
-        "console/build.rs",
+        "strandlodge/src/a.rs",
+        "strandlodge/Cargo.toml",
+        "strandlodge/build.rs",
         "Cargo.toml",
         "Cargo.lock",
-        "face/src/a.rs",
-        "face/Cargo.toml",
-        "face/build.rs",
+        "strandlodge-sys/src/a.rs",
+        "strandlodge-sys/Cargo.toml",
+        "strandlodge-sys/build.rs",
     ] {
         folder.write(name, b"");
     }
@@ -382,14 +382,14 @@ fn what_is_built_is_not_built_again() {
     let run = alone(&folder, &["ls", "a b"]);
     assert_eq!((run.status, run.out.as_str(), run.error.as_str()), (0, "proved ran ls a b\n", ""));
     assert_eq!(alone(&folder, &["--build"]).out, "");
-    for newer in ["console/src/a.rs", "console/Cargo.toml", "console/build.rs", "face/src/a.rs", "target/staticlib/libvault_c.a"] {
+    for newer in ["strandlodge/src/a.rs", "strandlodge/Cargo.toml", "strandlodge/build.rs", "strandlodge-sys/src/a.rs", "target/staticlib/libvault_c.a"] {
         age(&folder, newer, "now + 20 seconds");
         let run = alone(&folder, &["ls"]);
         assert!(run.status == 69 && run.error.contains("cargo is missing"), "{newer} {run:?}");
         age(&folder, newer, "2001-01-01");
     }
     // Built with the archives of another folder, however old these are.
-    let run = said(alone_with(&folder, &["ls"]).env("VAULT_ARCHIVE", folder.at("console")));
+    let run = said(alone_with(&folder, &["ls"]).env("VAULT_ARCHIVE", folder.at("strandlodge")));
     assert!(run.status == 69 && run.error.contains("cargo is missing"), "{run:?}");
 }
 
@@ -486,7 +486,7 @@ fn bash_completes_what_stands_on_a_disc() {
 fn the_documentation_is_clean() {
     let folder = Folder::new();
     let mut command = Command::new(env!("CARGO"));
-    command.args(["doc", "--offline", "--no-deps", "--manifest-path"]).arg(root().join("console/Cargo.toml"));
+    command.args(["doc", "--offline", "--no-deps", "--manifest-path"]).arg(root().join("strandlodge/Cargo.toml"));
     let made = said(command.arg("--target-dir").arg(folder.at("target")).env("RUSTDOCFLAGS", "-D warnings"));
     assert!(made.status == 0 && !made.error.contains("warning"), "{made:?}");
 }

@@ -529,7 +529,7 @@ fn a_row_that_is_not_whole_is_refused() {
     assert!(folder.vault(&["survey", "--total", "none", "--json"]).out.starts_with("{\"refused\": {\"answer\": null, \"status\": 66"));
 }
 
-/// A line of console/README.md, on this machine alone: an image to a process, by GNU parallel, or else by xargs.
+/// A line of strandlodge/README.md, on this machine alone: an image to a process, by GNU parallel, or else by xargs.
 #[test]
 fn a_shelf_is_surveyed_by_many_processes() {
     let folder = shelf();

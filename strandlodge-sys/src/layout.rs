@@ -1,7 +1,7 @@
 //! Structs of C.
 
 /// Declares structs as a header has them: the name in C and here, size and alignment, and in front of each field its offset. The numbers are
-/// asserted; that they are the header's is asserted by face/c/layouts.c, which is made with them.
+/// asserted; that they are the header's is asserted by strandlodge-sys/c/layouts.c, which is made with them.
 macro_rules! structs {
     ($(
         $(#[$about:meta])*
