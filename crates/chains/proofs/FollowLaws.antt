@@ -15,7 +15,7 @@ use Rattle.disc.specs.Ask.Ask.{done, refuse}
 use Rattle.disc.specs.Ask.Outcome.{answered, refused}
 use Rattle.disc.specs.Ran.{ran, after, followed}
 use Rattle.disc.specs.Images.{disc, sectors, heldFrom, bytesOf, sectorsFor}
-use Rattle.disc.specs.Places.{placed, isChecked, Stands}
+use Rattle.disc.specs.Places.{placed, isChecked, BlockStands}
 use Rattle.disc.specs.declared.places.Mount.{Mount}
 use Rattle.disc.specs.declared.places.Sector.{Sector}
 use Rattle.disc.specs.declared.places.Placed.{Placed}
@@ -101,7 +101,7 @@ module _ (check : Bool) (image : List ℕ) (length first : ℕ) where
           }
 
 -- where it stands, before those checks
-module _ (image : List ℕ) (m : Mount) (a : AdContinuation) {p : Placed} (q : Stands m (a .«partition_ref») (a .block .0) p) where
+module _ (image : List ℕ) (m : Mount) (a : AdContinuation) {p : Placed} (q : BlockStands m (a .«partition_ref») (a .block .0) p) where
   pub next-nowhere : p ≡ Nowhere → Reaches image m a (Refused Unsupported 0)
   unfolding nextArea
   next-nowhere e = record { runs = λ kind. rw (stands-nowhere m (a .«partition_ref») (a .block .0) q e) (ran-refuse (disc image) Unsupported); few = omega arith }

@@ -5,7 +5,7 @@ use mathlib.Core.Option.{Option, none, some}
 use Prim.Native.Nat.{ℕ, zero, suc, _+_, _-_, _*_, _≤_, _<_, _^_}
 use native.Mathlib.Omega.{arith}
 use borrow.Author.Tests.{eq-eqb, ne-eqb}
-use Rattle.disc.specs.Places.{placed, Stands}
+use Rattle.disc.specs.Places.{placed, BlockStands}
 use Rattle.disc.specs.declared.places.Mount.{Mount}
 use Rattle.disc.specs.declared.places.Sector.{Sector}
 use Rattle.disc.specs.declared.places.Placed.{Placed}
@@ -38,7 +38,7 @@ module _ (image : List ℕ) (m : Mount) (a : AdContinuation) (hops : ℕ) where
   pub hop-out : hops ≡ 0 → Ends ≡ hopping image m a hops
   hop-out z = rw (eq-eqb hops 0 z)
 
-  module _ (z : hops ≡ 0 → ⊥) {p : Placed} (q : Stands m (a .«partition_ref») (a .block .0) p) where
+  module _ (z : hops ≡ 0 → ⊥) {p : Placed} (q : BlockStands m (a .«partition_ref») (a .block .0) p) where
     pub hop-nowhere : p ≡ Nowhere → Ends ≡ hopping image m a hops
     hop-nowhere e = rw (ne-eqb hops 0 z, stands-nowhere m (a .«partition_ref») (a .block .0) q e)
 

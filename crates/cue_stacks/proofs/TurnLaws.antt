@@ -30,7 +30,7 @@ use Rattle.listings.specs.declared.matchings.Matching.{Matching}
 use Rattle.directories.specs.Lookups.{readPathOf}
 use Rattle.cue_stacks.specs.Stacks.{item, itemsBehind, items, replyIn, roomLeft, Stack, onTop, stacked, Stacked, readAllOf}
 use Rattle.cue_stacks.specs.inner.Turns.{isLast, placeBehind, itemsAt, laidAt, leadsTo, start, allRead, On, Enough, turnsLeft, Turns, Passes}
-use Rattle.cue_stacks.specs.declared.stacks.Place.{Place}
+use Rattle.cue_stacks.specs.declared.stacks.ItemPlace.{ItemPlace}
 use Rattle.disc.proofs.MoveLaws.{sets-front}
 use Rattle.cue_stacks.proofs.StackLaws.{reply-fits, left-long, lengths-many, answers-many}
 use Rattle.cue_stacks.proofs.ItemLaws.{item-short, item-front, behind-none, behind-zero}
@@ -40,7 +40,7 @@ use Rattle.cue_stacks.proofs.ItemLaws.{item-short, item-front, behind-n
 never : false ≡ true → ⊥
 never e = let z : _≡_ {A = ℕ} 0 1 = cc in omega arith
 
-module _ (bytes rows : ℕ) (p : Place) (end : ℕ) (reply : Reply) {n : ℕ} (c : n ≡ reported (p .count + reply .count)) {last : Bool} (e : last ≡ isLast bytes rows end (p .places + 1)) where
+module _ (bytes rows : ℕ) (p : ItemPlace) (end : ℕ) (reply : Reply) {n : ℕ} (c : n ≡ reported (p .count + reply .count)) {last : Bool} (e : last ≡ isLast bytes rows end (p .places + 1)) where
   pub behind-last : last ≡ true → record { going = false; from = end; places = p .places + 1; filled = p .filled + reply .length; count = n } ≡ placeBehind bytes rows p end reply
   unfolding placeBehind
   behind-last h = rw (sym e, h, c)
@@ -82,7 +82,7 @@ fills out filled {r} {reply = reply} h e =
 
 -- ---- one turn
 
-module _ (paths : List ℕ) {p : Place} {out rows : ℕ} (g : p .going ≡ true) (o : On (length paths) out rows p) where
+module _ (paths : List ℕ) {p : ItemPlace} {out rows : ℕ} (g : p .going ≡ true) (o : On (length paths) out rows p) where
   abbrev s : List ℕ
   s = drop (p .from) paths
 
@@ -95,7 +95,7 @@ module _ (paths : List ℕ) {p : Place} {out rows : ℕ} (g : p .going ≡ true)
     end-within = omega (arith, o .within, item-short s, length-drop (p .from) paths)
 
     -- the place behind the item, by its parts
-    record Behind (reply : Reply) (q : Place) : Type 0 where
+    record Behind (reply : Reply) (q : ItemPlace) : Type 0 where
       places : q .places ≡ p .places + 1
       filled : q .filled ≡ p .filled + reply .length
       count : q .count ≡ reported (p .count + reply .count)
@@ -155,7 +155,7 @@ module _ (paths : List ℕ) {p : Place} {out rows : ℕ} (g : p .going ≡ true)
             }
 
 -- what the stores and the next place ask for
-module _ {bytes out : ℕ} (lengths answers : ℕ) {p : Place} (g : p .going ≡ true) (o : On bytes out (min lengths answers) p) where
+module _ {bytes out : ℕ} (lengths answers : ℕ) {p : ItemPlace} (g : p .going ≡ true) (o : On bytes out (min lengths answers) p) where
   pub put-fits : {r : Ran (List ℕ)} {before after : List ℕ} {reply : Reply} → Replied NoRoom r before after reply → (reply .answer < 2 ^ 32) × (p .places < lengths) × (p .places < answers)
   put-fits e = (answer-fits e, omega (arith, o .placed g), omega (arith, o .placed g))
 
@@ -173,7 +173,7 @@ same-stacked e f g h k = rw (e, f, g, h, k)
 count-on : (a b c : ℕ) → reported (reported (a + reported b) + c) ≡ reported (a + (b + c))
 count-on a b c = omega arith
 
-module _ (read : List ℕ → Ran (List ℕ)) (paths : List ℕ) {p : Place} (out lengths answers : List ℕ)
+module _ (read : List ℕ → Ran (List ℕ)) (paths : List ℕ) {p : ItemPlace} (out lengths answers : List ℕ)
     (g : p .going ≡ true) (o : On (length paths) (length out) (min (length lengths) (length answers)) p) {end : ℕ} (e : end ≡ p .from + length (item (drop (p .from) paths)))
     {ys : List ℕ} {reply : Reply} (r : Replied NoRoom (read (take (end - p .from) (drop (p .from) paths))) (midOf (p .filled) (length out - p .filled) out) ys reply) where
   abbrev t : List ℕ
@@ -208,7 +208,7 @@ module _ (read : List ℕ → Ran (List ℕ)) (paths : List ℕ) {p : Place} (ou
   dropped = rw out-is (rw front-long at (drop-append-add (take (p .filled) out) ys (reply .length)))
 
   module _ {lengths′ answers′ : List ℕ} (j : lengths′ ≡ set lengths (p .places) (reply .length)) (k : answers′ ≡ set answers (p .places) (reply .answer))
-      {rows : ℕ} (m : rows ≡ min (length lengths) (length answers)) {q : Place} (f : q ≡ placeBehind (length paths) rows p end reply) where
+      {rows : ℕ} (m : rows ≡ min (length lengths) (length answers)) {q : ItemPlace} (f : q ≡ placeBehind (length paths) rows p end reply) where
     b : Behind paths g o e reply q
     b = rw (f, m) (behind paths g o e reply)
 
@@ -271,7 +271,7 @@ module _ (read : List ℕ → Ran (List ℕ)) (paths : List ℕ) {p : Place} (ou
 abbrev pub placesEnough : List ℕ → List ℕ → List ℕ → Type 0
 placesEnough paths lengths answers = length (items paths) ≤ min (length lengths) (length answers)
 
-pub record Reading (read : List ℕ → Ran (List ℕ)) (paths out₀ lengths₀ answers₀ : List ℕ) (p : Place) (out lengths answers : List ℕ) : Type 0 where
+pub record Reading (read : List ℕ → Ran (List ℕ)) (paths out₀ lengths₀ answers₀ : List ℕ) (p : ItemPlace) (out lengths answers : List ℕ) : Type 0 where
   pub on : On (length paths) (length out) (min (length lengths) (length answers)) p
   pub out-long : length out ≡ length out₀
   pub lengths-long : length lengths ≡ length lengths₀
@@ -303,8 +303,8 @@ module _ (read : List ℕ → Ran (List ℕ)) (paths out₀ lengths₀ answers�
     same = starts-same;
   }
 
-  module _ {p : Place} {out lengths answers : List ℕ} (i : Reading read paths out₀ lengths₀ answers₀ p out lengths answers) where
-    read-next : {q : Place} {out′ lengths′ answers′ : List ℕ} → Turns read paths p out lengths answers q out′ lengths′ answers′ → Reading read paths out₀ lengths₀ answers₀ q out′ lengths′ answers′
+  module _ {p : ItemPlace} {out lengths answers : List ℕ} (i : Reading read paths out₀ lengths₀ answers₀ p out lengths answers) where
+    read-next : {q : ItemPlace} {out′ lengths′ answers′ : List ℕ} → Turns read paths p out lengths answers q out′ lengths′ answers′ → Reading read paths out₀ lengths₀ answers₀ q out′ lengths′ answers′
     read-next t = record {
       on = rw (t .out-long, t .lengths-long, t .answers-long) (t .on);
       out-long = t .out-long ∙ i .out-long;
@@ -334,8 +334,8 @@ module _ (read : List ℕ → Ran (List ℕ)) (paths out₀ lengths₀ answers�
 
 -- the next turn finds a work space of the same size
 pub read-on : (d : Disc) (matching : Matching) (v : Mount) (root : LongAd) (paths out₀ lengths₀ answers₀ : List ℕ) {w w₀ : ℕ} → w ≡ w₀
-    → {p : Place} {out lengths answers : List ℕ} → Reading (λ path. ran d (readPathOf matching v w₀ root path)) paths out₀ lengths₀ answers₀ p out lengths answers
-    → {q : Place} {out′ lengths′ answers′ : List ℕ} → Turns (λ path. ran d (readPathOf matching v w root path)) paths p out lengths answers q out′ lengths′ answers′
+    → {p : ItemPlace} {out lengths answers : List ℕ} → Reading (λ path. ran d (readPathOf matching v w₀ root path)) paths out₀ lengths₀ answers₀ p out lengths answers
+    → {q : ItemPlace} {out′ lengths′ answers′ : List ℕ} → Turns (λ path. ran d (readPathOf matching v w root path)) paths p out lengths answers q out′ lengths′ answers′
     → Reading (λ path. ran d (readPathOf matching v w₀ root path)) paths out₀ lengths₀ answers₀ q out′ lengths′ answers′
 read-on d matching v root paths out₀ lengths₀ answers₀ {w} {w₀} e {p} {out} {lengths} {answers} i {q} {out′} {lengths′} {answers′} t =
     let s : Turns (λ path. ran d (readPathOf matching v w₀ root path)) paths p out lengths answers q out′ lengths′ answers′ = rw e at t in

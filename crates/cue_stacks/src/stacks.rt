@@ -24,7 +24,7 @@ use records::allocations::LongAd;
 
 // A place among the items: while going, the next one starts at `from`. Those before it took `places` of the rows, `filled` bytes of the output and
 // `count` sectors.
-struct Place {
+struct ItemPlace {
     going: bool,
     from: usize,
     places: usize,
@@ -41,7 +41,7 @@ fn is_last(bytes: usize, rows: usize, end: usize, places: usize) -> bool
 }
 
 // The place behind an item that ends at `end` and was answered so, in a list of so many bytes.
-fn place_behind(bytes: usize, rows: usize, p: Place, end: usize, reply: Reply) -> Place
+fn place_behind(bytes: usize, rows: usize, p: ItemPlace, end: usize, reply: Reply) -> ItemPlace
     requires { ⌜ (p .places + 1 < 2 ^ 64) × (p .filled + reply .length < 2 ^ 64) ⌝ }
     ensures { λ r. ⌜ r ≡ placeBehind bytes rows p end reply ⌝ }
 {
@@ -49,7 +49,7 @@ fn place_behind(bytes: usize, rows: usize, p: Place, end: usize, reply: Reply) -
     let filled = p.filled + reply.length as usize;
     let count = add_counts(p.count, reply.count);
     if is_last(bytes, rows, end, places) {
-        return Place {
+        return ItemPlace {
             going: false,
             from: end,
             places,
@@ -57,7 +57,7 @@ fn place_behind(bytes: usize, rows: usize, p: Place, end: usize, reply: Reply) -
             count,
         };
     }
-    Place {
+    ItemPlace {
         going: true,
         from: end + 1,
         places,
@@ -83,12 +83,12 @@ fn read_item(
     root: LongAd,
     paths: &[u8],
     matching: Matching,
-    p: Place,
+    p: ItemPlace,
     out: &mut [u8],
     lengths: &mut [u64],
     answers: &mut [u32],
     work: &mut [u8],
-) -> Place
+) -> ItemPlace
     requires { ⌜ (p .going ≡ true) × On (length (now paths)) (length (now out)) (min (length (now lengths)) (length (now answers))) p ⌝ }
     ensures { λ q. ⌜ Turns (λ path. ran (disc (now (image .entry))) (readPathOf matching mount (length (now (work .entry))) root path)) (now (paths .entry)) p (now (out .entry)) (now (lengths .entry)) (now (answers .entry)) q (now (out .exit)) (now (lengths .exit)) (now (answers .exit)) ⌝ }
 {
@@ -124,7 +124,7 @@ fn read_items(
     requires { ⌜ (0 < length (now lengths)) × (0 < length (now answers)) ⌝ }
     ensures { λ r. ⌜ Passes (λ path. ran (disc (now (image .entry))) (readPathOf matching mount (length (now (work .entry))) root path)) (now (paths .entry)) (now (out .entry)) (now (lengths .entry)) (now (answers .entry)) (record { reply = r; out = now (out .exit); lengths = now (lengths .exit); answers = now (answers .exit) }) ⌝ }
 {
-    let mut p = Place {
+    let mut p = ItemPlace {
         going: true,
         from: 0,
         places: 0,

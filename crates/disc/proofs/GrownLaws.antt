@@ -89,25 +89,25 @@ waits-behind image (s ∷ front) list n h w = by (ltb (length image) (2048 * (s 
         rw m (waits-next image s (front ++ list) (length front + n) (ltb-false _ _ e) (ih k))
 
 -- a sector is wholly inside the image and the disc has it, or it isn't and the disc lacks it
-data Stands (image : List ℕ) (d : Disc) (s : ℕ) : Type 0 where
-  inside : (b : List ℕ) → d s ≡ holds b → 2048 * (s + 1) ≤ length image → Stands image d s
-  outside : d s ≡ lacks → length image < 2048 * (s + 1) → Stands image d s
+data SectorStands (image : List ℕ) (d : Disc) (s : ℕ) : Type 0 where
+  inside : (b : List ℕ) → d s ≡ holds b → 2048 * (s + 1) ≤ length image → SectorStands image d s
+  outside : d s ≡ lacks → length image < 2048 * (s + 1) → SectorStands image d s
 
-image-stands : (image : List ℕ) (s : ℕ) → Stands image (disc image) s
+image-stands : (image : List ℕ) (s : ℕ) → SectorStands image (disc image) s
 image-stands image s = ⊎-elim
     (λ (t : 2048 * s + 2048 ≤ length image). inside _ (held image s t) (omega arith))
     (λ (t : length image < 2048 * s + 2048). outside (missing image s t) (omega arith))
     (split (2048 * s + 2048) (length image))
 
 -- of any disc that stands so: what its sectors hold is never opened here, which keeps the check quick
-disc-waits : {A : Type 0} (Q : A → Type 0) (image : List ℕ) (d e : Disc) → ((s : ℕ) → Stands image d s) → Grown d e → (m : Ask A) → Only ButIo Q m → isIo (outcome d m) ≡ true
+disc-waits : {A : Type 0} (Q : A → Type 0) (image : List ℕ) (d e : Disc) → ((s : ℕ) → SectorStands image d s) → Grown d e → (m : Ask A) → Only ButIo Q m → isIo (outcome d m) ≡ true
     → Waits image (asked e m) (length (asked d m))
 unfolding outcome asked Only Grown
 disc-waits Q image d e at g (done a) p h = absurd (let w : _≡_ {A = ℕ} 0 1 = cc in omega arith)
 disc-waits Q image d e at g (refuse r) p h = absurd (let z = ne-eqb (number r) 1 p in let w : _≡_ {A = ℕ} 0 1 = cc in omega arith)
 disc-waits Q image d e at g (ask s k) p h = by (at s) (λ b. disc-waits Q image d e at g (k b) (p b))
   where
-    by : Stands image d s → ((b : List ℕ) → isIo (outcome d (k b)) ≡ true → Waits image (asked e (k b)) (length (asked d (k b)))) → Waits image (asked e (ask s k)) (length (asked d (ask s k)))
+    by : SectorStands image d s → ((b : List ℕ) → isIo (outcome d (k b)) ≡ true → Waits image (asked e (k b)) (length (asked d (k b)))) → Waits image (asked e (ask s k)) (length (asked d (ask s k)))
     by (inside b y t) ih = rw (y, g s b y) (waits-next image s (asked e (k b)) (length (asked d (k b))) t (ih b (rw y at h)))
     by (outside y t) ih = rw y (waits-first image s (given (e s) (λ b. asked e (k b)) []) t)
 

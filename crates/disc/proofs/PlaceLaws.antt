@@ -6,7 +6,7 @@ use Prim.Native.Nat.{ℕ, _+_, _≤_, _<_, _^_, min}
 use native.Mathlib.Omega.{arith}
 use lib.ListN.{getD}
 use borrow.Author.Tests.{eq-eqb, ne-eqb, lt-ltb, le-ltb}
-use Rattle.disc.specs.Places.{sectorOf, isMapped, mapCount, mappedStart, startFor, icbStart, crossing, placed, icbPlaced, startedAt, atEntry, isChecked, unchecked, placedBy, startBy, StandsIn, Stands}
+use Rattle.disc.specs.Places.{sectorOf, isMapped, mapCount, mappedStart, startFor, icbStart, crossing, placed, icbPlaced, startedAt, atEntry, isChecked, unchecked, placedBy, startBy, StandsIn, BlockStands}
 use Rattle.disc.specs.declared.places.Mount.{Mount}
 use Rattle.disc.specs.declared.places.Sector.{Sector}
 use Rattle.disc.specs.declared.places.Start.{Start}
@@ -68,12 +68,12 @@ module _ (block : ℕ) (l : block < 2 ^ 32) where
   cross-in f k {s} e = record { is = rw f (ap (λ n. At (record { 0 = n })) e); low = omega arith }
 
   module _ (m : Mount) where
-    pub place-unnamed : m .start < 2 ^ 32 → {r : PartitionRef} → r ≡ Unnamed → {s : Sector} → s .0 ≡ sectorOf (m .start) block → Stands m r block (At s)
+    pub place-unnamed : m .start < 2 ^ 32 → {r : PartitionRef} → r ≡ Unnamed → {s : Sector} → s .0 ≡ sectorOf (m .start) block → BlockStands m r block (At s)
     unfolding placed
     place-unnamed k f {s} e = record { is = rw f (ap (λ n. At (record { 0 = n })) e); low = omega arith }
 
 module _ (m : Mount) (block p : ℕ) (o : Option ℕ) {q : Placed} where
-  pub place-named : {r : PartitionRef} → r ≡ Named p → o ≡ startFor m p → StandsIn (crossing block o) q → Stands m r block q
+  pub place-named : {r : PartitionRef} → r ≡ Named p → o ≡ startFor m p → StandsIn (crossing block o) q → BlockStands m r block q
   unfolding placed
   place-named f e k = rw (f, ← e) k
 
@@ -102,7 +102,7 @@ module _ (o : Option ℕ) {p : Placed} (q : StandsIn o p) where
     pub in-low : s .0 < 2 ^ 33
     in-low = rw e at (q .low)
 
-module _ (m : Mount) (r : PartitionRef) (block : ℕ) {p : Placed} (q : Stands m r block p) where
+module _ (m : Mount) (r : PartitionRef) (block : ℕ) {p : Placed} (q : BlockStands m r block p) where
   pub stands-nowhere : p ≡ Nowhere → placed m r block ≡ none
   stands-nowhere e = in-nowhere (placed m r block) q e
 
@@ -176,5 +176,5 @@ module _ (m : Mount) where
 pub stands-in-one : {o : Option ℕ} {p p′ : Placed} → StandsIn o p → StandsIn o p′ → p ≡ p′
 stands-in-one s t = s .is ∙ sym (t .is)
 
-pub stands-one : (m : Mount) (r : PartitionRef) (block : ℕ) {p p′ : Placed} → Stands m r block p → Stands m r block p′ → p ≡ p′
+pub stands-one : (m : Mount) (r : PartitionRef) (block : ℕ) {p p′ : Placed} → BlockStands m r block p → BlockStands m r block p′ → p ≡ p′
 stands-one m r block s t = stands-in-one s t

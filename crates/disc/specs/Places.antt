@@ -116,5 +116,5 @@ pub record StandsIn (o : Option ℕ) (p : Placed) : Type 0 where
   pub is : p ≡ placedBy o
   pub low : Low p
 
-abbrev pub Stands : Mount → PartitionRef → ℕ → Placed → Type 0
-Stands m r block p = StandsIn (placed m r block) p
+abbrev pub BlockStands : Mount → PartitionRef → ℕ → Placed → Type 0
+BlockStands m r block p = StandsIn (placed m r block) p

@@ -1,7 +1,7 @@
 // Two counters that stay apart: a block is counted from the partition's start, a sector from the disc's. One value says how a volume is read,
 // and it alone turns the one into the other.
 ghost use mathlib.Core.Path.{_≡_};
-ghost use Rattle.disc.specs.Places.{sectorOf, isMapped, mappedStart, startFor, icbStart, crossing, startBy, icbPlaced, atEntry, isChecked, StandsIn, Stands};
+ghost use Rattle.disc.specs.Places.{sectorOf, isMapped, mappedStart, startFor, icbStart, crossing, startBy, icbPlaced, atEntry, isChecked, StandsIn, BlockStands};
 
 pub struct Block(pub u32);
 
@@ -109,7 +109,7 @@ impl Mount {
 
     // The sector of a block under the reference that a descriptor gives: one that names no partition stands in that of its entry.
     pub fn placed(self, reference: PartitionRef, block: Block) -> Placed
-        ensures { λ r. ⌜ Stands self reference (block .0) r ⌝ }
+        ensures { λ r. ⌜ BlockStands self reference (block .0) r ⌝ }
     {
         match reference {
             PartitionRef::Unnamed => Placed::At(sector_of(self.start, block)),

@@ -23,7 +23,7 @@ use Rattle.drives.specs.Feeds.Feed.{over, put}
 use Rattle.drives.specs.FileFeeds.{extentFeed, extentsFeed}
 use Rattle.drives.specs.Openings.{mostSectors}
 use Rattle.drives.specs.Readings.{extentsIn, behindExtent, feedOf, isWanting, leftOf, numberOf, putAt, Goes}
-use Rattle.drives.specs.inner.Turns.{Ends, Stands, extentsBehind}
+use Rattle.drives.specs.inner.Turns.{Ends, ReadingStands, extentsBehind}
 use Rattle.drives.specs.inner.Bodies.{Lands}
 use Rattle.drives.specs.inner.Arrivals.{bytesBehind, extentBehind, Arrives, filledBy, Nexts}
 use Rattle.drives.specs.declared.readings.Reading.{Reading}
@@ -56,7 +56,7 @@ lands-arrives row f r row′ x out p = record {
   inside = p .inside;
 }
 
-pub stands-arrives : (row : List (List ℕ)) (f : Feed) (r x : Reading) (out : List ℕ) → Stands row f r x → Arrives f r out row row x out
+pub stands-arrives : (row : List (List ℕ)) (f : Feed) (r x : Reading) (out : List ℕ) → ReadingStands row f r x → Arrives f r out row row x out
 stands-arrives row f r x out p =
     lands-arrives row f r row x out
     (record { long = refl; left = p .left; answer = p .answer; count = p .count; filled = p .length; inside = λ h w. rw (p .listed w) h })
@@ -100,7 +100,7 @@ module _ (r : Reading) (row : List (List ℕ)) (here : ℕ) (e : here ≡ min (r
     state : x ≡ filledBy r here
     state = rw few at f
 
-    pub next-extent : r .left ≡ 0 → Stands row (extentsFeed (x .mount) (drop (r .next) (extentsIn row (x .scan .listed))) (x .missing)) x y → Nexts r row here x y
+    pub next-extent : r .left ≡ 0 → ReadingStands row (extentsFeed (x .mount) (drop (r .next) (extentsIn row (x .scan .listed))) (x .missing)) x y → Nexts r row here x y
     unfolding bytesBehind extentFeed
     next-extent z p = record {
       stands = λ b l.
@@ -115,7 +115,7 @@ module _ (r : Reading) (row : List (List ℕ)) (here : ℕ) (e : here ≡ min (r
                 → pick (leb m k) over (extentFeed n (r .at + 1) (r .size - 2048) (m - k) (behindExtent r row)) ≡ extentsFeed (r .mount) (drop (r .next) (extentsIn row (r .scan .listed))) (m - here)
             last n m k u v g = rw (u, v, lt-leb m here g, lt-leb (m - here) 0 (omega arith))
 
-        rest : Stands row (extentsFeed (x .mount) (drop (r .next) (extentsIn row (x .scan .listed))) (x .missing)) x y → Stands row (extentsFeed (r .mount) (drop (r .next) (extentsIn row (r .scan .listed))) (r .missing - here)) x y
+        rest : ReadingStands row (extentsFeed (x .mount) (drop (r .next) (extentsIn row (x .scan .listed))) (x .missing)) x y → ReadingStands row (extentsFeed (r .mount) (drop (r .next) (extentsIn row (r .scan .listed))) (r .missing - here)) x y
         rest p =
             let g : extentsFeed (x .mount) (drop (r .next) (extentsIn row (x .scan .listed))) (x .missing) ≡ extentsFeed (r .mount) (drop (r .next) (extentsIn row (r .scan .listed))) (r .missing - here) = rw state in
             rw g at p

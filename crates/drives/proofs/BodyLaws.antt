@@ -30,7 +30,7 @@ use Rattle.drives.specs.FileFeeds.{joined, chainFeed}
 use Rattle.drives.specs.Openings.{mostSectors}
 use Rattle.drives.specs.Readings.{extentsIn, areaOf, endingOf, carriedIn, padded, restOf, isRight, headed, namedIn, behindArea, feedOf, isWanting, leftOf, numberOf}
 use Rattle.drives.specs.inner.Scans.{Leads, Scans}
-use Rattle.drives.specs.inner.Turns.{Ends, quiet, Stands}
+use Rattle.drives.specs.inner.Turns.{Ends, quiet, ReadingStands}
 use Rattle.drives.specs.inner.Bodies.{isWrong, judged, finished, bodyBehind, behindBytes, inBody, partBehind, withParts, Parts, Lands}
 use Rattle.drives.specs.declared.scans.Scan.{Scan}
 use Rattle.drives.specs.declared.readings.Body.{Body}
@@ -76,28 +76,28 @@ module _ (row : List (List ℕ)) (r x : Reading) {k : Bool} (c : k ≡ isChecked
   abbrev chain : Feed
   chain = chainFeed (r .mount) (r .kind) (r .hops) (r .missing) (extentsIn row (r .scan .listed)) (endingOf (r .scan))
 
-  pub finish-not : (n ≡ 0 → ⊥) → Ends r n x → Stands row (finished r row) r x
+  pub finish-not : (n ≡ 0 → ⊥) → Ends r n x → ReadingStands row (finished r row) r x
   unfolding finished settledIn crowded
   finish-not h p = by (r .body .tagged) (isWrong (isChecked (r .mount)) (r .body)) (r .body .headed) verdict
     where
-      ended-by : (why : Refusal) → n ≡ number why → Stands row (crowdedBy (r .scan .full) (stop why)) r x
+      ended-by : (why : Refusal) → n ≡ number why → ReadingStands row (crowdedBy (r .scan .full) (stop why)) r x
       ended-by why q = told (r .scan .full)
         where
-          told : (b : Bool) → Stands row (pick b (stop why) (stop why)) r x
+          told : (b : Bool) → ReadingStands row (pick b (stop why) (stop why)) r x
           told true = stands-stop row (stop why) r x why (rw q at p) (λ room. refl)
           told false = stands-stop row (stop why) r x why (rw q at p) (λ room. refl)
 
-      by : (t w g : Bool) → n ≡ pick t (pick w 10 (pick g 0 2)) 2 → Stands row (crowdedBy (r .scan .full) (pick t (pick w (stop BadCrc) (pick g chain (stop Malformed))) (stop Malformed))) r x
+      by : (t w g : Bool) → n ≡ pick t (pick w 10 (pick g 0 2)) 2 → ReadingStands row (crowdedBy (r .scan .full) (pick t (pick w (stop BadCrc) (pick g chain (stop Malformed))) (stop Malformed))) r x
       by false w g q = ended-by Malformed q
       by true true g q = ended-by BadCrc q
       by true false false q = ended-by Malformed q
       by true false true q = absurd (h q)
 
-  pub finish-good : n ≡ 0 → Stands row (crowdedBy (r .scan .full) chain) r x → Stands row (finished r row) r x
+  pub finish-good : n ≡ 0 → ReadingStands row (crowdedBy (r .scan .full) chain) r x → ReadingStands row (finished r row) r x
   unfolding finished
   finish-good h p = by (r .body .tagged) (isWrong (isChecked (r .mount)) (r .body)) (r .body .headed) (sym verdict ∙ h)
     where
-      by : (t w g : Bool) → _≡_ {A = ℕ} (pick t (pick w 10 (pick g 0 2)) 2) 0 → Stands row (crowdedBy (r .scan .full) (pick t (pick w (stop BadCrc) (pick g chain (stop Malformed))) (stop Malformed))) r x
+      by : (t w g : Bool) → _≡_ {A = ℕ} (pick t (pick w 10 (pick g 0 2)) 2) 0 → ReadingStands row (crowdedBy (r .scan .full) (pick t (pick w (stop BadCrc) (pick g chain (stop Malformed))) (stop Malformed))) r x
       by false w g q = absurd (omega arith)
       by true true g q = absurd (omega arith)
       by true false false q = absurd (omega arith)
@@ -174,7 +174,7 @@ part-number true (put b f) h = refl
 part-number true (want s k) h = refl
 
 part-stands : (r : Reading) (row : List (List ℕ)) (at left : ℕ) → at + left < mostSectors → r .scan .carried < sizeOf (r .kind) → r .body .«area_left» ≤ 2048 * (left + 1)
-    → Stands row (crowdedBy (r .scan .full) (inBody r row (suc left) at)) r (inPart r at left)
+    → ReadingStands row (crowdedBy (r .scan .full) (inBody r row (suc left) at)) r (inPart r at left)
 part-stands r row at left h c a =
     let e = part-left r row at left h c a in
     let w = body-wants r row left at in
@@ -187,10 +187,10 @@ part-stands r row at left h c a =
     }
 
 module _ (r : Reading) (row : List (List ℕ)) (x : Reading) (c : r .scan .carried < sizeOf (r .kind)) (a : r .body .«area_left» ≤ 2048 * r .left) where
-  pub further-last : r .left ≡ 0 → Stands row (finished r row) r x → Stands row (crowdedBy (r .scan .full) (inBody r row (r .left) (r .at + 1))) r x
+  pub further-last : r .left ≡ 0 → ReadingStands row (finished r row) r x → ReadingStands row (crowdedBy (r .scan .full) (inBody r row (r .left) (r .at + 1))) r x
   further-last z p = rw (in-body-none r row (r .left) (r .at + 1) z c a) p
 
-  pub further-next : (r .left ≡ 0 → ⊥) → r .at + r .left < mostSectors → x ≡ inPart r (r .at + 1) (r .left - 1) → Stands row (crowdedBy (r .scan .full) (inBody r row (r .left) (r .at + 1))) r x
+  pub further-next : (r .left ≡ 0 → ⊥) → r .at + r .left < mostSectors → x ≡ inPart r (r .at + 1) (r .left - 1) → ReadingStands row (crowdedBy (r .scan .full) (inBody r row (r .left) (r .at + 1))) r x
   further-next z h e =
       rw e (rw (one-less (r .left) z) at (part-stands r row (r .at + 1) (r .left - 1) (less (r .at) (r .left) h z) c (held (r .left) a z)))
     where
@@ -378,7 +378,7 @@ module _ (r : Reading) (row : List (List ℕ)) (sector : List ℕ) (row′ : Lis
       (named-same (length row) room (namedIn r row sector) (λ more. namedIn r row (sector ++ more)) (namedIn (withParts r s′ body′) row′) (sectors (r .left) (r .at + 1))
       (λ more. behindBytes r row (sector ++ more)) (behindBytes (withParts r s′ body′) row′) (r .scan .full) (s′ .full) part-full same-crowded same-named same-bytes)
 
-  pub part-lands : (y x : Reading) → y ≡ withParts r s′ b′ → Stands row′ (crowdedBy (y .scan .full) (inBody y row′ (y .left) (y .at + 1))) y x → Lands row (partBehind r row sector) r row′ x
+  pub part-lands : (y x : Reading) → y ≡ withParts r s′ b′ → ReadingStands row′ (crowdedBy (y .scan .full) (inBody y row′ (y .left) (y .at + 1))) y x → Lands row (partBehind r row sector) r row′ x
   part-lands y x f g =
       let w = rw f at g in
       let h = p .behind [] .long in

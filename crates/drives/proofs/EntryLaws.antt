@@ -26,7 +26,7 @@ use Rattle.drives.specs.Feeds.Feed.{over, stop, put}
 use Rattle.drives.specs.FileFeeds.{joined, chainFeed, entryFeed}
 use Rattle.drives.specs.Readings.{extentsIn, areaOf, endingOf, restOf, putAt, Goes}
 use Rattle.drives.specs.inner.Scans.{begun, Scans}
-use Rattle.drives.specs.inner.Turns.{Ends, Stands}
+use Rattle.drives.specs.inner.Turns.{Ends, ReadingStands}
 use Rattle.drives.specs.inner.Bodies.{Lands}
 use Rattle.drives.specs.inner.Arrivals.{entryBehind, Arrives}
 use Rattle.drives.specs.inner.Entries.{locatedIn, ofEntry, chainOf, longerBy, Embeds}
@@ -103,7 +103,7 @@ module _ (r : Reading) (e : FileEntry) (sector out : List ℕ) (row : List (List
 -- the area in the entry, scanned from the front of the row on
 pub area-lands : (r : Reading) (kind missing : ℕ) (area : List ℕ) (row : List (List ℕ)) {s₀ : Scan} (s′ : Scan) (row′ : List (List ℕ)) → s₀ ≡ begun 0 → Scans kind row s₀ area row′ s′
     → (y x : Reading) → y ≡ ofEntry r kind missing s′
-    → Stands row′ (crowdedBy (y .scan .full) (chainFeed (y .mount) (y .kind) (y .hops) (y .missing) (extentsIn row′ (y .scan .listed)) (endingOf (y .scan)))) y x
+    → ReadingStands row′ (crowdedBy (y .scan .full) (chainFeed (y .mount) (y .kind) (y .hops) (y .missing) (extentsIn row′ (y .scan .listed)) (endingOf (y .scan)))) y x
     → Lands row (chainOf r kind missing area) r row′ x
 unfolding restOf
 area-lands r kind missing area row s′ row′ g q y x f k =

@@ -32,7 +32,7 @@ use Rattle.drives.specs.Feeds.Feed.{stop}
 use Rattle.drives.specs.FileFeeds.{joined, areaSaid, namedBy}
 use Rattle.drives.specs.Readings.{areaOf, padded, restOf, extentsIn, isRight, headed, namedIn, behindArea}
 use Rattle.drives.specs.inner.Scans.{begun, Scans}
-use Rattle.drives.specs.inner.Turns.{Stands}
+use Rattle.drives.specs.inner.Turns.{ReadingStands}
 use Rattle.drives.specs.inner.Bodies.{isHeader, bodyOf, noBody, bodyIn, behindBytes, inBody, headBehind, withParts, Lands}
 use Rattle.drives.specs.declared.scans.Scan.{Scan}
 use Rattle.drives.specs.declared.readings.Body.{Body}
@@ -360,7 +360,7 @@ module _ (r : Reading) (row : List (List ℕ)) (sector : List ℕ) (row′ : Lis
 module _ (r : Reading) (row : List (List ℕ)) (sector : List ℕ) (row′ : List (List ℕ)) (s′ : Scan) (l : length sector ≡ 2048) where
   pub head-lands : {n : ℕ} {area : ℕ} {g : TagRead} {b′ : Body} {s₀ : Scan} → g ≡ readTag sector → b′ ≡ bodyIn g (r .size) sector → area ≡ u32at sector 20 → n ≡ min (pick (b′ .headed) area 0) 2024 → s₀ ≡ begun (r .scan .listed)
       → Scans (r .kind) row s₀ (take (24 + n - 24) (drop 24 sector)) row′ s′
-      → (y x : Reading) → y ≡ withParts r s′ b′ → Stands row′ (crowdedBy (y .scan .full) (inBody y row′ (y .left) (y .at + 1))) y x → Lands row (headBehind r row sector) r row′ x
+      → (y x : Reading) → y ≡ withParts r s′ b′ → ReadingStands row′ (crowdedBy (y .scan .full) (inBody y row′ (y .left) (y .at + 1))) y x → Lands row (headBehind r row sector) r row′ x
   head-lands {n} {area} {g} {b′} {s₀} t e a m s p y x f k =
       let b : b′ ≡ bodyIn (readTag sector) (r .size) sector = rw t at e in
       let q : n ≡ min (areaSaid (r .size) sector (readTag sector)) 2024 = m ∙ rw (b, a) (ap (λ i. min i 2024) (area-said (readTag sector) (r .size) sector)) in

@@ -10,7 +10,7 @@ use Rattle.volumes.specs.Sequences.{nothing}
 use Rattle.volumes.specs.Openings.{usual, opening}
 use Rattle.volumes.specs.declared.openings.VolumeRecord.{VolumeRecord}
 use Rattle.drives.specs.Feeds.{Feed}
-use Rattle.drives.specs.Openings.{isWanting as isOpeningWanting, treeOf, Stands, Fed as FedOnOpening}
+use Rattle.drives.specs.Openings.{isWanting as isOpeningWanting, treeOf, OpeningStands, Fed as FedOnOpening}
 use Rattle.drives.specs.Readings.{isWanting, leftOf, Fed, Starts}
 use Rattle.drives.specs.declared.openings.Opening.{Opening}
 use Rattle.drives.specs.declared.readings.Reading.{Reading}
@@ -18,7 +18,7 @@ use Rattle.drives.proofs.OpeningLaws.{place}
 
 -- ---- the opening
 
-pub stands-alike : {t : Ask VolumeRecord} {n : ℕ} {r r′ : Opening} → Stands t n r → Stands t n r′ → (treeOf r ≡ treeOf r′) × (r .opened ≡ r′ .opened)
+pub stands-alike : {t : Ask VolumeRecord} {n : ℕ} {r r′ : Opening} → OpeningStands t n r → OpeningStands t n r′ → (treeOf r ≡ treeOf r′) × (r .opened ≡ r′ .opened)
 stands-alike p q = (p .tree ∙ sym (q .tree), p .says ∙ sym (q .says))
 
 pub opening-alike : (o : Opening) (sector : List ℕ) {r r′ : Opening} → FedOnOpening o sector r → FedOnOpening o sector r′
@@ -32,7 +32,7 @@ opening-alike o sector {r} {r′} p q = by (isOpeningWanting o) refl
         (ap treeOf same, ap (λ (x : Opening). x .opened) same)
 
 -- the anchor is in sector 256, whatever is in `at`
-pub two-starts : (Stands (opening usual) 0 (place 0 0 0 nothing 0)) × (Stands (opening usual) 0 (place 0 1 0 nothing 0)) × (place 0 0 0 nothing 0 ≡ place 0 1 0 nothing 0 → ⊥)
+pub two-starts : (OpeningStands (opening usual) 0 (place 0 0 0 nothing 0)) × (OpeningStands (opening usual) 0 (place 0 1 0 nothing 0)) × (place 0 0 0 nothing 0 ≡ place 0 1 0 nothing 0 → ⊥)
 unfolding treeOf opening
 two-starts = (
   record { tree = refl; says = refl },

@@ -14,7 +14,7 @@ use mathlib.Core.Option.{some}
 use Rattle.disc.specs.Ask.{Held, Ask, Outcome, given, then, ended}
 use Rattle.disc.specs.Ask.Ask.{refuse, ask}
 use Rattle.disc.specs.Ask.Outcome.{answered, refused}
-use Rattle.disc.specs.Places.{placed, Stands as StandsAt}
+use Rattle.disc.specs.Places.{placed, BlockStands}
 use Rattle.disc.specs.declared.places.Sector.{Sector}
 use Rattle.disc.specs.declared.places.PartitionRef.the-variants.{Named}
 use Rattle.disc.specs.declared.places.Placed.{Placed}
@@ -34,7 +34,7 @@ use Rattle.descriptors.specs.declared.anchors.AnchorRead.{AnchorRead}
 use Rattle.descriptors.specs.declared.anchors.AnchorRead.the-variants.{Read as AnAnchor, Refused as NoAnchor}
 use Rattle.volumes.specs.Sequences.{nothing, orderOf, anyPartition, wantedOf, keptOf, Says, saysIn, scan, turnOf}
 use Rattle.volumes.specs.Sequences.Says.{found, passed, over, fails}
-use Rattle.volumes.specs.Openings.{usual, noVolume, fileSetRef, fileSetAt, fileSetOn, mountIn, mountOf, volumeIn, mountingOf, anchored, opening, openedBy}
+use Rattle.volumes.specs.Openings.{usual, noVolume, fileSetRef, fileSetAt, fileSetOn, plainMount, mountOf, volumeIn, mountingOf, anchored, opening, openedBy}
 use Rattle.volumes.specs.inner.Steps.{mountable}
 use Rattle.volumes.specs.declared.sequences.Kept.{Kept}
 use Rattle.volumes.specs.declared.sequences.SectorTurn.{SectorTurn}
@@ -42,7 +42,7 @@ use Rattle.volumes.specs.declared.sequences.Wanted.the-variants.{Any}
 use Rattle.volumes.specs.declared.openings.VolumeRecord.{VolumeRecord}
 use Rattle.volumes.specs.declared.openings.Opened.{Opened}
 use Rattle.drives.specs.Feeds.{lent, branch}
-use Rattle.drives.specs.Openings.{mountingFrom, scanning, scanFrom, behindSector, mostSectors, isWanting, wantedSector, openedTree, treeOf, behindWanted, Stands, Fed}
+use Rattle.drives.specs.Openings.{mountingFrom, scanning, scanFrom, behindSector, mostSectors, isWanting, wantedSector, openedTree, treeOf, behindWanted, OpeningStands, Fed}
 use Rattle.drives.specs.declared.openings.Opening.{Opening}
 
 -- ---- whether a sector is wanted
@@ -79,7 +79,7 @@ unfolding treeOf
 over-is r e = rw (e .0, e .1)
 
 -- as an outcome says
-stands-ended : (o : Outcome VolumeRecord) (n : ℕ) (r : Opening) {x : Opened} → Ended r x → x ≡ openedBy n o → Stands (ended o) n r
+stands-ended : (o : Outcome VolumeRecord) (n : ℕ) (r : Opening) {x : Opened} → Ended r x → x ≡ openedBy n o → OpeningStands (ended o) n r
 stands-ended (answered v) n r e q = record { tree = over-is r e ∙ rw q; says = e .1 ∙ q }
 stands-ended (refused why) n r e q = record {
   tree = over-is r e ∙ rw (q, ne-eqb (number why) 0 (refusal-numbered why), refusal-known why);
@@ -88,7 +88,7 @@ stands-ended (refused why) n r e q = record {
 
 -- by the number of a refusal
 stands-refused : (t : Ask VolumeRecord) (n : ℕ) (r : Opening) {x : Opened} {a : ℕ} (why : Refusal) → t ≡ refuse why → a ≡ number why
-    → Ended r x → x ≡ record { answer = a; count = n; volume = noVolume } → Stands t n r
+    → Ended r x → x ≡ record { answer = a; count = n; volume = noVolume } → OpeningStands t n r
 stands-refused t n r why f g e q = rw f (stands-ended (refused why) n r e (q ∙ rw g))
 
 -- ---- behind the sequence
@@ -101,13 +101,13 @@ pub place-is : (phase at left : ℕ) (k : Kept) (n : ℕ) {x : Opened} → x ≡
     → record { phase = phase; at = at; left = left; kept = k; opened = x } ≡ place phase at left k n
 place-is phase at left k n e = rw e
 
-pub stands-anchor : (r : Opening) {k : Kept} → r ≡ place 0 256 0 k 0 → Stands (opening usual) 0 r
+pub stands-anchor : (r : Opening) {k : Kept} → r ≡ place 0 256 0 k 0 → OpeningStands (opening usual) 0 r
 unfolding treeOf opening
 stands-anchor r e = rw e (record { tree = refl; says = refl })
 
 -- what was kept leads on, or is refused; a is the number of the refusal, or 0
 data Leads (k : Kept) (x : Ask VolumeRecord) (a : ℕ) : Type 0 where
-  on : x ≡ fileSetOn false k (mountIn false k) → a ≡ 0 → Leads k x a
+  on : x ≡ fileSetOn false k (plainMount false k) → a ≡ 0 → Leads k x a
   off : (why : Refusal) → x ≡ refuse why → a ≡ number why → Leads k x a
 
 leads : (k : Kept) → Leads k (mountingFrom k) (mountable k)
@@ -116,7 +116,7 @@ leads k = by (k .«has_primary») (k .«has_partition») (k .«has_logical») (e
   where
     by : (a b c e : Bool)
         → Leads k
-        (pick a (pick b (pick c (pick e (fileSetOn false k (mountIn false k)) (refuse Unsupported)) (refuse NotBluray)) (refuse NotBluray)) (refuse NotBluray))
+        (pick a (pick b (pick c (pick e (fileSetOn false k (plainMount false k)) (refuse Unsupported)) (refuse NotBluray)) (refuse NotBluray)) (refuse NotBluray))
         (pick a (pick b (pick c (pick e 0 4) 3) 3) 3)
     by false b c e = off NotBluray refl refl
     by true false c e = off NotBluray refl refl
@@ -124,32 +124,32 @@ leads k = by (k .«has_primary») (k .«has_partition») (k .«has_logical») (e
     by true true true false = off Unsupported refl refl
     by true true true true = on refl refl
 
-leads-on : {k : Kept} {x : Ask VolumeRecord} {a : ℕ} → Leads k x a → a ≡ 0 → x ≡ fileSetOn false k (mountIn false k)
+leads-on : {k : Kept} {x : Ask VolumeRecord} {a : ℕ} → Leads k x a → a ≡ 0 → x ≡ fileSetOn false k (plainMount false k)
 leads-on (on e z) h = e
 leads-on (off why e z) h = absurd (refusal-numbered why (sym z ∙ h))
 
 module _ (k : Kept) (n : ℕ) (r : Opening) {a : ℕ} (e : a ≡ mountable k) where
-  pub sequence-not : {x : Opened} → (a ≡ 0 → ⊥) → x ≡ record { answer = a; count = n; volume = noVolume } → Ended r x → Stands (mountingFrom k) n r
+  pub sequence-not : {x : Opened} → (a ≡ 0 → ⊥) → x ≡ record { answer = a; count = n; volume = noVolume } → Ended r x → OpeningStands (mountingFrom k) n r
   sequence-not {x} h q g = by (leads k)
     where
-      by : Leads k (mountingFrom k) (mountable k) → Stands (mountingFrom k) n r
+      by : Leads k (mountingFrom k) (mountable k) → OpeningStands (mountingFrom k) n r
       by (on f z) = absurd (h (e ∙ z))
       by (off why f z) = stands-refused (mountingFrom k) n r why f (e ∙ z) g q
 
-  module _ (z : a ≡ 0) {m : Mount} (w : m ≡ mountIn false k) {p : Placed} (q : StandsAt m (Named (fileSetRef k)) (k .«file_set» .location .block) p) where
-    pub sequence-nowhere : {x : Opened} → p ≡ Nowhere → x ≡ record { answer = 4; count = n; volume = noVolume } → Ended r x → Stands (mountingFrom k) n r
+  module _ (z : a ≡ 0) {m : Mount} (w : m ≡ plainMount false k) {p : Placed} (q : BlockStands m (Named (fileSetRef k)) (k .«file_set» .location .block) p) where
+    pub sequence-nowhere : {x : Opened} → p ≡ Nowhere → x ≡ record { answer = 4; count = n; volume = noVolume } → Ended r x → OpeningStands (mountingFrom k) n r
     sequence-nowhere h f g =
         let l = leads-on (leads k) (sym e ∙ z) in
         let d = stands-nowhere m (Named (fileSetRef k)) (k .«file_set» .location .block) q h in
         stands-refused (mountingFrom k) n r Unsupported (l ∙ rw (← w, d)) refl g f
 
-    pub sequence-at : {s : Sector} → p ≡ At s → r ≡ place 2 (s .0) 0 k n → Stands (mountingFrom k) n r
+    pub sequence-at : {s : Sector} → p ≡ At s → r ≡ place 2 (s .0) 0 k n → OpeningStands (mountingFrom k) n r
     unfolding treeOf
     sequence-at {s} h g =
         let l = leads-on (leads k) (sym e ∙ z) in
         let d = stands-at m (Named (fileSetRef k)) (k .«file_set» .location .block) q h in
         let low = stands-low m (Named (fileSetRef k)) (k .«file_set» .location .block) q h in
-        let d′ : placed (mountIn false k) (Named (fileSetRef k)) (k .«file_set» .location .block) ≡ some (s .0) = rw w at d in
+        let d′ : placed (plainMount false k) (Named (fileSetRef k)) (k .«file_set» .location .block) ≡ some (s .0) = rw w at d in
         rw (l, d′, g) (record { tree = rw (lt-ltb (s .0 + 0) mostSectors (small (s .0) low)); says = refl })
       where
         small : (x : ℕ) → x < 2 ^ 33 → x + 0 < mostSectors
@@ -157,7 +157,7 @@ module _ (k : Kept) (n : ℕ) (r : Opening) {a : ℕ} (e : a ≡ mountable k) wh
 
 -- ---- in the sequence
 
-scan-place : (k : Kept) (at left n : ℕ) → at + left < mostSectors → Stands (scanning k (suc left) at) n (place 1 at left k n)
+scan-place : (k : Kept) (at left n : ℕ) → at + left < mostSectors → OpeningStands (scanning k (suc left) at) n (place 1 at left k n)
 unfolding treeOf scanning scan then
 scan-place k at left n h = record { tree = rw (lt-ltb (at + left) mostSectors h); says = refl }
 
@@ -170,10 +170,10 @@ one-less zero h = absurd (h refl)
 one-less (suc n) h = omega arith
 
 module _ (n first c : ℕ) (r : Opening) {k : Kept} (e : k ≡ nothing) where
-  pub begin-none : n ≡ 0 → Stands (mountingFrom k) c r → Stands (scanning nothing n first) c r
+  pub begin-none : n ≡ 0 → OpeningStands (mountingFrom k) c r → OpeningStands (scanning nothing n first) c r
   begin-none z q = rw (z, scan-none nothing first) (rw e at q)
 
-  pub begin-some : (n ≡ 0 → ⊥) → n < 2 ^ 32 → first < 2 ^ 32 → r ≡ place 1 first (n - 1) k c → Stands (scanning nothing n first) c r
+  pub begin-some : (n ≡ 0 → ⊥) → n < 2 ^ 32 → first < 2 ^ 32 → r ≡ place 1 first (n - 1) k c → OpeningStands (scanning nothing n first) c r
   begin-some z l f q =
       let q′ : r ≡ place 1 first (n - 1) nothing c = rw e at q in
       rw (one-less n z, ← q′) at (scan-place nothing first (n - 1) c (near n first l f))
@@ -183,12 +183,12 @@ module _ (n first c : ℕ) (r : Opening) {k : Kept} (e : k ≡ nothing) where
 
 module _ (c : ℕ) (r : Opening) {x : AnchorRead} where
   pub anchor-not : {why : Refusal} {a : ℕ} {o : Opened} → x ≡ NoAnchor why → a ≡ number why → o ≡ record { answer = a; count = c; volume = noVolume } → Ended r o
-      → Stands (anchored usual x) c r
+      → OpeningStands (anchored usual x) c r
   anchor-not {why} e q f g = stands-refused (anchored usual x) c r why (rw e) q g f
 
   pub anchor-leads : {d : AnchorVolumeDescriptorPointer} → x ≡ AnAnchor d
-      → Stands (scanning nothing (d .«main_volume_descriptor_sequence» .length / 2048) (d .«main_volume_descriptor_sequence» .location)) c r
-      → Stands (anchored usual x) c r
+      → OpeningStands (scanning nothing (d .«main_volume_descriptor_sequence» .length / 2048) (d .«main_volume_descriptor_sequence» .location)) c r
+      → OpeningStands (anchored usual x) c r
   unfolding scanning mountingOf mountOf
   anchor-leads e q = rw e q
 
@@ -209,7 +209,7 @@ module _ (k : Kept) (n at : ℕ) where
   turn-over (fails why) e g z = absurd (refusal-numbered why (sym (ap (λ (t : SectorTurn). t .answer) e) ∙ z))
 
   turn-fails : (x : Says) {t : SectorTurn} (c : ℕ) (r : Opening) {o : Opened} → t ≡ turnOf (orderOf usual) anyPartition k x → t .going ≡ false → (t .answer ≡ 0 → ⊥)
-      → o ≡ record { answer = t .answer; count = c; volume = noVolume } → Ended r o → Stands (scanFrom k n at x) c r
+      → o ≡ record { answer = t .answer; count = c; volume = noVolume } → Ended r o → OpeningStands (scanFrom k n at x) c r
   unfolding then
   turn-fails (found p) c r e g z f q = not-both (sym g ∙ ap (λ (t : SectorTurn). t .going) e)
   turn-fails passed c r e g z f q = not-both (sym g ∙ ap (λ (t : SectorTurn). t .going) e)
@@ -220,10 +220,10 @@ module _ (k : Kept) (n at : ℕ) where
     turn-usual : t ≡ turnOf (orderOf usual) anyPartition k (saysIn false b)
     turn-usual = rw u at e
 
-    pub sector-last : t .going ≡ true → n ≡ 0 → Stands (mountingFrom (t .kept)) c r → Stands (behindSector k n at b) c r
+    pub sector-last : t .going ≡ true → n ≡ 0 → OpeningStands (mountingFrom (t .kept)) c r → OpeningStands (behindSector k n at b) c r
     sector-last g z q = rw (turn-goes (saysIn false b) turn-usual g, z, scan-none (t .kept) (at + 1)) q
 
-    pub sector-next : t .going ≡ true → (n ≡ 0 → ⊥) → at + n < mostSectors → r ≡ place 1 (at + 1) (n - 1) (t .kept) c → Stands (behindSector k n at b) c r
+    pub sector-next : t .going ≡ true → (n ≡ 0 → ⊥) → at + n < mostSectors → r ≡ place 1 (at + 1) (n - 1) (t .kept) c → OpeningStands (behindSector k n at b) c r
     sector-next g z l q =
         rw (turn-goes (saysIn false b) turn-usual g)
         (rw (one-less n z, ← q) at (scan-place (t .kept) (at + 1) (n - 1) c (less at n l z)))
@@ -233,26 +233,26 @@ module _ (k : Kept) (n at : ℕ) where
         less a (suc m) l z = omega arith
 
     pub sector-fails : {o : Opened} → t .going ≡ false → (t .answer ≡ 0 → ⊥) → o ≡ record { answer = t .answer; count = c; volume = noVolume } → Ended r o
-        → Stands (behindSector k n at b) c r
+        → OpeningStands (behindSector k n at b) c r
     sector-fails g z f q = turn-fails (saysIn false b) c r turn-usual g z f q
 
-    pub sector-over : t .going ≡ false → t .answer ≡ 0 → Stands (mountingFrom (t .kept)) c r → Stands (behindSector k n at b) c r
+    pub sector-over : t .going ≡ false → t .answer ≡ 0 → OpeningStands (mountingFrom (t .kept)) c r → OpeningStands (behindSector k n at b) c r
     sector-over g z q = rw (turn-over (saysIn false b) turn-usual g z) q
 
 -- ---- a step
 
 module _ (o : Opening) (b : List ℕ) (c : ℕ) (r : Opening) where
-  pub taken-anchor : {x : AnchorRead} → o .phase ≡ 0 → x ≡ readAnchor false b → Stands (anchored usual x) c r → Stands (behindWanted o b) c r
+  pub taken-anchor : {x : AnchorRead} → o .phase ≡ 0 → x ≡ readAnchor false b → OpeningStands (anchored usual x) c r → OpeningStands (behindWanted o b) c r
   taken-anchor z e q = rw (z, ← e) q
 
-  pub taken-sector : o .phase ≡ 1 → Stands (behindSector (o .kept) (o .left) (o .at) b) c r → Stands (behindWanted o b) c r
+  pub taken-sector : o .phase ≡ 1 → OpeningStands (behindSector (o .kept) (o .left) (o .at) b) c r → OpeningStands (behindWanted o b) c r
   taken-sector z q = rw z q
 
-  pub taken-set : (o .phase ≡ 0 → ⊥) → (o .phase ≡ 1 → ⊥) → {m : Mount} {x : Opened} → m ≡ mountIn false (o .kept)
-      → x ≡ openedBy c (volumeIn m (o .kept) (readFileSet false b)) → Ended r x → Stands (behindWanted o b) c r
+  pub taken-set : (o .phase ≡ 0 → ⊥) → (o .phase ≡ 1 → ⊥) → {m : Mount} {x : Opened} → m ≡ plainMount false (o .kept)
+      → x ≡ openedBy c (volumeIn m (o .kept) (readFileSet false b)) → Ended r x → OpeningStands (behindWanted o b) c r
   taken-set y z e f g =
       rw (ne-eqb (o .phase) 0 y, ne-eqb (o .phase) 1 z)
-      (stands-ended (volumeIn (mountIn false (o .kept)) (o .kept) (readFileSet false b)) c r g (f ∙ rw e))
+      (stands-ended (volumeIn (plainMount false (o .kept)) (o .kept) (readFileSet false b)) c r g (f ∙ rw e))
 
 -- and of one that has ended what it says
 pub ended-tree : (o : Opening) → isWanting o ≡ false → treeOf o ≡ openedTree (o .opened)
@@ -265,8 +265,8 @@ unfolding treeOf opening scanning scan then
 tree-asks o e = rw e (by (eqb (o .phase) 0) (eqb (o .phase) 1))
   where
     by : (a b : Bool)
-        → pick a (opening usual) (pick b (scanning (o .kept) (suc (o .left)) (o .at)) (fileSetAt false (o .kept) (mountIn false (o .kept)) (o .at)))
-        ≡ ask (pick a 256 (o .at)) (λ s. pick a (anchored usual (readAnchor false s)) (pick b (behindSector (o .kept) (o .left) (o .at) s) (ended (volumeIn (mountIn false (o .kept)) (o .kept) (readFileSet false s)))))
+        → pick a (opening usual) (pick b (scanning (o .kept) (suc (o .left)) (o .at)) (fileSetAt false (o .kept) (plainMount false (o .kept)) (o .at)))
+        ≡ ask (pick a 256 (o .at)) (λ s. pick a (anchored usual (readAnchor false s)) (pick b (behindSector (o .kept) (o .left) (o .at) s) (ended (volumeIn (plainMount false (o .kept)) (o .kept) (readFileSet false s)))))
     by true b = refl
     by false true = refl
     by false false = refl
@@ -276,8 +276,8 @@ unfolding treeOf branch opening scanning scan then
 branch-wanted o h e = rw e (by (eqb (o .phase) 0) (eqb (o .phase) 1))
   where
     by : (a b : Bool)
-        → branch h (pick a (opening usual) (pick b (scanning (o .kept) (suc (o .left)) (o .at)) (fileSetAt false (o .kept) (mountIn false (o .kept)) (o .at))))
-        ≡ given h (λ s. pick a (anchored usual (readAnchor false s)) (pick b (behindSector (o .kept) (o .left) (o .at) s) (ended (volumeIn (mountIn false (o .kept)) (o .kept) (readFileSet false s))))) (refuse Io)
+        → branch h (pick a (opening usual) (pick b (scanning (o .kept) (suc (o .left)) (o .at)) (fileSetAt false (o .kept) (plainMount false (o .kept)) (o .at))))
+        ≡ given h (λ s. pick a (anchored usual (readAnchor false s)) (pick b (behindSector (o .kept) (o .left) (o .at) s) (ended (volumeIn (plainMount false (o .kept)) (o .kept) (readFileSet false s))))) (refuse Io)
     by true b = refl
     by false true = refl
     by false false = refl
@@ -290,14 +290,14 @@ module _ (o : Opening) (s : List ℕ) {w : Bool} (e : w ≡ isWanting o) where
   step-stays h = record { takes = λ t. not-both (sym h ∙ e ∙ t); stays = λ t. refl }
 
   module _ (h : w ≡ true) (r : Opening) {n : ℕ} (q : n ≡ reported (o .opened .count + 1)) where
-    step-takes : Stands (branch (lent s) (treeOf o)) (reported (o .opened .count + 1)) r → Fed o s r
+    step-takes : OpeningStands (branch (lent s) (treeOf o)) (reported (o .opened .count + 1)) r → Fed o s r
     step-takes p = record { takes = λ t. p; stays = λ t. not-both (sym t ∙ sym e ∙ h) }
 
     pub step-lost : {x : Opened} → (length s ≡ 2048 → ⊥) → x ≡ record { answer = 1; count = n; volume = noVolume } → Ended r x → Fed o s r
     step-lost l f g =
         step-takes (rw (branch-wanted o (lent s) (sym e ∙ h), ne-eqb (length s) 2048 l, ← q) (stands-ended (refused Io) n r g f))
 
-    pub step-taken : length s ≡ 2048 → Stands (behindWanted o s) n r → Fed o s r
+    pub step-taken : length s ≡ 2048 → OpeningStands (behindWanted o s) n r → Fed o s r
     step-taken l p = step-takes (rw (branch-wanted o (lent s) (sym e ∙ h), eq-eqb (length s) 2048 l, ← q) p)
 
 -- ---- the sector that is wanted

@@ -37,7 +37,7 @@ use Rattle.drives.specs.Feeds.{Feed, lent, branch, following, naming, Gr
 use Rattle.drives.specs.Feeds.Feed.{over, stop, name, hold, put, want}
 use Rattle.drives.specs.Feeds.Short.{enough}
 use Rattle.drives.specs.FileFeeds.{extentFeed, standing, extentsFeed, namedBy, chainFeed, entryFeed, fileFeed}
-use Rattle.drives.specs.Openings.{isWanting, wantedSector, treeOf, behindWanted, saidOf, Stands}
+use Rattle.drives.specs.Openings.{isWanting, wantedSector, treeOf, behindWanted, saidOf, OpeningStands}
 use Rattle.drives.specs.declared.openings.Opening.{Opening}
 use Rattle.drives.proofs.OpeningLaws.{tree-asks, ended-tree}
 use Rattle.drives.proofs.FeedLaws.{file-collected}
@@ -53,7 +53,7 @@ said-count n (done v) = refl
 said-count n (refuse r) = refl
 said-count n (ask s k) = refl
 
-came-ended : (d : Disc) (m : ℕ) (o : Opening) → isWanting o ≡ false → (t : Ask VolumeRecord) → Stands t (reported m) o → OpeningCame d t [] m o
+came-ended : (d : Disc) (m : ℕ) (o : Opening) → isWanting o ≡ false → (t : Ask VolumeRecord) → OpeningStands t (reported m) o → OpeningCame d t [] m o
 unfolding asked outcome
 came-ended d m o e (done v) p = record { list = refl; says = let z : m + 0 ≡ m = omega arith in rw z (p .says) }
 came-ended d m o e (refuse r) p = record { list = refl; says = let z : m + 0 ≡ m = omega arith in rw z (p .says) }
@@ -63,7 +63,7 @@ came-ended d m o e (ask s k) p = absurd (never (eqb (o .opened .answer) 0) (sym 
     never true q = let z : _≡_ {A = ℕ} 0 1 = cc in omega arith
     never false q = let z : _≡_ {A = ℕ} 0 1 = cc in omega arith
 
-came-step : (d : Disc) (m : ℕ) (o r q : Opening) (ns s : List ℕ) (t : Ask VolumeRecord) → isWanting o ≡ true → lent s ≡ d (wantedSector o) → Stands t (reported m) o
+came-step : (d : Disc) (m : ℕ) (o r q : Opening) (ns s : List ℕ) (t : Ask VolumeRecord) → isWanting o ≡ true → lent s ≡ d (wantedSector o) → OpeningStands t (reported m) o
     → OpeningCame d (branch (lent s) (treeOf o)) ns (m + 1) q → OpeningCame d t (wantedSector o ∷ ns) m q
 unfolding asked outcome branch
 came-step d m o r q ns s t w h p c =
@@ -83,20 +83,20 @@ next-count : (n m : ℕ) → n ≡ reported m → reported (n + 1) ≡ reported 
 next-count n m e = omega arith
 
 -- walked to its end over a disc, the opening has wanted the sectors of its list in order, and says the answer, the count and the volume of the call
-pub walk-comes : {d : Disc} {ns : List ℕ} {o q : Opening} → OpeningWalk d ns o q → (m : ℕ) (t : Ask VolumeRecord) → Stands t (reported m) o → OpeningCame d t ns m q
+pub walk-comes : {d : Disc} {ns : List ℕ} {o q : Opening} → OpeningWalk d ns o q → (m : ℕ) (t : Ask VolumeRecord) → OpeningStands t (reported m) o → OpeningCame d t ns m q
 walk-comes {d} (ends {o} e) m t p = came-ended d m o e t p
 walk-comes {d} (steps {o} {r} {q} {ns} s w h f rest) m t p =
     let c : o .opened .count ≡ reported m = ap (λ (x : Opened). x .count) (p .says) ∙ said-count (reported m) t in
     let z : reported (o .opened .count + 1) ≡ reported (m + 1) = next-count (o .opened .count) m c in
     came-step d m o r q ns s t w h p (walk-comes rest (m + 1) (branch (lent s) (treeOf o)) (rw z at (f .takes w)))
 
-pub opening-comes : {d : Disc} {ns : List ℕ} {o q : Opening} → Stands (opening usual) 0 o → OpeningWalk d ns o q → Opens d ns q
+pub opening-comes : {d : Disc} {ns : List ℕ} {o q : Opening} → OpeningStands (opening usual) 0 o → OpeningWalk d ns o q → Opens d ns q
 unfolding ran
 opening-comes {d} p w =
     let c = walk-comes w 0 (opening usual) p in
     record { list = c .list; says = c .says ∙ ap (λ x. openedBy (reported x) (outcome d (opening usual))) (zero-add _ ∙ ap length (c .list)) }
 
-pub openings-alike : {d e : Disc} {ns ns′ : List ℕ} {o q q′ : Opening} → Stands (opening usual) 0 o → OpeningWalk d ns o q → OpeningWalk e ns′ o q′ → Agree d e ns → OpensAlike ns ns′ q q′
+pub openings-alike : {d e : Disc} {ns ns′ : List ℕ} {o q q′ : Opening} → OpeningStands (opening usual) 0 o → OpeningWalk d ns o q → OpeningWalk e ns′ o q′ → Agree d e ns → OpensAlike ns ns′ q q′
 openings-alike {d} {e} p v w a =
     let c = opening-comes p v in
     let g = opening-comes p w in

@@ -14,7 +14,7 @@ use Rattle.disc.specs.Choice.{pick}
 use Rattle.disc.specs.Refusals.{number}
 use Rattle.disc.specs.Ask.{then}
 use Rattle.disc.specs.Images.{sectors, sectorsFor}
-use Rattle.disc.specs.Places.{placed, Stands as StandsAt}
+use Rattle.disc.specs.Places.{placed, BlockStands}
 use Rattle.disc.specs.declared.places.Mount.{Mount}
 use Rattle.disc.specs.declared.places.Sector.{Sector}
 use Rattle.disc.specs.declared.places.PartitionRef.{PartitionRef}
@@ -34,10 +34,10 @@ use Rattle.drives.specs.Feeds.Feed.{over, stop, hold}
 use Rattle.drives.specs.FileFeeds.{extentFeed, extentsFeed, joined, namedBy, chainFeed}
 use Rattle.drives.specs.Openings.{mostSectors}
 use Rattle.drives.specs.Readings.{referenceIn, extentIn, extentsIn, endingOf, feedOf, isWanting, endTree, leftOf}
-use Rattle.drives.specs.inner.Turns.{Ends, quiet, Stands, extentsBehind, Enters, EntersAt, continuing, nextOf, Chains, ContinuesAt}
+use Rattle.drives.specs.inner.Turns.{Ends, quiet, ReadingStands, extentsBehind, Enters, EntersAt, continuing, nextOf, Chains, ContinuesAt}
 use Rattle.drives.specs.declared.scans.Scan.{Scan}
 use Rattle.drives.specs.declared.readings.Reading.{Reading}
-use Rattle.drives.specs.declared.turns.Entered.{Entered}
+use Rattle.drives.specs.declared.turns.ExtentTurn.{ExtentTurn}
 
 -- ---- an end
 
@@ -53,7 +53,7 @@ pub end-stop : (why : Refusal) → endTree (number why) ≡ stop why
 end-stop why = rw (ne-eqb (number why) 0 (refusal-numbered why), refusal-known why)
 
 module _ (row : List (List ℕ)) (f : Feed) (r x : Reading) where
-  pub stands-done : Ends r 0 x → ((room : ℕ) → settledIn false (length row) room f ≡ quiet over) → Stands row f r x
+  pub stands-done : Ends r 0 x → ((room : ℕ) → settledIn false (length row) room f ≡ quiet over) → ReadingStands row f r x
   stands-done e h = record {
     left = λ room. h room ∙ ap quiet (sym (ends-left r x 0 e row));
     answer = e .answer ∙ rw (ends-left r x 0 e row);
@@ -62,7 +62,7 @@ module _ (row : List (List ℕ)) (f : Feed) (r x : Reading) where
     listed = ends-not e;
   }
 
-  pub stands-stop : (why : Refusal) → Ends r (number why) x → ((room : ℕ) → settledIn false (length row) room f ≡ quiet (stop why)) → Stands row f r x
+  pub stands-stop : (why : Refusal) → Ends r (number why) x → ((room : ℕ) → settledIn false (length row) room f ≡ quiet (stop why)) → ReadingStands row f r x
   stands-stop why e h = record {
     left = λ room. h room ∙ ap quiet (sym (ends-left r x (number why) e row ∙ end-stop why));
     answer = e .answer ∙ rw (ends-left r x (number why) e row, end-stop why);
@@ -97,7 +97,7 @@ inExtent r at left size next = record {
 }
 
 pub extent-stands : (r : Reading) (at left size next : ℕ) → at + left < mostSectors → (row : List (List ℕ))
-    → Stands row (extentFeed (suc left) at size (r .missing) (extentsBehind r row next)) r (inExtent r at left size next)
+    → ReadingStands row (extentFeed (suc left) at size (r .missing) (extentsBehind r row next)) r (inExtent r at left size next)
 unfolding leftOf feedOf settledIn extentFeed
 extent-stands r at left size next h row = record {
   left = λ room. rw (lt-ltb (at + left) mostSectors h);
@@ -114,7 +114,7 @@ sectors-some (suc n) h e = omega arith
 sectors-low : (size at n : ℕ) → size < 2 ^ 32 → at < 2 ^ 33 → n ≡ sectorsFor size → at + (n - 1) < mostSectors
 sectors-low size at n h l e = omega arith
 
-module _ (r : Reading) (at size next : ℕ) (e : Entered) where
+module _ (r : Reading) (at size next : ℕ) (e : ExtentTurn) where
   pub at-done : {x : Reading} → size ≡ 0 → r .missing ≡ 0 → Ends r 0 x → (e .skips ≡ false) × (e .reading ≡ x) → EntersAt r at size next e
   unfolding extentFeed settledIn
   at-done {x} z m p g = record {
@@ -136,7 +136,7 @@ pub at-skips : (r : Reading) (at size next : ℕ) → size ≡ 0 → (r .missing
 unfolding extentFeed
 at-skips r at size next z h = record { passes = λ t f. rw z; misses = λ t. h; stands = λ t. not-both (sym t) }
 
-module _ (r : Reading) (w : List ℕ) (next : ℕ) (e : Entered) where
+module _ (r : Reading) (w : List ℕ) (next : ℕ) (e : ExtentTurn) where
   stopped : {x : Reading} → ((es : List AllocExtent) → extentsFeed (r .mount) (extentIn w ∷ es) (r .missing) ≡ stop Unsupported) → Ends r 4 x
       → (e .skips ≡ false) × (e .reading ≡ x) → Enters r w next e
   unfolding settledIn
@@ -149,7 +149,7 @@ module _ (r : Reading) (w : List ℕ) (next : ℕ) (e : Entered) where
   unfolding extentsFeed
   enter-type z p g = stopped (λ es. rw (ne-eqb (getD w 1 0) 0 z)) p g
 
-  module _ (z : getD w 1 0 ≡ 0) {f : PartitionRef} (y : f ≡ referenceIn (getD w 3 0)) {p : Placed} (q : StandsAt (r .mount) f (getD w 2 0) p) where
+  module _ (z : getD w 1 0 ≡ 0) {f : PartitionRef} (y : f ≡ referenceIn (getD w 3 0)) {p : Placed} (q : BlockStands (r .mount) f (getD w 2 0) p) where
     pub enter-nowhere : {x : Reading} → p ≡ Nowhere → Ends r 4 x → (e .skips ≡ false) × (e .reading ≡ x) → Enters r w next e
     unfolding extentsFeed
     enter-nowhere h k g =
@@ -196,14 +196,14 @@ module _ (r : Reading) (row : List (List ℕ)) (from : ℕ) where
         let l = extents-long row (r .scan .listed) in
         rw (add-one, drop-cons (extentsIn row (r .scan .listed)) i (extentIn d) (omega arith), List·getD-map extentIn (take (r .scan .listed) row) i d, getD-take (r .scan .listed) row i d (omega arith))
 
-    pub seeks-on : (d : List ℕ) (e : Entered) → i < n → Enters r (getD row i d) (i + 1) e → e .skips ≡ true → Seeks r row from (i + 1)
+    pub seeks-on : (d : List ℕ) (e : ExtentTurn) → i < n → Enters r (getD row i d) (i + 1) e → e .skips ≡ true → Seeks r row from (i + 1)
     seeks-on d e h k t = record { same = sym (k .passes t (drop (i + 1) (extentsIn row (r .scan .listed)))) ∙ rw (here d h) at (p .same) }
 
-    pub seeks-found : (d : List ℕ) (e : Entered) → i < n → Enters r (getD row i d) (i + 1) e → e .skips ≡ false
-        → Stands row (extentsFeed (r .mount) (drop from (extentsIn row (r .scan .listed))) (r .missing)) r (e .reading)
+    pub seeks-found : (d : List ℕ) (e : ExtentTurn) → i < n → Enters r (getD row i d) (i + 1) e → e .skips ≡ false
+        → ReadingStands row (extentsFeed (r .mount) (drop from (extentsIn row (r .scan .listed))) (r .missing)) r (e .reading)
     seeks-found d e h k t = rw (← (p .same), here d h) (k .stands t row)
 
-    pub seeks-ends : (x : Reading) → n ≤ i → Ends r 0 x → Stands row (extentsFeed (r .mount) (drop from (extentsIn row (r .scan .listed))) (r .missing)) r x
+    pub seeks-ends : (x : Reading) → n ≤ i → Ends r 0 x → ReadingStands row (extentsFeed (r .mount) (drop from (extentsIn row (r .scan .listed))) (r .missing)) r x
     unfolding extentsFeed settledIn
     seeks-ends x h k =
         let l = extents-long row (r .scan .listed) in
@@ -271,7 +271,7 @@ module _ (r x : Reading) where
   unfolding settledIn
   chain-none z e = record { stands = λ row. stands-stop row _ r x Malformed e (λ room. rw z) }
 
-  module _ (z : r .hops ≡ 0 → ⊥) {f : PartitionRef} (y : f ≡ referenceIn (r .scan .«next_reference»)) {p : Placed} (q : StandsAt (r .mount) f (r .scan .«next_block») p) where
+  module _ (z : r .hops ≡ 0 → ⊥) {f : PartitionRef} (y : f ≡ referenceIn (r .scan .«next_reference»)) {p : Placed} (q : BlockStands (r .mount) f (r .scan .«next_block») p) where
     pub chain-nowhere : p ≡ Nowhere → Ends r 4 x → Chains r x
     unfolding nextArea naming settledIn
     chain-nowhere h e = record {
@@ -322,7 +322,7 @@ ending-open s h = by (ltb (s .closed) 2) refl
 pub places-fit : (row : List (List ℕ)) (n : ℕ) → length (extentsIn row n) ≤ length row
 places-fit row n = let l = extents-long row n in omega arith
 
-stands-held : (row : List (List ℕ)) (f g : Feed) (n : ℕ) (r x : Reading) → f ≡ hold n g → n ≤ length row → Stands row g r x → Stands row f r x
+stands-held : (row : List (List ℕ)) (f g : Feed) (n : ℕ) (r x : Reading) → f ≡ hold n g → n ≤ length row → ReadingStands row g r x → ReadingStands row f r x
 unfolding settledIn
 stands-held row f g n r x e h p =
     rw e (record { left = λ room. rw (le-ltb (length row) n h) (p .left room); answer = p .answer; count = p .count; length = p .length; listed = p .listed })
@@ -331,18 +331,18 @@ module _ (row : List (List ℕ)) (r x : Reading) where
   abbrev es : List AllocExtent
   es = extentsIn row (r .scan .listed)
 
-  pub accept-refused : 2 < r .scan .closed → Ends r 4 x → Stands row (crowdedBy (r .scan .full) (chainFeed (r .mount) (r .kind) (r .hops) (r .missing) es (endingOf (r .scan)))) r x
+  pub accept-refused : 2 < r .scan .closed → Ends r 4 x → ReadingStands row (crowdedBy (r .scan .full) (chainFeed (r .mount) (r .kind) (r .hops) (r .missing) es (endingOf (r .scan)))) r x
   unfolding settledIn crowded
   accept-refused h e =
       rw (le-ltb (r .scan .closed) 2 (omega arith), ne-eqb (r .scan .closed) 2 (λ z. omega arith), chain-refused (r .mount) (r .kind) (r .missing) es (r .hops) Unsupported)
       (by (r .scan .full))
     where
-      by : (b : Bool) → Stands row (pick b (stop Unsupported) (stop Unsupported)) r x
+      by : (b : Bool) → ReadingStands row (pick b (stop Unsupported) (stop Unsupported)) r x
       by true = stands-stop row (stop Unsupported) r x Unsupported e (λ room. refl)
       by false = stands-stop row (stop Unsupported) r x Unsupported e (λ room. refl)
 
   module _ (undone : r .scan .closed ≤ 2) where
-    pub accept-full : r .scan .full ≡ true → Ends r 7 x → Stands row (crowdedBy (r .scan .full) (chainFeed (r .mount) (r .kind) (r .hops) (r .missing) es (endingOf (r .scan)))) r x
+    pub accept-full : r .scan .full ≡ true → Ends r 7 x → ReadingStands row (crowdedBy (r .scan .full) (chainFeed (r .mount) (r .kind) (r .hops) (r .missing) es (endingOf (r .scan)))) r x
     unfolding settledIn
     accept-full f e =
         let q : crowdedBy (r .scan .full) (chainFeed (r .mount) (r .kind) (r .hops) (r .missing) es (endingOf (r .scan))) ≡ stop NoSlot =
@@ -350,15 +350,15 @@ module _ (row : List (List ℕ)) (r x : Reading) where
         rw q (stands-stop row (stop NoSlot) r x NoSlot e (λ room. refl))
 
     module _ (f : r .scan .full ≡ false) where
-      pub accept-continues : r .scan .closed ≡ 2 → Chains r x → Stands row (crowdedBy (r .scan .full) (chainFeed (r .mount) (r .kind) (r .hops) (r .missing) es (endingOf (r .scan)))) r x
+      pub accept-continues : r .scan .closed ≡ 2 → Chains r x → ReadingStands row (crowdedBy (r .scan .full) (chainFeed (r .mount) (r .kind) (r .hops) (r .missing) es (endingOf (r .scan)))) r x
       accept-continues z p =
           stands-held row _ _ (length es) r x
           (rw (f, z) (chain-on (r .mount) (r .kind) (r .missing) es (r .hops) (nextOf (r .scan))))
           (places-fit row (r .scan .listed)) (p .stands row)
 
       pub accept-ends : (r .scan .closed ≡ 2 → ⊥)
-          → Stands row (extentsFeed (r .mount) (drop 0 es) (r .missing)) r x
-          → Stands row (crowdedBy (r .scan .full) (chainFeed (r .mount) (r .kind) (r .hops) (r .missing) es (endingOf (r .scan)))) r x
+          → ReadingStands row (extentsFeed (r .mount) (drop 0 es) (r .missing)) r x
+          → ReadingStands row (crowdedBy (r .scan .full) (chainFeed (r .mount) (r .kind) (r .hops) (r .missing) es (endingOf (r .scan)))) r x
       accept-ends z p =
           let l : r .scan .closed < 2 = below (r .scan .closed) undone z in
           stands-held row _ (extentsFeed (r .mount) es (r .missing)) (length es) r x

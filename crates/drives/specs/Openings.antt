@@ -12,7 +12,7 @@ use Rattle.disc.specs.Ask.Ask.{done, refuse, ask}
 use Rattle.volumes.specs.Sequences.{anyPartition, orderOf, keptOf, Says, saysIn, goOn, scan}
 use Rattle.descriptors.specs.Volumes.{readAnchor}
 use Rattle.descriptors.specs.FileSets.{readFileSet}
-use Rattle.volumes.specs.Openings.{usual, mountIn, mountingOf, volumeIn, fileSetAt, anchored, opening, noVolume}
+use Rattle.volumes.specs.Openings.{usual, plainMount, mountingOf, volumeIn, fileSetAt, anchored, opening, noVolume}
 use Rattle.volumes.specs.declared.sequences.Kept.{Kept}
 use Rattle.volumes.specs.declared.openings.VolumeRecord.{VolumeRecord}
 use Rattle.volumes.specs.declared.openings.Opened.{Opened}
@@ -57,7 +57,7 @@ treeOf o =
     pick (isWanting o)
     (pick (eqb (o .phase) 0) (opening usual)
     (pick (eqb (o .phase) 1) (scanning (o .kept) (suc (o .left)) (o .at))
-    (fileSetAt false (o .kept) (mountIn false (o .kept)) (o .at))))
+    (fileSetAt false (o .kept) (plainMount false (o .kept)) (o .at))))
     (openedTree (o .opened))
 
 -- behind the sector that it wants
@@ -65,7 +65,7 @@ abbrev pub behindWanted : Opening → List ℕ → Ask VolumeRecord
 behindWanted o b =
     pick (eqb (o .phase) 0) (anchored usual (readAnchor false b))
     (pick (eqb (o .phase) 1) (behindSector (o .kept) (o .left) (o .at) b)
-    (ended (volumeIn (mountIn false (o .kept)) (o .kept) (readFileSet false b))))
+    (ended (volumeIn (plainMount false (o .kept)) (o .kept) (readFileSet false b))))
 
 -- ---- a step
 
@@ -76,11 +76,11 @@ saidOf n (refuse r) = record { answer = number r; count = n; volume = noVolume }
 saidOf n (ask s k) = record { answer = 0; count = n; volume = noVolume }
 
 -- a state that stands for a tree, after n sectors
-pub record Stands (t : Ask VolumeRecord) (n : ℕ) (r : Opening) : Type 0 where
+pub record OpeningStands (t : Ask VolumeRecord) (n : ℕ) (r : Opening) : Type 0 where
   pub tree : treeOf r ≡ t
   pub says : r .opened ≡ saidOf n t
 
 -- a step of a state that wants a sector takes the branch of what was lent, and counts; of one that has ended it changes nothing
 pub record Fed (o : Opening) (sector : List ℕ) (r : Opening) : Type 0 where
-  pub takes : isWanting o ≡ true → Stands (branch (lent sector) (treeOf o)) (reported (o .opened .count + 1)) r
+  pub takes : isWanting o ≡ true → OpeningStands (branch (lent sector) (treeOf o)) (reported (o .opened .count + 1)) r
   pub stays : isWanting o ≡ false → r ≡ o

@@ -8,7 +8,7 @@ ghost use Rattle.disc.specs.Choice.{pick};
 ghost use Rattle.areas.specs.Areas.{sizeOf};
 ghost use Rattle.drives.specs.Feeds.{crowdedBy};
 ghost use Rattle.drives.specs.inner.Bodies.{isWrong, judged, bodyIn, bodyOf, bodyBehind, finished, inBody, headBehind, partBehind, Parts, Lands};
-ghost use Rattle.drives.specs.inner.Turns.{Stands};
+ghost use Rattle.drives.specs.inner.Turns.{ReadingStands};
 use crate::readings::Body;
 use crate::readings::Reading;
 use crate::scans::Scan;
@@ -64,7 +64,7 @@ fn judge(check: bool, b: Body) -> u64
 
 // All sectors of the continuation have come.
 fn finish(r: Reading, row: &[[u32; 4]]) -> Reading
-    ensures { λ x. ⌜ Stands (now (row .entry)) (finished r (now (row .entry))) r x ⌝ }
+    ensures { λ x. ⌜ ReadingStands (now (row .entry)) (finished r (now (row .entry))) r x ⌝ }
 {
     let mount = r.mount;
     let body = r.body;
@@ -78,7 +78,7 @@ fn finish(r: Reading, row: &[[u32; 4]]) -> Reading
 // The next sector of the continuation, or what all of them came to.
 fn further(r: Reading, row: &[[u32; 4]]) -> Reading
     requires { ⌜ (r .at + r .left < 0x1000_0000_0000) × (r .scan .carried < sizeOf (r .kind)) × (r .body .«area_left» ≤ 2048 * r .left) ⌝ }
-    ensures { λ x. ⌜ Stands (now (row .entry)) (crowdedBy (r .scan .full) (inBody r (now (row .entry)) (r .left) (r .at + 1))) r x ⌝ }
+    ensures { λ x. ⌜ ReadingStands (now (row .entry)) (crowdedBy (r .scan .full) (inBody r (now (row .entry)) (r .left) (r .at + 1))) r x ⌝ }
 {
     if r.left == 0 {
         return finish(r, row);

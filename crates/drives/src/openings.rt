@@ -4,8 +4,8 @@ ghost use mathlib.Core.Path.{_≡_};
 ghost use mathlib.Core.Bool.{true, false};
 ghost use Prim.Native.Nat.{_+_, _<_};
 ghost use Rattle.volumes.specs.Sequences.{nothing};
-ghost use Rattle.volumes.specs.Openings.{usual, opening, mountIn, anchored, noVolume};
-ghost use Rattle.drives.specs.Openings.{isWanting, wantedSector, mountingFrom, scanning, behindSector, behindWanted, Fed, Stands};
+ghost use Rattle.volumes.specs.Openings.{usual, opening, plainMount, anchored, noVolume};
+ghost use Rattle.drives.specs.Openings.{isWanting, wantedSector, mountingFrom, scanning, behindSector, behindWanted, Fed, OpeningStands};
 ghost use Rattle.drives.specs.Beginnings.{atAnchor};
 use descriptors::anchors::AnchorRead;
 use descriptors::anchors::AnchorVolumeDescriptorPointer;
@@ -86,7 +86,7 @@ fn over(opened: Opened) -> Opening
 
 // How the volume is read, by the partition that was kept.
 fn mount_of(kept: Kept) -> Mount
-    ensures { λ r. ⌜ r ≡ mountIn false kept ⌝ }
+    ensures { λ r. ⌜ r ≡ plainMount false kept ⌝ }
 {
     Mount {
         start: kept.partition_start,
@@ -101,7 +101,7 @@ fn mount_of(kept: Kept) -> Mount
 
 // Behind the sequence: whether what was kept leads to a file set descriptor, and where that stands.
 fn behind_sequence(kept: Kept, count: u64) -> Opening
-    ensures { λ r. ⌜ Stands (mountingFrom kept) count r ⌝ }
+    ensures { λ r. ⌜ OpeningStands (mountingFrom kept) count r ⌝ }
 {
     let answer = kept_answer(kept);
     if answer != DONE {
@@ -117,7 +117,7 @@ fn behind_sequence(kept: Kept, count: u64) -> Opening
 
 // A sequence of n sectors from `first` on: its first sector, if it has one.
 fn begin_sequence(first: u32, n: u32, count: u64) -> Opening
-    ensures { λ r. ⌜ Stands (scanning nothing n first) count r ⌝ }
+    ensures { λ r. ⌜ OpeningStands (scanning nothing n first) count r ⌝ }
 {
     let kept = nothing_kept();
     if n == 0 {
@@ -128,7 +128,7 @@ fn begin_sequence(first: u32, n: u32, count: u64) -> Opening
 
 // Behind the anchor: its main sequence.
 fn behind_anchor(anchor: AnchorRead, count: u64) -> Opening
-    ensures { λ r. ⌜ Stands (anchored usual anchor) count r ⌝ }
+    ensures { λ r. ⌜ OpeningStands (anchored usual anchor) count r ⌝ }
 {
     match anchor {
         AnchorRead::Refused(why) => over(refused(why.number(), count)),
@@ -142,7 +142,7 @@ fn behind_anchor(anchor: AnchorRead, count: u64) -> Opening
 // Behind a sector of the sequence, which stands at `at` and has `left` sectors behind it.
 fn behind_sector(kept: Kept, at: u64, left: u32, b: &[u8], count: u64) -> Opening
     requires { ⌜ at + left < 0x1000_0000_0000 ⌝ }
-    ensures { λ r. ⌜ Stands (behindSector kept left at (now (b .entry))) count r ⌝ }
+    ensures { λ r. ⌜ OpeningStands (behindSector kept left at (now (b .entry))) count r ⌝ }
 {
     let turn = take_sector(How::usual(), Wanted::Any, kept, b);
     let next = turn.kept;
@@ -161,7 +161,7 @@ fn behind_sector(kept: Kept, at: u64, left: u32, b: &[u8], count: u64) -> Openin
 impl Opening {
     // Before the anchor.
     pub fn start() -> Opening
-        ensures { λ r. ⌜ Stands (opening usual) 0 r ⌝ }
+        ensures { λ r. ⌜ OpeningStands (opening usual) 0 r ⌝ }
         ensures { λ r. ⌜ r ≡ atAnchor ⌝ }
     {
         wanting(AT_ANCHOR, ANCHOR, 0, nothing_kept(), 0)
@@ -196,7 +196,7 @@ impl Opening {
     // What the sector that is wanted leads to.
     fn taken(self, sector: &[u8], count: u64) -> Opening
         requires { ⌜ isWanting self ≡ true ⌝ }
-        ensures { λ r. ⌜ Stands (behindWanted self (now (sector .entry))) count r ⌝ }
+        ensures { λ r. ⌜ OpeningStands (behindWanted self (now (sector .entry))) count r ⌝ }
     {
         let kept = self.kept;
         if self.phase == AT_ANCHOR {

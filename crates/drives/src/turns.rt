@@ -6,7 +6,7 @@ ghost use lib.ListN.{drop};
 ghost use Rattle.drives.specs.Feeds.{crowdedBy};
 ghost use Rattle.drives.specs.FileFeeds.{extentsFeed, chainFeed};
 ghost use Rattle.drives.specs.Readings.{extentsIn, endingOf};
-ghost use Rattle.drives.specs.inner.Turns.{Ends, Stands, Enters, EntersAt, Chains, ContinuesAt};
+ghost use Rattle.drives.specs.inner.Turns.{Ends, ReadingStands, Enters, EntersAt, Chains, ContinuesAt};
 use crate::readings::Reading;
 use crate::scans::reference_in;
 use disc::answers::DONE;
@@ -32,7 +32,7 @@ const HEADER: u32 = 24;
 const LONGEST: u32 = 1048576;
 
 // What is to be done about an extent: it is passed over, or the read goes on so.
-pub(crate) struct Entered {
+pub(crate) struct ExtentTurn {
     pub skips: bool,
     pub reading: Reading,
 }
@@ -50,17 +50,17 @@ pub(crate) fn over(r: Reading, answer: u64) -> Reading
 // ---- the extents
 
 // The read goes on so.
-fn goes_on(reading: Reading) -> Entered
+fn goes_on(reading: Reading) -> ExtentTurn
     ensures { λ e. ⌜ (e .skips ≡ false) × (e .reading ≡ reading) ⌝ }
 {
-    Entered {
+    ExtentTurn {
         skips: false,
         reading,
     }
 }
 
 // An extent of `size` bytes from a sector on: one without a byte is passed over, unless no byte is missing.
-fn enter_at(r: Reading, first: Sector, size: u32, next: usize) -> Entered
+fn enter_at(r: Reading, first: Sector, size: u32, next: usize) -> ExtentTurn
     requires { ⌜ first .0 < 2 ^ 33 ⌝ }
     ensures { λ e. ⌜ EntersAt r (first .0) size next e ⌝ }
 {
@@ -68,7 +68,7 @@ fn enter_at(r: Reading, first: Sector, size: u32, next: usize) -> Entered
         if r.missing == 0 {
             return goes_on(over(r, DONE));
         }
-        return Entered {
+        return ExtentTurn {
             skips: true,
             reading: r,
         };
@@ -84,7 +84,7 @@ fn enter_at(r: Reading, first: Sector, size: u32, next: usize) -> Entered
 }
 
 // An extent of the row: it is recorded, and stands on this volume.
-fn enter(r: Reading, w: [u32; 4], next: usize) -> Entered
+fn enter(r: Reading, w: [u32; 4], next: usize) -> ExtentTurn
     ensures { λ e. ⌜ Enters r w next e ⌝ }
 {
     if w[1] != 0 {
@@ -99,7 +99,7 @@ fn enter(r: Reading, w: [u32; 4], next: usize) -> Entered
 
 // From an extent on.
 pub(crate) fn find_extent(r: Reading, next: usize, row: &[[u32; 4]]) -> Reading
-    ensures { λ x. ⌜ Stands (now (row .entry)) (extentsFeed (r .mount) (drop next (extentsIn (now (row .entry)) (r .scan .listed))) (r .missing)) r x ⌝ }
+    ensures { λ x. ⌜ ReadingStands (now (row .entry)) (extentsFeed (r .mount) (drop next (extentsIn (now (row .entry)) (r .scan .listed))) (r .missing)) r x ⌝ }
 {
     let n = least(r.scan.listed, row.len());
     let mut i = next;
@@ -153,7 +153,7 @@ fn continue_chain(r: Reading) -> Reading
 
 // Behind an area that has arrived whole: its own refusal, an extent without a place, then its continuation, or the extents.
 pub(crate) fn accept(r: Reading, row: &[[u32; 4]]) -> Reading
-    ensures { λ x. ⌜ Stands (now (row .entry)) (crowdedBy (r .scan .full) (chainFeed (r .mount) (r .kind) (r .hops) (r .missing) (extentsIn (now (row .entry)) (r .scan .listed)) (endingOf (r .scan)))) r x ⌝ }
+    ensures { λ x. ⌜ ReadingStands (now (row .entry)) (crowdedBy (r .scan .full) (chainFeed (r .mount) (r .kind) (r .hops) (r .missing) (extentsIn (now (row .entry)) (r .scan .listed)) (endingOf (r .scan)))) r x ⌝ }
 {
     let s = r.scan;
     if 2 < s.closed {

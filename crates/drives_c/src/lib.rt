@@ -16,7 +16,7 @@ ghost use mathlib.Core.Path.{_≡_};
 ghost use Rattle.volumes.specs.Openings.{usual, opening};
 ghost use Rattle.listings.specs.Listings.{matchingOf};
 ghost use Rattle.drives.specs.FileFeeds.{fileFeed};
-ghost use Rattle.drives.specs.Openings.{isWanting as isOpeningWanting, wantedSector as wantedOnOpening, Fed as FedOnOpening, Stands};
+ghost use Rattle.drives.specs.Openings.{isWanting as isOpeningWanting, wantedSector as wantedOnOpening, Fed as FedOnOpening, OpeningStands};
 ghost use Rattle.drives.specs.Readings.{isWanting, wantedSector, zeroed, Fed, Starts};
 ghost use Rattle.drives.specs.Beginnings.{atAnchor, startOf};
 ghost use Rattle.vault.specs.Calls.{listsBytes, findsIn, nextComponent};
@@ -33,7 +33,7 @@ use vault::volume::Volume;
 // An opening before its first sector: as vault_open with a `how` of 0. What it comes to is `opened`, once it has ended.
 #[no_mangle]
 pub extern "C" fn vault_opening_start() -> Opening
-    ensures { λ r. ⌜ Stands (opening usual) 0 r ⌝ }
+    ensures { λ r. ⌜ OpeningStands (opening usual) 0 r ⌝ }
     ensures { λ r. ⌜ r ≡ atAnchor ⌝ }
 {
     Opening::start()

@@ -43,7 +43,7 @@ use Rattle.chains.specs.declared.follows.Chain.{Chain}
 use Rattle.chains.specs.declared.follows.Chain.the-variants.{Whole, Refused as BrokenOff}
 use Rattle.chains.proofs.CountLaws.{whole-hops}
 use Rattle.chains.proofs.AskedLaws.{done-asks, refuse-asks, pick-asks, ask-asks, standing-asks}
-use Rattle.files.specs.declared.icbs.Place.{Place}
+use Rattle.files.specs.declared.icbs.FilePlace.{FilePlace}
 use Rattle.files.specs.declared.icbs.PlaceRead.{PlaceRead}
 use Rattle.files.specs.declared.icbs.PlaceRead.the-variants.{Found, Refused}
 use Rattle.files.specs.Files.{Located, located, entryIn, entryAt, entryMount, isEmbedded, hopsOf, resolved, fileAt, fileHops}
@@ -221,9 +221,9 @@ module _ (image : List ℕ) (m : Mount) (icb : LongAd) where
 
 -- ---- what the entry leads to
 
-module _ (image : List ℕ) (m : Mount) (icb : LongAd) {p : Place} (q : FoundPlace image (entryAt m icb) p) where
+module _ (image : List ℕ) (m : Mount) (icb : LongAd) {p : FilePlace} (q : FoundPlace image (entryAt m icb) p) where
   pub found-kind : p .kind ≡ q .entry .entry .kind
-  found-kind = ap (λ (x : Place). x .kind) (q .is)
+  found-kind = ap (λ (x : FilePlace). x .kind) (q .is)
 
   pub found-goes : ran (disc image) (fileAt m icb) ≡ after 1 (ran (disc image) (resolved (entryMount m icb) (q .entry)))
   unfolding fileAt
@@ -255,7 +255,7 @@ module _ (image : List ℕ) (m : Mount) (icb : LongAd) {r : PlaceRead} (y : r �
       let q : Locates image m icb (Refused why n) = locates image m icb (sym e ∙ y) in
       record { runs = rw (ran-then, q); few = omega (arith, refused-few q) }
 
-  module _ {p : Place} (e : r ≡ Found p) where
+  module _ {p : FilePlace} (e : r ≡ Found p) where
     found : FoundPlace image (entryAt m icb) p
     found = locates image m icb (sym e ∙ y)
 
@@ -264,7 +264,7 @@ module _ (image : List ℕ) (m : Mount) (icb : LongAd) {r : PlaceRead} (y : r �
 
     module _ (k : p .kind ≡ 3 → ⊥) {own : Mount} (o : own ≡ entryMount m icb) {front : ChainCursor} (g : front ≡ frontOf p) (c : Chain) (w : Followed image own (p .kind) front c) where
       found-size : p .size ≡ found .entry .entry .«area_length»
-      found-size = ap (λ (x : Place). x .size) (found .is)
+      found-size = ap (λ (x : FilePlace). x .size) (found .is)
 
       -- the chain in the sector is the chain in the image
       follows : ran (disc image) (fileAt m icb) ≡ after 1 (followed (chainAt image (entryMount m icb) (p .kind) (frontOf p)) (λ es. ran (disc image) (done (chained (found .entry) es))))

@@ -33,7 +33,7 @@ use Rattle.chains.specs.inner.Walks.{beyond, left, passed, hopsAt, weight, Coun
 use Rattle.chains.specs.declared.cursors.ChainCursor.{ChainCursor}
 use Rattle.chains.specs.declared.counts.Counted.{Counted}
 use Rattle.chains.proofs.CountLaws.{counts-exact}
-use Rattle.files.specs.declared.icbs.Place.{Place}
+use Rattle.files.specs.declared.icbs.FilePlace.{FilePlace}
 use Rattle.files.specs.declared.extents.Sizes.{Sizes}
 use Rattle.files.specs.declared.extents.Measured.{Measured}
 use Rattle.files.specs.declared.extents.Measured.the-variants.{Sized, Refused}
@@ -87,10 +87,10 @@ module _ (image : List ℕ) (m : Mount) where
 
 -- ---- the returns of `weigh_whole`: t is what `measure` found
 
-pub weigh-little : (p : Place) {front : ChainCursor} → front ≡ frontOf p → p .size ≤ 2048 → front .left ≤ 2048
+pub weigh-little : (p : FilePlace) {front : ChainCursor} → front ≡ frontOf p → p .size ≤ 2048 → front .left ≤ 2048
 weigh-little p g h = rw g h
 
-module _ (image : List ℕ) (v : Mount) (p : Place) (n : ℕ) {front : ChainCursor} (g : front ≡ frontOf p) (t : Measured) (q : Measures image v (p .kind) front (p .information) t) where
+module _ (image : List ℕ) (v : Mount) (p : FilePlace) (n : ℕ) {front : ChainCursor} (g : front ≡ frontOf p) (t : Measured) (q : Measures image v (p .kind) front (p .information) t) where
   abbrev rest : Ran (List ℕ)
   rest = restAt image v (p .kind) (frontOf p) (p .information)
 
@@ -148,7 +148,7 @@ module _ (image : List ℕ) (m : Mount) (icb : LongAd) (r : Resolved) (y : Resol
       let c : reported n ≡ n = omega (arith, q .few) in
       uncounted image m bytes _ _ (rw z) (f ∙ rw (a, z, c)) u
 
-  pub file-in : {p : Place} → r ≡ Embedded p → {k : ℕ} → k ≡ min (p .size) (p .information) → {w : Weighing} → w ≡ uncountedBy m (record { answer = 0; count = 1; length = k })
+  pub file-in : {p : FilePlace} → r ≡ Embedded p → {k : ℕ} → k ≡ min (p .size) (p .information) → {w : Weighing} → w ≡ uncountedBy m (record { answer = 0; count = 1; length = k })
       → WeighsFile image m icb w
   unfolding fileBytes fileExtents
   file-in {p} e {k} f u =
@@ -158,7 +158,7 @@ module _ (image : List ℕ) (m : Mount) (icb : LongAd) (r : Resolved) (y : Resol
       let h : ran (disc image) (fileExtents m icb) ≡ record { outcome = answered []; count = 1 } = rw (ran-then, q .runs, ran-done) in
       uncounted image m bytes _ _ (rw (z, h, q .hops)) (rw (z, l)) u
 
-  module _ {p : Place} {n : ℕ} (e : r ≡ Chained p n) where
+  module _ {p : FilePlace} {n : ℕ} (e : r ≡ Chained p n) where
     in-chain : ChainedFile image m icb p n
     in-chain = rw e at y
 
@@ -168,7 +168,7 @@ module _ (image : List ℕ) (m : Mount) (icb : LongAd) (r : Resolved) (y : Resol
     pub file-out : {own : Mount} → own ≡ entryMount m icb → {w : Weighing} → WeighsChain image own p n w → WeighsFile image m icb w
     unfolding fileBytes fileExtents
     file-out o q =
-        let i : p .information ≡ in-chain .entry .entry .«information_length» = ap (λ (x : Place). x .information) (in-chain .is) in
+        let i : p .information ≡ in-chain .entry .entry .«information_length» = ap (λ (x : FilePlace). x .information) (in-chain .is) in
         rw (ran-then, ran-then, in-chain .runs, in-chain .hops, ran-done, ← i, ← o) q
 
 -- ---- the returns of `measure_file` and `size_file`: w is what `weigh_file` found, and k what `count_left` did

@@ -22,7 +22,7 @@ use Rattle.disc.proofs.ReplyLaws.{reply-refused}
 use Rattle.records.specs.declared.allocations.LongAd.{LongAd}
 use Rattle.chains.specs.inner.Walks.{left}
 use Rattle.chains.specs.declared.cursors.ChainCursor.{ChainCursor}
-use Rattle.files.specs.declared.icbs.Place.{Place}
+use Rattle.files.specs.declared.icbs.FilePlace.{FilePlace}
 use Rattle.files.specs.declared.extents.Sizes.{Sizes}
 use Rattle.files.specs.declared.extents.Measured.{Measured}
 use Rattle.files.specs.declared.extents.Measured.the-variants.{Sized, Refused}
@@ -41,7 +41,7 @@ replied-as e p = rw e p
 
 -- ---- the bytes in the entry
 
-module _ (full : Refusal) (image : List ℕ) (p : Place) (h : p .at + p .size ≤ length image) {n : ℕ} (e : n ≡ min (p .size) (p .information)) (out : List ℕ) where
+module _ (full : Refusal) (image : List ℕ) (p : FilePlace) (h : p .at + p .size ≤ length image) {n : ℕ} (e : n ≡ min (p .size) (p .information)) (out : List ℕ) where
   long : length (embeddedIn image p) ≡ n
   long = rw (← e) (length-take-le n (drop (p .at) image) (rw length-drop (omega arith)))
 
@@ -161,7 +161,7 @@ module _ (full : Refusal) (image : List ℕ) (m : Mount) (icb : LongAd) (out : L
       let q : Resolves image m icb (Unresolved why n) = rw e at y in
       rw (ran-then, q .runs) (reply-refused why n n (omega (arith, q .few)) (f ∙ rw g))
 
-  module _ {p : Place} (e : r ≡ Embedded p) where
+  module _ {p : FilePlace} (e : r ≡ Embedded p) where
     in-entry : EmbeddedFile image m icb p
     in-entry = rw e at y
 
@@ -169,7 +169,7 @@ module _ (full : Refusal) (image : List ℕ) (m : Mount) (icb : LongAd) (out : L
     unfolding fileBytes
     read-in q = replied-as (rw (ran-then, in-entry .runs, ran-done, in-entry .bytes)) q
 
-  module _ {p : Place} {n : ℕ} (e : r ≡ Chained p n) where
+  module _ {p : FilePlace} {n : ℕ} (e : r ≡ Chained p n) where
     in-chain : ChainedFile image m icb p n
     in-chain = rw e at y
 
@@ -177,12 +177,12 @@ module _ (full : Refusal) (image : List ℕ) (m : Mount) (icb : LongAd) (out : L
         → Replied full file out z x
     unfolding fileBytes
     read-out o g q =
-        let w : p .information ≡ in-chain .entry .entry .«information_length» = ap (λ (x : Place). x .information) (in-chain .is) in
+        let w : p .information ≡ in-chain .entry .entry .«information_length» = ap (λ (x : FilePlace). x .information) (in-chain .is) in
         replied-as (rw (ran-then, in-chain .runs, ← w, o, g)) q
 
 -- the entry's area, or the embedded file, lies in the image
-pub place-inside : (image : List ℕ) (m : Mount) (icb : LongAd) (r : Resolved) → Resolves image m icb r → {p : Place} → r ≡ Embedded p → p .at + p .size ≤ length image
+pub place-inside : (image : List ℕ) (m : Mount) (icb : LongAd) (r : Resolved) → Resolves image m icb r → {p : FilePlace} → r ≡ Embedded p → p .at + p .size ≤ length image
 place-inside image m icb r y {p} e = let q : EmbeddedFile image m icb p = rw e at y in q .inside
 
-pub chain-little : (image : List ℕ) (m : Mount) (icb : LongAd) (r : Resolved) → Resolves image m icb r → {p : Place} {n : ℕ} → r ≡ Chained p n → {front : ChainCursor} → front ≡ frontOf p → front .left ≤ 2048
+pub chain-little : (image : List ℕ) (m : Mount) (icb : LongAd) (r : Resolved) → Resolves image m icb r → {p : FilePlace} {n : ℕ} → r ≡ Chained p n → {front : ChainCursor} → front ≡ frontOf p → front .left ≤ 2048
 chain-little image m icb r y {p} {n} e g = let q : ChainedFile image m icb p n = rw e at y in rw g (q .small)

@@ -16,7 +16,7 @@ use entries::file_entries::FileEntry;
 use records::allocations::LongAd;
 
 // The kind of its descriptors, its information length, and where in the image the area of its descriptors, or the file itself, stands.
-pub struct Place {
+pub struct FilePlace {
     pub kind: u8,
     pub information: u64,
     pub at: usize,
@@ -25,7 +25,7 @@ pub struct Place {
 
 // A refusal has the number of sectors asked for beside it.
 pub enum PlaceRead {
-    Found(Place),
+    Found(FilePlace),
     Refused(Refusal, u64),
 }
 
@@ -36,7 +36,7 @@ fn place_in(check: bool, s: &[u8], from: usize) -> PlaceRead
 {
     match FileEntry::parse(check, s) {
         EntryRead::Refused(why) => PlaceRead::Refused(why, 1),
-        EntryRead::Read(e) => PlaceRead::Found(Place {
+        EntryRead::Read(e) => PlaceRead::Found(FilePlace {
             kind: e.kind,
             information: e.information_length,
             at: from + e.area_at,

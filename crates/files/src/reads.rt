@@ -11,7 +11,7 @@ use crate::extents::Measured;
 use crate::extents::copy;
 use crate::extents::copy_piece;
 use crate::extents::measure;
-use crate::icbs::Place;
+use crate::icbs::FilePlace;
 use crate::resolves::Resolved;
 use crate::resolves::front_of;
 use crate::resolves::resolve;
@@ -26,7 +26,7 @@ use disc::replies::refusal;
 use records::allocations::LongAd;
 
 // The bytes that stand in the entry itself.
-fn read_embedded(image: &[u8], p: Place, out: &mut [u8], full: Refusal) -> Reply
+fn read_embedded(image: &[u8], p: FilePlace, out: &mut [u8], full: Refusal) -> Reply
     requires { ⌜ p .at + p .size ≤ length (now image) ⌝ }
     ensures { λ r. ⌜ Replied full (embeddedRun (now (image .entry)) p) (now (out .entry)) (now (out .exit)) r ⌝ }
 {

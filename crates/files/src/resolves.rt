@@ -1,7 +1,7 @@
 // A file's entry and its chain: what is read before anything is asked of the file.
 ghost use mathlib.Core.Path.{_≡_};
 ghost use Rattle.files.specs.inner.Wholes.{frontOf, Resolves};
-use crate::icbs::Place;
+use crate::icbs::FilePlace;
 use crate::icbs::PlaceRead;
 use crate::icbs::locate;
 use chains::cursors::ChainCursor;
@@ -14,8 +14,8 @@ use records::allocations::LongAd;
 // Embedded in its entry; or in the extents of its chain, which was followed to its end, with the number of sectors asked for; or a refusal
 // with that number.
 pub enum Resolved {
-    Embedded(Place),
-    Chained(Place, u64),
+    Embedded(FilePlace),
+    Chained(FilePlace, u64),
     Refused(Refusal, u64),
 }
 
@@ -26,7 +26,7 @@ const EMBEDDED: u8 = 3;
 pub(crate) const MOST_CONTINUATIONS: u8 = 32;
 
 // The cursor at the front of a file's chain.
-pub fn front_of(p: Place) -> ChainCursor
+pub fn front_of(p: FilePlace) -> ChainCursor
     ensures { λ r. ⌜ r ≡ frontOf p ⌝ }
 {
     ChainCursor {

@@ -9,7 +9,7 @@ ghost use Rattle.files.specs.Sizes.{sizesOf};
 ghost use Rattle.files.specs.inner.Weighings.{uncountedBy, WeighsChain, WeighsFile};
 use crate::extents::Measured;
 use crate::extents::measure;
-use crate::icbs::Place;
+use crate::icbs::FilePlace;
 use crate::resolves::MOST_CONTINUATIONS;
 use crate::resolves::Resolved;
 use crate::resolves::front_of;
@@ -58,7 +58,7 @@ fn uncounted(mount: Mount, reply: Reply) -> Weighing
 }
 
 // The extents of a chain that is whole, behind `n` sectors.
-fn weigh_whole(image: &[u8], mount: Mount, p: Place, n: u64) -> Weighing
+fn weigh_whole(image: &[u8], mount: Mount, p: FilePlace, n: u64) -> Weighing
     requires { ⌜ p .size ≤ 2048 ⌝ }
     ensures { λ r. ⌜ WeighsChain (now (image .entry)) mount p n r ⌝ }
 {

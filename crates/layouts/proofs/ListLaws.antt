@@ -34,7 +34,7 @@ use Rattle.chains.specs.declared.counts.Counted.{Counted}
 use Rattle.chains.proofs.CountLaws.{counts-exact}
 use Rattle.chains.specs.inner.Walks.{left, stepOf, Counts}
 use Rattle.chains.proofs.WalkLaws.{ended, hopped, taken}
-use Rattle.files.specs.declared.icbs.Place.{Place}
+use Rattle.files.specs.declared.icbs.FilePlace.{FilePlace}
 use Rattle.files.specs.Files.{entryMount, fileExtents}
 use Rattle.files.specs.declared.resolves.Resolved.{Resolved}
 use Rattle.files.specs.declared.resolves.Resolved.the-variants.{Embedded, Chained, Refused as Unresolved}
@@ -42,7 +42,7 @@ use Rattle.files.specs.inner.Wholes.{frontOf, ChainedFile, Resolves}
 use Rattle.layouts.specs.declared.lists.Extent.{Extent}
 use Rattle.layouts.specs.declared.lists.Listing.{Listing}
 use Rattle.layouts.specs.Calls.{referenceOf, extentOf, fieldsOf, wordsOf, Listed}
-use Rattle.layouts.specs.inner.Lists.{storedOf, Front, Stands, Planned, listedRun}
+use Rattle.layouts.specs.inner.Lists.{storedOf, Front, ListStands, Planned, listedRun}
 use Rattle.disc.specs.Parts.{Bytes}
 
 -- ---- the return of `extent_of`
@@ -54,7 +54,7 @@ extent-is e f = rw f
 -- ---- the loop that makes a listing
 
 -- any listing stands for no extents
-stands-empty : (image : List ℕ) {es : List AllocExtent} → es ≡ [] → {reply : Reply} {l : Listing} → l .reply ≡ reply → Stands image es reply l
+stands-empty : (image : List ℕ) {es : List AllocExtent} → es ≡ [] → {reply : Reply} {l : Listing} → l .reply ≡ reply → ListStands image es reply l
 stands-empty image h e = record { same = e; next = λ x rest k. absurd (let z : _≡_ {A = ℕ} 0 1 = cc in omega arith) }
 
 module _ (image : List ℕ) (v : Mount) (kind : ℕ) (c₀ : ChainCursor) where
@@ -68,11 +68,11 @@ module _ (image : List ℕ) (v : Mount) (kind : ℕ) (c₀ : ChainCursor) where
     pub walk-hop : {c′ : ChainCursor} → r ≡ Hops c′ → Walking c′
     walk-hop e = record { list = sym (hopped image v kind c p b e .list) ∙ w .list }
 
-    pub walk-ends : r ≡ Ends → {reply : Reply} {l : Listing} → l .reply ≡ reply → Stands image (left image v kind c₀) reply l
+    pub walk-ends : r ≡ Ends → {reply : Reply} {l : Listing} → l .reply ≡ reply → ListStands image (left image v kind c₀) reply l
     walk-ends e f = stands-empty image (sym (w .list) ∙ ended image v kind c p b e) f
 
     pub walk-takes : {x : AllocExtent} {c′ : ChainCursor} → r ≡ Takes x c′ → (reply : Reply) {e : Extent} → e ≡ extentOf x
-        → Stands image (left image v kind c₀) reply (record { reply = reply; mount = v; kind = kind; front = e; behind = c′ })
+        → ListStands image (left image v kind c₀) reply (record { reply = reply; mount = v; kind = kind; front = e; behind = c′ })
     walk-takes {x} {c′} e reply f = record {
       same = refl;
       next = λ y rest k.
@@ -90,7 +90,7 @@ module _ (image : List ℕ) (v : Mount) (kind : ℕ) (c : ChainCursor) (n : ℕ)
       let z : min n 0xffff_ffff_ffff_ffff ≡ n = omega arith in
       rw (lt-leb _ _ s, z) (stands-empty image refl (j ∙ f ∙ rw g))
 
-  pub list-done : c .left ≤ 2048 → c .hops < 2 ^ 8 → k .extents ≤ room → {l : Listing} → Stands image (left image v kind c) (record { answer = 0; count = n; length = k .extents }) l
+  pub list-done : c .left ≤ 2048 → c .hops < 2 ^ 8 → k .extents ≤ room → {l : Listing} → ListStands image (left image v kind c) (record { answer = 0; count = n; length = k .extents }) l
       → Planned image (listedRun image v kind c n) room l
   list-done little hops h g =
       let all : k .extents ≡ length (left image v kind c) = counts-exact q (omega arith) in
@@ -112,13 +112,13 @@ module _ (image : List ℕ) (v : Mount) (icb : LongAd) (r : Resolved) (y : Resol
       let z : min n 0xffff_ffff_ffff_ffff ≡ n = omega (arith, q .few) in
       rw (ran-then, q .runs) (stands-empty image refl (rw z (j ∙ f ∙ rw g)))
 
-  pub list-in : {p : Place} → r ≡ Embedded p → {l : Listing} → l .reply ≡ record { answer = 0; count = 1; length = 0 } → Planned image file room l
+  pub list-in : {p : FilePlace} → r ≡ Embedded p → {l : Listing} → l .reply ≡ record { answer = 0; count = 1; length = 0 } → Planned image file room l
   unfolding fileExtents
   list-in {p} e j =
       let q : Resolves image v icb (Embedded p) = rw e at y in
       rw (ran-then, q .runs, ran-done) (stands-empty image (rw (le-leb 0 room (omega arith))) (rw (le-leb 0 room (omega arith)) j))
 
-  module _ {p : Place} {n : ℕ} (e : r ≡ Chained p n) where
+  module _ {p : FilePlace} {n : ℕ} (e : r ≡ Chained p n) where
     in-chain : ChainedFile image v icb p n
     in-chain = rw e at y
 
@@ -171,7 +171,7 @@ stored r row = storedOf (length row) (r .outcome)
 
 -- f is what a slot holds of an extent, by its record
 pub record Storing {A : Type 0} (f : Extent → A) (image : List ℕ) (r : Ran (List AllocExtent)) (d₀ d : List A) (l : Listing) (n i : ℕ) : Type 0 where
-  pub stands : Stands image (drop i (stored r d₀)) (replyOf NoSlot (length d₀) r) l
+  pub stands : ListStands image (drop i (stored r d₀)) (replyOf NoSlot (length d₀) r) l
   pub rest : sets d i (map (λ e. f (extentOf e)) (drop i (stored r d₀))) ≡ sets d₀ 0 (map (λ e. f (extentOf e)) (stored r d₀))
   pub long : length d ≡ length d₀
   pub many : n ≡ length (stored r d₀)
@@ -207,7 +207,7 @@ module _ {A : Type 0} (f : Extent → A) (image : List ℕ) (r : Ran (List Alloc
       pub store-slot : i < length d
       store-slot = omega (arith, s .many, s .long, fitted .fits)
 
-      pub store-next : {v : A} → v ≡ f (l .front) → {l′ : Listing} → Stands image (left image (l .mount) (l .kind) (l .behind)) (l .reply) l′
+      pub store-next : {v : A} → v ≡ f (l .front) → {l′ : Listing} → ListStands image (left image (l .mount) (l .kind) (l .behind)) (l .reply) l′
           → Storing f image r d₀ (set d i v) l′ n (i + 1)
       store-next e t = rw (add-one, e, front .front) (record {
         stands = rw (s .stands .same, front .behind) at t;
@@ -239,7 +239,7 @@ module _ {A : Type 0} (f : Extent → A) (image : List ℕ) (r : Ran (List Alloc
   stores-adds h k = omega (arith, stores-below h)
 
 pub stores-next : {A : Type 0} (f : Extent → A) (image : List ℕ) (l₀ : Listing) (d₀ : List A) {d : List A} {l : Listing} {n i : ℕ} → Stores f image l₀ d₀ d l n i → i < n
-    → {v : A} → v ≡ f (l .front) → {l′ : Listing} → Stands image (left image (l .mount) (l .kind) (l .behind)) (l .reply) l′ → Stores f image l₀ d₀ (set d i v) l′ n (i + 1)
+    → {v : A} → v ≡ f (l .front) → {l′ : Listing} → ListStands image (left image (l .mount) (l .kind) (l .behind)) (l .reply) l′ → Stores f image l₀ d₀ (set d i v) l′ n (i + 1)
 stores-next f image l₀ d₀ s h e t = record { whole = λ r p. store-next f image r d₀ (s .whole r p) h e t }
 
 pub words-end : (image : List ℕ) (r : Ran (List AllocExtent)) (l₀ : Listing) (d₀ : List (List ℕ)) → Planned image r (length d₀) l₀

@@ -24,7 +24,7 @@ use Rattle.disc.proofs.RanLaws.{ran-done, ran-then}
 use Rattle.disc.proofs.PartLaws.{part-none, part-slice}
 use Rattle.records.specs.declared.allocations.LongAd.{LongAd}
 use Rattle.areas.specs.declared.AllocExtent.{AllocExtent}
-use Rattle.files.specs.declared.icbs.Place.{Place}
+use Rattle.files.specs.declared.icbs.FilePlace.{FilePlace}
 use Rattle.files.specs.declared.resolves.Resolved.{Resolved}
 use Rattle.files.specs.declared.resolves.Resolved.the-variants.{Embedded, Chained, Refused as Unresolved}
 use Rattle.files.specs.declared.icbs.PlaceRead.{PlaceRead}
@@ -38,7 +38,7 @@ use Rattle.layouts.specs.Calls.{partIn, partReply, PartReplied}
 use Rattle.disc.specs.Parts.{PartAt}
 use Rattle.layouts.specs.Inside.{file}
 
-embedded-size : (image : List ℕ) (p : Place) → p .at + p .size ≤ length image → length (embeddedIn image p) ≡ min (p .size) (p .information)
+embedded-size : (image : List ℕ) (p : FilePlace) → p .at + p .size ≤ length image → length (embeddedIn image p) ≡ min (p .size) (p .information)
 embedded-size image p h = length-take-le (min (p .size) (p .information)) (drop (p .at) image) (rw length-drop (omega arith))
 
 -- ---- what the call comes to, by what `resolve` found
@@ -48,14 +48,14 @@ module _ (image : List ℕ) (m : Mount) (icb : LongAd) where
   unfolding filePart
   refused-runs q = rw (ran-then, q .runs)
 
-  chained-runs : {p : Place} {n : ℕ} → ChainedFile image m icb p n → (file image m icb) ≡ record { outcome = answered noPart; count = n }
+  chained-runs : {p : FilePlace} {n : ℕ} → ChainedFile image m icb p n → (file image m icb) ≡ record { outcome = answered noPart; count = n }
   unfolding filePart
   chained-runs {p} {n} q = rw (ran-then, q .runs, ran-done) (ap (λ k. record { outcome = answered noPart; count = k }) (omega arith))
 
-  embedded-runs : {p : Place} → EmbeddedFile image m icb p → (file image m icb) ≡ record { outcome = answered (record { at = p .at; bytes = embeddedIn image p }); count = 1 }
+  embedded-runs : {p : FilePlace} → EmbeddedFile image m icb p → (file image m icb) ≡ record { outcome = answered (record { at = p .at; bytes = embeddedIn image p }); count = 1 }
   unfolding filePart
   embedded-runs {p} q =
-      let w : p .at ≡ 2048 * q .entry .at + q .entry .entry .«area_at» = ap (λ (x : Place). x .at) (q .is) in
+      let w : p .at ≡ 2048 * q .entry .at + q .entry .entry .«area_at» = ap (λ (x : FilePlace). x .at) (q .is) in
       rw (ran-then, q .runs, ran-done, ← w, q .bytes)
 
 -- ---- the returns of `part_at`
@@ -71,7 +71,7 @@ module _ (image : List ℕ) (m : Mount) (icb : LongAd) (r : Resolved) (y : Resol
     pub place-refused : 0 ≡ partIn (file image m icb .outcome) .at
     place-refused = rw (refused-runs image m icb none)
 
-  module _ {p : Place} {n : ℕ} (e : r ≡ Chained p n) where
+  module _ {p : FilePlace} {n : ℕ} (e : r ≡ Chained p n) where
     in-chain : ChainedFile image m icb p n
     in-chain = rw e at y
 
@@ -81,7 +81,7 @@ module _ (image : List ℕ) (m : Mount) (icb : LongAd) (r : Resolved) (y : Resol
     pub place-out : 0 ≡ partIn (file image m icb .outcome) .at
     place-out = rw (chained-runs image m icb in-chain)
 
-  module _ {p : Place} (e : r ≡ Embedded p) where
+  module _ {p : FilePlace} (e : r ≡ Embedded p) where
     in-entry : EmbeddedFile image m icb p
     in-entry = rw e at y
 
@@ -100,7 +100,7 @@ no-part d x (answered es) n = rw (ran-done, ran-done)
 no-part d x (refused r) n = refl
 
 module _ (image : List ℕ) (m : Mount) (icb : LongAd) where
-  chain-part : {p : Place} → FoundPlace image (entryAt m icb) p → (p .kind ≡ 3 → ⊥) → partIn (file image m icb .outcome) ≡ noPart
+  chain-part : {p : FilePlace} → FoundPlace image (entryAt m icb) p → (p .kind ≡ 3 → ⊥) → partIn (file image m icb .outcome) ≡ noPart
   unfolding filePart
   chain-part {p} q k =
       let n : isEmbedded (q .entry) ≡ false = rw (← found-kind image m icb q) (ne-eqb (p .kind) 3 k) in
@@ -114,10 +114,10 @@ module _ (image : List ℕ) (m : Mount) (icb : LongAd) where
   pub part-stands : PartAt image (partIn (file image m icb .outcome) .bytes) (partIn (file image m icb .outcome) .at)
   part-stands = by (placeOf image m icb) (locates image m icb refl)
     where
-      Stands : Type 0
-      Stands = PartAt image (partIn (file image m icb .outcome) .bytes) (partIn (file image m icb .outcome) .at)
+      Held : Type 0
+      Held = PartAt image (partIn (file image m icb .outcome) .bytes) (partIn (file image m icb .outcome) .at)
 
-      kept : (p : Place) → FoundPlace image (entryAt m icb) p → (b : Bool) → eqb (p .kind) 3 ≡ b → Stands
+      kept : (p : FilePlace) → FoundPlace image (entryAt m icb) p → (b : Bool) → eqb (p .kind) 3 ≡ b → Held
       kept p q true e =
           let y : EmbeddedFile image m icb p = found-embedded image m icb q (eqb-true _ _ e) in
           rw (embedded-runs image m icb y) (record {
@@ -126,7 +126,7 @@ module _ (image : List ℕ) (m : Mount) (icb : LongAd) where
           })
       kept p q false e = rw (chain-part q (eqb-false _ _ e)) (part-none image)
 
-      by : (r : PlaceRead) → Locates image m icb r → Stands
+      by : (r : PlaceRead) → Locates image m icb r → Held
       by (NoPlace why n) y = rw (no-entry y) (part-none image)
       by (Found p) y = kept p y (eqb (p .kind) 3) refl
 

@@ -27,7 +27,7 @@ use Rattle.disc.proofs.ImageLaws.{split}
 use Rattle.records.specs.declared.allocations.LongAd.{LongAd}
 use Rattle.chains.specs.inner.Walks.{left, weight}
 use Rattle.chains.specs.declared.cursors.ChainCursor.{ChainCursor}
-use Rattle.files.specs.declared.icbs.Place.{Place}
+use Rattle.files.specs.declared.icbs.FilePlace.{FilePlace}
 use Rattle.files.specs.declared.pieces.Turn.{Turn}
 use Rattle.files.specs.declared.pieces.Turn.the-variants.{Piece, Hop, Refused as Stopped, End}
 use Rattle.files.specs.declared.resolves.Resolved.{Resolved}
@@ -242,7 +242,7 @@ module _ (image : List ℕ) (m : Mount) (kind want : ℕ) (c₀ : ChainCursor) w
 
 -- ---- the returns of `plan_entry`
 
-module _ (m : Mount) (p : Place) (room : ℕ) {n : ℕ} (e : n ≡ min (p .size) (p .information)) {runs : ℕ} (f : runs ≡ min n 1) where
+module _ (m : Mount) (p : FilePlace) (room : ℕ) {n : ℕ} (e : n ≡ min (p .size) (p .information)) {runs : ℕ} (f : runs ≡ min n 1) where
   entry-long : length (runHere (p .at) n) ≡ runs
   entry-long = here-long (p .at) n ∙ sym f
 
@@ -285,10 +285,10 @@ told-refused (refused a) c why j e =
     let q : j ≡ reported (0 + c) = cc in
     record { is = cc; count = omega arith }
 
-pub chain-little : (p : Place) {front : ChainCursor} → front ≡ frontOf p → p .size ≤ 2048 → front .left ≤ 2048
+pub chain-little : (p : FilePlace) {front : ChainCursor} → front ≡ frontOf p → p .size ≤ 2048 → front .left ≤ 2048
 chain-little p g h = rw g h
 
-module _ (image : List ℕ) (v : Mount) (p : Place) (n room : ℕ) {front : ChainCursor} (g : front ≡ frontOf p) (t : RunCount)
+module _ (image : List ℕ) (v : Mount) (p : FilePlace) (n room : ℕ) {front : ChainCursor} (g : front ≡ frontOf p) (t : RunCount)
     (q : countedBy t ≡ sized 0 0 (runsAt image v (p .kind) front (p .information))) where
   abbrev rest : Ran (List Run)
   rest = runsAt image v (p .kind) (frontOf p) (p .information)
@@ -327,11 +327,11 @@ module _ (image : List ℕ) (v : Mount) (p : Place) (n room : ℕ) {front : Chai
 
 -- ---- the returns of `plan_runs`: r is what `resolve` found
 
-entry-runs : (image : List ℕ) (m : Mount) (icb : LongAd) {p : Place} → EmbeddedFile image m icb p → ran (disc image) (fileRuns m icb) ≡ entryRun p
+entry-runs : (image : List ℕ) (m : Mount) (icb : LongAd) {p : FilePlace} → EmbeddedFile image m icb p → ran (disc image) (fileRuns m icb) ≡ entryRun p
 unfolding fileRuns
 entry-runs image m icb {p} q =
     let l : length (embeddedIn image p) ≡ min (p .size) (p .information) = length-take-le _ (drop (p .at) image) (rw length-drop (omega (arith, q .inside))) in
-    let s : partOf (embedded (q .entry)) .at ≡ p .at = sym (ap (λ (x : Place). x .at) (q .is)) in
+    let s : partOf (embedded (q .entry)) .at ≡ p .at = sym (ap (λ (x : FilePlace). x .at) (q .is)) in
     rw (ran-then, q .runs, ran-done, q .bytes, l, s)
 
 module _ (image : List ℕ) (m : Mount) (icb : LongAd) (r : Resolved) (y : Resolves image m icb r) (room : ℕ) where
@@ -346,10 +346,10 @@ module _ (image : List ℕ) (m : Mount) (icb : LongAd) (r : Resolved) (y : Resol
       let z : reported n ≡ n = omega (arith, q .few) in
       rw (ran-then, q .runs, z) (stands-empty image refl (alone-says u ∙ f ∙ rw a))
 
-  pub plan-in : {p : Place} → r ≡ Embedded p → {l : Running} → EntryPlanned p room l → RunsPlanned image file room l
+  pub plan-in : {p : FilePlace} → r ≡ Embedded p → {l : Running} → EntryPlanned p room l → RunsPlanned image file room l
   plan-in {p} e h = let q : EmbeddedFile image m icb p = rw e at y in rw (entry-runs image m icb q) (h .on image)
 
-  module _ {p : Place} {n : ℕ} (e : r ≡ Chained p n) where
+  module _ {p : FilePlace} {n : ℕ} (e : r ≡ Chained p n) where
     in-chain : ChainedFile image m icb p n
     in-chain = rw e at y
 
@@ -359,7 +359,7 @@ module _ (image : List ℕ) (m : Mount) (icb : LongAd) (r : Resolved) (y : Resol
     pub plan-out : {own : Mount} → own ≡ entryMount m icb → {l : Running} → RunsPlanned image (chainRuns image own p n) room l → RunsPlanned image file room l
     unfolding fileRuns
     plan-out o q =
-        let i : p .information ≡ in-chain .entry .entry .«information_length» = ap (λ (x : Place). x .information) (in-chain .is) in
+        let i : p .information ≡ in-chain .entry .entry .«information_length» = ap (λ (x : FilePlace). x .information) (in-chain .is) in
         rw (ran-then, in-chain .runs, ← i, ← o) q
 
 -- ---- the loop that stores: what is stored and what is left to store are all there is

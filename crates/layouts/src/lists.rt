@@ -8,7 +8,7 @@ ghost use Rattle.disc.specs.Images.{disc};
 ghost use Rattle.chains.specs.inner.Walks.{left};
 ghost use Rattle.files.specs.Files.{fileExtents};
 ghost use Rattle.layouts.specs.Calls.{referenceOf, extentOf, fieldsOf, wordsOf, Listed};
-ghost use Rattle.layouts.specs.inner.Lists.{Stands, Planned, listedRun};
+ghost use Rattle.layouts.specs.inner.Lists.{ListStands, Planned, listedRun};
 use areas::AllocExtent;
 use chains::counts::count_left;
 use chains::cursors::ChainCursor;
@@ -103,7 +103,7 @@ fn empty(mount: Mount, reply: Reply) -> Listing
 
 // The listing of the extents that are left at a cursor.
 fn listing_at(image: &[u8], mount: Mount, kind: u8, first: ChainCursor, reply: Reply) -> Listing
-    ensures { λ r. ⌜ Stands (now (image .entry)) (left (now (image .entry)) mount kind first) reply r ⌝ }
+    ensures { λ r. ⌜ ListStands (now (image .entry)) (left (now (image .entry)) mount kind first) reply r ⌝ }
 {
     let mut c = first;
     loop {
@@ -125,7 +125,7 @@ fn listing_at(image: &[u8], mount: Mount, kind: u8, first: ChainCursor, reply: R
 
 // The listing without its front.
 fn further(image: &[u8], l: Listing) -> Listing
-    ensures { λ r. ⌜ Stands (now (image .entry)) (left (now (image .entry)) (l .mount) (l .kind) (l .behind)) (l .reply) r ⌝ }
+    ensures { λ r. ⌜ ListStands (now (image .entry)) (left (now (image .entry)) (l .mount) (l .kind) (l .behind)) (l .reply) r ⌝ }
 {
     let behind = l.behind;
     let reply = l.reply;

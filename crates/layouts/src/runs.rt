@@ -15,7 +15,7 @@ use disc::places::Mount;
 use disc::refusals::Refusal;
 use disc::replies::Reply;
 use disc::replies::refusal;
-use files::icbs::Place;
+use files::icbs::FilePlace;
 use files::pieces::Turn;
 use files::pieces::next_piece;
 use files::resolves::Resolved;
@@ -140,7 +140,7 @@ fn further_runs(image: &[u8], l: Running) -> Running
 }
 
 // The run that an embedded file is.
-fn plan_entry(mount: Mount, p: Place, room: usize) -> Running
+fn plan_entry(mount: Mount, p: FilePlace, room: usize) -> Running
     ensures { λ r. ⌜ EntryPlanned p room r ⌝ }
 {
     let n = lesser(p.size as u64, p.information);
@@ -161,7 +161,7 @@ fn plan_entry(mount: Mount, p: Place, room: usize) -> Running
 }
 
 // The runs of a chain that is whole, after n sectors.
-fn plan_chain(image: &[u8], mount: Mount, p: Place, n: u64, room: usize) -> Running
+fn plan_chain(image: &[u8], mount: Mount, p: FilePlace, n: u64, room: usize) -> Running
     requires { ⌜ p .size ≤ 2048 ⌝ }
     ensures { λ r. ⌜ RunsPlanned (now (image .entry)) (chainRuns (now (image .entry)) mount p n) room r ⌝ }
 {

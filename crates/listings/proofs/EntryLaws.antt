@@ -32,7 +32,7 @@ use Rattle.identifiers.specs.Identifiers.{readIdentifier, identifierRead, recor
 use Rattle.identifiers.specs.inner.Wholes.{Whole}
 use Rattle.identifiers.proofs.IdentifierLaws.{identifier-read, read-identifier}
 use Rattle.listings.specs.Entries.{Entry, entryOf, entryIn, entryRead, isSkipped, nameIn}
-use Rattle.listings.specs.Listings.{recordHead, shown, foldFor, answersTo, unnamed}
+use Rattle.listings.specs.Listings.{recordHead, entryRecord, foldFor, answersTo, unnamed}
 use Rattle.listings.specs.inner.Passes.{Recorded, Puts, icbIn, headIn, recordIn, settled, joinedOf, notedOf}
 use Rattle.listings.specs.declared.finds.Named.{Named}
 use Rattle.listings.specs.declared.matchings.Matching.{Matching}
@@ -144,9 +144,9 @@ module _ {s : List ℕ} {f : FileIdentifierDescriptor} (w : Whole s f) where
   unfolding nameIn
   size-is = sym (w .size)
 
-  pub shown-length : length (shown (entryOf s f)) ≡ pick (isSkipped f) 0 (21 + f .«name_size»)
-  unfolding shown isSkipped nameIn
-  shown-length = rw (← size-is) (by (isSkipped f))
+  pub record-length : length (entryRecord (entryOf s f)) ≡ pick (isSkipped f) 0 (21 + f .«name_size»)
+  unfolding entryRecord isSkipped nameIn
+  record-length = rw (← size-is) (by (isSkipped f))
     where
       by : (b : Bool) → length (pick b [] (recordHead (isDirectory f) (f .icb) (length (nameIn (entryOf s f))) ++ nameIn (entryOf s f))) ≡ pick b 0 (21 + length (nameIn (entryOf s f)))
       by true = refl
@@ -218,8 +218,8 @@ module _ (s : List ℕ) (b : Bytes s) {e : Entry} (k : Known s e) where
     marked : t ≡ isSkipped f
     marked = skipped-is f (rw (k .whole .characteristics, ← i) u)
 
-    left-out : t ≡ true → (d : List ℕ) → Wrote (shown e) d d 0
-    unfolding shown
+    left-out : t ≡ true → (d : List ℕ) → Wrote (entryRecord e) d d 0
+    unfolding entryRecord
     left-out h d = rw (← marked, h) (record { count = refl; bytes = sym (over-fits [] d (omega arith)) })
 
     module _ (h : t ≡ false) {from n : ℕ} (a : from ≡ nameAt s) (l : n ≡ byte s 19) where
@@ -230,16 +230,16 @@ module _ (s : List ℕ) (b : Bytes s) {e : Entry} (k : Known s e) where
       unfolding nameIn recordedName
       name-there = rw (k .is, add-sub-cancel-left, a, l)
 
-      shown-record : shown e ≡ recordIn m s name
-      unfolding shown recordIn
-      shown-record =
+      record-is : entryRecord e ≡ recordIn m s name
+      unfolding entryRecord recordIn
+      record-is =
           let z : length name ≡ f .«name_size» = rw (← name-there, k .is) (size-is (k .whole)) in
           rw (← marked, h, name-there, i) (ap (λ (x : ℕ). recordHead (isDirectory f) (f .icb) x ++ name) z ∙ (λ j. head-bytes name z j ++ name))
 
-      name-room : (d : List ℕ) → length (shown e) ≤ length d → 21 + length name ≤ length d
+      name-room : (d : List ℕ) → length (entryRecord e) ≤ length d → 21 + length name ≤ length d
       unfolding recordIn
       name-room d room =
-          let long : length (shown e) ≡ 21 + length name = rw (shown-record, length-append, head-long) in
+          let long : length (entryRecord e) ≡ 21 + length name = rw (record-is, length-append, head-long) in
           omega (arith, long)
 
 -- ---- the returns of `put_entry`
@@ -259,7 +259,7 @@ module _ (s : List ℕ) (b : Bytes s) {from n : ℕ} (a : from ≡ nameAt s) (l 
   unfolding nextAt nameEnd
   next-is = rw (a, l)
 
-  put-puts : from + n ≤ length s → {d d′ : List ℕ} {w : ℕ} → w ≤ length d → ((e : Entry) → entryRead false s ≡ answered e → length (shown e) ≤ length d → Wrote (shown e) d d′ w)
+  put-puts : from + n ≤ length s → {d d′ : List ℕ} {w : ℕ} → w ≤ length d → ((e : Entry) → entryRead false s ≡ answered e → length (entryRecord e) ≤ length d → Wrote (entryRecord e) d d′ w)
       → Puts s d d′ (record { wrote = w; next = (from + n + 3) / 4 * 4 })
   unfolding nameAt
   put-puts h i k = record { inside = i; further = omega (arith, a); near = omega arith; next = λ e g. next-is; wrote = k }
@@ -270,7 +270,7 @@ module _ (s : List ℕ) (b : Bytes s) {from n : ℕ} (a : from ≡ nameAt s) (l 
 
     pub put-recorded : t ≡ false → {d d′ : List ℕ} {w : ℕ} → Recorded m s (written (nameOf (take (from + n - from) (drop from s)))) d d′ w
         → Puts s d d′ (record { wrote = w; next = (from + n + 3) / 4 * 4 })
-    put-recorded v {d} w = put-puts h (w .inside) (λ e g room. rw (shown-record s b (known false s b g) i u v a l) (w .wrote (name-room s b (known false s b g) i u v a l d room)))
+    put-recorded v {d} w = put-puts h (w .inside) (λ e g room. rw (record-is s b (known false s b g) i u v a l) (w .wrote (name-room s b (known false s b g) i u v a l d room)))
 
 -- ---- what is found with one more entry
 

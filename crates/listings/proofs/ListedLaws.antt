@@ -16,9 +16,9 @@ use Rattle.identifiers.specs.declared.IdentifierRead.{IdentifierRead}
 use Rattle.identifiers.specs.Identifiers.{readIdentifier, identifierRead, nameEnd, nextAt}
 use Rattle.identifiers.proofs.FrontLaws.{front-next, front-recorded, front-read}
 use Rattle.listings.specs.Entries.{Entry, entryOf, entryIn, entryRead, isSkipped, entries}
-use Rattle.listings.specs.Listings.{shown, records}
+use Rattle.listings.specs.Listings.{entryRecord, records}
 use Rattle.listings.specs.inner.Passes.{listedOver}
-use Rattle.listings.proofs.EntryLaws.{read-good, read-whole, read-bad, shown-length}
+use Rattle.listings.proofs.EntryLaws.{read-good, read-whole, read-bad, record-length}
 use Rattle.listings.proofs.WalkLaws.{alone}
 use Rattle.disc.specs.Parts.{Bytes}
 
@@ -66,20 +66,20 @@ module _ (s : List ℕ) (b : Bytes s) {r : IdentifierRead} (p : r ≡ identifier
         alone false (take endOf s) (omega (arith, w .head)) front-good (omega (arith, w .on))
 
     module _ {n : ℕ} (q : n ≡ pick (isSkipped (r .descriptor)) 0 (21 + r .descriptor .«name_size»)) where
-      size-shown : n ≡ length (shown this)
-      size-shown = q ∙ sym (shown-length (read-whole false s b p z))
+      size-record : n ≡ length (entryRecord this)
+      size-record = q ∙ sym (record-length (read-whole false s b p z))
 
       pub listed-full : (d : List ℕ) → length d < n → d ≡ listedOver (entryRead false s) d
       unfolding listedOver
-      listed-full d h = rw (read-good false s b p z, lt-leb (length (shown this)) (length d) (omega (arith, size-shown)))
+      listed-full d h = rw (read-good false s b p z, lt-leb (length (entryRecord this)) (length d) (omega (arith, size-record)))
 
       pub listed-put : (d : List ℕ) {d′ : List ℕ} → n ≤ length d
           → ((es : List Entry) → entries false (midOf 0 (endOf - 0) s) ≡ answered es → length (records es) ≡ length (midOf 0 (n - 0) d) → d′ ≡ records es)
           → putMid 0 (n - 0) d d′ ≡ listedOver (entryRead false s) d
       unfolding listedOver records
       listed-put d h k =
-          let l : length (shown this) ≤ length d = omega (arith, size-shown) in
+          let l : length (entryRecord this) ≤ length d = omega (arith, size-record) in
           let m : length (take n d) ≡ n = length-take-le n d h in
           let e = rw (sub-zero endOf, sub-zero n) at (k (this ∷ [])) in
-          let f = e only (rw append-nil (sym size-shown ∙ sym m)) in
-          rw (f, sub-zero n, read-good false s b p z, le-leb (length (shown this)) (length d) l, over-fits (shown this) d l, append-nil, ← size-shown)
+          let f = e only (rw append-nil (sym size-record ∙ sym m)) in
+          rw (f, sub-zero n, read-good false s b p z, le-leb (length (entryRecord this)) (length d) l, over-fits (entryRecord this) d l, append-nil, ← size-record)

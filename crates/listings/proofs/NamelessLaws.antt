@@ -11,7 +11,7 @@ use Rattle.disc.specs.Ask.Outcome.{answered}
 use Rattle.names.specs.Names.{nameOf, isNamed}
 use Rattle.names.proofs.Promises.{nameless-empty, nameless-named}
 use Rattle.listings.specs.Entries.{Entry, nameIn, entries}
-use Rattle.listings.specs.Listings.{shown, records, listing, foldIn, answersTo, allNamed, chosen, firstNamed, findIn, namedTo, namedOf}
+use Rattle.listings.specs.Listings.{entryRecord, records, listing, foldIn, answersTo, allNamed, chosen, firstNamed, findIn, namedTo, namedOf}
 use Rattle.listings.specs.declared.matchings.Matching.{Matching}
 use Rattle.listings.specs.declared.matchings.Matching.the-variants.{CaseIgnored, AsWritten, Unambiguous}
 use Rattle.listings.specs.Nameless.{Emptied, Alike, AllAlike}
@@ -25,9 +25,9 @@ alike-named fold component (inl e) = ap (λ r. isNamed fold r component) e
 alike-named fold component {s} {t} (inr p) = nameless-named fold s t component (p .one) (p .other) (p .long)
 
 module _ {e f : Entry} (p : Alike e f) where
-  alike-shown : shown e ≡ shown f
-  unfolding shown nameIn
-  alike-shown = rw (p .identified, alike-name (p .named))
+  alike-record : entryRecord e ≡ entryRecord f
+  unfolding entryRecord nameIn
+  alike-record = rw (p .identified, alike-name (p .named))
 
   alike-answers : (fold : ℕ → ℕ) (component : List ℕ) → answersTo fold component e ≡ answersTo fold component f
   unfolding answersTo
@@ -39,7 +39,7 @@ unfolding records AllAlike
 alike-records [] [] p = refl
 alike-records [] (f ∷ fs) p = absurd p
 alike-records (e ∷ es) [] p = absurd p
-alike-records (e ∷ es) (f ∷ fs) p = rw (alike-shown (p .0), alike-records es fs (p .1))
+alike-records (e ∷ es) (f ∷ fs) p = rw (alike-record (p .0), alike-records es fs (p .1))
 
 -- the entries of a component are alike too
 alike-all : (fold : ℕ → ℕ) (component : List ℕ) (es fs : List Entry) → AllAlike es fs → AllAlike (allNamed fold component es) (allNamed fold component fs)

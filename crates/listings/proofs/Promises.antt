@@ -26,7 +26,7 @@ use Rattle.identifiers.specs.declared.FileIdentifierDescriptor.{FileIdentifierD
 use Rattle.identifiers.proofs.IdentifierLaws.{identifier-refused}
 use Rattle.identifiers.specs.Identifiers.{nameAt, nameEnd, recordedName, nextAt, identifierOf, identifierSized, identifierNamed, readIdentifier}
 use Rattle.listings.specs.Entries.{Entry, entryIn, entryRead, inFront, isSkipped, nameIn, entriesFrom, entries}
-use Rattle.listings.specs.Listings.{recordHead, shown, records, listing, answersTo, firstNamed, findIn, namedOf}
+use Rattle.listings.specs.Listings.{recordHead, entryRecord, records, listing, answersTo, firstNamed, findIn, namedOf}
 use Rattle.listings.specs.Paths.{front, behind, componentsFrom, components}
 use Rattle.listings.specs.declared.finds.Named.{Named}
 use Rattle.listings.specs.declared.matchings.Matching.{Matching}
@@ -96,7 +96,7 @@ entries-refused check s P bad crc e = from-refused check P bad crc 0 s e
 
 -- ---- no name is too long
 
--- no directory's bytes have an entry whose name exceeds 508 bytes, so its length fits the two bytes of its record (RecordLaws `shown-size`)
+-- no directory's bytes have an entry whose name exceeds 508 bytes, so its length fits the two bytes of its record (RecordLaws `record-size`)
 pub entry-brief : (check : Bool) (s : List ℕ) → Bytes s → (before : List Entry) (e : Entry) (rest : List Entry) → entries check s ≡ answered (before ++ e ∷ rest) → length (nameIn e) ≤ 508
 entry-brief check s b before e rest h = name-brief (each-at before e rest (each-read check s b h))
 
@@ -112,18 +112,18 @@ find-one check m component raw p q = p ∙ sym q
 
 pub one-listed : (check : Bool) → listing check entryA
     ≡ answered (0x44 ∷ 0x45 ∷ 1 ∷ 0x00 ∷ 0x08 ∷ 0x00 ∷ 0x00 ∷ 0x05 ∷ 0x00 ∷ 0x00 ∷ 0x00 ∷ 0x00 ∷ 0x00 ∷ 0x00 ∷ 0x00 ∷ 0x00 ∷ 0x00 ∷ 0x00 ∷ 0x00 ∷ 1 ∷ 0 ∷ 0x41 ∷ [])
-unfolding pairs untilZero surrogate dropSurrogates encode utf8 nameOf nameAt nameEnd recordedName nextAt identifierOf identifierSized identifierNamed crcFrom crcOf bodyRight withBody withId readHead readIdentifier entryRead isSkipped nameIn entriesFrom entries recordHead shown records listing
+unfolding pairs untilZero surrogate dropSurrogates encode utf8 nameOf nameAt nameEnd recordedName nextAt identifierOf identifierSized identifierNamed crcFrom crcOf bodyRight withBody withId readHead readIdentifier entryRead isSkipped nameIn entriesFrom entries recordHead entryRecord records listing
 one-listed true = refl
 one-listed false = refl
 
 -- a deleted one with another CRC is passed over, and where bodies are checked refuses the directory all the same
 pub deleted-checked : (listing false (entryOfA 0x05 0x01 0x04) ≡ answered []) × (listing true (entryOfA 0x05 0x01 0x04) ≡ refused BadCrc)
-unfolding pairs untilZero surrogate dropSurrogates encode utf8 nameOf nameAt nameEnd recordedName nextAt identifierOf identifierSized identifierNamed crcFrom crcOf bodyRight withBody withId readHead readIdentifier entryRead isSkipped nameIn entriesFrom entries recordHead shown records listing
+unfolding pairs untilZero surrogate dropSurrogates encode utf8 nameOf nameAt nameEnd recordedName nextAt identifierOf identifierSized identifierNamed crcFrom crcOf bodyRight withBody withId readHead readIdentifier entryRead isSkipped nameIn entriesFrom entries recordHead entryRecord records listing
 deleted-checked = (refl, refl)
 
 -- three bytes hold no entry, and 38 or more that are none refuse the listing
 pub none-listed : (check : Bool) → (listing check (0 ∷ 0 ∷ 0 ∷ []) ≡ answered []) × (listing check (0 ∷ entryA) ≡ refused Malformed)
-unfolding pairs untilZero surrogate dropSurrogates encode utf8 nameOf nameAt nameEnd recordedName nextAt identifierOf identifierSized identifierNamed withBody withId readHead readIdentifier entryRead isSkipped nameIn entriesFrom entries recordHead shown records listing
+unfolding pairs untilZero surrogate dropSurrogates encode utf8 nameOf nameAt nameEnd recordedName nextAt identifierOf identifierSized identifierNamed withBody withId readHead readIdentifier entryRead isSkipped nameIn entriesFrom entries recordHead entryRecord records listing
 none-listed check = (refl, refl)
 
 -- "/a//b/" has the components "a", at 1, and "b", at 4

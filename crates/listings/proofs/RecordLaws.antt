@@ -20,7 +20,7 @@ use Rattle.names.specs.declared.dstrings.NameSize.the-variants.{Size}
 use Rattle.names.proofs.Promises.{same-folded}
 use Rattle.identifiers.specs.Identifiers.{recordedName, nextAt}
 use Rattle.listings.specs.Entries.{Entry, entryRead, inFront, isSkipped, nameIn, entriesFrom, entries}
-use Rattle.listings.specs.Listings.{recordHead, shown, records, listing, answersTo, allNamed, firstNamed}
+use Rattle.listings.specs.Listings.{recordHead, entryRecord, records, listing, answersTo, allNamed, firstNamed}
 use Rattle.listings.specs.Paths.{Component}
 use Rattle.listings.proofs.EntryLaws.{Known, known, size-is, icb-recorded}
 use Rattle.disc.specs.Parts.{Bytes}
@@ -86,19 +86,19 @@ module _ {e : Entry} (w : WasRead e) where
         by (refused why) z h = absurd (let y : _≡_ {A = ℕ} 0 1 = cc in omega arith)
 
     -- its record in a listing has its ICB behind the mark and the flag,
-    pub shown-icb : (more : List ℕ) → longOf (shown e ++ more) 3 ≡ e .identifier .icb
-    unfolding shown recordHead
-    shown-icb more = rw s (rw (stands .whole .icb) (ap (λ (x : List ℕ). longOf x 0) (icb-recorded (w .raw) (w .are))))
+    pub record-icb : (more : List ℕ) → longOf (entryRecord e ++ more) 3 ≡ e .identifier .icb
+    unfolding entryRecord recordHead
+    record-icb more = rw s (rw (stands .whole .icb) (ap (λ (x : List ℕ). longOf x 0) (icb-recorded (w .raw) (w .are))))
 
     -- then the length of its name, which two bytes hold,
-    pub shown-size : (more : List ℕ) → u16at (shown e ++ more) 19 ≡ length (nameIn e)
-    unfolding shown recordHead
-    shown-size more = rw s (u16-le16 (length (nameIn e)) (omega (arith, name-brief)))
+    pub record-size : (more : List ℕ) → u16at (entryRecord e ++ more) 19 ≡ length (nameIn e)
+    unfolding entryRecord recordHead
+    record-size more = rw s (u16-le16 (length (nameIn e)) (omega (arith, name-brief)))
 
     -- and then the name
-    pub shown-name : (more : List ℕ) → drop 21 (shown e ++ more) ≡ nameIn e ++ more
-    unfolding shown recordHead
-    shown-name more = rw s refl
+    pub record-name : (more : List ℕ) → drop 21 (entryRecord e ++ more) ≡ nameIn e ++ more
+    unfolding entryRecord recordHead
+    record-name more = rw s refl
 
 -- ---- the entry of a name
 

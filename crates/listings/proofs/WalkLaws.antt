@@ -28,14 +28,14 @@ use Rattle.identifiers.specs.declared.IdentifierRead.{IdentifierRead}
 use Rattle.identifiers.specs.Identifiers.{readIdentifier, identifierRead, nameAt, nameEnd, nextAt}
 use Rattle.identifiers.specs.inner.Wholes.{Whole}
 use Rattle.listings.specs.Entries.{Entry, entryOf, entryRead, isSkipped, inFront, entriesFrom, entries}
-use Rattle.listings.specs.Listings.{shown, records, listing, foldIn, answersTo, allNamed, chosen, findIn, unnamed, namedOf}
+use Rattle.listings.specs.Listings.{entryRecord, records, listing, foldIn, answersTo, allNamed, chosen, findIn, unnamed, namedOf}
 use Rattle.listings.specs.inner.Passes.{tail, GoodAt, Comes, Puts, sizeOfListing, settled, joinedOf, notedOf}
 use Rattle.listings.specs.declared.directory_entries.Put.{Put}
 use Rattle.listings.specs.declared.finds.Named.{Named}
 use Rattle.listings.specs.declared.listing.ListingSize.{ListingSize}
 use Rattle.listings.specs.declared.matchings.Matching.{Matching}
 use Rattle.listings.specs.declared.matchings.Matching.the-variants.{CaseIgnored, AsWritten, Unambiguous}
-use Rattle.listings.proofs.EntryLaws.{tail-over, read-good, read-whole, read-bad, shown-length}
+use Rattle.listings.proofs.EntryLaws.{tail-over, read-good, read-whole, read-bad, record-length}
 use Rattle.listings.proofs.RecordLaws.{all-listed}
 use Rattle.listings.proofs.GuardLaws.{entries-unchecked}
 use Rattle.disc.specs.Parts.{Bytes}
@@ -144,10 +144,10 @@ size-starts : (o : Outcome (List Entry)) → sizeWith 0 o ≡ sizeOfListing o
 size-starts (answered es) = rw zero-add
 size-starts (refused why) = refl
 
-size-turn : (n : ℕ) (e : Entry) (o : Outcome (List Entry)) {v : ℕ} → v ≡ length (shown e) → sizeWith (n + v) o ≡ sizeWith n (inFront e o)
+size-turn : (n : ℕ) (e : Entry) (o : Outcome (List Entry)) {v : ℕ} → v ≡ length (entryRecord e) → sizeWith (n + v) o ≡ sizeWith n (inFront e o)
 unfolding records
 size-turn n e (answered es) q =
-    let s : n + length (shown e) + length (records es) ≡ n + length (shown e ++ records es) = rw length-append (omega arith) in
+    let s : n + length (entryRecord e) + length (records es) ≡ n + length (entryRecord e ++ records es) = rw length-append (omega arith) in
     rw (q, s)
 size-turn n e (refused why) q = refl
 
@@ -184,7 +184,7 @@ module _ {check : Bool} {raw : List ℕ} {n at : ℕ} (m : Measuring check raw n
               within = g .near;
               small = omega (arith, bound, g .whole .on);
               rest =
-                  size-turn n (entryOf (tail raw at) (r .descriptor)) (entries check (drop (at + r .descriptor .«total_size») raw)) (e ∙ sym (shown-length (g .whole)))
+                  size-turn n (entryOf (tail raw at) (r .descriptor)) (entries check (drop (at + r .descriptor .«total_size») raw)) (e ∙ sym (record-length (g .whole)))
                   ∙ (rw (g .is) at (m .rest));
             }
 
@@ -257,10 +257,10 @@ module _ {raw d₀ d : List ℕ} {n at : ℕ} (m : Filling raw d₀ d n at) wher
         → Filled raw d₀ (putMid n (length d - n) d ys) (n + p .wrote) (at + p .next) es
     unfolding records
     turn {left = left} {e = e} size rest r t =
-        let z : length (records left) ≡ length (shown e) + length (records (t .others)) = ap (λ l. length (records l)) (t .all) ∙ length-append (shown e) (records (t .others)) in
-        let room : n + length (shown e) ≤ length d = omega (arith, z, m .long) in
+        let z : length (records left) ≡ length (entryRecord e) + length (records (t .others)) = ap (λ l. length (records l)) (t .all) ∙ length-append (entryRecord e) (records (t .others)) in
+        let room : n + length (entryRecord e) ≤ length d = omega (arith, z, m .long) in
         let v = w .wrote e r (omega (arith, lent)) in
-        let u : putMid n (length d - n) d ys ≡ sets d n (shown e) = tail-over n d (shown e) ys room (v .bytes) in
+        let u : putMid n (length d - n) d ys ≡ sets d n (entryRecord e) = tail-over n d (entryRecord e) ys room (v .bytes) in
         record {
           left = t .others;
           are = t .are;

@@ -29,14 +29,14 @@ unfoldable pub recordHead : Bool → LongAd → ℕ → List ℕ
 recordHead directory icb n = 0x44 ∷ 0x45 ∷ pick directory 1 0 ∷ (encodeLong icb ++ le16 n)
 
 -- deleted and parent entries are skipped
-unfoldable pub shown : Entry → List ℕ
-shown e =
+unfoldable pub entryRecord : Entry → List ℕ
+entryRecord e =
     pick (isSkipped (e .identifier)) []
     (recordHead (isDirectory (e .identifier)) (e .identifier .icb) (length (nameIn e)) ++ nameIn e)
 
 unfoldable pub records : List Entry → List ℕ
 records [] = []
-records (e ∷ es) = shown e ++ records es
+records (e ∷ es) = entryRecord e ++ records es
 
 -- a bad entry refuses it
 unfoldable pub listing : Bool → List ℕ → Outcome (List ℕ)

@@ -18,7 +18,7 @@ use Rattle.names.specs.declared.dstrings.Form.{Form}
 use Rattle.names.specs.declared.dstrings.Form.the-variants.{Empty, Units, Bad}
 use Rattle.names.specs.declared.matching.Fold.{Fold}
 use Rattle.names.specs.declared.matching.Fold.the-variants.{Lower, AsIs}
-use Rattle.names.specs.declared.matching.Place.{Place}
+use Rattle.names.specs.declared.matching.NamePlace.{NamePlace}
 use Rattle.names.specs.Names.{surrogate, encode, nameOf, lower, foldOf, sameName, matched, isNamed}
 use Rattle.names.specs.inner.Units.{Formed, Body, At, textOf, unitAt, unitBytes}
 use Rattle.names.specs.inner.Matching.{Matched, Plain, Comparing}
@@ -49,22 +49,22 @@ module _ (fold : ℕ → ℕ) (b : ℕ) {t : List ℕ} {at : ℕ} where
 
 -- ---- bytes in turn: the first byte, a, has come to p
 
-module _ {fold : ℕ → ℕ} {a : ℕ} {w t : List ℕ} {at : ℕ} {p : Place} (m : Matched fold (a ∷ []) t at p) where
+module _ {fold : ℕ → ℕ} {a : ℕ} {w t : List ℕ} {at : ℕ} {p : NamePlace} (m : Matched fold (a ∷ []) t at p) where
   stops : p .same ≡ false → Matched fold (a ∷ w) t at p
   stops h = record { rest = λ more. m .rest (w ++ more) ∙ rw h }
 
-  goes : p .same ≡ true → {q : Place} → Matched fold w t (p .at) q → Matched fold (a ∷ w) t at q
+  goes : p .same ≡ true → {q : NamePlace} → Matched fold w t (p .at) q → Matched fold (a ∷ w) t at q
   goes h k = record { rest = λ more. m .rest (w ++ more) ∙ rw h (k .rest more) }
 
 -- ---- a unit
 
-module _ {fold : ℕ → ℕ} (u : ℕ) {t : List ℕ} {at : ℕ} {p : Place} where
+module _ {fold : ℕ → ℕ} (u : ℕ) {t : List ℕ} {at : ℕ} {p : NamePlace} where
   module _ (k : 0x80 ≤ u) (l : u < 0x800) (m : Matched fold ((0xc0 + u / 64) ∷ []) t at p) where
     pub two-stop : p .same ≡ false → Matched fold (encode u) t at p
     unfolding encode
     two-stop h = rw (le-ltb u 0x80 k, lt-ltb u 0x800 l) (stops m h)
 
-    pub two-go : p .same ≡ true → {q : Place} → Matched fold ((0x80 + u % 64) ∷ []) t (p .at) q → Matched fold (encode u) t at q
+    pub two-go : p .same ≡ true → {q : NamePlace} → Matched fold ((0x80 + u % 64) ∷ []) t (p .at) q → Matched fold (encode u) t at q
     unfolding encode
     two-go h n = rw (le-ltb u 0x80 k, lt-ltb u 0x800 l) (goes m h n)
 
@@ -76,11 +76,11 @@ module _ {fold : ℕ → ℕ} (u : ℕ) {t : List ℕ} {at : ℕ} {p : Place} wh
     pub three-stop : p .same ≡ false → Matched fold (encode u) t at p
     three-stop h = rw three-bytes (stops m h)
 
-    module _ (h : p .same ≡ true) {q : Place} (n : Matched fold ((0x80 + u / 64 % 64) ∷ []) t (p .at) q) where
+    module _ (h : p .same ≡ true) {q : NamePlace} (n : Matched fold ((0x80 + u / 64 % 64) ∷ []) t (p .at) q) where
       pub three-stop-later : q .same ≡ false → Matched fold (encode u) t at q
       three-stop-later i = rw three-bytes (goes m h (stops n i))
 
-      pub three-go : q .same ≡ true → {z : Place} → Matched fold ((0x80 + u % 64) ∷ []) t (q .at) z → Matched fold (encode u) t at z
+      pub three-go : q .same ≡ true → {z : NamePlace} → Matched fold ((0x80 + u % 64) ∷ []) t (q .at) z → Matched fold (encode u) t at z
       three-go i o = rw three-bytes (goes m h (goes n i o))
 
   pub unit-one : u < 0x80 → Matched fold (u ∷ []) t at p → Matched fold (unitBytes u) t at p
@@ -115,7 +115,7 @@ used-up fold (x ∷ t) (suc j) = rw compare·suc-suc (used-up fold t j)
 
 module _ {fold : ℕ → ℕ} {step i₀ j₀ i j : ℕ} {s t : List ℕ} (c : Comparing fold step s t i₀ j₀ i j) where
   module _ (h : step ≤ length s - i) {u : ℕ} (e : u ≡ unitAt s i step) where
-    module _ (z : u ≡ 0 → ⊥) {p : Place} (m : Matched fold (unitBytes u) t j p) where
+    module _ (z : u ≡ 0 → ⊥) {p : NamePlace} (m : Matched fold (unitBytes u) t j p) where
       turn : pick (p .same) (sameName fold (textOf step (drop (i + step) s)) (drop (p .at) t)) false ≡ sameName fold (textOf step (drop i₀ s)) (drop j₀ t)
       turn = sym (m .rest (textOf step (drop (i + step) s))) ∙ rw (← text-next (c .at) h e z) (c .rest)
 

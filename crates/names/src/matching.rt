@@ -15,7 +15,7 @@ ghost use Rattle.names.specs.inner.Units.{Body, At, textOf, unitBytes};
 ghost use Rattle.names.specs.inner.Matching.{Matched, Plain, Comparing};
 
 // Whether what was compared is the same, and how far into the component that came.
-pub(crate) struct Place {
+pub(crate) struct NamePlace {
     same: bool,
     at: usize,
 }
@@ -54,18 +54,18 @@ fn same_byte(fold: Fold, a: u8, b: u8) -> bool
 }
 
 // Compares a byte of a name with the component t at `at`.
-fn match_byte(fold: Fold, b: u8, t: &[u8], at: usize) -> Place
+fn match_byte(fold: Fold, b: u8, t: &[u8], at: usize) -> NamePlace
     ensures { λ r. ⌜ Matched (foldOf fold) (b ∷ []) (now (t .entry)) at r ⌝ }
 {
     if t.len() <= at {
-        return Place { same: false, at };
+        return NamePlace { same: false, at };
     }
     let same = same_byte(fold, b, t[at]);
-    Place { same, at: at + 1 }
+    NamePlace { same, at: at + 1 }
 }
 
 // Compares the UTF-8 of u, of two or three bytes, with the component t from `at` on.
-fn match_long(fold: Fold, u: u16, t: &[u8], at: usize) -> Place
+fn match_long(fold: Fold, u: u16, t: &[u8], at: usize) -> NamePlace
     requires { ⌜ 0x80 ≤ u ⌝ }
     ensures { λ r. ⌜ Matched (foldOf fold) (encode u) (now (t .entry)) at r ⌝ }
 {
@@ -88,14 +88,14 @@ fn match_long(fold: Fold, u: u16, t: &[u8], at: usize) -> Place
 }
 
 // Compares a unit that is not 0 with the component t from `at` on. ASCII comes first, since most names have nothing else.
-fn match_unit(fold: Fold, u: u16, t: &[u8], at: usize) -> Place
+fn match_unit(fold: Fold, u: u16, t: &[u8], at: usize) -> NamePlace
     ensures { λ r. ⌜ Matched (foldOf fold) (unitBytes u) (now (t .entry)) at r ⌝ }
 {
     if u < 0x80 {
         return match_byte(fold, u as u8, t, at);
     }
     if surrogate(u) {
-        return Place { same: true, at };
+        return NamePlace { same: true, at };
     }
     match_long(fold, u, t, at)
 }

@@ -25,7 +25,7 @@ abbrev pub Listed : Structure → Type 0
 Listed x = (x ≡ Beginning) ⊎ (x ≡ Nsr) ⊎ (x ≡ Other)
 
 -- a sector of this structure stands from `first` on and before sector t
-pub record Stands (image : List ℕ) (first t : ℕ) (x : Structure) : Type 0 where
+pub record StructureStands (image : List ℕ) (first t : ℕ) (x : Structure) : Type 0 where
   pub sector : ℕ
   pub from : first ≤ sector
   pub before : sector < t
@@ -38,8 +38,8 @@ pub record Ended (image : List ℕ) (n first : ℕ) (began named : Bool) (t : �
   pub there : 2048 * t + 2048 ≤ length image
   pub listed : (s : ℕ) → first ≤ s → s < t → Listed (structureAt image s)
   pub last : structureAt image t ≡ Terminating
-  pub begins : (began ≡ true) ⊎ Stands image first t Beginning
-  pub names : (named ≡ true) ⊎ Stands image first t Nsr
+  pub begins : (began ≡ true) ⊎ StructureStands image first t Beginning
+  pub names : (named ≡ true) ⊎ StructureStands image first t Nsr
 
 -- the probe of those says yes; one of them ends it so
 module _ (image : List ℕ) (n first : ℕ) (b m : Bool) where
@@ -84,11 +84,11 @@ ends-here image n at b m h e q =
 
 -- what stands from the next sector on stands from this one on, and back
 module _ (image : List ℕ) (at t : ℕ) (x : Structure) where
-  wider : {b c : Bool} → at < t → (c ≡ true → (b ≡ true) ⊎ (structureAt image at ≡ x)) → (c ≡ true) ⊎ Stands image (at + 1) t x → (b ≡ true) ⊎ Stands image at t x
+  wider : {b c : Bool} → at < t → (c ≡ true → (b ≡ true) ⊎ (structureAt image at ≡ x)) → (c ≡ true) ⊎ StructureStands image (at + 1) t x → (b ≡ true) ⊎ StructureStands image at t x
   wider h k (inl e) = ⊎-elim inl (λ q. inr (record { sector = at; from = omega arith; before = h; is = q })) (k e)
   wider h k (inr p) = inr (record { sector = p .sector; from = omega (arith, p .from); before = p .before; is = p .is })
 
-  narrower : {b c : Bool} → (b ≡ true → c ≡ true) → (structureAt image at ≡ x → c ≡ true) → (b ≡ true) ⊎ Stands image at t x → (c ≡ true) ⊎ Stands image (at + 1) t x
+  narrower : {b c : Bool} → (b ≡ true → c ≡ true) → (structureAt image at ≡ x → c ≡ true) → (b ≡ true) ⊎ StructureStands image at t x → (c ≡ true) ⊎ StructureStands image (at + 1) t x
   narrower h k (inl e) = inl (h e)
   narrower h k (inr p) = ⊎-elim
       (λ (l : p .sector ≤ at).
@@ -162,7 +162,7 @@ module _ (image : List ℕ) (n at : ℕ) (b m : Bool) where
   unfolding outcome
   says-here p = rw (p .last, so Beginning b (p .begins), so Nsr m (p .names))
     where
-      so : (x : Structure) (c : Bool) → (c ≡ true) ⊎ Stands image at at x → c ≡ true
+      so : (x : Structure) (c : Bool) → (c ≡ true) ⊎ StructureStands image at at x → c ≡ true
       so x c (inl e) = e
       so x c (inr q) = absurd (omega (arith, q .from, q .before))
 

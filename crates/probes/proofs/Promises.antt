@@ -13,7 +13,7 @@ use Rattle.descriptors.specs.declared.recognition.Structure.{Structure}
 use Rattle.descriptors.specs.declared.recognition.Structure.the-variants.{Beginning, Nsr, Terminating, Other}
 use Rattle.probes.specs.Probes.{probed}
 use Rattle.probes.proofs.Fronts.{Told, bea01, nsr02, nsr03, tea01, cd001, cdw02, told}
-use Rattle.probes.proofs.EndLaws.{structureAt, Listed, Stands, Ended, ends, says}
+use Rattle.probes.proofs.EndLaws.{structureAt, Listed, StructureStands, Ended, ends, says}
 use Rattle.probes.specs.Fronts.{BEA01, NSR02, NSR03, front, Passed, Before, Recognised}
 
 -- ---- a sector's structure by its first six bytes
@@ -44,20 +44,20 @@ module _ (image : List ℕ) (s : ℕ) where
 
 module _ (image : List ℕ) (t : ℕ) where
   -- nothing has begun or was named before sector 16
-  stood : {x : Structure} → (_≡_ {A = Bool} false true) ⊎ Stands image 16 t x → Stands image 16 t x
+  stood : {x : Structure} → (_≡_ {A = Bool} false true) ⊎ StructureStands image 16 t x → StructureStands image 16 t x
   stood (inl e) = not-both e
   stood (inr p) = p
 
-  began-by : 2048 * t + 2048 ≤ length image → Stands image 16 t Beginning → Before image t BEA01
+  began-by : 2048 * t + 2048 ≤ length image → StructureStands image 16 t Beginning → Before image t BEA01
   began-by h p = record { sector = p .sector; from = p .from; before = p .before; is = starts image (p .sector) Beginning (omega (arith, p .before)) (p .is) }
 
-  named-by : 2048 * t + 2048 ≤ length image → Stands image 16 t Nsr → Before image t NSR02 ⊎ Before image t NSR03
+  named-by : 2048 * t + 2048 ≤ length image → StructureStands image 16 t Nsr → Before image t NSR02 ⊎ Before image t NSR03
   named-by h p = ⊎-elim
       (λ q. inl (record { sector = p .sector; from = p .from; before = p .before; is = q }))
       (λ q. inr (record { sector = p .sector; from = p .from; before = p .before; is = q }))
       (starts image (p .sector) Nsr (omega (arith, p .before)) (p .is))
 
-  stands : {f : List ℕ} {x : Structure} → ((s : ℕ) → front image s ≡ f → structureAt image s ≡ x) → Before image t f → Stands image 16 t x
+  stands : {f : List ℕ} {x : Structure} → ((s : ℕ) → front image s ≡ f → structureAt image s ≡ x) → Before image t f → StructureStands image 16 t x
   stands law p = record { sector = p .sector; from = p .from; before = p .before; is = law (p .sector) (p .is) }
 
 -- ---- RULES 5.17: a yes exactly if

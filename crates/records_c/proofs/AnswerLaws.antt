@@ -34,7 +34,7 @@ use Rattle.entries.specs.declared.«icb_tags».IcbTagRead.the-variants.{Read as
 use Rattle.entries.specs.declared.«file_entries».FileEntry.{FileEntry}
 use Rattle.entries.specs.declared.«file_entries».EntryRead.{EntryRead}
 use Rattle.entries.specs.declared.«file_entries».EntryRead.the-variants.{Read as AnEntry, Refused as NoEntry}
-use Rattle.records_c.specs.Entries.{fieldsOf, noFields, shown}
+use Rattle.records_c.specs.Entries.{fieldsOf, noFields, fieldsAnswer}
 use Rattle.records_c.specs.declared.«file_records».EntryFields.{EntryFields}
 
 pub extent-yes : {x y : ExtentRead} {a : ExtentAd} → x ≡ y → x ≡ AnExtent a → record { number = 0; value = a } ≡ extentAnswer y
@@ -126,7 +126,7 @@ pub entry-yes : {x y : EntryRead} {e : FileEntry} {f : EntryFields}
     → x ≡ y
     → x ≡ AnEntry e
     → f ≡ fieldsOf e
-    → record { answer = 0; value = f } ≡ shown (entryAnswer y)
+    → record { answer = 0; value = f } ≡ fieldsAnswer (entryAnswer y)
 entry-yes e h k = rw (← e, h, k)
 
 pub entry-no : {x y : EntryRead} {n : ℕ} {why : Refusal} {f : EntryFields}
@@ -134,5 +134,5 @@ pub entry-no : {x y : EntryRead} {n : ℕ} {why : Refusal} {f : EntryFields}
     → x ≡ NoEntry why
     → n ≡ number why
     → f ≡ noFields
-    → record { answer = n; value = f } ≡ shown (entryAnswer y)
+    → record { answer = n; value = f } ≡ fieldsAnswer (entryAnswer y)
 entry-no e h k z = rw (← e, h, k, z)

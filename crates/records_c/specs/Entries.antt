@@ -46,5 +46,5 @@ abbrev pub noFields : EntryFields
 noFields = fieldsOf noEntry
 
 -- The answer with the entry's fields.
-abbrev pub shown : Answer FileEntry → EntryAnswer
-shown a = record { answer = a .number; value = fieldsOf (a .value) }
+abbrev pub fieldsAnswer : Answer FileEntry → EntryAnswer
+fieldsAnswer a = record { answer = a .number; value = fieldsOf (a .value) }

@@ -5,7 +5,7 @@ ghost use Rattle.entries.specs.Answers.{noIcbTag, icbTagAnswer, entryAnswer};
 ghost use Rattle.entries.specs.FileEntries.{readEntry};
 ghost use Rattle.entries.specs.IcbTags.{readIcbTag};
 ghost use Rattle.identifiers.specs.Identifiers.{readIdentifier, identifierRead};
-ghost use Rattle.records_c.specs.Entries.{hasSize, sizeIn, fieldsOf, noFields, shown};
+ghost use Rattle.records_c.specs.Entries.{hasSize, sizeIn, fieldsOf, noFields, fieldsAnswer};
 use disc::answers::DONE;
 use entries::file_entries::EntryRead;
 use entries::file_entries::FileEntry;
@@ -163,7 +163,7 @@ fn no_fields() -> EntryFields
 
 #[no_mangle]
 pub extern "C" fn records_parse_file_entry(bytes: &[u8]) -> EntryAnswer
-    ensures { λ r. ⌜ r ≡ shown (entryAnswer (readEntry false (now (bytes .entry)))) ⌝ }
+    ensures { λ r. ⌜ r ≡ fieldsAnswer (entryAnswer (readEntry false (now (bytes .entry)))) ⌝ }
 {
     match FileEntry::parse(false, bytes) {
         EntryRead::Read(e) => EntryAnswer {

@@ -17,7 +17,7 @@ use Rattle.identifiers.specs.Identifiers.{isDirectory}
 use Rattle.listings.specs.Entries.{Entry, isSkipped}
 use Rattle.listings.proofs.GuardLaws.{entries-guards}
 use Rattle.directories.proofs.GuardLaws.{directory-guards}
-use Rattle.shows.specs.Shows.{Node, nodesOf, nodesAt, mostLevels, tree, nodeRecords, showing}
+use Rattle.shows.specs.Shows.{Node, nodesOf, nodesAt, mostLevels, tree, nodeRecords, treeRecords}
 use Rattle.disc.specs.Marks.{Guards}
 use Rattle.tags.specs.Heads.{rightAt}
 
@@ -46,6 +46,6 @@ module _ (m : Mount) (c : isChecked m ≡ true) where
     unfolding tree
     tree-guards = pick-guards (leb 1 levels && leb levels mostLevels) (nodes-guards levels 1 work root) (refuse-guards TooDeep (λ n. omega arith))
 
-    pub showing-guards : Guards rightAt (showing m levels work root) (showing (unchecked m) levels work root)
-    unfolding showing
-    showing-guards = then-guards tree-guards (λ ns. done-guards (nodeRecords ns))
+    pub tree-records-guards : Guards rightAt (treeRecords m levels work root) (treeRecords (unchecked m) levels work root)
+    unfolding treeRecords
+    tree-records-guards = then-guards tree-guards (λ ns. done-guards (nodeRecords ns))

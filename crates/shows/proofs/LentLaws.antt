@@ -30,10 +30,10 @@ use Rattle.figures.proofs.FigureLaws.{zero-holds, holds-sectors}
 use Rattle.shows.specs.Shows.{Node, nodesAt, mostLevels}
 use Rattle.shows.specs.Tallies.{ofFile, ofNode, ofNodes, readCounts, lentRead, readsWithin, Tally, tallyBy, tallyOf, treeTally, Tallied, tallied, Tallies, tallies}
 use Rattle.shows.specs.inner.Placings.{filePlaced, nodePlaced, eachPlaced}
-use Rattle.shows.specs.inner.Turns.{stoppedAt, startOf, behindBy, lent, Shown}
+use Rattle.shows.specs.inner.Turns.{stoppedAt, startOf, behindBy, lent, Visited}
 use Rattle.shows.specs.declared.levels.ShowPlace.{ShowPlace}
 use Rattle.shows.proofs.ShowLaws.{tree-within}
-use Rattle.shows.proofs.ShownLaws.{capped-within, capped-over, Answers, shown-answers}
+use Rattle.shows.proofs.VisitedLaws.{capped-within, capped-over, Answers, visited-answers}
 use Rattle.shows.proofs.TallyLaws.{file-holds}
 use Rattle.shows.proofs.Tallying.{file-is, sectors-summed}
 
@@ -138,7 +138,7 @@ module _ (d : Disc) (m : Mount) where
   -- ---- the whole tree, tallied in a place of zeros
 
   module _ (root : LongAd) (most work : ℕ) {out out′ tally′ : List ℕ} {q : ShowPlace}
-      (s : Shown (nodePlaced d m most) (ran d (nodesAt m mostLevels 1 work root)) (startOf most) (lent out (replicate 80 0)) q (lent out′ tally′)) where
+      (s : Visited (nodePlaced d m most) (ran d (nodesAt m mostLevels 1 work root)) (startOf most) (lent out (replicate 80 0)) q (lent out′ tally′)) where
     abbrev N : Ran (List Node)
     N = ran d (nodesAt m mostLevels 1 work root)
 
@@ -163,7 +163,7 @@ module _ (d : Disc) (m : Mount) where
 
     module _ (z : q .answer ≡ 0) where
       a : Answers N (startOf most) q
-      a = shown-answers s z
+      a = visited-answers s z
 
       within : reported (N .count) ≤ most
       within = omega (arith, a .within)
@@ -240,12 +240,12 @@ module _ (d : Disc) (m : Mount) where
     tallied-none {before} h = rw (ne-eqb (length before) 80 h)
 
     module _ (before : List ℕ) (l : length before ≡ 80) {cleared out out′ tally′ : List ℕ} (e : cleared ≡ replicate (length before) 0) {q : ShowPlace}
-        (s : Shown (nodePlaced d m most) (ran d (nodesAt m mostLevels 1 work root)) (startOf most) (lent out cleared) q (lent out′ tally′)) where
+        (s : Visited (nodePlaced d m most) (ran d (nodesAt m mostLevels 1 work root)) (startOf most) (lent out cleared) q (lent out′ tally′)) where
       zeros : cleared ≡ replicate 80 0
       zeros = e ∙ rw l
 
-      shown : Shown (nodePlaced d m most) (ran d (nodesAt m mostLevels 1 work root)) (startOf most) (lent out (replicate 80 0)) q (lent out′ tally′)
-      shown = rw zeros at s
+      visited : Visited (nodePlaced d m most) (ran d (nodesAt m mostLevels 1 work root)) (startOf most) (lent out (replicate 80 0)) q (lent out′ tally′)
+      visited = rw zeros at s
 
       leaves : (t : Tally) → treeTally d m root most work ≡ t → _≡_ {A = Tallied} (record { answer = t .answer; place = row (t .figures) }) (tallied d m root most work before)
       leaves t f = rw (eq-eqb (length before) 80 l, f)
@@ -259,16 +259,16 @@ module _ (d : Disc) (m : Mount) where
           rw p (leaves (record { answer = a; figures = nothing }) f)
 
       pub tallied-refused : length tally′ ≡ length cleared → (q .answer ≡ 0 → ⊥) → {place : List ℕ} → place ≡ replicate (length tally′) 0 → _≡_ {A = Tallied} (record { answer = q .answer; place = place }) (tallied d m root most work before)
-      tallied-refused k n z = bare k z (q .answer) (tree-refused root most work shown n)
+      tallied-refused k n z = bare k z (q .answer) (tree-refused root most work visited n)
 
       module _ (z : q .answer ≡ 0) {left sectors : ℕ} (x : left ≡ leftOf most (q .count)) (y : sectors ≡ getD tally′ 8 0) where
         pub tallied-over : length tally′ ≡ length cleared → left < sectors → {place : List ℕ} → place ≡ replicate (length tally′) 0 → _≡_ {A = Tallied} (record { answer = 16; place = place }) (tallied d m root most work before)
-        tallied-over k h p = bare k p 16 (reads-over root most work shown z (omega (arith, x, y)))
+        tallied-over k h p = bare k p 16 (reads-over root most work visited z (omega (arith, x, y)))
 
         pub tallied-done : sectors ≤ left → _≡_ {A = Tallied} (record { answer = 0; place = tally′ }) (tallied d m root most work before)
         tallied-done h =
             let w : getD tally′ 8 0 ≤ leftOf most (q .count) = omega (arith, x, y) in
-            ap (λ (t : List ℕ). record { answer = 0; place = t }) (place-is root most work shown z w) ∙ leaves (record { answer = 0; figures = _ }) (reads-done root most work shown z w)
+            ap (λ (t : List ℕ). record { answer = 0; place = t }) (place-is root most work visited z w) ∙ leaves (record { answer = 0; figures = _ }) (reads-done root most work visited z w)
 
     -- with the work space cleared
     pub tallied-cleared : (before space : List ℕ) {a : ℕ} {place : List ℕ} → _≡_ {A = Tallied} (record { answer = a; place = place }) (tallied d m root most (length space) before) → (w : List ℕ) → length w ≡ length space → {w′ : List ℕ} → w′ ≡ replicate (length w) 0

@@ -26,21 +26,21 @@ use Rattle.disc.proofs.RefusalLaws.{refusal-numbered}
 use Rattle.records.specs.declared.allocations.LongAd.{LongAd}
 use Rattle.identifiers.specs.Identifiers.{isDirectory, nextAt}
 use Rattle.listings.specs.Entries.{Entry, entryOf, entryRead, isSkipped, inFront, entries}
-use Rattle.listings.specs.Listings.{shown}
+use Rattle.listings.specs.Listings.{entryRecord}
 use Rattle.listings.specs.inner.Passes.{tail, sizeOfListing}
 use Rattle.listings.specs.declared.listing.ListingSize.{ListingSize}
-use Rattle.listings.proofs.EntryLaws.{shown-length}
+use Rattle.listings.proofs.EntryLaws.{record-length}
 use Rattle.listings.proofs.WalkLaws.{tail-is, tail-length, at-bad, at-next, taken}
 use Rattle.directories.specs.Directories.{directoryBytes}
 use Rattle.directories.specs.inner.Spaces.{replyTo, Reads}
 use Rattle.directories.proofs.SpaceLaws.{reads-count, reads-bytes}
 use Rattle.shows.specs.Shows.{Node, nodesAt, nodeRecord}
-use Rattle.shows.specs.inner.Turns.{ownRecord, SeenGood, Noted, stoppedAt, Held, cappedBy, Lent, lent, Shown, opening, Opens, turnOf, Handles}
+use Rattle.shows.specs.inner.Turns.{ownRecord, SeenGood, Noted, stoppedAt, Held, cappedBy, Lent, lent, Visited, opening, Opens, turnOf, Handles}
 use Rattle.shows.specs.inner.Placings.{entryPlaced, nodePlaced}
 use Rattle.shows.specs.declared.nodes.EntrySeen.{EntrySeen}
 use Rattle.shows.specs.declared.levels.ShowPlace.{ShowPlace}
 use Rattle.shows.proofs.NodeLaws.{record-long, own-none, own-record}
-use Rattle.shows.proofs.ShownLaws.{turn-skipped, turn-file, turn-directory, shown-none, shown-one, shown-refused, shown-over, shown-held, capped-within, joined-goes}
+use Rattle.shows.proofs.VisitedLaws.{turn-skipped, turn-file, turn-directory, visited-none, visited-one, visited-refused, visited-over, visited-held, capped-within, joined-goes}
 
 -- ---- a directory read and parsed
 
@@ -72,7 +72,7 @@ module _ (d : Disc) (m : Mount) (icb : LongAd) (w w′ : List ℕ) {read : Reply
     pub open-over : p₀ .most < c → {a : ℕ} → a ≡ number OverBudget → {q : ShowPlace} {n : ℕ} → q ≡ stoppedAt a (p₀ .most) → Opens d m icb p₀ w w′ (record { place = q; length = n })
     open-over h {a} f {q} e = record {
       good = λ z. absurd (refusal-numbered OverBudget (sym f ∙ sym (ap (λ (x : ShowPlace). x .answer) e) ∙ z));
-      bad = λ z. record { shows = λ of g l. rw (opened-is g) (shown-over (omega (arith, counted, more (R .outcome) g)) (e ∙ rw f)) };
+      bad = λ z. record { shows = λ of g l. rw (opened-is g) (visited-over (omega (arith, counted, more (R .outcome) g)) (e ∙ rw f)) };
     }
       where
         more : (o : Outcome (List ℕ)) (g : List ℕ → List Entry → Ask (List Node)) → R .count ≤ onward o (R .count) (λ b. ran d (then (ended (entries (isChecked m) b)) (g b))) .count
@@ -89,7 +89,7 @@ module _ (d : Disc) (m : Mount) (icb : LongAd) (w w′ : List ℕ) {read : Reply
           let x = not-read n in
           record {
             good = λ z. absurd (n (sym (ap (λ (x : ShowPlace). x .answer) e) ∙ z));
-            bad = λ z. record { shows = λ of f l. shown-refused (x .why) (R .count) (opened-is f ∙ rw (x .is)) (e ∙ ap (λ a. stoppedAt a c) (x .numbered) ∙ sym (stopped-is (x .why))) };
+            bad = λ z. record { shows = λ of f l. visited-refused (x .why) (R .count) (opened-is f ∙ rw (x .is)) (e ∙ ap (λ a. stoppedAt a c) (x .numbered) ∙ sym (stopped-is (x .why))) };
           }
 
       module _ (z : read .answer ≡ 0) where
@@ -117,7 +117,7 @@ module _ (d : Disc) (m : Mount) (icb : LongAd) (w w′ : List ℕ) {read : Reply
               by (refused why) f g = record {
                 good = λ z. absurd (n (sym (ap (λ (x : ShowPlace). x .answer) e) ∙ z));
                 bad = λ z. record {
-                  shows = λ of h l. shown-refused why (R .count) (parsed-is h ∙ rw f (rw add-zero)) (e ∙ ap (λ a. stoppedAt a c) (ap (λ (x : ListingSize). x .answer) g) ∙ sym (stopped-is why));
+                  shows = λ of h l. visited-refused why (R .count) (parsed-is h ∙ rw f (rw add-zero)) (e ∙ ap (λ a. stoppedAt a c) (ap (λ (x : ListingSize). x .answer) g) ∙ sym (stopped-is why));
                 };
               }
 
@@ -202,7 +202,7 @@ module _ (d : Disc) (m : Mount) (left level : ℕ) (work : List ℕ) (n at : ℕ
     next-further = omega (arith, next-is, g .whole .head, g .whole .on)
 
     -- its own turn was shown, and the others stand behind it
-    handled : {q : ShowPlace} {tally : List ℕ} {l₂ : Lent} → (q .answer ≡ 0 → Held (p .most) q) → Shown (nodePlaced d m (p .most)) (ran d (turnOf (nodesAt m left (suc level) (length work - n)) level x)) p (lent out tally) q l₂
+    handled : {q : ShowPlace} {tally : List ℕ} {l₂ : Lent} → (q .answer ≡ 0 → Held (p .most) q) → Visited (nodePlaced d m (p .most)) (ran d (turnOf (nodesAt m left (suc level) (length work - n)) level x)) p (lent out tally) q l₂
         → Handles d m left level raw (length work - n) at p (lent out tally) (record { place = q; next = at + e .next }) l₂
     handled i s = record {
       further = next-further;
@@ -224,7 +224,7 @@ module _ (d : Disc) (m : Mount) (left level : ℕ) (work : List ℕ) (n at : ℕ
       pub handle-skipped : e .skipped ≡ true → {tally : List ℕ} → Handles d m left level raw (length work - n) at p (lent out tally) (record { place = p; next = at + e .next }) (lent out₁ tally)
       handle-skipped s {tally} =
           let o : ownRecord level x ≡ [] = own-none level x (skip-is ∙ s) in
-          handled (λ j. i) (shown-none i (turn-skipped d (nodesAt m left (suc level) (length work - n)) level x (skip-is ∙ s)) (lent out tally)
+          handled (λ j. i) (visited-none i (turn-skipped d (nodesAt m left (suc level) (length work - n)) level x (skip-is ∙ s)) (lent out tally)
           (λ room. t .puts x (g .reads) (omega (arith, ap length o)) ∙ ap (sets out (p .size)) o) refl)
 
       module _ (s : e .skipped ≡ false) {size : ℕ} (c : size ≡ reported (p .size + e .size)) (tally : List ℕ) {tally₁ : List ℕ} (a : tally₁ ≡ entryPlaced d m (p .most) (e .directory) (e .icb) tally) where
@@ -233,7 +233,7 @@ module _ (d : Disc) (m : Mount) (left level : ℕ) (work : List ℕ) (n at : ℕ
 
         size-is : e .size ≡ length (nodeRecord node)
         size-is =
-            let l : length (shown x) ≡ 21 + g .f .«name_size» = shown-length (g .whole) ∙ rw (skip-is ∙ s) in
+            let l : length (entryRecord x) ≡ 21 + g .f .«name_size» = record-length (g .whole) ∙ rw (skip-is ∙ s) in
             omega (arith, record-long level x, g .whole .brief, ap (λ (v : EntrySeen). v .size) (g .is))
 
         own : ownRecord level x ≡ nodeRecord node
@@ -242,22 +242,22 @@ module _ (d : Disc) (m : Mount) (left level : ℕ) (work : List ℕ) (n at : ℕ
         icb-is : e .icb ≡ x .identifier .icb
         icb-is = ap (λ (v : EntrySeen). v .icb) (g .is)
 
-        own-shown : {r : Ran (List Node)} → r ≡ told (answered (node ∷ [])) → Shown (nodePlaced d m (p .most)) r p (lent out tally) (record { answer = 0; count = p .count; size = size; most = p .most }) (lent out₁ tally₁)
-        own-shown y = shown-one i y (c ∙ ap (λ v. reported (p .size + v)) size-is) (λ room. t .puts x (g .reads) (omega (arith, ap length own)) ∙ ap (sets out (p .size)) own)
+        own-visited : {r : Ran (List Node)} → r ≡ told (answered (node ∷ [])) → Visited (nodePlaced d m (p .most)) r p (lent out tally) (record { answer = 0; count = p .count; size = size; most = p .most }) (lent out₁ tally₁)
+        own-visited y = visited-one i y (c ∙ ap (λ v. reported (p .size + v)) size-is) (λ room. t .puts x (g .reads) (omega (arith, ap length own)) ∙ ap (sets out (p .size)) own)
             (a ∙ ap (λ b. entryPlaced d m (p .most) b (e .icb) tally) (sym directory-is) ∙ ap (λ i. entryPlaced d m (p .most) (isDirectory (x .identifier)) i tally) icb-is)
 
         own-held : Held (p .most) (record { answer = 0; count = p .count; size = size; most = p .most })
         own-held = record { going = refl; lends = refl; counted = i .counted; bounded = i .bounded; sized = omega arith }
 
         pub handle-file : e .directory ≡ false → Handles d m left level raw (length work - n) at p (lent out tally) (record { place = record { answer = 0; count = p .count; size = size; most = p .most }; next = at + e .next }) (lent out₁ tally₁)
-        handle-file f = handled (λ j. own-held) (own-shown (turn-file d (nodesAt m left (suc level) (length work - n)) level x (skip-is ∙ s) (directory-is ∙ f)))
+        handle-file f = handled (λ j. own-held) (own-visited (turn-file d (nodesAt m left (suc level) (length work - n)) level x (skip-is ∙ s) (directory-is ∙ f)))
 
         -- what stands under it was shown from the work space behind n on
         pub handle-directory : e .directory ≡ true → {q : ShowPlace} {l₂ : Lent}
-            → Shown (nodePlaced d m (p .most)) (ran d (nodesAt m left (level + 1) (length (midOf n (length work - n) work)) (e .icb))) (record { answer = 0; count = p .count; size = size; most = p .most }) (lent out₁ tally₁) q l₂
+            → Visited (nodePlaced d m (p .most)) (ran d (nodesAt m left (level + 1) (length (midOf n (length work - n) work)) (e .icb))) (record { answer = 0; count = p .count; size = size; most = p .most }) (lent out₁ tally₁) q l₂
             → Handles d m left level raw (length work - n) at p (lent out tally) (record { place = q; next = at + e .next }) l₂
         handle-directory f {q} {l₂} u =
             let l : length (midOf n (length work - n) work) ≡ length work - n = simp (length-take, length-drop) (omega arith) in
-            let y : Shown (nodePlaced d m (p .most)) (ran d (nodesAt m left (suc level) (length work - n) (x .identifier .icb))) (record { answer = 0; count = p .count; size = size; most = p .most }) (lent out₁ tally₁) q l₂ =
+            let y : Visited (nodePlaced d m (p .most)) (ran d (nodesAt m left (suc level) (length work - n) (x .identifier .icb))) (record { answer = 0; count = p .count; size = size; most = p .most }) (lent out₁ tally₁) q l₂ =
             rw (l, add-one level, icb-is) at u in
-            handled (shown-held (i .bounded) u) (rw (turn-directory d (nodesAt m left (suc level) (length work - n)) level x (skip-is ∙ s) (directory-is ∙ f)) (joined-goes (own-shown refl) y refl))
+            handled (visited-held (i .bounded) u) (rw (turn-directory d (nodesAt m left (suc level) (length work - n)) level x (skip-is ∙ s) (directory-is ∙ f)) (joined-goes (own-visited refl) y refl))

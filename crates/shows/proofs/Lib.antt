@@ -2,7 +2,7 @@
 pub mod NodeLaws
 pub mod TreeLaws
 pub mod TallyLaws
-pub mod ShownLaws
+pub mod VisitedLaws
 pub mod LevelLaws
 pub mod LoopLaws
 pub mod ShowLaws

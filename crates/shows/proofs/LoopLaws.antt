@@ -22,20 +22,20 @@ use Rattle.listings.specs.Entries.{Entry, entries}
 use Rattle.listings.proofs.GuardLaws.{entries-unchecked}
 use Rattle.listings.proofs.WalkLaws.{at-end}
 use Rattle.shows.specs.Shows.{Node, nodesOf, nodesAt}
-use Rattle.shows.specs.inner.Turns.{stoppedAt, Held, Lent, Shown, opening, Opens, Handles}
+use Rattle.shows.specs.inner.Turns.{stoppedAt, Held, Lent, Visited, opening, Opens, Handles}
 use Rattle.shows.specs.inner.Placings.{nodePlaced}
 use Rattle.shows.specs.declared.levels.ShowPlace.{ShowPlace}
 use Rattle.shows.specs.declared.levels.OpenedLevel.{OpenedLevel}
 use Rattle.shows.specs.declared.levels.EntryTurn.{EntryTurn}
-use Rattle.shows.proofs.ShownLaws.{turn-joined, shown-none, shown-refused, shown-after, capped-within, joined-stops, joined-goes}
+use Rattle.shows.proofs.VisitedLaws.{turn-joined, visited-none, visited-refused, visited-after, capped-within, joined-stops, joined-goes}
 
 -- a place by its own number of sectors
 pub held-own : {most : ℕ} {p : ShowPlace} → Held most p → Held (p .most) p
 held-own h = rw (sym (h .lends)) at h
 
 -- what a node adds, said in another way
-shown-by : {of of′ : Node → List ℕ → List ℕ} → of ≡ of′ → {r : Ran (List Node)} {p : ShowPlace} {l : Lent} {q : ShowPlace} {l′ : Lent} → Shown of r p l q l′ → Shown of′ r p l q l′
-shown-by e s = rw e at s
+visited-by : {of of′ : Node → List ℕ → List ℕ} → of ≡ of′ → {r : Ran (List Node)} {p : ShowPlace} {l : Lent} {q : ShowPlace} {l′ : Lent} → Visited of r p l q l′ → Visited of′ r p l q l′
+visited-by e s = rw e at s
 
 -- ---- the loop has come to `at`
 
@@ -43,7 +43,7 @@ shown-by e s = rw e at s
 pub record Going (d : Disc) (of : Node → List ℕ → List ℕ) (inside : LongAd → Ask (List Node)) (level : ℕ) (raw : List ℕ) (p₀ : ShowPlace) (l₀ : Lent) (es : List Entry) (p : ShowPlace) (l : Lent) (at : ℕ) : Type 0 where
   pub left : List Entry
   pub are : entries false (drop at raw) ≡ answered left
-  pub leads : (q : ShowPlace) (l′ : Lent) → Shown of (ran d (nodesOf inside level left)) p l q l′ → Shown of (ran d (nodesOf inside level es)) p₀ l₀ q l′
+  pub leads : (q : ShowPlace) (l′ : Lent) → Visited of (ran d (nodesOf inside level left)) p l q l′ → Visited of (ran d (nodesOf inside level es)) p₀ l₀ q l′
 
 pub record Listing (d : Disc) (of : Node → List ℕ → List ℕ) (inside : LongAd → Ask (List Node)) (level : ℕ) (raw : List ℕ) (p₀ : ShowPlace) (l₀ : Lent) (p : ShowPlace) (l : Lent) (at : ℕ) : Type 0 where
   pub held : Held (p₀ .most) p
@@ -51,8 +51,8 @@ pub record Listing (d : Disc) (of : Node → List ℕ → List ℕ) (inside : Lo
   pub goes : (es : List Entry) → entries false raw ≡ answered es → Going d of inside level raw p₀ l₀ es p l at
 
 -- all entries were shown: what the loop's returns say
-abbrev pub AllShown : Disc → (Node → List ℕ → List ℕ) → (LongAd → Ask (List Node)) → ℕ → List ℕ → ShowPlace → Lent → ShowPlace → Lent → Type 0
-AllShown d of inside level raw p₀ l₀ q l′ = (es : List Entry) → entries false raw ≡ answered es → Shown of (ran d (nodesOf inside level es)) p₀ l₀ q l′
+abbrev pub AllVisited : Disc → (Node → List ℕ → List ℕ) → (LongAd → Ask (List Node)) → ℕ → List ℕ → ShowPlace → Lent → ShowPlace → Lent → Type 0
+AllVisited d of inside level raw p₀ l₀ q l′ = (es : List Entry) → entries false raw ≡ answered es → Visited of (ran d (nodesOf inside level es)) p₀ l₀ q l′
 
 pub list-starts : (d : Disc) (of : Node → List ℕ → List ℕ) (inside : LongAd → Ask (List Node)) (level : ℕ) (raw : List ℕ) (p : ShowPlace) (l : Lent) → Held (p .most) p → Listing d of inside level raw p l p l 0
 list-starts d of inside level raw p l h = record { held = h; within = omega arith; goes = λ es are. record { left = es; are = are; leads = λ q l′ s. s } }
@@ -62,18 +62,18 @@ module _ (d : Disc) (m : Mount) (below level : ℕ) (raw : List ℕ) (w : ℕ) (
   abbrev inside : LongAd → Ask (List Node)
   inside = nodesAt m below (suc level) w
 
-  pub list-ends : length raw < at + 38 → AllShown d (nodePlaced d m (p₀ .most)) inside level raw p₀ l₀ p l
+  pub list-ends : length raw < at + 38 → AllVisited d (nodePlaced d m (p₀ .most)) inside level raw p₀ l₀ p l
   unfolding nodesOf
   list-ends h es s =
       let g = i .goes es s in
       let e : answered [] ≡ answered (g .left) = sym (at-end false raw at h) ∙ g .are in
       let z : g .left ≡ [] = cc in
-      g .leads p l (rw z (shown-none (i .held) (ran-done d []) l (λ room. refl) refl))
+      g .leads p l (rw z (visited-none (i .held) (ran-done d []) l (λ room. refl) refl))
 
   module _ {t : EntryTurn} {l′ : Lent} (h : Handles d m below level raw w at p l t l′) where
     -- as many sectors may be asked for as at the start
-    alike : (r : Ran (List Node)) → Shown (nodePlaced d m (p .most)) r p l (t .place) l′ → Shown (nodePlaced d m (p₀ .most)) r p l (t .place) l′
-    alike r s = shown-by (ap (nodePlaced d m) (i .held .lends)) s
+    alike : (r : Ran (List Node)) → Visited (nodePlaced d m (p .most)) r p l (t .place) l′ → Visited (nodePlaced d m (p₀ .most)) r p l (t .place) l′
+    alike r s = visited-by (ap (nodePlaced d m) (i .held .lends)) s
 
     pub list-next : t .place .answer ≡ 0 → Listing d (nodePlaced d m (p₀ .most)) inside level raw p₀ l₀ (t .place) l′ (t .next)
     list-next z = record {
@@ -89,7 +89,7 @@ module _ (d : Disc) (m : Mount) (below level : ℕ) (raw : List ℕ) (w : ℕ) (
           };
     }
 
-    pub list-stops : (t .place .answer ≡ 0 → ⊥) → AllShown d (nodePlaced d m (p₀ .most)) inside level raw p₀ l₀ (t .place) l′
+    pub list-stops : (t .place .answer ≡ 0 → ⊥) → AllVisited d (nodePlaced d m (p₀ .most)) inside level raw p₀ l₀ (t .place) l′
     list-stops z es s =
         let g = i .goes es s in
         let k = h .good (g .left) (g .are) in
@@ -99,12 +99,12 @@ module _ (d : Disc) (m : Mount) (below level : ℕ) (raw : List ℕ) (w : ℕ) (
 
 -- no level left
 pub level-none : {of : Node → List ℕ → List ℕ} (d : Disc) (m : Mount) (level : ℕ) (w : ℕ) (icb : LongAd) {left : ℕ} {p : ShowPlace} → Held (p .most) p → left ≡ 0 → {a : ℕ} → a ≡ number TooDeep → {q : ShowPlace} → q ≡ stoppedAt a (p .count)
-    → {l : Lent} → Shown of (ran d (nodesAt m left level w icb)) p l q l
+    → {l : Lent} → Visited of (ran d (nodesAt m left level w icb)) p l q l
 unfolding nodesAt
 level-none d m level w icb {p = p} h z k e =
     let c : p .count ≡ reported (p .count + 0) = omega (arith, h .counted, h .bounded) in
     let w : reported (p .count + 0) ≤ p .most = omega (arith, h .counted) in
-    rw z (shown-refused TooDeep 0 (ran-refuse d TooDeep) (e ∙ rw k (ap (stoppedAt (number TooDeep)) c ∙ sym (capped-within p 0 (stoppedAt (number TooDeep) (reported (p .count + 0))) w))))
+    rw z (visited-refused TooDeep 0 (ran-refuse d TooDeep) (e ∙ rw k (ap (stoppedAt (number TooDeep)) c ∙ sym (capped-within p 0 (stoppedAt (number TooDeep) (reported (p .count + 0))) w))))
 
 module _ (d : Disc) (m : Mount) (icb : LongAd) {left : ℕ} (level : ℕ) (some : left ≡ 0 → ⊥) {p : ShowPlace} {work work₁ : List ℕ} {o : OpenedLevel} (a : Opens d m icb p work work₁ o) where
   level-is : nodesAt m left level (length work) icb ≡ opening m (length work) icb (λ b es. nodesOf (nodesAt m (left - 1) (suc level) (length work - length b)) level es)
@@ -114,7 +114,7 @@ module _ (d : Disc) (m : Mount) (icb : LongAd) {left : ℕ} (level : ℕ) (some 
       ap (λ n. nodesAt m n level (length work) icb) e
 
   -- the directory is refused
-  pub level-refused : (o .place .answer ≡ 0 → ⊥) → {of : Node → List ℕ → List ℕ} {l : Lent} → Shown of (ran d (nodesAt m left level (length work) icb)) p l (o .place) l
+  pub level-refused : (o .place .answer ≡ 0 → ⊥) → {of : Node → List ℕ → List ℕ} {l : Lent} → Visited of (ran d (nodesAt m left level (length work) icb)) p l (o .place) l
   level-refused n {of} {l} = rw level-is (a .bad n .shows of (λ b es. nodesOf (nodesAt m (left - 1) (suc level) (length work - length b)) level es) l)
 
   module _ (z : o .place .answer ≡ 0) where
@@ -127,21 +127,21 @@ module _ (d : Disc) (m : Mount) (icb : LongAd) {left : ℕ} (level : ℕ) (some 
     pub level-lends : o .place .most ≡ p .most
     level-lends = ap (λ (x : ShowPlace). x .most) (a .good z .place)
 
-    shown-so : length work₁ ≡ length work → {of : Node → List ℕ → List ℕ} {l : Lent} {q : ShowPlace} {l′ : Lent}
-        → AllShown d of (nodesAt m (left - 1) (suc level) (length work₁ - o .length)) level (take (o .length) work₁) (o .place) l q l′
-        → Shown of (ran d (nodesAt m left level (length work) icb)) p l q l′
-    shown-so k s =
+    visited-so : length work₁ ≡ length work → {of : Node → List ℕ → List ℕ} {l : Lent} {q : ShowPlace} {l′ : Lent}
+        → AllVisited d of (nodesAt m (left - 1) (suc level) (length work₁ - o .length)) level (take (o .length) work₁) (o .place) l q l′
+        → Visited of (ran d (nodesAt m left level (length work) icb)) p l q l′
+    visited-so k s =
         let x = a .good z in
         let n : length (take (o .length) work₁) ≡ o .length = length-take-le (o .length) work₁ (x .fits) in
         let e : length work₁ - o .length ≡ length work - length (take (o .length) work₁) = rw (k, n) in
         let v = rw e at (s (x .es) (entries-unchecked (isChecked m) (take (o .length) work₁) (x .are))) in
-        rw (level-is, x .goes (λ b es. nodesOf (nodesAt m (left - 1) (suc level) (length work - length b)) level es)) (shown-after (x .n) (x .place) v)
+        rw (level-is, x .goes (λ b es. nodesOf (nodesAt m (left - 1) (suc level) (length work - length b)) level es)) (visited-after (x .n) (x .place) v)
 
     -- all its entries were shown
-    pub level-shown : length work₁ ≡ length work → {l : Lent} {q : ShowPlace} {l′ : Lent}
-        → AllShown d (nodePlaced d m (o .place .most)) (nodesAt m (left - 1) (suc level) (length work₁ - o .length)) level (take (o .length) work₁) (o .place) l q l′
-        → Shown (nodePlaced d m (p .most)) (ran d (nodesAt m left level (length work) icb)) p l q l′
-    level-shown k s = shown-by (ap (nodePlaced d m) level-lends) (shown-so k s)
+    pub level-visited : length work₁ ≡ length work → {l : Lent} {q : ShowPlace} {l′ : Lent}
+        → AllVisited d (nodePlaced d m (o .place .most)) (nodesAt m (left - 1) (suc level) (length work₁ - o .length)) level (take (o .length) work₁) (o .place) l q l′
+        → Visited (nodePlaced d m (p .most)) (ran d (nodesAt m left level (length work) icb)) p l q l′
+    level-visited k s = visited-by (ap (nodePlaced d m) level-lends) (visited-so k s)
 
 -- ---- the loop's work space
 

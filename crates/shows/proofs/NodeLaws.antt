@@ -19,9 +19,9 @@ use Rattle.identifiers.specs.Identifiers.{readIdentifier, identifierRead}
 use Rattle.identifiers.specs.declared.FileIdentifierDescriptor.{FileIdentifierDescriptor}
 use Rattle.identifiers.specs.declared.IdentifierRead.{IdentifierRead}
 use Rattle.listings.specs.Entries.{Entry, entryOf, entryIn, entryRead, isSkipped}
-use Rattle.listings.specs.Listings.{recordHead, shown}
+use Rattle.listings.specs.Listings.{recordHead, entryRecord}
 use Rattle.listings.specs.inner.Passes.{listedOver}
-use Rattle.listings.proofs.EntryLaws.{tail-over, read-good, read-whole, read-bad, shown-length}
+use Rattle.listings.proofs.EntryLaws.{tail-over, read-good, read-whole, read-bad, record-length}
 use Rattle.shows.specs.Shows.{leveled, nodeRecord}
 use Rattle.shows.specs.inner.Turns.{seenBy, ownRecord, Marked, SeenGood, SeenBad, Noted}
 use Rattle.shows.specs.declared.nodes.EntrySeen.{EntrySeen}
@@ -34,9 +34,9 @@ unfolding leveled
 leveled-long level r = rw (length-append, length-take, length-drop) (omega arith)
 
 -- it is one byte longer than the listing's
-pub record-long : (level : ℕ) (x : Entry) → length (nodeRecord (record { level = level; entry = x })) ≡ 1 + length (shown x)
+pub record-long : (level : ℕ) (x : Entry) → length (nodeRecord (record { level = level; entry = x })) ≡ 1 + length (entryRecord x)
 unfolding nodeRecord
-record-long level x = leveled-long level (shown x)
+record-long level x = leveled-long level (entryRecord x)
 
 -- an entry's own record, if it is skipped and if it isn't
 pub own-none : (level : ℕ) (x : Entry) → isSkipped (x .identifier) ≡ true → ownRecord level x ≡ []
@@ -66,9 +66,9 @@ none-over m true = over-fits [] m (omega arith)
 none-over m false = refl
 
 -- a record begins with the mark
-shown-mark : (x : Entry) → isSkipped (x .identifier) ≡ false → shown x ≡ 0x44 ∷ 0x45 ∷ drop 2 (shown x)
-unfolding shown recordHead
-shown-mark x h = rw h
+record-mark : (x : Entry) → isSkipped (x .identifier) ≡ false → entryRecord x ≡ 0x44 ∷ 0x45 ∷ drop 2 (entryRecord x)
+unfolding entryRecord recordHead
+record-mark x h = rw h
 
 -- ---- the returns of `put_marked`
 
@@ -101,11 +101,11 @@ module _ (s : List ℕ) (b : Bytes s) {r : IdentifierRead} (p : r ≡ identifier
       own-is : ownRecord level x ≡ nodeRecord (record { level = level; entry = x })
       own-is = own-record level x (skip-is k h)
 
-      long-is : 1 + length (shown x) ≡ e .size
+      long-is : 1 + length (entryRecord x) ≡ e .size
       long-is =
           let z = same x h in
           let w = read-whole false s b p (z .zero) in
-          let l : length (shown x) ≡ 21 + r .descriptor .«name_size» = rw (z .is) (shown-length w ∙ rw (ap isSkipped (ap (λ (y : Entry). y .identifier) (sym (z .is))) ∙ skip-is k h)) in
+          let l : length (entryRecord x) ≡ 21 + r .descriptor .«name_size» = rw (z .is) (record-length w ∙ rw (ap isSkipped (ap (λ (y : Entry). y .identifier) (sym (z .is))) ∙ skip-is k h)) in
           omega (arith, w .brief, ap (λ (y : EntrySeen). y .size) q)
 
     module _ {ys : List ℕ} (w : ys ≡ listedOver (entryRead false s) (midOf 1 (length d - 1) d)) where
@@ -113,7 +113,7 @@ module _ (s : List ℕ) (b : Bytes s) {r : IdentifierRead} (p : r ≡ identifier
       d₁ = putMid 1 (length d - 1) d ys
 
       pub marked-skipped : e .skipped ≡ true → Marked level s d d₁ e
-      unfolding listedOver shown
+      unfolding listedOver entryRecord
       marked-skipped k = record {
         is = seen-is;
         puts = λ x h room.
@@ -134,12 +134,12 @@ module _ (s : List ℕ) (b : Bytes s) {r : IdentifierRead} (p : r ≡ identifier
         marked-put f c = record {
           is = seen-is;
           puts = λ x h room.
-              let v : List ℕ = shown x in
+              let v : List ℕ = entryRecord x in
               let m : List ℕ = midOf 1 (length d - 1) d in
               let long : 1 + length v ≤ length d = omega (arith, long-is k h) in
               let fits : length v ≤ length m = simp (length-take, length-drop) (omega arith) in
               let y : ys ≡ over v m = w ∙ rw (h, le-leb (length v) (length m) fits) in
-              let z : v ≡ 0x44 ∷ 0x45 ∷ drop 2 v = shown-mark x (skip-is k h) in
+              let z : v ≡ 0x44 ∷ 0x45 ∷ drop 2 v = record-mark x (skip-is k h) in
               c ∙ mark-over level (drop 2 v) d ys (rw z at long) (rw z at y) ∙ ap (λ u. over (leveled level u) d) (sym z) ∙ ap (λ u. over u d) (sym (own-is k h));
         }
 

@@ -37,13 +37,13 @@ use Rattle.tags.specs.Tags.{bodyRight, withBody, withId, readHead}
 use Rattle.identifiers.specs.Identifiers.{nameAt, nameEnd, recordedName, nextAt, identifierOf, identifierSized, identifierNamed, readIdentifier, isDirectory}
 use Rattle.files.specs.Files.{fileBytes}
 use Rattle.listings.specs.Entries.{Entry, entryRead, isSkipped, nameIn, entriesFrom, entries}
-use Rattle.listings.specs.Listings.{recordHead, shown, records, listing}
+use Rattle.listings.specs.Listings.{recordHead, entryRecord, records, listing}
 use Rattle.listings.proofs.Promises.{entries-refused}
 use Rattle.directories.specs.Directories.{within, directoryBytes, listingAt}
 use Rattle.directories.proofs.Promises.{no-work}
-use Rattle.shows.specs.Shows.{Node, under, nodesOf, nodesAt, mostLevels, tree, leveled, nodeRecord, nodeRecords, showing}
+use Rattle.shows.specs.Shows.{Node, under, nodesOf, nodesAt, mostLevels, tree, leveled, nodeRecord, nodeRecords, treeRecords}
 use Rattle.shows.proofs.ShowLaws.{tree-none, tree-many, tree-within}
-use Rattle.shows.proofs.GuardLaws.{showing-guards}
+use Rattle.shows.proofs.GuardLaws.{tree-records-guards}
 use Rattle.shows.proofs.MoreLaws.{extends-same, extends-then, extends-alike, nodes-extends}
 use Rattle.disc.specs.Marks.{isBad}
 use Rattle.disc.specs.Refusing.{Refuses, Any}
@@ -58,8 +58,8 @@ at-once d e = rw e (record { refuses = refl; numbered = refl; asks = refl })
 
 module _ (d : Disc) (m : Mount) (work : ℕ) where
   -- a number of levels that is 0 or over 16 is refused by 11 at once
-  pub levels-refused : (levels : ℕ) (root : LongAd) → (levels ≡ 0) ⊎ (mostLevels < levels) → Eleven d (showing m levels work root)
-  unfolding showing then
+  pub levels-refused : (levels : ℕ) (root : LongAd) → (levels ≡ 0) ⊎ (mostLevels < levels) → Eleven d (treeRecords m levels work root)
+  unfolding treeRecords then
   levels-refused levels root h = at-once d (rw (⊎-elim (tree-none m work root levels) (tree-many m work root levels) h))
 
   -- a directory with no level left is refused by 11 before its sectors
@@ -99,9 +99,9 @@ level-records level [] = refl
 level-records level (e ∷ es) = by (isSkipped (e .identifier)) (level-records level es)
   where
     by : (t : Bool) → nodeRecords (levelNodes level es) ≡ leveledRecords level es
-        → nodeRecords (pick t (levelNodes level es) (record { level = level; entry = e } ∷ levelNodes level es)) ≡ pick t (leveledRecords level es) (leveled level (shown e) ++ leveledRecords level es)
+        → nodeRecords (pick t (levelNodes level es) (record { level = level; entry = e } ∷ levelNodes level es)) ≡ pick t (leveledRecords level es) (leveled level (entryRecord e) ++ leveledRecords level es)
     by true h = h
-    by false h = ap (λ r. leveled level (shown e) ++ r) h
+    by false h = ap (λ r. leveled level (entryRecord e) ++ r) h
 
 plain-nodes : (inside : LongAd → Ask (List Node)) (level : ℕ) (es : List Entry) → NoDirectory es → nodesOf inside level es ≡ done (levelNodes level es)
 unfolding nodesOf then NoDirectory levelNodes
@@ -152,8 +152,8 @@ module _ (d : Disc) (m : Mount) (work : ℕ) (root : LongAd) where
 
   -- with one level, where no listed entry is a directory, the show is the listing with the level put into each record: answered, refused and counted as that is
   pub one-level : ((es : List Entry) → (entriesRun d m work root) .outcome ≡ answered es → NoDirectory es)
-      → ran d (showing m 1 work root) ≡ counted ((entriesRun d m work root) .count) (andThen ((entriesRun d m work root) .outcome) (λ es. answered (leveledRecords 1 es)))
-  unfolding showing
+      → ran d (treeRecords m 1 work root) ≡ counted ((entriesRun d m work root) .count) (andThen ((entriesRun d m work root) .outcome) (λ es. answered (leveledRecords 1 es)))
+  unfolding treeRecords
   one-level h =
       ran-known d (tree m 1 work root) (λ ns. answered (nodeRecords ns))
       ∙ rw (tree-within m work root 1 (omega arith) (omega arith), level-one h) (by ((entriesRun d m work root) .outcome))
@@ -261,9 +261,9 @@ module _ (d : Disc) (m : Mount) (work : ℕ) where
   more-levels left left′ h level icb e = extends-alike d (nodesAt m left level work icb) (nodesAt m left′ level work icb) (nodes-extends m left left′ h level work icb) e
 
   -- and so is a whole show
-  pub show-more : (levels levels′ : ℕ) → 1 ≤ levels → levels ≤ levels′ → levels′ ≤ mostLevels → (root : LongAd) {b : List ℕ} → outcome d (showing m levels work root) ≡ answered b
-      → Alike d (showing m levels work root) (showing m levels′ work root)
-  unfolding showing
+  pub show-more : (levels levels′ : ℕ) → 1 ≤ levels → levels ≤ levels′ → levels′ ≤ mostLevels → (root : LongAd) {b : List ℕ} → outcome d (treeRecords m levels work root) ≡ answered b
+      → Alike d (treeRecords m levels work root) (treeRecords m levels′ work root)
+  unfolding treeRecords
   show-more levels levels′ h k l root e = extends-alike d _ _
       (rw (tree-within m work root levels h (omega arith), tree-within m work root levels′ (omega arith) l)
       (extends-then (nodesAt m levels 1 work root) (nodesAt m levels′ 1 work root) _ _ (nodes-extends m levels levels′ k 1 work root) (λ ns. extends-same (done (nodeRecords ns))))) e
@@ -308,43 +308,43 @@ module _ (P : Refusal → Type 0) (m : Mount) (bytes : (icb : LongAd) → Refuse
   tree-only levels work root = pick-only (leb 1 levels && leb levels mostLevels) (nodes-only levels 1 work root) (refuse-only deep)
 
   -- nor does the show
-  pub showing-only : (levels work : ℕ) (root : LongAd) → Refuses P Any (showing m levels work root)
-  unfolding showing
-  showing-only levels work root = then-only (tree-only levels work root) (λ ns q. done-only tt)
+  pub tree-records-only : (levels work : ℕ) (root : LongAd) → Refuses P Any (treeRecords m levels work root)
+  unfolding treeRecords
+  tree-records-only levels work root = then-only (tree-only levels work root) (λ ns q. done-only tt)
 
 -- ---- the list of sectors, and one result (RULES 2.4 and 2.7)
 
 module _ (d : Disc) (m : Mount) (levels work : ℕ) (root : LongAd) where
   -- a show has the list of its tree
-  pub show-asks : asked d (showing m levels work root) ≡ asked d (tree m levels work root)
-  unfolding showing
+  pub show-asks : asked d (treeRecords m levels work root) ≡ asked d (tree m levels work root)
+  unfolding treeRecords
   show-asks = asked-done d (tree m levels work root) nodeRecords
 
   module _ (most : ℕ) where
     -- the count is min(the length of the list, 2^64 - 1)
-    pub show-counts : {out after : List ℕ} {reply : Reply} → Replied NoRoom (ran d (budgeted most (showing m levels work root))) out after reply → reply .count ≡ min (length (asked d (budgeted most (showing m levels work root)))) 0xffff_ffff_ffff_ffff
+    pub show-counts : {out after : List ℕ} {reply : Reply} → Replied NoRoom (ran d (budgeted most (treeRecords m levels work root))) out after reply → reply .count ≡ min (length (asked d (budgeted most (treeRecords m levels work root)))) 0xffff_ffff_ffff_ffff
     unfolding ran
-    show-counts {out} p = ap (λ (x : Reply). x .count) (p .says) ∙ reply-counts NoRoom (length out) (reported (length (asked d (budgeted most (showing m levels work root))))) (outcome d (budgeted most (showing m levels work root)))
+    show-counts {out} p = ap (λ (x : Reply). x .count) (p .says) ∙ reply-counts NoRoom (length out) (reported (length (asked d (budgeted most (treeRecords m levels work root))))) (outcome d (budgeted most (treeRecords m levels work root)))
 
     -- discs that agree on the list give the same reply and the same memory
-    pub show-same : (e : Disc) → Agree d e (asked d (budgeted most (showing m levels work root))) → {out after : List ℕ} {reply : Reply} → Replied NoRoom (ran d (budgeted most (showing m levels work root))) out after reply → Replied NoRoom (ran e (budgeted most (showing m levels work root))) out after reply
-    show-same e h p = same-replied (budgeted most (showing m levels work root)) d e h p
+    pub show-same : (e : Disc) → Agree d e (asked d (budgeted most (treeRecords m levels work root))) → {out after : List ℕ} {reply : Reply} → Replied NoRoom (ran d (budgeted most (treeRecords m levels work root))) out after reply → Replied NoRoom (ran e (budgeted most (treeRecords m levels work root))) out after reply
+    show-same e h p = same-replied (budgeted most (treeRecords m levels work root)) d e h p
 
     -- its contract leaves one result
-    pub show-one : {out after after′ : List ℕ} {reply reply′ : Reply} → Replied NoRoom (ran d (budgeted most (showing m levels work root))) out after reply
-        → Replied NoRoom (ran d (budgeted most (showing m levels work root))) out after′ reply′
+    pub show-one : {out after after′ : List ℕ} {reply reply′ : Reply} → Replied NoRoom (ran d (budgeted most (treeRecords m levels work root))) out after reply
+        → Replied NoRoom (ran d (budgeted most (treeRecords m levels work root))) out after′ reply′
         → (reply ≡ reply′) × (after ≡ after′)
     show-one p q = replied-one p q
 
     -- a checked show that isn't refused by 10 is the show without the check, after the same sectors
-    pub show-unchecked : isChecked m ≡ true → isBad (outcome d (budgeted most (showing m levels work root))) ≡ false → Alike d (budgeted most (showing m levels work root)) (budgeted most (showing (unchecked m) levels work root))
+    pub show-unchecked : isChecked m ≡ true → isBad (outcome d (budgeted most (treeRecords m levels work root))) ≡ false → Alike d (budgeted most (treeRecords m levels work root)) (budgeted most (treeRecords (unchecked m) levels work root))
     show-unchecked c h =
-        let g = budgeted-guards most (showing-guards m c levels work root) in
+        let g = budgeted-guards most (tree-records-guards m c levels work root) in
         record { outcomes = sym (guards-outcome g d h); lists = sym (guards-asked g d h) }
 
 -- ---- a worked case: the entry "A" at block 5, a directory, in a level of its own
 
 pub one-node : (level : ℕ) → andThen (entries true entryA) (λ es. answered (leveledRecords level es))
     ≡ answered (0x44 ∷ 0x45 ∷ level ∷ 1 ∷ 0x00 ∷ 0x08 ∷ 0x00 ∷ 0x00 ∷ 0x05 ∷ 0x00 ∷ 0x00 ∷ 0x00 ∷ 0x00 ∷ 0x00 ∷ 0x00 ∷ 0x00 ∷ 0x00 ∷ 0x00 ∷ 0x00 ∷ 0x00 ∷ 1 ∷ 0 ∷ 0x41 ∷ [])
-unfolding pairs untilZero surrogate dropSurrogates encode utf8 nameOf nameAt nameEnd recordedName nextAt identifierOf identifierSized identifierNamed crcFrom crcOf bodyRight withBody withId readHead readIdentifier entryRead isSkipped nameIn entriesFrom entries recordHead shown leveled leveledRecords
+unfolding pairs untilZero surrogate dropSurrogates encode utf8 nameOf nameAt nameEnd recordedName nextAt identifierOf identifierSized identifierNamed crcFrom crcOf bodyRight withBody withId readHead readIdentifier entryRead isSkipped nameIn entriesFrom entries recordHead entryRecord leveled leveledRecords
 one-node level = refl

@@ -28,9 +28,9 @@ use Rattle.disc.proofs.BudgetLaws.{budgeted-ran}
 use Rattle.disc.proofs.ImageLaws.{split}
 use Rattle.disc.proofs.ReplyLaws.{reply-refused, reply-full, reply-done}
 use Rattle.records.specs.declared.allocations.LongAd.{LongAd}
-use Rattle.shows.specs.Shows.{Node, nodesAt, mostLevels, tree, nodeRecords, showing}
-use Rattle.shows.specs.inner.Turns.{stoppedAt, startOf, behindBy, lent, Shown}
-use Rattle.shows.proofs.ShownLaws.{capped-within, capped-over, Answers, shown-answers}
+use Rattle.shows.specs.Shows.{Node, nodesAt, mostLevels, tree, nodeRecords, treeRecords}
+use Rattle.shows.specs.inner.Turns.{stoppedAt, startOf, behindBy, lent, Visited}
+use Rattle.shows.proofs.VisitedLaws.{capped-within, capped-over, Answers, visited-answers}
 use Rattle.shows.specs.declared.levels.ShowPlace.{ShowPlace}
 
 -- ---- the number of levels
@@ -63,18 +63,18 @@ written : (text out : List ℕ) {r : Ran (List ℕ)} {n : ℕ} → r ≡ record 
 written text out {n = n} e i j {c} k y = rw (e, y, i) (reply-done text n c j k (rw (over-fits text out j, sub-zero)))
 
 module _ (d : Disc) (m : Mount) (w : ℕ) (root : LongAd) (levels most : ℕ) where
-  show-is : ran d (showing m levels w root) ≡ record { outcome = recordsIn (ran d (tree m levels w root) .outcome); count = ran d (tree m levels w root) .count }
-  unfolding showing
+  show-is : ran d (treeRecords m levels w root) ≡ record { outcome = recordsIn (ran d (tree m levels w root) .outcome); count = ran d (tree m levels w root) .count }
+  unfolding treeRecords
   show-is = ran-known d (tree m levels w root) (λ ns. answered (nodeRecords ns))
 
   abbrev S : Ran (List ℕ)
-  S = ran d (budgeted most (showing m levels w root))
+  S = ran d (budgeted most (treeRecords m levels w root))
 
   show-none : tree m levels w root ≡ refuse TooDeep → {a : ℕ} → a ≡ number TooDeep → {reply : Reply} → reply ≡ record { answer = a; count = 0; length = 0 } → (out : List ℕ)
       → Replied NoRoom S out out reply
   show-none e k f out =
-      let r : ran d (showing m levels w root) ≡ record { outcome = refused TooDeep; count = 0 } = show-is ∙ rw (e, ran-refuse {A = List Node} d TooDeep) in
-      rw (budgeted-ran d (showing m levels w root) most, r, le-leb 0 most (omega arith)) (reply-refused TooDeep 0 0 refl (f ∙ rw k))
+      let r : ran d (treeRecords m levels w root) ≡ record { outcome = refused TooDeep; count = 0 } = show-is ∙ rw (e, ran-refuse {A = List Node} d TooDeep) in
+      rw (budgeted-ran d (treeRecords m levels w root) most, r, le-leb 0 most (omega arith)) (reply-refused TooDeep 0 0 refl (f ∙ rw k))
 
   pub show-zero : levels ≡ 0 → {a : ℕ} → a ≡ number TooDeep → {reply : Reply} → reply ≡ record { answer = a; count = 0; length = 0 } → (out : List ℕ) → Replied NoRoom S out out reply
   show-zero h = show-none (tree-none m w root levels h)
@@ -86,18 +86,18 @@ module _ (d : Disc) (m : Mount) (w : ℕ) (root : LongAd) (levels most : ℕ) wh
     abbrev R : Ran (List Node)
     R = ran d (nodesAt m levels 1 w root)
 
-    shown-is : ran d (showing m levels w root) ≡ record { outcome = recordsIn (R .outcome); count = R .count }
-    shown-is = show-is ∙ rw (tree-within m w root levels l k)
+    visited-is : ran d (treeRecords m levels w root) ≡ record { outcome = recordsIn (R .outcome); count = R .count }
+    visited-is = show-is ∙ rw (tree-within m w root levels l k)
 
     lent-is : reported (R .count) ≤ most → S ≡ record { outcome = recordsIn (R .outcome); count = R .count }
-    lent-is h = budgeted-ran d (showing m levels w root) most ∙ rw (shown-is, le-leb (reported (R .count)) most h)
+    lent-is h = budgeted-ran d (treeRecords m levels w root) most ∙ rw (visited-is, le-leb (reported (R .count)) most h)
 
     over-is : most < reported (R .count) → S ≡ overRun most
-    over-is h = budgeted-ran d (showing m levels w root) most ∙ rw (shown-is, lt-leb (reported (R .count)) most h)
+    over-is h = budgeted-ran d (treeRecords m levels w root) most ∙ rw (visited-is, lt-leb (reported (R .count)) most h)
 
     -- ---- measured, lent no output
 
-    module _ {of : Node → List ℕ → List ℕ} (out ys : List ℕ) {q : ShowPlace} {tally tally₁ : List ℕ} (s : Shown of R (startOf most) (lent (midOf 0 (0 - 0) out) tally) q (lent ys tally₁)) (z : length (putMid 0 (0 - 0) out ys) ≡ length out) where
+    module _ {of : Node → List ℕ → List ℕ} (out ys : List ℕ) {q : ShowPlace} {tally tally₁ : List ℕ} (s : Visited of R (startOf most) (lent (midOf 0 (0 - 0) out) tally) q (lent ys tally₁)) (z : length (putMid 0 (0 - 0) out ys) ≡ length out) where
       -- nothing was written
       as-came : putMid 0 (0 - 0) out ys ≡ out
       as-came = by ys z
@@ -121,7 +121,7 @@ module _ (d : Disc) (m : Mount) (w : ℕ) (root : LongAd) (levels most : ℕ) wh
       module _ (g : q .answer ≡ 0) where
         -- the nodes that were measured
         measured : Answers R (startOf most) q
-        measured = shown-answers s g
+        measured = visited-answers s g
 
         within : reported (R .count) ≤ most
         within = omega (arith, measured .within)
@@ -147,11 +147,11 @@ module _ (d : Disc) (m : Mount) (w : ℕ) (root : LongAd) (levels most : ℕ) wh
         -- ---- written, lent what was measured
 
         pub show-done : q .size ≤ length (putMid 0 (0 - 0) out ys) → length out * 1 < 2 ^ 63 → {w₁ : ℕ} → w₁ ≡ w → {q₂ : ShowPlace} {ys₂ tally₂ tally₃ : List ℕ}
-            → Shown of (ran d (nodesAt m levels 1 w₁ root)) (startOf most) (lent (midOf 0 (q .size - 0) (putMid 0 (0 - 0) out ys)) tally₂) q₂ (lent ys₂ tally₃)
+            → Visited of (ran d (nodesAt m levels 1 w₁ root)) (startOf most) (lent (midOf 0 (q .size - 0) (putMid 0 (0 - 0) out ys)) tally₂) q₂ (lent ys₂ tally₃)
             → Replied NoRoom S out (putMid 0 (q .size - 0) (putMid 0 (0 - 0) out ys) ys₂) (record { answer = 0; count = q .count; length = q .size })
         unfolding text
         show-done h b e {q₂} {ys₂} {tally₂} {tally₃} v =
-            let t : Shown of R (startOf most) (lent (midOf 0 (q .size - 0) out) tally₂) q₂ (lent ys₂ tally₃) = rw (e, as-came) at v in
+            let t : Visited of R (startOf most) (lent (midOf 0 (q .size - 0) out) tally₂) q₂ (lent ys₂ tally₃) = rw (e, as-came) at v in
             let i : q .size ≡ length text = omega (arith, sizes, z) in
             let j : length text ≤ length out = omega (arith, z) in
             let n : length (midOf 0 (q .size - 0) out) ≡ length text = simp (length-take, length-drop) (omega arith) in

@@ -27,7 +27,7 @@ use Rattle.disc.proofs.RefusalLaws.{refusal-numbered}
 use Rattle.records.specs.declared.allocations.LongAd.{LongAd}
 use Rattle.listings.specs.declared.matchings.Matching.the-variants.{AsWritten}
 use Rattle.directories.specs.Lookups.{lookupOf}
-use Rattle.shows.specs.Shows.{Node, nodesAt, mostLevels, tree, nodeRecords, showing}
+use Rattle.shows.specs.Shows.{Node, nodesAt, mostLevels, tree, nodeRecords, treeRecords}
 use Rattle.shows.specs.Nodes.{TreeOf, ShowsTree, wayFrom, wayTo, pathOf, Plain}
 use Rattle.shows.proofs.TreeLaws.{parts, BuiltAt, built-at, built-children, built-steps, built-each, each-split, parsed-entries}
 use Rattle.shows.proofs.WayLaws.{built-way, way-found}
@@ -53,36 +53,36 @@ module _ (d : Disc) (m : Mount) (levels work : ℕ) (root : LongAd) {ns : List N
   }
 
 -- so a show that is answered has written the records of these nodes
-unlimited-tree : (d : Disc) (m : Mount) (levels work : ℕ) (root : LongAd) {out after : List ℕ} {reply : Reply} → Replied NoRoom (ran d (showing m levels work root)) out after reply → reply .answer ≡ 0
+unlimited-tree : (d : Disc) (m : Mount) (levels work : ℕ) (root : LongAd) {out after : List ℕ} {reply : Reply} → Replied NoRoom (ran d (treeRecords m levels work root)) out after reply → reply .answer ≡ 0
     → ShowsTree d m root out after reply
-unfolding ran showing outcome
-unlimited-tree d m levels work root {out} {after} {reply} p z = by (outcome d (showing m levels work root)) refl (reported (length (asked d (showing m levels work root)))) (p .says) (p .leaves)
+unfolding ran treeRecords outcome
+unlimited-tree d m levels work root {out} {after} {reply} p z = by (outcome d (treeRecords m levels work root)) refl (reported (length (asked d (treeRecords m levels work root)))) (p .says) (p .leaves)
   where
-    fits : (b : List ℕ) → outcome d (showing m levels work root) ≡ answered b → reply .length ≡ length b → after ≡ b ++ drop (length b) out → ShowsTree d m root out after reply
+    fits : (b : List ℕ) → outcome d (treeRecords m levels work root) ≡ answered b → reply .length ≡ length b → after ≡ b ++ drop (length b) out → ShowsTree d m root out after reply
     fits b e f g =
         let q = parts d (tree m levels work root) (λ ns. done (nodeRecords ns)) e in
         let y : answered (nodeRecords (q .a)) ≡ answered b = q .second in
         let x : b ≡ nodeRecords (q .a) = cc in
         record { ns = q .a; nodes = tree-nodes d m levels work root (q .first); said = rw x at f; wrote = rw x at g }
 
-    room : (b : List ℕ) (n : ℕ) → outcome d (showing m levels work root) ≡ answered b → (t : Bool)
+    room : (b : List ℕ) (n : ℕ) → outcome d (treeRecords m levels work root) ≡ answered b → (t : Bool)
         → reply ≡ pick t (record { answer = 0; count = n; length = length b }) (record { answer = number NoRoom; count = n; length = 0 }) → after ≡ pick t (b ++ drop (length b) out) out
         → ShowsTree d m root out after reply
     room b n e true f g = fits b e (ap (λ (x : Reply). x .length) f) g
     room b n e false f g = absurd (refusal-numbered NoRoom (sym (ap (λ (x : Reply). x .answer) f) ∙ z))
 
-    by : (o : Outcome (List ℕ)) → outcome d (showing m levels work root) ≡ o → (n : ℕ) → reply ≡ replyBy NoRoom (length out) n o → after ≡ leftBy out o → ShowsTree d m root out after reply
+    by : (o : Outcome (List ℕ)) → outcome d (treeRecords m levels work root) ≡ o → (n : ℕ) → reply ≡ replyBy NoRoom (length out) n o → after ≡ leftBy out o → ShowsTree d m root out after reply
     by (answered b) e n f g = room b n e (leb (length b) (length out)) f g
     by (refused why) e n f g = absurd (refusal-numbered why (sym (ap (λ (x : Reply). x .answer) f) ∙ z))
 
-pub show-tree : (d : Disc) (m : Mount) (levels work most : ℕ) (root : LongAd) {out after : List ℕ} {reply : Reply} → Replied NoRoom (ran d (budgeted most (showing m levels work root))) out after reply → reply .answer ≡ 0
+pub show-tree : (d : Disc) (m : Mount) (levels work most : ℕ) (root : LongAd) {out after : List ℕ} {reply : Reply} → Replied NoRoom (ran d (budgeted most (treeRecords m levels work root))) out after reply → reply .answer ≡ 0
     → ShowsTree d m root out after reply
 show-tree d m levels work most root {out} {after} {reply} p z = ⊎-elim
-    (λ (h : reported (ran d (showing m levels work root) .count) ≤ most). unlimited-tree d m levels work root (rw (budgeted-same d (showing m levels work root) most h) at p) z)
-    (λ (h : most < reported (ran d (showing m levels work root) .count)).
-    let q : Replied NoRoom (overRun most) out after reply = rw (budgeted-over d (showing m levels work root) most h) at p in
+    (λ (h : reported (ran d (treeRecords m levels work root) .count) ≤ most). unlimited-tree d m levels work root (rw (budgeted-same d (treeRecords m levels work root) most h) at p) z)
+    (λ (h : most < reported (ran d (treeRecords m levels work root) .count)).
+    let q : Replied NoRoom (overRun most) out after reply = rw (budgeted-over d (treeRecords m levels work root) most h) at p in
     absurd (refusal-numbered OverBudget (sym (ap (λ (x : Reply). x .answer) (q .says)) ∙ z)))
-    (split (reported (ran d (showing m levels work root) .count)) most)
+    (split (reported (ran d (treeRecords m levels work root) .count)) most)
 
 -- ---- a node's path
 

@@ -44,7 +44,7 @@ use Rattle.directories.specs.Leads.{Takes}
 -- ---- the way
 
 -- an entry is listed in the directory at icb
-pub record Stands (d : Disc) (m : Mount) (work : ℕ) (icb : LongAd) (e : Entry) : Type 0 where
+pub record EntryListed (d : Disc) (m : Mount) (work : ℕ) (icb : LongAd) (e : Entry) : Type 0 where
   pub before : List Entry
   pub rest : List Entry
   pub from : Parsed d m work icb (before ++ e ∷ rest)
@@ -53,7 +53,7 @@ pub record Stands (d : Disc) (m : Mount) (work : ℕ) (icb : LongAd) (e : Entry)
 -- each node stands in the directory before it, from the one at icb on
 unfoldable pub Way : Disc → Mount → ℕ → LongAd → Bool → List Node → Type 0
 Way d m work icb directory [] = Unit {0}
-Way d m work icb directory (n ∷ way) = (directory ≡ true) × Stands d m work icb (n .entry) × Way d m work (n .entry .identifier .icb) (isDirectory (n .entry .identifier)) way
+Way d m work icb directory (n ∷ way) = (directory ≡ true) × EntryListed d m work icb (n .entry) × Way d m work (n .entry .identifier .icb) (isDirectory (n .entry .identifier)) way
 
 -- the way to a node from the directory whose entries are one level deeper than `level`
 abbrev enteredAt : ℕ → List Node → Node → List Node
@@ -71,7 +71,7 @@ module _ (d : Disc) (m : Mount) (work : ℕ) where
   ways-joined level icb way (n ∷ a) b x y = (x .0, ways-joined level icb (enteredAt level way n) a b (x .1) y)
 
   -- under a directory
-  ways-under : (level : ℕ) (icb : LongAd) (x : Node) → Stands d m work icb (x .entry) → isDirectory (x .entry .identifier) ≡ true → (way ns : List Node) → Deeper (suc level) ns
+  ways-under : (level : ℕ) (icb : LongAd) (x : Node) → EntryListed d m work icb (x .entry) → isDirectory (x .entry .identifier) ≡ true → (way ns : List Node) → Deeper (suc level) ns
       → Ways (suc level) (x .entry .identifier .icb) way ns → Ways level icb (x ∷ way) ns
   unfolding Ways Way Deeper
   ways-under level icb x s t way [] p w = tt
@@ -93,7 +93,7 @@ module _ (d : Disc) (m : Mount) (work : ℕ) where
       let z : suc level - suc level ≡ 0 = omega arith in
       let n : Node = record { level = suc level; entry = e } in
       let w : enteredAt level way n ≡ n ∷ [] = rw z in
-      let t : Stands d m work icb e = record { before = before; rest = es; from = p; listed = s } in
+      let t : EntryListed d m work icb e = record { before = before; rest = es; from = p; listed = s } in
       rw (w, x) (
         (refl, t, tt),
         ways-joined level icb (n ∷ []) inner ns (ways-under level icb n t k [] inner (built-deeper i) (built-ways i (e .identifier .icb) [] q []))
@@ -202,7 +202,7 @@ end-is icb (x ∷ way) n = end-is (x .entry .identifier .icb) way n
 -- ---- the walk
 
 module _ (image : List ℕ) (are : Bytes image) (m : Mount) (work : ℕ) where
-  stands-taken : (icb : LongAd) (e : Entry) → Stands (disc image) m work icb e → ((es : List Entry) → EntriesOf (disc image) m icb es → OnceNamed (nameIn e) es)
+  stands-taken : (icb : LongAd) (e : Entry) → EntryListed (disc image) m work icb e → ((es : List Entry) → EntriesOf (disc image) m icb es → OnceNamed (nameIn e) es)
       → Takes (disc image) AsWritten m work icb (nameIn e) e
   unfolding ran
   stands-taken icb e s once =

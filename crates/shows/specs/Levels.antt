@@ -16,7 +16,7 @@ use Rattle.disc.specs.declared.refusals.Refusal.the-variants.{TooDeep}
 use Rattle.records.specs.declared.allocations.LongAd.{LongAd}
 use Rattle.identifiers.specs.Identifiers.{isDirectory}
 use Rattle.listings.specs.Entries.{Entry, entries, isSkipped}
-use Rattle.listings.specs.Listings.{shown}
+use Rattle.listings.specs.Listings.{entryRecord}
 use Rattle.directories.specs.Directories.{directoryBytes}
 use Rattle.shows.specs.Shows.{leveled, Node}
 
@@ -42,7 +42,7 @@ entriesAt m work icb = then (directoryBytes m work icb) (λ b. ended (entries (i
 -- a directory's listing, with the level put into each record
 unfoldable pub leveledRecords : ℕ → List Entry → List ℕ
 leveledRecords level [] = []
-leveledRecords level (e ∷ es) = pick (isSkipped (e .identifier)) (leveledRecords level es) (leveled level (shown e) ++ leveledRecords level es)
+leveledRecords level (e ∷ es) = pick (isSkipped (e .identifier)) (leveledRecords level es) (leveled level (entryRecord e) ++ leveledRecords level es)
 
 -- its entries as nodes
 unfoldable pub levelNodes : ℕ → List Entry → List Node

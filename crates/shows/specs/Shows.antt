@@ -13,7 +13,7 @@ use Rattle.disc.specs.declared.refusals.Refusal.the-variants.{TooDeep}
 use Rattle.records.specs.declared.allocations.LongAd.{LongAd}
 use Rattle.identifiers.specs.Identifiers.{isDirectory}
 use Rattle.listings.specs.Entries.{Entry, isSkipped, entries}
-use Rattle.listings.specs.Listings.{shown}
+use Rattle.listings.specs.Listings.{entryRecord}
 use Rattle.directories.specs.Directories.{directoryBytes}
 
 -- ---- the tree (RULES 8.35 to 8.39)
@@ -60,12 +60,12 @@ unfoldable pub leveled : ℕ → List ℕ → List ℕ
 leveled level r = take 2 r ++ level ∷ drop 2 r
 
 unfoldable pub nodeRecord : Node → List ℕ
-nodeRecord n = leveled (n .level) (shown (n .entry))
+nodeRecord n = leveled (n .level) (entryRecord (n .entry))
 
 unfoldable pub nodeRecords : List Node → List ℕ
 nodeRecords [] = []
 nodeRecords (n ∷ ns) = nodeRecord n ++ nodeRecords ns
 
 -- the call: 5 comes behind all of it (`Replied`)
-unfoldable pub showing : Mount → ℕ → ℕ → LongAd → Ask (List ℕ)
-showing m levels work root = then (tree m levels work root) (λ ns. done (nodeRecords ns))
+unfoldable pub treeRecords : Mount → ℕ → ℕ → LongAd → Ask (List ℕ)
+treeRecords m levels work root = then (tree m levels work root) (λ ns. done (nodeRecords ns))

@@ -5,7 +5,7 @@ ghost use lib.ListN.{length, take};
 ghost use Rattle.disc.specs.Ran.{ran};
 ghost use Rattle.disc.specs.Images.{disc};
 ghost use Rattle.shows.specs.Shows.{nodesAt};
-ghost use Rattle.shows.specs.inner.Turns.{stoppedAt, Held, lent, Shown, Opens, Handles};
+ghost use Rattle.shows.specs.inner.Turns.{stoppedAt, Held, lent, Visited, Opens, Handles};
 ghost use Rattle.shows.specs.inner.Placings.{nodePlaced};
 use crate::nodes::put_node;
 use crate::tallies::tally_entry;
@@ -98,7 +98,7 @@ pub(crate) fn list_level(
     tally: &mut [u64],
 ) -> ShowPlace
     requires { ⌜ (level + left ≤ 17) × Held (p .most) p ⌝ }
-    ensures { λ q. ⌜ Shown (nodePlaced (disc (now (image .entry))) mount (p .most)) (ran (disc (now (image .entry))) (nodesAt mount left level (length (now (work .entry))) icb)) p (lent (now (out .entry)) (now (tally .entry))) q (lent (now (out .exit)) (now (tally .exit))) ⌝ }
+    ensures { λ q. ⌜ Visited (nodePlaced (disc (now (image .entry))) mount (p .most)) (ran (disc (now (image .entry))) (nodesAt mount left level (length (now (work .entry))) icb)) p (lent (now (out .entry)) (now (tally .entry))) q (lent (now (out .exit)) (now (tally .exit))) ⌝ }
 {
     if left == 0 {
         return stopped(Refusal::TooDeep.number(), p.count);

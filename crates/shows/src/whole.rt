@@ -7,9 +7,9 @@ ghost use Rattle.disc.specs.Ran.{ran};
 ghost use Rattle.disc.specs.Images.{disc};
 ghost use Rattle.disc.specs.Replies.{Replied};
 ghost use Rattle.disc.specs.declared.refusals.Refusal.the-variants.{NoRoom};
-ghost use Rattle.shows.specs.Shows.{nodesAt, showing};
+ghost use Rattle.shows.specs.Shows.{nodesAt, treeRecords};
 ghost use Rattle.shows.specs.inner.Placings.{nodePlaced};
-ghost use Rattle.shows.specs.inner.Turns.{startOf, lent, Shown};
+ghost use Rattle.shows.specs.inner.Turns.{startOf, lent, Visited};
 ghost use Rattle.shows.specs.Tallies.{tallied, tallies};
 use crate::levels::ShowPlace;
 use crate::levels::list_level;
@@ -42,7 +42,7 @@ fn walk(
     tally: &mut [u64],
 ) -> ShowPlace
     requires { ⌜ levels ≤ 16 ⌝ }
-    ensures { λ q. ⌜ Shown (nodePlaced (disc (now (image .entry))) mount most) (ran (disc (now (image .entry))) (nodesAt mount levels 1 (length (now (work .entry))) root)) (startOf most) (lent (now (out .entry)) (now (tally .entry))) q (lent (now (out .exit)) (now (tally .exit))) ⌝ }
+    ensures { λ q. ⌜ Visited (nodePlaced (disc (now (image .entry))) mount most) (ran (disc (now (image .entry))) (nodesAt mount levels 1 (length (now (work .entry))) root)) (startOf most) (lent (now (out .entry)) (now (tally .entry))) q (lent (now (out .exit)) (now (tally .exit))) ⌝ }
 {
     let start = ShowPlace {
         answer: DONE,
@@ -65,7 +65,7 @@ fn show_within(
     work: &mut [u8],
 ) -> Reply
     requires { ⌜ (1 ≤ levels) × (levels ≤ 16) ⌝ }
-    ensures { λ r. ⌜ Replied NoRoom (ran (disc (now (image .entry))) (budgeted most (showing mount levels (length (now (work .entry))) root))) (now (out .entry)) (now (out .exit)) r ⌝ }
+    ensures { λ r. ⌜ Replied NoRoom (ran (disc (now (image .entry))) (budgeted most (treeRecords mount levels (length (now (work .entry))) root))) (now (out .entry)) (now (out .exit)) r ⌝ }
 {
     let mut none = [0u64; 1];
     let measured = walk(
@@ -112,7 +112,7 @@ fn show_tree(
     out: &mut [u8],
     work: &mut [u8],
 ) -> Reply
-    ensures { λ r. ⌜ Replied NoRoom (ran (disc (now (image .entry))) (budgeted most (showing mount levels (length (now (work .entry))) root))) (now (out .entry)) (now (out .exit)) r ⌝ }
+    ensures { λ r. ⌜ Replied NoRoom (ran (disc (now (image .entry))) (budgeted most (treeRecords mount levels (length (now (work .entry))) root))) (now (out .entry)) (now (out .exit)) r ⌝ }
 {
     if levels == 0 {
         return refusal(Refusal::TooDeep.number(), 0);
@@ -135,7 +135,7 @@ pub fn show(
     out: &mut [u8],
     work: &mut [u8],
 ) -> Reply
-    ensures { λ r. ⌜ Replied NoRoom (ran (disc (now (image .entry))) (budgeted most (showing mount levels (length (now (work .entry))) root))) (now (out .entry)) (now (out .exit)) r ⌝ }
+    ensures { λ r. ⌜ Replied NoRoom (ran (disc (now (image .entry))) (budgeted most (treeRecords mount levels (length (now (work .entry))) root))) (now (out .entry)) (now (out .exit)) r ⌝ }
     ensures { λ _. ⌜ now (work .exit) ≡ replicate (length (now (work .entry))) 0 ⌝ }
 {
     let reply = show_tree(image, mount, root, levels, most, out, work);
@@ -160,7 +160,7 @@ fn tally_within(
     clear_figures(tally);
     let mut none = [0u8; 1];
     let levels = MOST_LEVELS as u8;
-    let shown = walk(
+    let visited = walk(
         image,
         mount,
         root,
@@ -170,11 +170,11 @@ fn tally_within(
         &mut none[0..0],
         tally,
     );
-    if shown.answer != DONE {
+    if visited.answer != DONE {
         clear_figures(tally);
-        return shown.answer;
+        return visited.answer;
     }
-    if left_of(most, shown.count) < sectors_in(tally) {
+    if left_of(most, visited.count) < sectors_in(tally) {
         clear_figures(tally);
         return OVER_BUDGET;
     }

@@ -18,7 +18,7 @@ use Rattle.disc.proofs.BudgetLaws.{within-asked, budgeted-same, budgeted-over, 
 use Rattle.disc.proofs.ImageLaws.{split}
 use Rattle.volumes.specs.declared.openings.VolumeRecord.{VolumeRecord}
 use Rattle.files.proofs.RefusingLaws.{bytes-only}
-use Rattle.shows.proofs.Promises.{showing-only}
+use Rattle.shows.proofs.Promises.{tree-records-only}
 use Rattle.vault.specs.Calls.{showing, worked, Worked, shows, cleared}
 use Rattle.vault.specs.Lending.{showList, showWants}
 use Rattle.vault.specs.Orders.{roomed}
@@ -58,7 +58,7 @@ module _ (image : List ℕ) (v : VolumeRecord) (levels : ℕ) (out work : List �
       ap (λ n. eqb n 16) (show-order image v levels most out work)
       ∙ numbered (length out) (ran (disc image) (showing v levels most (length work)) .outcome)
       ∙ over-exactly (disc image) (showing v levels unlimited (length work))
-      (showing-only ButOver (v .mount) (bytes-only ButOver (λ e. omega arith) (λ e. omega arith) (v .mount) (λ c e. omega arith)) (λ e. omega arith) (λ c e. omega arith) (λ e. omega arith) (λ e. omega arith) levels (length work) (v .root)) most
+      (tree-records-only ButOver (v .mount) (bytes-only ButOver (λ e. omega arith) (λ e. omega arith) (v .mount) (λ c e. omega arith)) (λ e. omega arith) (λ c e. omega arith) (λ e. omega arith) (λ e. omega arith) levels (length work) (v .root)) most
 
   -- ---- RULES 2.18: any other answer is that of the old call, and stays with more sectors
 

@@ -35,14 +35,14 @@ use Rattle.listings.proofs.GuardLaws.{listing-guards as listed-guards}
 use Rattle.directories.specs.Lookups.{Sought}
 use Rattle.directories.specs.Lookups.Sought.{reached, lost}
 use Rattle.directories.proofs.GuardLaws.{listing-guards, seeking-guards, lookup-guards, path-guards}
-use Rattle.shows.proofs.GuardLaws.{showing-guards}
+use Rattle.shows.proofs.GuardLaws.{tree-records-guards}
 use Rattle.files.proofs.RefusingLaws.{bytes-only, part-only, list-only}
 use Rattle.layouts.proofs.RefusingLaws.{runs-only}
 use Rattle.layouts.proofs.GuardLaws.{runs-guards}
 use Rattle.volumes.proofs.RefusingLaws.{opening-only, label-only}
 use Rattle.listings.proofs.RefusingLaws.{listed-only}
 use Rattle.directories.proofs.RefusingLaws.{listing-only, seek-only, lookup-only, path-only}
-use Rattle.shows.proofs.Promises.{showing-only}
+use Rattle.shows.proofs.Promises.{tree-records-only}
 use Rattle.vault.specs.Public.{Way, byVolume, bySize, byIcb, byPart, byPlace, byBytes, byWork, byRow, byLost, byLostPlace, gives, says, Call, spec, tree, way, may, leaves, answerOn, countOn, numberOf, lacking, exceeds}
 use Rattle.vault.specs.Public.Call.{opens, labels, reads, measures, parts, partsAt, extents, runs, lists, shows, finds, fails, failsAt, listsBytes, readsPath}
 use Rattle.disc.specs.Refusing.{Refuses, Within, Any, isIo}
@@ -186,7 +186,7 @@ said-by (lists v icb out work) = listing-only (Said (lists v icb out work)) refl
 said-by (listsBytes v bytes out) = listed-only (Said (listsBytes v bytes out)) refl (isChecked (v .mount)) (λ k. k) bytes
 said-by (shows v levels most out work) =
     budgeted-only most (λ b. rw b)
-    (showing-only (Said (shows v levels most out work)) (v .mount) (bytes-only (Said (shows v levels most out work)) refl refl (v .mount) (λ k. k)) refl (λ k. k) refl refl levels (length work) (v .root))
+    (tree-records-only (Said (shows v levels most out work)) (v .mount) (bytes-only (Said (shows v levels most out work)) refl refl (v .mount) (λ k. k)) refl (λ k. k) refl refl levels (length work) (v .root))
 said-by (finds v path matching work) = lookup-only (Said (finds v path matching work)) refl refl refl matching (λ e. rw e) (v .mount) (λ k. k) (length work) refl (v .root) path
 said-by (fails v path matching work) = seek-only (Said (fails v path matching work)) refl refl refl matching (λ e. rw e) (v .mount) (λ k. k) (length work) (v .root) path
 said-by (failsAt v path matching work) = seek-only (Said (failsAt v path matching work)) refl refl refl matching (λ e. rw e) (v .mount) (λ k. k) (length work) (v .root) path
@@ -327,7 +327,7 @@ guards (extents f v icb row) k = extents-guards (v .mount) k icb
 guards (runs v icb row) k = runs-guards (v .mount) k icb
 guards (lists v icb out work) k = listing-guards (v .mount) k (length work) icb
 guards (listsBytes v bytes out) k = rw k (listed-guards bytes)
-guards (shows v levels most out work) k = budgeted-guards most (showing-guards (v .mount) k levels (length work) (v .root))
+guards (shows v levels most out work) k = budgeted-guards most (tree-records-guards (v .mount) k levels (length work) (v .root))
 guards (finds v path matching work) k = lookup-guards (v .mount) k (length work) matching (v .root) path
 guards (fails v path matching work) k = seeking-guards (v .mount) k (length work) matching (v .root) path
 guards (failsAt v path matching work) k = seeking-guards (v .mount) k (length work) matching (v .root) path

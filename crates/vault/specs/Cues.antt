@@ -11,7 +11,7 @@ use Rattle.records.specs.declared.allocations.LongAd.{LongAd}
 use Rattle.names.specs.Names.{lower}
 use Rattle.volumes.specs.declared.openings.VolumeRecord.{VolumeRecord}
 use Rattle.listings.specs.Entries.{Entry, nameIn}
-use Rattle.listings.specs.Listings.{records, shown}
+use Rattle.listings.specs.Listings.{records, entryRecord}
 use Rattle.listings.specs.Matchings.{NoneAnswers}
 use Rattle.listings.specs.Paths.{components, Component}
 use Rattle.listings.specs.declared.matchings.Matching.the-variants.{CaseIgnored}
@@ -35,9 +35,9 @@ placeBehind before = length (records before)
 
 -- a listing with room for the records of the directory at icb, whose entries are `before`, e and those behind e: the record of e stands behind
 -- those before it, a read by the ICB in it is a read by the ICB of e, and the name in it, of at most 508 bytes, is that of e
-pub record Shown (image : List ℕ) (v : VolumeRecord) (icb : LongAd) (out work : List ℕ) (before : List Entry) (e : Entry) (rest : List Entry) : Type 0 where
+pub record CueListed (image : List ℕ) (v : VolumeRecord) (icb : LongAd) (out work : List ℕ) (before : List Entry) (e : Entry) (rest : List Entry) : Type 0 where
   pub says : lists image v icb out work .reply ≡ record { answer = 0; count = reported (directoryRead image v work icb .count); length = length (records (before ++ e ∷ rest)) }
-  pub listing : lists image v icb out work .out ≡ records before ++ shown e ++ records rest ++ drop (length (records (before ++ e ∷ rest))) out
+  pub listing : lists image v icb out work .out ≡ records before ++ entryRecord e ++ records rest ++ drop (length (records (before ++ e ∷ rest))) out
   pub its : icbAt (lists image v icb out work .out) (placeBehind before) ≡ e .identifier .icb
   pub reading : (into : List ℕ) → reads image v (icbAt (lists image v icb out work .out) (placeBehind before)) into ≡ reads image v (e .identifier .icb) into
   pub brief : length (nameIn e) ≤ 508
@@ -47,8 +47,8 @@ pub record Shown (image : List ℕ) (v : VolumeRecord) (icb : LongAd) (out work 
 -- e and, behind it, f: the listing has both, and a path whose last component is the name of either, in this directory, takes e, if nothing before e
 -- answers to it
 pub record Cues (image : List ℕ) (v : VolumeRecord) (icb : LongAd) (out work : List ℕ) (before : List Entry) (e : Entry) (between : List Entry) (f : Entry) (rest : List Entry) : Type 0 where
-  pub first : Shown image v icb out work before e (between ++ f ∷ rest)
-  pub other : Shown image v icb out work (before ++ e ∷ between) f rest
+  pub first : CueListed image v icb out work before e (between ++ f ∷ rest)
+  pub other : CueListed image v icb out work (before ++ e ∷ between) f rest
   pub either : (path : List ℕ) (cs : List Component) (c : Component) → components path ≡ cs ++ c ∷ [] → LeadTo image v CaseIgnored work cs icb
       → (c .bytes ≡ nameIn e) ⊎ (c .bytes ≡ nameIn f) → NoneAnswers lower (c .bytes) before
       → finds image v path CaseIgnored work .found ≡ record { answer = 0; count = reported (sectorsTo image v CaseIgnored work cs icb); icb = e .identifier .icb }

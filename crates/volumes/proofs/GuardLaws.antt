@@ -34,7 +34,7 @@ use Rattle.volumes.specs.declared.openings.VolumeRecord.{VolumeRecord}
 use Rattle.volumes.specs.declared.openings.How.{How}
 use Rattle.volumes.specs.Sequences.{nothing, Parsed, orderOf, anyPartition, keptOf, Says, primaryIn, partitionIn, logicalIn, saysIn, goOn, scan}
 use Rattle.volumes.specs.Sequences.Says.{found, passed, over, fails}
-use Rattle.volumes.specs.Openings.{mountIn, startOfNumber, mapStarts, eachOf, fileSetRef, mountBy, mountedBy, mappedMount, mountOf, fileSetIn, volumeIn, fileSetOn, mountingOf, mounting, anchored, opening}
+use Rattle.volumes.specs.Openings.{plainMount, startOfNumber, mapStarts, eachOf, fileSetRef, mountFromStarts, mountedBy, mappedMount, mountOf, fileSetIn, volumeIn, fileSetOn, mountingOf, mounting, anchored, opening}
 use Rattle.volumes.specs.Labels.{labelOf, labelling}
 use Rattle.volumes.proofs.MapLaws.{starts-same, mount-refuses, mount-says}
 use Rattle.volumes.proofs.Promises.{opened-made}
@@ -127,8 +127,8 @@ module _ (h maps : Bool) (ps : List Parsed) (k : Kept) where
   mounted-checked none = refl
   mounted-checked (some l) = by (ltb (fileSetRef k) (k .«map_count»))
     where
-      by : (t : Bool) → pick t (answered (mountBy true k (eachOf (k .«map_count») (λ i. getD l i 0)))) (refused Unsupported)
-          ≡ mountChecked (pick t (answered (mountBy false k (eachOf (k .«map_count») (λ i. getD l i 0)))) (refused Unsupported))
+      by : (t : Bool) → pick t (answered (mountFromStarts true k (eachOf (k .«map_count») (λ i. getD l i 0)))) (refused Unsupported)
+          ≡ mountChecked (pick t (answered (mountFromStarts false k (eachOf (k .«map_count») (λ i. getD l i 0)))) (refused Unsupported))
       by true = refl
       by false = refl
 
@@ -138,8 +138,8 @@ module _ (h maps : Bool) (ps : List Parsed) (k : Kept) where
       (by maps (ltb 4 (k .«map_count»)) (ltb (k .«map_table_length») (6 * k .«map_count»)) (ltb 2048 (440 + k .«map_table_length»)) (mountedBy false k (mapStarts (choice h maps false) ps k (k .«map_count»))))
     where
       by : (t a b c : Bool) (x : Outcome Mount)
-          → pick t (pick a (refused Unsupported) (pick b (refused Malformed) (pick c (refused Malformed) (mountChecked x)))) (answered (mountIn true k))
-          ≡ mountChecked (pick t (pick a (refused Unsupported) (pick b (refused Malformed) (pick c (refused Malformed) x))) (answered (mountIn false k)))
+          → pick t (pick a (refused Unsupported) (pick b (refused Malformed) (pick c (refused Malformed) (mountChecked x)))) (answered (plainMount true k))
+          ≡ mountChecked (pick t (pick a (refused Unsupported) (pick b (refused Malformed) (pick c (refused Malformed) x))) (answered (plainMount false k)))
       by false a b c x = refl
       by true true b c x = refl
       by true false true c x = refl

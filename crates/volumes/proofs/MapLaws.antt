@@ -26,7 +26,7 @@ use Rattle.disc.proofs.RefusalLaws.{refusal-numbered}
 use Rattle.disc.proofs.PickLaws.{pick-yes, pick-no, not-both, picked}
 use Rattle.records.specs.Bytes.{byte, u16at}
 use Rattle.volumes.specs.Sequences.{nothing, Parsed, orderOf, wantedOf, keptOf, scan, scannedBy, scannedOf}
-use Rattle.volumes.specs.Openings.{mountIn, mapAt, mapIn, isPlainMap, volumeOfMap, numberOfMap, startOfNumber, startOfMap, startThen, startsFrom, mapStarts, eachOf, fileSetRef, mountBy, mountedBy, mappedMount, mountOf, fileSetIn, noMount}
+use Rattle.volumes.specs.Openings.{plainMount, mapAt, mapIn, isPlainMap, volumeOfMap, numberOfMap, startOfNumber, startOfMap, startThen, startsFrom, mapStarts, eachOf, fileSetRef, mountFromStarts, mountedBy, mappedMount, mountOf, fileSetIn, noMount}
 use Rattle.volumes.specs.inner.Steps.{parsedIn, scannedIn, tabled, wordIn, wordsIn, mountRead, mapStartBy, mapStartsBy}
 use Rattle.volumes.specs.declared.sequences.Kept.{Kept}
 use Rattle.volumes.specs.declared.sequences.Wanted.{Wanted}
@@ -38,7 +38,7 @@ use Rattle.volumes.specs.declared.mounts.MapStarts.{MapStarts}
 use Rattle.volumes.specs.declared.openings.How.{How}
 use Rattle.volumes.specs.Made.{Mapped}
 
--- the return of `mount_in`
+-- the return of `plain_mount`
 pub mount-is : (check : Bool) (k : Kept) {n : ℕ} → n ≡ pick check 1 0
     → record {
       start = k .«partition_start»;
@@ -49,7 +49,7 @@ pub mount-is : (check : Bool) (k : Kept) {n : ℕ} → n ≡ pick check 1 0
       numbers = replicate 4 0;
       starts = replicate 4 0;
     }
-    ≡ mountIn check k
+    ≡ plainMount check k
 mount-is check k e = rw e
 
 -- ---- a map
@@ -177,7 +177,7 @@ mapping-ends {image} {how} {first} {n} {maps} {count} {starts} {i} p h =
 
 -- ---- the mount
 
--- the return of `mount_by`
+-- the return of `mount_from_starts`
 pub mount-by-is : (check : Bool) (k : Kept) (starts : List ℕ) {n : ℕ} {numbers volumes : List ℕ} → n ≡ pick check 1 0 → numbers ≡ wordsIn k 4 → volumes ≡ wordsIn k 2
     → record {
       start = getD starts (fileSetRef k) 0;
@@ -188,7 +188,7 @@ pub mount-by-is : (check : Bool) (k : Kept) (starts : List ℕ) {n : ℕ} {numbe
       numbers = numbers;
       starts = starts;
     }
-    ≡ mountBy check k starts
+    ≡ mountFromStarts check k starts
 mount-by-is check k starts e f g = rw (e, f, g)
 
 -- what the table's answer tells
@@ -252,7 +252,7 @@ module _ (image : List ℕ) (how : How) (k : Kept) (first n : ℕ) {a : ℕ} (e 
           by none g = q
           by (some l) g = rw (le-ltb (fileSetRef k) (k .«map_count») h) q
 
-      pub mapped-is : fileSetRef k < k .«map_count» → {m : Mount} → m ≡ mountBy (how .checked) k (s .starts) → r ≡ record { answer = 0; mount = m }
+      pub mapped-is : fileSetRef k < k .«map_count» → {m : Mount} → m ≡ mountFromStarts (how .checked) k (s .starts) → r ≡ record { answer = 0; mount = m }
           → r ≡ mountRead (mappedMount how (scannedIn image how first n) k)
       mapped-is h {m} g q = rw (tabled-well y) (by (mapStarts how (scannedIn image how first n) k (k .«map_count»)) f)
         where
@@ -260,13 +260,13 @@ module _ (image : List ℕ) (how : How) (k : Kept) (first n : ℕ) {a : ℕ} (e 
           by none w = not-both (sym (ap (λ (x : MapStarts). x .good) w) ∙ u)
           by (some l) w = rw (lt-ltb (fileSetRef k) (k .«map_count») h) (q ∙ rw (g, w))
 
--- the returns of `mount_for`
+-- the returns of `chosen_mount`
 module _ (image : List ℕ) (how : How) (k : Kept) (first n : ℕ) {r : MountRead} where
   pub mount-mapped : how .maps ≡ true → r ≡ mountRead (mappedMount how (scannedIn image how first n) k) → r ≡ mountRead (mountOf how (scannedIn image how first n) k)
   unfolding mountOf
   mount-mapped h q = q ∙ ap mountRead (pick-yes (Outcome Mount) (how .maps) (how .maps) _ _ _ refl h refl)
 
-  pub mount-own : how .maps ≡ false → {m : Mount} → m ≡ mountIn (how .checked) k → r ≡ record { answer = 0; mount = m } → r ≡ mountRead (mountOf how (scannedIn image how first n) k)
+  pub mount-own : how .maps ≡ false → {m : Mount} → m ≡ plainMount (how .checked) k → r ≡ record { answer = 0; mount = m } → r ≡ mountRead (mountOf how (scannedIn image how first n) k)
   unfolding mountOf
   mount-own h e q = q ∙ rw e (ap mountRead (pick-no (Outcome Mount) (how .maps) (how .maps) _ _ _ refl h refl))
 
@@ -292,12 +292,12 @@ mount-refuses P bad other how ps k {r} =
     by none e = is other e
     by (some l) e = past (ltb (fileSetRef k) (k .«map_count»)) e
       where
-        past : (t : Bool) → pick t (answered (mountBy (how .checked) k (eachOf (k .«map_count») (λ i. getD l i 0)))) (refused Unsupported) ≡ refused r → P r
+        past : (t : Bool) → pick t (answered (mountFromStarts (how .checked) k (eachOf (k .«map_count») (λ i. getD l i 0)))) (refused Unsupported) ≡ refused r → P r
         past true e = never (sym e)
         past false e = is other e
 
     chosen : (t a b c : Bool)
-        → pick t (pick a (refused Unsupported) (pick b (refused Malformed) (pick c (refused Malformed) (mountedBy (how .checked) k (mapStarts how ps k (k .«map_count»)))))) (answered (mountIn (how .checked) k)) ≡ refused r
+        → pick t (pick a (refused Unsupported) (pick b (refused Malformed) (pick c (refused Malformed) (mountedBy (how .checked) k (mapStarts how ps k (k .«map_count»)))))) (answered (plainMount (how .checked) k)) ≡ refused r
         → P r
     chosen false a b c e = never (sym e)
     chosen true true b c e = is other e
@@ -308,9 +308,9 @@ mount-refuses P bad other how ps k {r} =
 -- ---- a mount without maps
 
 module _ (how : How) (ps : List Parsed) (k : Kept) where
-  pub unmapped-mount : how .maps ≡ false → mountOf how ps k ≡ answered (mountIn (how .checked) k)
+  pub unmapped-mount : how .maps ≡ false → mountOf how ps k ≡ answered (plainMount (how .checked) k)
   unfolding mountOf
-  unmapped-mount h = sym (pick-no (Outcome Mount) (how .maps) (how .maps) (mappedMount how ps k) (answered (mountIn (how .checked) k)) _ refl h refl)
+  unmapped-mount h = sym (pick-no (Outcome Mount) (how .maps) (how .maps) (mappedMount how ps k) (answered (plainMount (how .checked) k)) _ refl h refl)
 
 -- ---- a mount through the maps
 
@@ -359,7 +359,7 @@ module _ (how : How) (ps : List Parsed) (k : Kept) {m : Mount} where
       at : (i : ℕ) → i < k .«map_count» → Plain how ps (mapIn k i) (getD l i 0)
       at i h = map-plain how ps (mapIn k i) (rw zero-add at (starts-at how ps (k .maps) 0 (k .«map_count») p i h))
 
-      made : fileSetRef k < k .«map_count» → Mapped how ps k (mountBy (how .checked) k (eachOf (k .«map_count») (λ i. getD l i 0)))
+      made : fileSetRef k < k .«map_count» → Mapped how ps k (mountFromStarts (how .checked) k (eachOf (k .«map_count») (λ i. getD l i 0)))
       made r = record {
         counted = refl;
         one = omega arith;
@@ -377,9 +377,9 @@ module _ (how : How) (ps : List Parsed) (k : Kept) {m : Mount} where
       }
 
       by : (t : Bool) → ltb (fileSetRef k) (k .«map_count») ≡ t
-          → pick t (answered (mountBy (how .checked) k (eachOf (k .«map_count») (λ i. getD l i 0)))) (refused Unsupported) ≡ answered m → Mapped how ps k m
+          → pick t (answered (mountFromStarts (how .checked) k (eachOf (k .«map_count») (λ i. getD l i 0)))) (refused Unsupported) ≡ answered m → Mapped how ps k m
       by true q g =
-          let z : mountBy (how .checked) k (eachOf (k .«map_count») (λ i. getD l i 0)) ≡ m = cc in
+          let z : mountFromStarts (how .checked) k (eachOf (k .«map_count») (λ i. getD l i 0)) ≡ m = cc in
           rw (← z) (made (ltb-true (fileSetRef k) (k .«map_count») q))
       by false q g = never g
 
@@ -404,7 +404,7 @@ module _ (how : How) (ps : List Parsed) (k : Kept) {m : Mount} where
     where
       by : (t : Bool) → how .maps ≡ t → m .checked ≡ pick (how .checked) 1 0
       by true h = mapped-mount h e .checked-is
-      by false h = let z : answered m ≡ answered (mountIn (how .checked) k) = sym e ∙ unmapped-mount how ps k h in let w : m ≡ mountIn (how .checked) k = cc in rw w
+      by false h = let z : answered m ≡ answered (plainMount (how .checked) k) = sym e ∙ unmapped-mount how ps k h in let w : m ≡ plainMount (how .checked) k = cc in rw w
 
   -- so the file set descriptor of a volume with maps stands in its map's partition
   pub mapped-stands : Mapped how ps k m → fileSetIn m k ≡ some (m .start + k .«file_set» .location .block)

@@ -26,7 +26,7 @@ use Rattle.volumes.specs.declared.openings.How.{How}
 use Rattle.volumes.specs.declared.openings.VolumeRecord.{VolumeRecord}
 use Rattle.volumes.specs.Sequences.{nothing, Parsed, Order, orderOf, anyPartition, counts, replacing, prevailing, keptOf}
 use Rattle.volumes.specs.Sequences.Parsed.{primary, partition, logical}
-use Rattle.volumes.specs.Openings.{mapAt, mapIn, isPlainMap, numberOfMap, startOfNumber, startOfMap, startThen, startsFrom, mapStarts, eachOf, fileSetRef, mountBy, mountedBy, mappedMount, mountOf, fileSetIn, volumeIn, fileSetAt, fileSetOn, mountingOf, opening}
+use Rattle.volumes.specs.Openings.{mapAt, mapIn, isPlainMap, numberOfMap, startOfNumber, startOfMap, startThen, startsFrom, mapStarts, eachOf, fileSetRef, mountFromStarts, mountedBy, mappedMount, mountOf, fileSetIn, volumeIn, fileSetAt, fileSetOn, mountingOf, opening}
 use Rattle.volumes.specs.Mapping.{isNumbered, anyMap, firstOf, keptChecks, mapChecks, mappedChecks, startOr, fileSetSector, refusalOf, isThere}
 use Rattle.volumes.proofs.MapLaws.{mapped-mount}
 use Rattle.volumes.proofs.Promises.{opening-is, scan-same}
@@ -151,7 +151,7 @@ module _ (how : How) (ps : List Parsed) (k : Kept) where
   past l = by (ltb (fileSetRef k) (k .«map_count»)) refl
     where
       by : (t : Bool) → ltb (fileSetRef k) (k .«map_count») ≡ t
-          → refusalOf (pick t (answered (mountBy (how .checked) k (eachOf (k .«map_count») (λ i. getD l i 0)))) (refused Unsupported)) ≡ pick (leb (k .«map_count») (fileSetRef k)) (some Unsupported) none
+          → refusalOf (pick t (answered (mountFromStarts (how .checked) k (eachOf (k .«map_count») (λ i. getD l i 0)))) (refused Unsupported)) ≡ pick (leb (k .«map_count») (fileSetRef k)) (some Unsupported) none
       by true e = rw (lt-leb (k .«map_count») (fileSetRef k) (ltb-true (fileSetRef k) (k .«map_count») e))
       by false e = rw (le-leb (k .«map_count») (fileSetRef k) (ltb-false (fileSetRef k) (k .«map_count») e))
 

@@ -17,7 +17,7 @@ use Rattle.disc.specs.Ask.Held.{holds, lacks}
 use Rattle.disc.specs.Ask.Outcome.{answered, refused}
 use Rattle.disc.specs.Ran.{Ran, ran, after, onward}
 use Rattle.disc.specs.Images.{disc, heldFrom}
-use Rattle.disc.specs.Places.{standing, Stands}
+use Rattle.disc.specs.Places.{standing, BlockStands}
 use Rattle.disc.specs.declared.places.Mount.{Mount}
 use Rattle.disc.specs.declared.places.Sector.{Sector}
 use Rattle.disc.specs.declared.places.PartitionRef.the-variants.{Named}
@@ -113,7 +113,7 @@ refused-after d r n e q h k =
     rw (e, ran-refuse d r, c, ← q) k
 
 -- where the file set descriptor stands
-module _ (check : Bool) (image : List ℕ) (k : Kept) (m : Mount) (n : ℕ) {p : Placed} (q : Stands m (Named (fileSetRef k)) (k .«file_set» .location .block) p) where
+module _ (check : Bool) (image : List ℕ) (k : Kept) (m : Mount) (n : ℕ) {p : Placed} (q : BlockStands m (Named (fileSetRef k)) (k .«file_set» .location .block) p) where
   pub mount-nowhere : n < 2 ^ 32 → p ≡ Nowhere → {o : Opened} → o ≡ record { answer = 4; count = n; volume = noVolume } → o ≡ openedOf (after n (ran (disc image) (fileSetOn check k m)))
   mount-nowhere few z g = refused-after (disc image) Unsupported n (rw (stands-nowhere m (Named (fileSetRef k)) (k .«file_set» .location .block) q z)) refl few g
 

@@ -34,7 +34,7 @@ use Rattle.descriptors.specs.declared.anchors.AnchorRead.{AnchorRead}
 use Rattle.descriptors.specs.declared.anchors.AnchorRead.the-variants.{Read as AnAnchor, Refused as NoAnchor}
 use Rattle.volumes.specs.Sequences.{nothing, Parsed, Order, latest, highest, orderOf, anyPartition, keptOf}
 use Rattle.volumes.specs.Sequences.Parsed.{primary, partition, logical}
-use Rattle.volumes.specs.Openings.{noVolume, mountIn, startIn, startOfNumber, fileSetRef, mappedMount, mountOf, fileSetIn, volumeIn, fileSetAt, fileSetOn, mountingOf, anchored, opening, openedBy, openedOf}
+use Rattle.volumes.specs.Openings.{noVolume, plainMount, startIn, startOfNumber, fileSetRef, mappedMount, mountOf, fileSetIn, volumeIn, fileSetAt, fileSetOn, mountingOf, anchored, opening, openedBy, openedOf}
 use Rattle.volumes.specs.Labels.{labelOf, labelling}
 use Rattle.volumes.specs.declared.sequences.Kept.{Kept}
 use Rattle.volumes.specs.declared.openings.VolumeRecord.{VolumeRecord}
@@ -158,7 +158,7 @@ module _ (how how′ : How) (ps : List Parsed) (k : Kept) (alike : how .checked 
 
   mount-same : mountOf how ps k ≡ mountOf how′ ps k
   unfolding mountOf
-  mount-same = λ i. pick (mapped i) (mapped-same i) (answered (mountIn (alike i) k))
+  mount-same = λ i. pick (mapped i) (mapped-same i) (answered (plainMount (alike i) k))
 
   mounting-same : mountingOf how ps k ≡ mountingOf how′ ps k
   unfolding mountingOf
@@ -261,13 +261,13 @@ highest-opened check maps d m kind = highest-prevails kind (m .parsed) (m .made 
 -- ---- without maps nothing is changed
 
 module _ (how : How) (h : how .maps ≡ false) where
-  own-file-set : (k : Kept) → fileSetOn (how .checked) k (mountIn (how .checked) k)
-      ≡ pick (eqb (fileSetRef k) (k .«partition_number»)) (ask (k .«partition_start» + k .«file_set» .location .block) (λ b. ended (volumeIn (mountIn (how .checked) k) k (readFileSet (how .checked) b)))) (refuse Unsupported)
+  own-file-set : (k : Kept) → fileSetOn (how .checked) k (plainMount (how .checked) k)
+      ≡ pick (eqb (fileSetRef k) (k .«partition_number»)) (ask (k .«partition_start» + k .«file_set» .location .block) (λ b. ended (volumeIn (plainMount (how .checked) k) k (readFileSet (how .checked) b)))) (refuse Unsupported)
   unfolding placed startFor
   own-file-set k = by (eqb (fileSetRef k) (k .«partition_number»))
     where
-      by : (t : Bool) → standing (crossing (k .«file_set» .location .block) (pick t (some (k .«partition_start»)) none)) (fileSetAt (how .checked) k (mountIn (how .checked) k))
-          ≡ pick t (ask (k .«partition_start» + k .«file_set» .location .block) (λ b. ended (volumeIn (mountIn (how .checked) k) k (readFileSet (how .checked) b)))) (refuse Unsupported)
+      by : (t : Bool) → standing (crossing (k .«file_set» .location .block) (pick t (some (k .«partition_start»)) none)) (fileSetAt (how .checked) k (plainMount (how .checked) k))
+          ≡ pick t (ask (k .«partition_start» + k .«file_set» .location .block) (λ b. ended (volumeIn (plainMount (how .checked) k) k (readFileSet (how .checked) b)))) (refuse Unsupported)
       by true = refl
       by false = refl
 
@@ -279,10 +279,10 @@ module _ (how : How) (h : how .maps ≡ false) where
   opening-unmapped = opening-is how ∙ ap (then (sequence (how .checked))) (fun-ext (λ ps. own-mounting ps (keptOf (orderOf how) anyPartition nothing ps)))
 
   -- the volume's record has no maps
-  pub opened-unmapped : (d : Disc) {v : VolumeRecord} (m : Made d how v) → v .mount ≡ mountIn (how .checked) (keptOf (orderOf how) anyPartition nothing (m .parsed))
+  pub opened-unmapped : (d : Disc) {v : VolumeRecord} (m : Made d how v) → v .mount ≡ plainMount (how .checked) (keptOf (orderOf how) anyPartition nothing (m .parsed))
   opened-unmapped d {v} m =
       let k = keptOf (orderOf how) anyPartition nothing (m .parsed) in
-      let e : answered (v .mount) ≡ answered (mountIn (how .checked) k) = sym (m .made .mounted) ∙ unmapped-mount how (m .parsed) k h in
+      let e : answered (v .mount) ≡ answered (plainMount (how .checked) k) = sym (m .made .mounted) ∙ unmapped-mount how (m .parsed) k h in
       cc
 
 -- ---- through the maps

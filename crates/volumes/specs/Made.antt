@@ -20,7 +20,7 @@ use Rattle.descriptors.specs.FileSets.{readFileSet}
 use Rattle.descriptors.specs.Volumes.{readAnchor}
 use Rattle.descriptors.specs.declared.anchors.AnchorRead.{AnchorRead}
 use Rattle.descriptors.specs.declared.anchors.AnchorRead.the-variants.{Refused as NoAnchor, Read as AnAnchor}
-use Rattle.volumes.specs.Openings.{fileSetRef, startOfNumber, numberOfMap, volumeOfMap, mapIn, isPlainMap, mounting, opening, mountOf, mountIn, volumeIn}
+use Rattle.volumes.specs.Openings.{fileSetRef, startOfNumber, numberOfMap, volumeOfMap, mapIn, isPlainMap, mounting, opening, mountOf, plainMount, volumeIn}
 use Rattle.volumes.specs.Prevailing.{Kind, hasOf, wantedIn, Every}
 use Rattle.volumes.specs.Sequences.{Parsed, scan, keptOf, anyPartition, nothing, orderOf}
 use Rattle.volumes.specs.declared.openings.How.{How}
@@ -96,7 +96,7 @@ ownMounting check k =
     (pick (k .«has_logical»)
     (pick (eqb (k .«block_size») 2048)
     (pick (eqb (fileSetRef k) (k .«partition_number»))
-    (ask (k .«partition_start» + k .«file_set» .location .block) (λ b. ended (volumeIn (mountIn check k) k (readFileSet check b))))
+    (ask (k .«partition_start» + k .«file_set» .location .block) (λ b. ended (volumeIn (plainMount check k) k (readFileSet check b))))
     (refuse Unsupported))
     (refuse Unsupported))
     (refuse NotBluray))

@@ -36,8 +36,8 @@ usual = record { highest = false; checked = false; maps = false }
 -- ---- how the volume is read: `ps` is the list of descriptors that the scan answered, and `k` what was kept of them
 
 -- without maps: where the partition that was kept starts, its number, and whether bodies are checked, which every call on the volume goes by
-abbrev pub mountIn : Bool → Kept → Mount
-mountIn check k = record {
+abbrev pub plainMount : Bool → Kept → Mount
+plainMount check k = record {
   start = k .«partition_start»;
   partition = k .«partition_number»;
   checked = pick check 1 0;
@@ -107,8 +107,8 @@ abbrev pub fileSetRef : Kept → ℕ
 fileSetRef k = k .«file_set» .location .«partition_ref»
 
 -- the mount, by the starts of its maps in their four places: the partition that is its own is that of the file set's map
-abbrev pub mountBy : Bool → Kept → List ℕ → Mount
-mountBy check k starts = record {
+abbrev pub mountFromStarts : Bool → Kept → List ℕ → Mount
+mountFromStarts check k starts = record {
   start = getD starts (fileSetRef k) 0;
   partition = getD (numbersIn k) (fileSetRef k) 0;
   checked = pick check 1 0;
@@ -123,7 +123,7 @@ abbrev pub mountedBy : Bool → Kept → Option (List ℕ) → Outcome Mount
 mountedBy check k none = refused Unsupported
 mountedBy check k (some l) =
     pick (ltb (fileSetRef k) (k .«map_count»))
-    (answered (mountBy check k (eachOf (k .«map_count») (λ i. getD l i 0))))
+    (answered (mountFromStarts check k (eachOf (k .«map_count») (λ i. getD l i 0))))
     (refused Unsupported)
 
 -- more than four maps; six bytes a map that pass the table's length; a table that passes the sector; and then the maps
@@ -136,7 +136,7 @@ mappedMount how ps k =
 
 -- as was chosen: through the maps, or by the partition that was kept, whose number references are then compared with (the original's rule)
 unfoldable pub mountOf : How → List Parsed → Kept → Outcome Mount
-mountOf how ps k = pick (how .maps) (mappedMount how ps k) (answered (mountIn (how .checked) k))
+mountOf how ps k = pick (how .maps) (mappedMount how ps k) (answered (plainMount (how .checked) k))
 
 -- ---- behind the sequence
 

@@ -4,7 +4,7 @@ ghost use mathlib.Core.Bool.{false};
 ghost use mathlib.Core.Option.{none};
 ghost use Prim.Native.Nat.{_≤_, _<_};
 ghost use Rattle.disc.specs.Choice.{pick};
-ghost use Rattle.volumes.specs.Openings.{mountIn, mapAt, isPlainMap, startOfMap, mapStarts, fileSetRef, mountBy, mappedMount, mountOf, noMount};
+ghost use Rattle.volumes.specs.Openings.{plainMount, mapAt, isPlainMap, startOfMap, mapStarts, fileSetRef, mountFromStarts, mappedMount, mountOf, noMount};
 ghost use Rattle.volumes.specs.inner.Steps.{scannedIn, tabled, wordIn, wordsIn, mountRead, mapStartBy, mapStartsBy};
 use crate::openings::How;
 use crate::sequences::Kept;
@@ -69,8 +69,8 @@ fn number_of(check: bool) -> u32
 }
 
 // Without maps: by the partition that was kept, and with bodies checked or not.
-fn mount_in(check: bool, kept: Kept) -> Mount
-    ensures { λ r. ⌜ r ≡ mountIn check kept ⌝ }
+fn plain_mount(check: bool, kept: Kept) -> Mount
+    ensures { λ r. ⌜ r ≡ plainMount check kept ⌝ }
 {
     Mount {
         start: kept.partition_start,
@@ -201,9 +201,9 @@ fn table_answer(kept: Kept) -> u64
 }
 
 // By the starts of the maps: the partition of the file set's map is the mount's own.
-fn mount_by(check: bool, kept: Kept, starts: [u32; 4]) -> Mount
+fn mount_from_starts(check: bool, kept: Kept, starts: [u32; 4]) -> Mount
     requires { ⌜ fileSetRef kept < 4 ⌝ }
-    ensures { λ r. ⌜ r ≡ mountBy check kept starts ⌝ }
+    ensures { λ r. ⌜ r ≡ mountFromStarts check kept starts ⌝ }
 {
     let numbers = map_words(kept, 4);
     let place = kept.file_set.location;
@@ -239,12 +239,12 @@ fn mapped_mount(image: &[u8], how: How, kept: Kept, first: u32, n: u32) -> Mount
     let starts = found.starts;
     MountRead {
         answer: DONE,
-        mount: mount_by(how.checked, kept, starts),
+        mount: mount_from_starts(how.checked, kept, starts),
     }
 }
 
 // How the volume is read, whose sequence was scanned: n sectors from `first` on.
-pub(crate) fn mount_for(image: &[u8], how: How, kept: Kept, first: u32, n: u32) -> MountRead
+pub(crate) fn chosen_mount(image: &[u8], how: How, kept: Kept, first: u32, n: u32) -> MountRead
     ensures { λ r. ⌜ r ≡ mountRead (mountOf how (scannedIn (now (image .entry)) how first n) kept) ⌝ }
 {
     if how.maps {
@@ -252,6 +252,6 @@ pub(crate) fn mount_for(image: &[u8], how: How, kept: Kept, first: u32, n: u32) 
     }
     MountRead {
         answer: DONE,
-        mount: mount_in(how.checked, kept),
+        mount: plain_mount(how.checked, kept),
     }
 }

@@ -6,7 +6,7 @@ ghost use Rattle.disc.specs.Images.{disc};
 ghost use Rattle.descriptors.specs.FileSets.{readFileSet};
 ghost use Rattle.volumes.specs.Openings.{usual, noVolume, volumeIn, fileSetAt, fileSetOn, mountingOf, anchored, opening, openedBy, openedOf};
 ghost use Rattle.volumes.specs.inner.Steps.{mountable, scannedIn};
-use crate::mounts::mount_for;
+use crate::mounts::chosen_mount;
 use crate::mounts::no_mount;
 use crate::sequences::Kept;
 use crate::sequences::Wanted;
@@ -134,7 +134,7 @@ pub fn kept_answer(kept: Kept) -> u64
 }
 
 // The file set descriptor in a sector, `count` sectors having been asked for.
-fn mount_at(
+fn file_set_at(
     check: bool,
     image: &[u8],
     kept: Kept,
@@ -152,19 +152,19 @@ fn mount_at(
 }
 
 // Where the file set descriptor stands, the volume being read so.
-fn mount_on(check: bool, image: &[u8], kept: Kept, mount: Mount, count: u64) -> Opened
+fn file_set_on(check: bool, image: &[u8], kept: Kept, mount: Mount, count: u64) -> Opened
     requires { ⌜ count < 2 ^ 32 ⌝ }
     ensures { λ r. ⌜ r ≡ openedOf (after count (ran (disc (now (image .entry))) (fileSetOn check kept mount))) ⌝ }
 {
     let place = kept.file_set.location;
     match mount.placed(PartitionRef::Named(place.partition_ref), Block(place.block)) {
         Placed::Nowhere => refused(UNSUPPORTED, count),
-        Placed::At(sector) => mount_at(check, image, kept, mount, sector, count),
+        Placed::At(sector) => file_set_at(check, image, kept, mount, sector, count),
     }
 }
 
 // What the descriptors that were kept lead to, of n sectors from `first` on, `count` sectors having been asked for.
-fn mount(image: &[u8], how: How, kept: Kept, first: u32, n: u32, count: u64) -> Opened
+fn open_kept(image: &[u8], how: How, kept: Kept, first: u32, n: u32, count: u64) -> Opened
     requires { ⌜ count < 2 ^ 32 ⌝ }
     ensures { λ r. ⌜ r ≡ openedOf (after count (ran (disc (now (image .entry))) (mountingOf how (scannedIn (now (image .entry)) how first n) kept))) ⌝ }
 {
@@ -172,12 +172,12 @@ fn mount(image: &[u8], how: How, kept: Kept, first: u32, n: u32, count: u64) -> 
     if answer != DONE {
         return refused(answer, count);
     }
-    let read = mount_for(image, how, kept, first, n);
+    let read = chosen_mount(image, how, kept, first, n);
     if read.answer != DONE {
         return refused(read.answer, count);
     }
     let m = read.mount;
-    mount_on(how.checked, image, kept, m, count)
+    file_set_on(how.checked, image, kept, m, count)
 }
 
 // What the anchor leads to.
@@ -193,7 +193,7 @@ fn open_from(image: &[u8], how: How, anchor: AnchorRead) -> Opened
             if scanned.answer != DONE {
                 return refused(scanned.answer, scanned.count + 1);
             }
-            mount(
+            open_kept(
                 image,
                 how,
                 scanned.kept,

@@ -15,19 +15,6 @@ abbrev μ-loop : tie.MeasureT-loop
 pub walk-spec : {M : Type 1} → statement M
 walk-spec =
     tie.close (tie.spec Inv-loop μ-loop
-    (λ c. tt)
-    (λ c κs. search steps)
-    (λ c. search steps)
-    (λ c κs. search steps)
-    (λ c. search steps)
-    (λ c. tt)
-    (λ c. search steps)
-    (λ c κs. search steps)
-    (λ c. search steps)
-    (λ c. search steps)
-    (λ c. search steps)
-    (λ c κs. search steps)
-    (λ c. search steps)
-    (λ c. search steps)
-    (λ c κs. search steps)
-    (λ c. search steps))
+    (λ c. tt) (λ c κs. search steps) (λ c. search steps) (λ c κs. search steps) (λ c. search steps) (λ c. tt) (λ c. search steps)
+    (λ c κs. search steps) (λ c. search steps) (λ c. search steps) (λ c. search steps) (λ c κs. search steps) (λ c. search steps)
+    (λ c. search steps) (λ c κs. search steps) (λ c. search steps))

@@ -9,9 +9,4 @@ pub descriptor-at-spec : {M : Type 1} → statement M
 unfolding descriptorAt
 descriptor-at-spec =
     tie.close (tie.spec
-    (λ c κs. search needs)
-    (λ c. search picks)
-    (λ c κs. search needs)
-    (λ c. search picks)
-    (λ c κs. search needs)
-    (λ c. search picks))
+    (λ c κs. search needs) (λ c. search picks) (λ c κs. search needs) (λ c. search picks) (λ c κs. search needs) (λ c. search picks))

@@ -8,7 +8,4 @@ pub descriptor-of-spec : {M : Type 1} → statement M
 unfolding descriptorOf
 descriptor-of-spec =
     tie.close (tie.spec
-    (λ c. search picks)
-    (λ c. search picks)
-    (λ c. search picks)
-    (λ c. search picks))
+    (λ c. search picks) (λ c. search picks) (λ c. search picks) (λ c. search picks))

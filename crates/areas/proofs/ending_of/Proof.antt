@@ -15,14 +15,5 @@ abbrev μ-loop : tie.MeasureT-loop
 pub ending-of-spec : {M : Type 1} → statement M
 ending-of-spec =
     tie.close (tie.spec Inv-loop μ-loop
-    (λ c. search aheads)
-    (λ c κs. search aheads)
-    (λ c. search aheads)
-    (λ c. search aheads)
-    (λ c. search aheads)
-    (λ c. search aheads)
-    (λ c. search aheads)
-    (λ c. search aheads)
-    (λ c. search aheads)
-    (λ c. search aheads)
-    (λ c. search aheads))
+    (λ c. search aheads) (λ c κs. search aheads) (λ c. search aheads) (λ c. search aheads) (λ c. search aheads) (λ c. search aheads)
+    (λ c. search aheads) (λ c. search aheads) (λ c. search aheads) (λ c. search aheads) (λ c. search aheads))

@@ -8,6 +8,5 @@ use Rattle.areas.proofs.ext_descriptor.Tie as tie
 pub ext-descriptor-spec : {M : Type 1} → statement M
 ext-descriptor-spec =
     tie.close (tie.spec
-    (λ c κs. search needs)
-    (λ c κs. search needs)
+    (λ c κs. search needs) (λ c κs. search needs)
     (λ c. c .descriptor-of .ensures ∙ ap extDescriptor (c .before .before .ext-at .ensures)))

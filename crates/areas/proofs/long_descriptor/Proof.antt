@@ -8,6 +8,5 @@ use Rattle.areas.proofs.long_descriptor.Tie as tie
 pub long-descriptor-spec : {M : Type 1} → statement M
 long-descriptor-spec =
     tie.close (tie.spec
-    (λ c κs. search needs)
-    (λ c κs. search needs)
+    (λ c κs. search needs) (λ c κs. search needs)
     (λ c. c .descriptor-of .ensures ∙ ap longDescriptor (c .before .long-at .ensures)))

@@ -10,16 +10,6 @@ ruleset nexts = (next-short, next-past, next-stop, next-data, next-continued, ne
 pub next-ad-spec : {M : Type 1} → statement M
 next-ad-spec =
     tie.close (tie.spec
-    (λ c κs. search needs)
-    (λ c. search nexts)
-    (λ c. search nexts)
-    (λ c κs. search needs)
-    (λ c. search needs)
-    (λ c. search needs)
+    (λ c κs. search needs) (λ c. search nexts) (λ c. search nexts) (λ c κs. search needs) (λ c. search needs) (λ c. search needs)
     (λ c. omega (arith, small-size _ (c .before .before .before .before .before .before .size-of .ensures)))
-    (λ c. search needs)
-    (λ c. search needs)
-    (λ c. search nexts)
-    (λ c. search nexts)
-    (λ c. search nexts)
-    (λ c. search nexts))
+    (λ c. search needs) (λ c. search needs) (λ c. search nexts) (λ c. search nexts) (λ c. search nexts) (λ c. search nexts))

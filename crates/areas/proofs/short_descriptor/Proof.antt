@@ -8,6 +8,5 @@ use Rattle.areas.proofs.short_descriptor.Tie as tie
 pub short-descriptor-spec : {M : Type 1} → statement M
 short-descriptor-spec =
     tie.close (tie.spec
-    (λ c κs. search needs)
-    (λ c κs. search needs)
+    (λ c κs. search needs) (λ c κs. search needs)
     (λ c. c .descriptor-of .ensures ∙ ap shortDescriptor (c .before .short-at .ensures)))

@@ -16,12 +16,5 @@ pub pattern-spec : {M : Type 1} → statement M
 pattern-spec =
     tie.close (tie.spec Inv-loop μ-loop
     (λ c. sym (length-replicate {A = ℕ} 4100 0))
-    (λ c. search needs)
-    (λ c. search needs)
-    (λ c. search needs)
-    (λ c. search needs)
-    (λ c. search needs)
-    (λ c. search needs)
-    (λ c. search needs)
-    (λ c. search needs)
-    (λ c. search needs))
+    (λ c. search needs) (λ c. search needs) (λ c. search needs) (λ c. search needs) (λ c. search needs) (λ c. search needs)
+    (λ c. search needs) (λ c. search needs) (λ c. search needs))

@@ -8,5 +8,4 @@ pub crc-spec : {M : Type 1} → statement M
 unfolding crcOf
 crc-spec =
     tie.close (tie.spec
-    (λ c κs. search needs)
-    (λ c. search needs))
+    (λ c κs. search needs) (λ c. search needs))

@@ -9,7 +9,4 @@ ruleset steps = (out-byte, out-fits, table-step, needs)
 pub take-byte-spec : {M : Type 1} → statement M
 take-byte-spec =
     tie.close (tie.spec
-    (λ c. search needs)
-    (λ c. search steps)
-    (λ c. search steps)
-    (λ c. search steps))
+    (λ c. search needs) (λ c. search steps) (λ c. search steps) (λ c. search steps))

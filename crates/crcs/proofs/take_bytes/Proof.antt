@@ -17,11 +17,5 @@ abbrev μ-loop : tie.MeasureT-loop
 pub take-bytes-spec : {M : Type 1} → statement M
 take-bytes-spec =
     tie.close (tie.spec Inv-loop μ-loop
-    (λ c. search bytes)
-    (λ c. search needs)
-    (λ c κs. search bytes)
-    (λ c. search needs)
-    (λ c. search needs)
-    (λ c. search bytes)
-    (λ c. search bytes)
-    (λ c. search bytes))
+    (λ c. search bytes) (λ c. search needs) (λ c κs. search bytes) (λ c. search needs) (λ c. search needs) (λ c. search bytes)
+    (λ c. search bytes) (λ c. search bytes))

@@ -11,25 +11,25 @@ use Rattle.disc.specs.Counts.{reported}
 use Rattle.disc.specs.Ran.{Ran}
 use Rattle.disc.specs.declared.replies.Reply.{Reply}
 use Rattle.cue_stacks.specs.Stacks.{items, Stack, stacked, Stacked, laid}
-use Rattle.cue_stacks.specs.declared.stacks.Place.{Place}
+use Rattle.cue_stacks.specs.declared.stacks.ItemPlace.{ItemPlace}
 
 -- whether the item that ends at `end`, with which so many places are taken, is the last one that is read
 unfoldable pub isLast : ℕ → ℕ → ℕ → ℕ → Bool
 isLast bytes rows end places = leb bytes end || leb rows places
 
 -- the place behind an item that ends at `end` and was answered so, in a list of so many bytes; `rows` is how many places the shorter row has
-unfoldable pub placeBehind : ℕ → ℕ → Place → ℕ → Reply → Place
+unfoldable pub placeBehind : ℕ → ℕ → ItemPlace → ℕ → Reply → ItemPlace
 placeBehind bytes rows p end reply =
     pick (isLast bytes rows end (p .places + 1))
     (record { going = false; from = end; places = p .places + 1; filled = p .filled + reply .length; count = reported (p .count + reply .count) })
     (record { going = true; from = end + 1; places = p .places + 1; filled = p .filled + reply .length; count = reported (p .count + reply .count) })
 
 -- the items that are yet to be read
-unfoldable pub itemsAt : List ℕ → Place → List (List ℕ)
+unfoldable pub itemsAt : List ℕ → ItemPlace → List (List ℕ)
 itemsAt paths p = pick (p .going) (items (drop (p .from) paths)) []
 
 -- what the call leaves once a stack is laid behind what the items before it took
-abbrev pub laidAt : Place → List ℕ → List ℕ → List ℕ → Stack → Stacked
+abbrev pub laidAt : ItemPlace → List ℕ → List ℕ → List ℕ → Stack → Stacked
 laidAt p out lengths answers s = record {
   reply = record { answer = 0; count = reported (p .count + s .count); length = p .filled + s .filled };
   out = take (p .filled) out ++ s .out;
@@ -38,11 +38,11 @@ laidAt p out lengths answers s = record {
 }
 
 -- what a place leads to: the rest is read into the room behind what is filled
-unfoldable pub leadsTo : (List ℕ → Ran (List ℕ)) → List ℕ → Place → List ℕ → List ℕ → List ℕ → Stacked
+unfoldable pub leadsTo : (List ℕ → Ran (List ℕ)) → List ℕ → ItemPlace → List ℕ → List ℕ → List ℕ → Stacked
 leadsTo read paths p out lengths answers = laidAt p out lengths answers (stacked read (drop (p .filled) out) (itemsAt paths p))
 
 -- before the first item
-abbrev pub start : Place
+abbrev pub start : ItemPlace
 start = record { going = true; from = 0; places = 0; filled = 0; count = 0 }
 
 -- what the call leaves where there is a place for each item
@@ -50,22 +50,22 @@ abbrev pub allRead : (List ℕ → Ran (List ℕ)) → List ℕ → List ℕ →
 allRead read paths out lengths answers = laid lengths answers (stacked read out (items paths))
 
 -- the place is inside what was lent, whatever the paths say
-pub record On (bytes out rows : ℕ) (p : Place) : Type 0 where
+pub record On (bytes out rows : ℕ) (p : ItemPlace) : Type 0 where
   pub within : p .from ≤ bytes
   pub room : p .filled ≤ out
   pub placed : p .going ≡ true → p .places < rows
   pub counted : p .count ≤ 0xffff_ffff_ffff_ffff
 
 -- both rows have a place for each item that is left
-abbrev pub Enough : List ℕ → ℕ → Place → Type 0
+abbrev pub Enough : List ℕ → ℕ → ItemPlace → Type 0
 Enough paths rows p = p .places + length (itemsAt paths p) ≤ rows
 
 -- how far it is to the end
-abbrev pub turnsLeft : ℕ → Place → ℕ
+abbrev pub turnsLeft : ℕ → ItemPlace → ℕ
 turnsLeft bytes p = pick (p .going) (1 + (bytes - p .from)) 0
 
 -- one item read: a place nearer the end, inside what was lent. It leads to the same where there are places enough.
-pub record Turns (read : List ℕ → Ran (List ℕ)) (paths : List ℕ) (p : Place) (out lengths answers : List ℕ) (q : Place) (out′ lengths′ answers′ : List ℕ) : Type 0 where
+pub record Turns (read : List ℕ → Ran (List ℕ)) (paths : List ℕ) (p : ItemPlace) (out lengths answers : List ℕ) (q : ItemPlace) (out′ lengths′ answers′ : List ℕ) : Type 0 where
   pub on : On (length paths) (length out) (min (length lengths) (length answers)) q
   pub out-long : length out′ ≡ length out
   pub lengths-long : length lengths′ ≡ length lengths

@@ -8,12 +8,8 @@ use Rattle.drive_cases.proofs.read_within.Tie as tie
 pub read-within-spec : {M : Type 1} → statement M
 read-within-spec =
     tie.close (tie.spec
-    (λ c κs. search needs)
-    (λ c κs. search needs)
-    (λ c. search needs)
+    (λ c κs. search needs) (λ c κs. search needs) (λ c. search needs)
     (λ c. simp length-take (omega arith))
     (λ c. search needs)
     (λ c. simp length-take (omega arith))
-    (λ c κs. search needs)
-    (λ c. search needs)
-    (λ c. search needs))
+    (λ c κs. search needs) (λ c. search needs) (λ c. search needs))

@@ -8,9 +8,6 @@ use Rattle.drive_cases.proofs.say_call.Tie as tie
 pub say-call-spec : {M : Type 1} → statement M
 say-call-spec =
     tie.close (tie.spec
-    (λ c κs. search needs)
-    (λ c. search needs)
+    (λ c κs. search needs) (λ c. search needs)
     (λ c. simp length-take (omega arith))
-    (λ c κs. search needs)
-    (λ c. search needs)
-    (λ c. search needs))
+    (λ c κs. search needs) (λ c. search needs) (λ c. search needs))

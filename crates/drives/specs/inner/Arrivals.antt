@@ -15,7 +15,7 @@ use Rattle.drives.specs.Feeds.{Feed, following, settledIn}
 use Rattle.drives.specs.Feeds.Feed.{over, put}
 use Rattle.drives.specs.FileFeeds.{extentFeed, entryFeed}
 use Rattle.drives.specs.Readings.{behindExtent, isWanting, Goes}
-use Rattle.drives.specs.inner.Turns.{Stands}
+use Rattle.drives.specs.inner.Turns.{ReadingStands}
 use Rattle.drives.specs.inner.Bodies.{noBody, headBehind, partBehind}
 use Rattle.drives.specs.inner.Scans.{begun}
 use Rattle.drives.specs.declared.readings.Reading.{Reading}
@@ -86,4 +86,4 @@ filledBy r n = record {
 
 -- behind the bytes of a sector of an extent
 pub record Nexts (r : Reading) (row : List (List ℕ)) (here : ℕ) (x y : Reading) : Type 0 where
-  pub stands : (b : List ℕ) → length b ≡ 2048 → Stands row (bytesBehind r row b) x y
+  pub stands : (b : List ℕ) → length b ≡ 2048 → ReadingStands row (bytesBehind r row b) x y

@@ -21,7 +21,7 @@ use Rattle.drives.specs.Readings.{referenceIn, extentIn, extentsIn, isWa
 use Rattle.drives.specs.Beginnings.{endedWith}
 use Rattle.drives.specs.declared.scans.Scan.{Scan}
 use Rattle.drives.specs.declared.readings.Reading.{Reading}
-use Rattle.drives.specs.declared.turns.Entered.{Entered}
+use Rattle.drives.specs.declared.turns.ExtentTurn.{ExtentTurn}
 
 -- a state that has ended
 pub record Ends (r : Reading) (number : ℕ) (r′ : Reading) : Type 0 where
@@ -36,7 +36,7 @@ abbrev pub quiet : Feed → Settled
 quiet f = record { bytes = []; rest = f }
 
 -- a state that stands for what is left of a read, with no byte put meanwhile
-pub record Stands (row : List (List ℕ)) (f : Feed) (r r′ : Reading) : Type 0 where
+pub record ReadingStands (row : List (List ℕ)) (f : Feed) (r r′ : Reading) : Type 0 where
   pub left : (room : ℕ) → settledIn false (length row) room f ≡ quiet (leftOf r′ row)
   pub answer : r′ .answer ≡ numberOf (leftOf r′ row)
   pub count : r′ .count ≡ r .count
@@ -48,17 +48,17 @@ abbrev pub extentsBehind : Reading → List (List ℕ) → ℕ → ℕ → Feed
 extentsBehind r row next left = pick (leb left 0) over (extentsFeed (r .mount) (drop next (extentsIn row (r .scan .listed))) left)
 
 -- an extent: it is passed over, for it has no byte, or the read goes on there
-pub record Enters (r : Reading) (w : List ℕ) (next : ℕ) (e : Entered) : Type 0 where
+pub record Enters (r : Reading) (w : List ℕ) (next : ℕ) (e : ExtentTurn) : Type 0 where
   pub passes : e .skips ≡ true → (es : List AllocExtent) → extentsFeed (r .mount) (extentIn w ∷ es) (r .missing) ≡ extentsFeed (r .mount) es (r .missing)
   pub stands : e .skips ≡ false → (row : List (List ℕ))
-      → Stands row (extentsFeed (r .mount) (extentIn w ∷ drop next (extentsIn row (r .scan .listed))) (r .missing)) r (e .reading)
+      → ReadingStands row (extentsFeed (r .mount) (extentIn w ∷ drop next (extentsIn row (r .scan .listed))) (r .missing)) r (e .reading)
 
 -- an extent from a sector on, and what follows it
-pub record EntersAt (r : Reading) (at size next : ℕ) (e : Entered) : Type 0 where
+pub record EntersAt (r : Reading) (at size next : ℕ) (e : ExtentTurn) : Type 0 where
   pub passes : e .skips ≡ true → (f : ℕ → Feed) → extentFeed (sectorsFor size) at size (r .missing) f ≡ f (r .missing)
   pub misses : e .skips ≡ true → r .missing ≡ 0 → ⊥
   pub stands : e .skips ≡ false → (row : List (List ℕ))
-      → Stands row (extentFeed (sectorsFor size) at size (r .missing) (extentsBehind r row next)) r (e .reading)
+      → ReadingStands row (extentFeed (sectorsFor size) at size (r .missing) (extentsBehind r row next)) r (e .reading)
 
 -- the continuation of an area that was accepted
 abbrev pub continuing : Mount → ℕ → ℕ → ℕ → List AllocExtent → AdContinuation → Feed
@@ -69,9 +69,9 @@ abbrev pub nextOf : Scan → AdContinuation
 nextOf s = continuation (s .«next_length») (record { 0 = s .«next_block» }) (referenceIn (s .«next_reference»))
 
 pub record Chains (r x : Reading) : Type 0 where
-  pub stands : (row : List (List ℕ)) → Stands row (continuing (r .mount) (r .kind) (r .hops) (r .missing) (extentsIn row (r .scan .listed)) (nextOf (r .scan))) r x
+  pub stands : (row : List (List ℕ)) → ReadingStands row (continuing (r .mount) (r .kind) (r .hops) (r .missing) (extentsIn row (r .scan .listed)) (nextOf (r .scan))) r x
 
 -- from a sector on
 pub record ContinuesAt (r : Reading) (at size : ℕ) (x : Reading) : Type 0 where
   pub stands : (row : List (List ℕ))
-      → Stands row (naming (namedBy (r .kind) size (extentsIn row (r .scan .listed))) (areaFrom (isChecked (r .mount)) (r .kind) size at) (λ y. chainFeed (r .mount) (r .kind) (r .hops - 1) (r .missing) (joined (extentsIn row (r .scan .listed)) y) (y .ending))) r x
+      → ReadingStands row (naming (namedBy (r .kind) size (extentsIn row (r .scan .listed))) (areaFrom (isChecked (r .mount)) (r .kind) size at) (λ y. chainFeed (r .mount) (r .kind) (r .hops - 1) (r .missing) (joined (extentsIn row (r .scan .listed)) y) (y .ending))) r x

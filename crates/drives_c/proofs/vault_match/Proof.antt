@@ -7,6 +7,5 @@ use Rattle.drives_c.proofs.vault_match.Tie as tie
 pub vault-match-spec : {M : Type 1} → statement M
 vault-match-spec =
     tie.close (tie.spec
-    (λ c κs. search needs)
-    (λ c κs. search needs)
+    (λ c κs. search needs) (λ c κs. search needs)
     (λ c. search (named-by, needs)))

@@ -8,6 +8,5 @@ pub add-directory-spec : {M : Type 1} → statement M
 add-directory-spec =
     tie.close (tie.spec
     (λ c. no-directory (c .if1 .taken))
-    (λ c κs. search needs)
-    (λ c. search needs)
+    (λ c κs. search needs) (λ c. search needs)
     (λ c. directory-placed _ (c .before .before .before .before .if1 .left) (c .before .before .add-sum .ensures)))

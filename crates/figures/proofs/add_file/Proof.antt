@@ -15,9 +15,7 @@ pub add-file-spec : {M : Type 1} → statement M
 add-file-spec =
     tie.close (tie.spec
     kept
-    (λ c κs. search needs)
-    (λ c κs. search needs)
-    (λ c. search needs)
+    (λ c κs. search needs) (λ c κs. search needs) (λ c. search needs)
     (λ c.
     let sizes = c .before .before in
     rw (← sizes .before .before .lesser .ensures) (sizes .add-sizes .ensures)))

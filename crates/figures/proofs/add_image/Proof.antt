@@ -10,11 +10,7 @@ pub add-image-spec : {M : Type 1} → statement M
 add-image-spec =
     tie.close (tie.spec
     (λ c. no-image (c .if1 .taken) (min (c .before .before .args .answer) 16))
-    (λ c κs. search needs)
-    (λ c. search needs)
-    (λ c. search needs)
-    (λ c κs. search needs)
-    (λ c. search needs)
+    (λ c κs. search needs) (λ c. search needs) (λ c. search needs) (λ c κs. search needs) (λ c. search needs)
     (λ c.
     let added = c .before .before in
     let under = added .before .before .lesser .ensures in

@@ -16,12 +16,5 @@ abbrev μ-loop : tie.MeasureT-loop
 pub add-places-spec : {M : Type 1} → statement M
 add-places-spec =
     tie.close (tie.spec Inv-loop μ-loop
-    (λ c. search totals)
-    (λ c. search totals)
-    (λ c. search totals)
-    (λ c κs. search totals)
-    (λ c. search totals)
-    (λ c. search totals)
-    (λ c. search totals)
-    (λ c. search totals)
-    (λ c. search totals))
+    (λ c. search totals) (λ c. search totals) (λ c. search totals) (λ c κs. search totals) (λ c. search totals) (λ c. search totals)
+    (λ c. search totals) (λ c. search totals) (λ c. search totals))

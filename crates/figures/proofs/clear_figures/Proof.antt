@@ -17,11 +17,5 @@ abbrev μ-loop : tie.MeasureT-loop
 pub clear-figures-spec : {M : Type 1} → statement M
 clear-figures-spec =
     tie.close (tie.spec Inv-loop μ-loop
-    (λ c. search clears)
-    (λ c. search clears)
-    (λ c. search clears)
-    (λ c. search clears)
-    (λ c. search clears)
-    (λ c. search clears)
-    (λ c. search clears)
-    (λ c. search clears))
+    (λ c. search clears) (λ c. search clears) (λ c. search clears) (λ c. search clears) (λ c. search clears) (λ c. search clears)
+    (λ c. search clears) (λ c. search clears))

@@ -9,7 +9,4 @@ ruleset longers = (longer-over, longer-more-over, longer-fits, needs)
 pub longer-spec : {M : Type 1} → statement M
 longer-spec =
     tie.close (tie.spec
-    (λ c. search longers)
-    (λ c. search longers)
-    (λ c κs. search longers)
-    (λ c. search longers))
+    (λ c. search longers) (λ c. search longers) (λ c κs. search longers) (λ c. search longers))

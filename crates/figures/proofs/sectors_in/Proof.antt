@@ -10,5 +10,4 @@ pub sectors-in-spec : {M : Type 1} → statement M
 sectors-in-spec =
     tie.close (tie.spec
     (λ c. sym (List·getD-eq-default (now (c .before .args .place)) 0 (c .if1 .taken)))
-    (λ c. search needs)
-    (λ c. search needs))
+    (λ c. search needs) (λ c. search needs))

@@ -9,9 +9,4 @@ ruleset sums = (sum-over, sum-more-over, sum-passes, sum-fits, needs)
 pub sum-spec : {M : Type 1} → statement M
 sum-spec =
     tie.close (tie.spec
-    (λ c. search sums)
-    (λ c. search sums)
-    (λ c. search needs)
-    (λ c. search sums)
-    (λ c. search needs)
-    (λ c. search sums))
+    (λ c. search sums) (λ c. search sums) (λ c. search needs) (λ c. search sums) (λ c. search needs) (λ c. search sums))

@@ -3,7 +3,7 @@ use Prim.Native.Nat.{ℕ}
 use mathlib.Core.Option.{Option, none, some}
 use Rattle.disc.specs.Refusals.{number}
 use Rattle.disc.specs.Replies.{Answer}
-use Rattle.files.specs.declared.icbs.Place.{Place}
+use Rattle.files.specs.declared.icbs.FilePlace.{FilePlace}
 use Rattle.files.specs.declared.icbs.PlaceRead.{PlaceRead}
 use Rattle.files.specs.declared.icbs.PlaceRead.the-variants.{Found, Refused}
 use Rattle.files.specs.declared.resolves.Resolved.{Resolved}
@@ -11,7 +11,7 @@ use Rattle.files.specs.declared.resolves.Resolved.the-variants.{Embedded
 
 -- where a file's entry leads, and how many sectors were asked for
 pub record Led : Type 0 where
-  pub place : Option Place
+  pub place : Option FilePlace
   pub sectors : ℕ
 
 abbrev pub placeAnswer : PlaceRead → Answer Led

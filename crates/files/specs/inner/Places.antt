@@ -10,12 +10,12 @@ use Rattle.disc.specs.declared.places.Mount.{Mount}
 use Rattle.records.specs.declared.allocations.LongAd.{LongAd}
 use Rattle.entries.specs.declared.«file_entries».FileEntry.{FileEntry}
 use Rattle.files.specs.Files.{Located, entryIn, entryAt}
-use Rattle.files.specs.declared.icbs.Place.{Place}
+use Rattle.files.specs.declared.icbs.FilePlace.{FilePlace}
 use Rattle.files.specs.declared.icbs.PlaceRead.{PlaceRead}
 use Rattle.files.specs.declared.icbs.PlaceRead.the-variants.{Found, Refused}
 
 -- an entry in a sector that stands at `from`: its area, or the file itself, is counted from the image's start
-abbrev pub placeAt : ℕ → FileEntry → Place
+abbrev pub placeAt : ℕ → FileEntry → FilePlace
 placeAt from e = record { kind = e .kind; information = e .«information_length»; at = from + e .«area_at»; size = e .«area_length» }
 
 abbrev pub placeBy : Outcome Located → ℕ → PlaceRead

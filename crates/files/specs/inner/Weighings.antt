@@ -16,7 +16,7 @@ use Rattle.files.specs.Files.{fileBytes, fileExtents, fileHops}
 use Rattle.files.specs.Sizes.{lengthIn, numberIn, sizesBy}
 use Rattle.files.specs.inner.Pieces.{restAt}
 use Rattle.files.specs.inner.Wholes.{frontOf}
-use Rattle.files.specs.declared.icbs.Place.{Place}
+use Rattle.files.specs.declared.icbs.FilePlace.{FilePlace}
 use Rattle.files.specs.declared.sizes.FileSizes.{FileSizes}
 use Rattle.files.specs.declared.sizes.Weighing.{Weighing}
 
@@ -34,7 +34,7 @@ pub record Weighs (image : List ℕ) (r : Ran (List ℕ)) (extents hops : ℕ) (
   pub rest : (k : Counted) → Counts image (w .mount) (w .kind) (w .behind) k → sizedWith w k ≡ sizesBy (measuredOf r) (r .outcome) extents hops
   pub room : w .visits + weight (w .behind) ≤ mostContinuations * 2 ^ 32 + 2048
 
-abbrev pub WeighsChain : List ℕ → Mount → Place → ℕ → Weighing → Type 0
+abbrev pub WeighsChain : List ℕ → Mount → FilePlace → ℕ → Weighing → Type 0
 WeighsChain image m p n w =
     Weighs image (after n (restAt image m (p .kind) (frontOf p) (p .information))) (length (left image m (p .kind) (frontOf p))) (hopsAt image m (p .kind) (frontOf p)) w
 

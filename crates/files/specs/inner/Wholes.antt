@@ -21,7 +21,7 @@ use Rattle.chains.specs.declared.cursors.ChainCursor.{ChainCursor}
 use Rattle.files.specs.Files.{Located, entryAt, entryMount, embeddedBytes, fileAt, fileHops}
 use Rattle.files.specs.Files.File.{embedded, chained}
 use Rattle.files.specs.inner.Places.{placeAt}
-use Rattle.files.specs.declared.icbs.Place.{Place}
+use Rattle.files.specs.declared.icbs.FilePlace.{FilePlace}
 use Rattle.files.specs.declared.icbs.PlaceRead.{PlaceRead}
 use Rattle.files.specs.declared.icbs.PlaceRead.the-variants.{Found, Refused}
 use Rattle.files.specs.declared.resolves.Resolved.{Resolved}
@@ -36,18 +36,18 @@ unfoldable pub placeIn : Bool → List ℕ → ℕ → PlaceRead
 placeIn check s from = readBy from (readEntry check s)
 
 -- the bytes that stand in the entry itself
-abbrev pub embeddedIn : List ℕ → Place → List ℕ
+abbrev pub embeddedIn : List ℕ → FilePlace → List ℕ
 embeddedIn image p = take (min (p .size) (p .information)) (drop (p .at) image)
 
-abbrev pub embeddedRun : List ℕ → Place → Ran (List ℕ)
+abbrev pub embeddedRun : List ℕ → FilePlace → Ran (List ℕ)
 embeddedRun image p = record { outcome = answered (embeddedIn image p); count = 1 }
 
 -- the cursor at the front of the chain
-abbrev pub frontOf : Place → ChainCursor
+abbrev pub frontOf : FilePlace → ChainCursor
 frontOf p = record { at = p .at; left = p .size; hops = mostContinuations }
 
 -- an entry that a tree found, and where what stands in its sector stands in the image
-pub record FoundPlace (image : List ℕ) (t : Ask Located) (p : Place) : Type 0 where
+pub record FoundPlace (image : List ℕ) (t : Ask Located) (p : FilePlace) : Type 0 where
   pub entry : Located
   pub runs : ran (disc image) t ≡ record { outcome = answered entry; count = 1 }
   pub is : p ≡ placeAt (2048 * entry .at) (entry .entry)
@@ -64,7 +64,7 @@ abbrev pub Locates : List ℕ → Mount → LongAd → PlaceRead → Type 0
 Locates image m icb r = Finds image (entryAt m icb) r
 
 -- a file whose entry and chain were read: the chain as the entry's own descriptors are
-pub record EmbeddedFile (image : List ℕ) (m : Mount) (icb : LongAd) (p : Place) : Type 0 where
+pub record EmbeddedFile (image : List ℕ) (m : Mount) (icb : LongAd) (p : FilePlace) : Type 0 where
   pub entry : Located
   pub runs : ran (disc image) (fileAt m icb) ≡ record { outcome = answered (embedded entry); count = 1 }
   pub is : p ≡ placeAt (2048 * entry .at) (entry .entry)
@@ -72,7 +72,7 @@ pub record EmbeddedFile (image : List ℕ) (m : Mount) (icb : LongAd) (p : Place
   pub inside : p .at + p .size ≤ length image
   pub hops : ran (disc image) (fileHops m icb) .outcome ≡ answered 0
 
-pub record ChainedFile (image : List ℕ) (m : Mount) (icb : LongAd) (p : Place) (n : ℕ) : Type 0 where
+pub record ChainedFile (image : List ℕ) (m : Mount) (icb : LongAd) (p : FilePlace) (n : ℕ) : Type 0 where
   pub entry : Located
   pub runs : ran (disc image) (fileAt m icb) ≡ record { outcome = answered (chained entry (left image (entryMount m icb) (p .kind) (frontOf p))); count = n }
   pub is : p ≡ placeAt (2048 * entry .at) (entry .entry)

@@ -9,9 +9,4 @@ ruleset sizes = (sized-not, sized-whole, needs)
 pub identifier-sized-spec : {M : Type 1} → statement M
 identifier-sized-spec =
     tie.close (tie.spec
-    (λ c. search needs)
-    (λ c κs. search needs)
-    (λ c. search needs)
-    (λ c κs. search needs)
-    (λ c. search sizes)
-    (λ c. search sizes))
+    (λ c. search needs) (λ c κs. search needs) (λ c. search needs) (λ c κs. search needs) (λ c. search sizes) (λ c. search sizes))

@@ -9,7 +9,4 @@ ruleset ats = (at-is, needs)
 pub name-at-spec : {M : Type 1} → statement M
 name-at-spec =
     tie.close (tie.spec
-    (λ c κs. search needs)
-    (λ c. search needs)
-    (λ c. search needs)
-    (λ c. search ats))
+    (λ c κs. search needs) (λ c. search needs) (λ c. search needs) (λ c. search ats))

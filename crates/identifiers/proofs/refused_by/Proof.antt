@@ -6,7 +6,5 @@ use Rattle.identifiers.proofs.refused_by.Tie as tie
 pub refused-by-spec : {M : Type 1} → statement M
 refused-by-spec =
     tie.close (tie.spec
-    (λ c κs. search needs)
-    (λ c κs. search needs)
-    (λ c κs. search needs)
+    (λ c κs. search needs) (λ c κs. search needs) (λ c κs. search needs)
     (λ c. cc))

@@ -29,13 +29,13 @@ pub record Front (image : List ℕ) (e : AllocExtent) (es : List AllocExtent) (l
   pub behind : left image (l .mount) (l .kind) (l .behind) ≡ es
 
 -- a listing where es are left, if any
-pub record Stands (image : List ℕ) (es : List AllocExtent) (reply : Reply) (l : Listing) : Type 0 where
+pub record ListStands (image : List ℕ) (es : List AllocExtent) (reply : Reply) (l : Listing) : Type 0 where
   pub same : l .reply ≡ reply
   pub next : (e : AllocExtent) (rest : List AllocExtent) → es ≡ e ∷ rest → Front image e rest l
 
 -- the listing of a call whose run is r, before any extent is stored
 abbrev pub Planned : List ℕ → Ran (List AllocExtent) → ℕ → Listing → Type 0
-Planned image r room l = Stands image (storedOf room (r .outcome)) (replyOf NoSlot room r) l
+Planned image r room l = ListStands image (storedOf room (r .outcome)) (replyOf NoSlot room r) l
 
 -- what a chain that is whole comes to, after n sectors
 abbrev pub listedRun : List ℕ → Mount → ℕ → ChainCursor → ℕ → Ran (List AllocExtent)

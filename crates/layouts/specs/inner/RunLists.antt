@@ -17,7 +17,7 @@ use Rattle.chains.specs.declared.cursors.ChainCursor.{ChainCursor}
 use Rattle.files.specs.inner.Passes.{Came, sized}
 use Rattle.files.specs.inner.Passes.Came.{comes, stops}
 use Rattle.files.specs.inner.Wholes.{frontOf}
-use Rattle.files.specs.declared.icbs.Place.{Place}
+use Rattle.files.specs.declared.icbs.FilePlace.{FilePlace}
 use Rattle.layouts.specs.declared.runs.Run.{Run}
 use Rattle.layouts.specs.Runs.{runHere, extentsRuns}
 use Rattle.layouts.specs.inner.Lists.{storedOf}
@@ -63,11 +63,11 @@ abbrev pub aloneBy : Mount → ℕ → ℕ → Reply → Running
 aloneBy m at n reply = record { reply = reply; mount = m; kind = 0; at = at; length = n; behind = record { at = 0; left = 0; hops = 0 }; want = 0 }
 
 -- the bytes in the entry, and those of a chain that is whole, after n sectors
-abbrev pub entryRun : Place → Ran (List Run)
+abbrev pub entryRun : FilePlace → Ran (List Run)
 entryRun p = record { outcome = answered (runHere (p .at) (min (p .size) (p .information))); count = 1 }
 
-pub record EntryPlanned (p : Place) (room : ℕ) (l : Running) : Type 0 where
+pub record EntryPlanned (p : FilePlace) (room : ℕ) (l : Running) : Type 0 where
   pub on : (image : List ℕ) → RunsPlanned image (entryRun p) room l
 
-abbrev pub chainRuns : List ℕ → Mount → Place → ℕ → Ran (List Run)
+abbrev pub chainRuns : List ℕ → Mount → FilePlace → ℕ → Ran (List Run)
 chainRuns image m p n = after n (runsAt image m (p .kind) (frontOf p) (p .information))

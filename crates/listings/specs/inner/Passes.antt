@@ -19,7 +19,7 @@ use Rattle.identifiers.specs.inner.Wholes.{Whole}
 use Rattle.identifiers.specs.declared.FileIdentifierDescriptor.{FileIdentifierDescriptor}
 use Rattle.identifiers.specs.declared.IdentifierRead.{IdentifierRead}
 use Rattle.listings.specs.Entries.{Entry, entryOf, entryRead, inFront, entries}
-use Rattle.listings.specs.Listings.{shown, records, foldIn, answersTo, unnamed}
+use Rattle.listings.specs.Listings.{entryRecord, records, foldIn, answersTo, unnamed}
 use Rattle.listings.specs.declared.directory_entries.Put.{Put}
 use Rattle.listings.specs.declared.finds.Named.{Named}
 use Rattle.listings.specs.declared.listing.ListingSize.{ListingSize}
@@ -74,11 +74,11 @@ pub record Puts (s before after : List ℕ) (r : Put) : Type 0 where
   pub further : 1 ≤ r .next
   pub near : r .next ≤ length s + 3
   pub next : (e : Entry) → entryRead false s ≡ answered e → r .next ≡ nextAt s
-  pub wrote : (e : Entry) → entryRead false s ≡ answered e → length (shown e) ≤ length before → Wrote (shown e) before after (r .wrote)
+  pub wrote : (e : Entry) → entryRead false s ≡ answered e → length (entryRecord e) ≤ length before → Wrote (entryRecord e) before after (r .wrote)
 
 -- what is lent to an entry, with its record over the front where it can be read and has room
 unfoldable pub listedOver : Outcome Entry → List ℕ → List ℕ
-listedOver (answered e) lent = pick (leb (length (shown e)) (length lent)) (over (shown e) lent) lent
+listedOver (answered e) lent = pick (leb (length (entryRecord e)) (length lent)) (over (entryRecord e) lent) lent
 listedOver (refused why) lent = lent
 
 -- ---- all entries

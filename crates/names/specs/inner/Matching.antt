@@ -6,13 +6,13 @@ use mathlib.Core.List.{List, _++_}
 use lib.ListN.{drop}
 use lib.Dec.{eqb}
 use Rattle.disc.specs.Choice.{pick}
-use Rattle.names.specs.declared.matching.Place.{Place}
+use Rattle.names.specs.declared.matching.NamePlace.{NamePlace}
 use Rattle.names.specs.Names.{sameName}
 use Rattle.names.specs.inner.Units.{At, textOf}
 
 -- The bytes v of a name were compared with the component t from `at` on: whatever stands behind them in the name, it is
 -- compared with t from the place r on, or the names differ.
-pub record Matched (fold : ℕ → ℕ) (v t : List ℕ) (at : ℕ) (r : Place) : Type 0 where
+pub record Matched (fold : ℕ → ℕ) (v t : List ℕ) (at : ℕ) (r : NamePlace) : Type 0 where
   pub rest : (more : List ℕ) → sameName fold (v ++ more) (drop at t) ≡ pick (r .same) (sameName fold more (drop (r .at) t)) false
 
 -- The unit u is ASCII, not 0, and matches the byte b of a component.

@@ -17,15 +17,5 @@ abbrev μ-loop : tie.MeasureT-loop
 pub probe-spec : {M : Type 1} → statement M
 probe-spec =
     tie.close (tie.spec Inv-loop μ-loop
-    (λ c. search probes)
-    (λ c. search needs)
-    (λ c κs. search needs)
-    (λ c. search probes)
-    (λ c κs. search needs)
-    (λ c κs. search needs)
-    (λ c κs. search needs)
-    (λ c. search probes)
-    (λ c. search needs)
-    (λ c. search needs)
-    (λ c. search probes)
-    (λ c. search probes))
+    (λ c. search probes) (λ c. search needs) (λ c κs. search needs) (λ c. search probes) (λ c κs. search needs) (λ c κs. search needs)
+    (λ c κs. search needs) (λ c. search probes) (λ c. search needs) (λ c. search needs) (λ c. search probes) (λ c. search probes))

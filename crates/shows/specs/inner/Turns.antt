@@ -108,7 +108,7 @@ abbrev pub lent : List ℕ → List ℕ → Lent
 lent out tally = record { out = out; tally = tally }
 
 -- a part of the tree was shown: the place behind it, its records where they have room, and the place with its nodes in it
-pub record Shown (of : Node → List ℕ → List ℕ) (r : Ran (List Node)) (p : ShowPlace) (before : Lent) (q : ShowPlace) (after : Lent) : Type 0 where
+pub record Visited (of : Node → List ℕ → List ℕ) (r : Ran (List Node)) (p : ShowPlace) (before : Lent) (q : ShowPlace) (after : Lent) : Type 0 where
   pub says : q ≡ cappedBy p (r .count) (behindBy p (r .outcome) (r .count))
   pub puts : (ns : List Node) → r .outcome ≡ answered ns → reported (p .count + r .count) ≤ p .most → p .size + length (nodeRecords ns) ≤ length (before .out) → length (before .out) ≤ 0xffff_ffff_ffff_ffff
       → after .out ≡ sets (before .out) (p .size) (nodeRecords ns)
@@ -132,7 +132,7 @@ pub record OpenedWell (d : Disc) (m : Mount) (icb : LongAd) (p : ShowPlace) (wor
 
 -- or it is refused, or wants too many sectors, whatever was to be done with it
 pub record OpenedBadly (d : Disc) (m : Mount) (icb : LongAd) (p : ShowPlace) (work : ℕ) (o : OpenedLevel) : Type 0 where
-  pub shows : (of : Node → List ℕ → List ℕ) (f : List ℕ → List Entry → Ask (List Node)) (l : Lent) → Shown of (ran d (opening m work icb f)) p l (o .place) l
+  pub shows : (of : Node → List ℕ → List ℕ) (f : List ℕ → List Entry → Ask (List Node)) (l : Lent) → Visited of (ran d (opening m work icb f)) p l (o .place) l
 
 pub record Opens (d : Disc) (m : Mount) (icb : LongAd) (p : ShowPlace) (work work′ : List ℕ) (o : OpenedLevel) : Type 0 where
   pub good : o .place .answer ≡ 0 → OpenedWell d m icb p (length work) work′ o
@@ -152,7 +152,7 @@ pub record Handled (d : Disc) (m : Mount) (left level : ℕ) (raw : List ℕ) (w
   pub others : List Entry
   pub all : es ≡ first ∷ others
   pub are : entries false (drop (t .next) raw) ≡ answered others
-  pub shows : Shown (nodePlaced d m (p .most)) (ran d (turnOf (nodesAt m left (suc level) work) level first)) p before (t .place) after
+  pub shows : Visited (nodePlaced d m (p .most)) (ran d (turnOf (nodesAt m left (suc level) work) level first)) p before (t .place) after
 
 -- so it is where the bytes are as they were parsed; whatever they are, the next entry starts further on
 pub record Handles (d : Disc) (m : Mount) (left level : ℕ) (raw : List ℕ) (work at : ℕ) (p : ShowPlace) (before : Lent) (t : EntryTurn) (after : Lent) : Type 0 where

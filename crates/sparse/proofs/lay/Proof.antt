@@ -9,10 +9,5 @@ ruleset lays = (lay-none, lay-tail, needs)
 pub lay-spec : {M : Type 1} → statement M
 lay-spec =
     tie.close (tie.spec
-    (λ c. search lays)
-    (λ c. search needs)
-    (λ c. search needs)
-    (λ c. search needs)
-    (λ c κs. search needs)
-    (λ c. search needs)
+    (λ c. search lays) (λ c. search needs) (λ c. search needs) (λ c. search needs) (λ c κs. search needs) (λ c. search needs)
     (λ c. search lays))

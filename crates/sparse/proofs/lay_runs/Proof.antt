@@ -16,19 +16,6 @@ abbrev μ-loop : tie.MeasureT-loop
 pub lay-runs-spec : {M : Type 1} → statement M
 lay-runs-spec =
     tie.close (tie.spec Inv-loop μ-loop
-    (λ c κs. search needs)
-    (λ c. search runs)
-    (λ c κs. search needs)
-    (λ c. search runs)
-    (λ c. search runs)
-    (λ c. search runs)
-    (λ c. search runs)
-    (λ c. search runs)
-    (λ c. search runs)
-    (λ c κs. search needs)
-    (λ c κs. search needs)
-    (λ c. search needs)
-    (λ c. search needs)
-    (λ c. search runs)
-    (λ c. search runs)
-    (λ c. search runs))
+    (λ c κs. search needs) (λ c. search runs) (λ c κs. search needs) (λ c. search runs) (λ c. search runs) (λ c. search runs)
+    (λ c. search runs) (λ c. search runs) (λ c. search runs) (λ c κs. search needs) (λ c κs. search needs) (λ c. search needs)
+    (λ c. search needs) (λ c. search runs) (λ c. search runs) (λ c. search runs))

@@ -9,13 +9,5 @@ ruleset ends = (end-past, end-headless, end-short, end-whole, needs)
 pub run-end-spec : {M : Type 1} → statement M
 run-end-spec =
     tie.close (tie.spec
-    (λ c. search ends)
-    (λ c. search needs)
-    (λ c. search ends)
-    (λ c. search needs)
-    (λ c κs. search needs)
-    (λ c. search needs)
-    (λ c. search ends)
-    (λ c. search needs)
-    (λ c. search needs)
-    (λ c. search ends))
+    (λ c. search ends) (λ c. search needs) (λ c. search ends) (λ c. search needs) (λ c κs. search needs) (λ c. search needs)
+    (λ c. search ends) (λ c. search needs) (λ c. search needs) (λ c. search ends))

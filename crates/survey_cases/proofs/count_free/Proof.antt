@@ -14,12 +14,5 @@ abbrev μ-loop : tie.MeasureT-loop
 pub count-free-spec : {M : Type 1} → statement M
 count-free-spec =
     tie.close (tie.spec Inv-loop μ-loop
-    (λ c. search needs)
-    (λ c. search needs)
-    (λ c. search needs)
-    (λ c κs. search needs)
-    (λ c. search needs)
-    (λ c. search needs)
-    (λ c. search needs)
-    (λ c. search needs)
-    (λ c. search needs))
+    (λ c. search needs) (λ c. search needs) (λ c. search needs) (λ c κs. search needs) (λ c. search needs) (λ c. search needs)
+    (λ c. search needs) (λ c. search needs) (λ c. search needs))

@@ -9,9 +9,4 @@ ruleset choices = (open-unknown, open-known, needs)
 pub open-by-spec : {M : Type 1} → statement M
 open-by-spec =
     tie.close (tie.spec
-    (λ c. search needs)
-    (λ c κs. search needs)
-    (λ c. search needs)
-    (λ c κs. search needs)
-    (λ c. search choices)
-    (λ c. search choices))
+    (λ c. search needs) (λ c κs. search needs) (λ c. search needs) (λ c κs. search needs) (λ c. search choices) (λ c. search choices))

@@ -9,7 +9,4 @@ ruleset opens = (open-over, open-enough, needs)
 pub open-within-spec : {M : Type 1} → statement M
 open-within-spec =
     tie.close (tie.spec
-    (λ c κs. search needs)
-    (λ c κs. search needs)
-    (λ c. search opens)
-    (λ c. search opens))
+    (λ c κs. search needs) (λ c κs. search needs) (λ c. search opens) (λ c. search opens))

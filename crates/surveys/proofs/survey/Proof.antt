@@ -9,8 +9,4 @@ ruleset clears = (survey-cleared, needs)
 pub survey-spec : {M : Type 1} → statement M
 survey-spec =
     tie.close (tie.spec
-    (λ c κs. search needs)
-    (λ c κs. search needs)
-    (λ c. search needs)
-    (λ c. search needs)
-    (λ c. search clears))
+    (λ c κs. search needs) (λ c κs. search needs) (λ c. search needs) (λ c. search needs) (λ c. search clears))

@@ -17,11 +17,5 @@ abbrev μ-loop : tie.MeasureT-loop
 pub within-spec : {M : Type 1} → statement M
 within-spec =
     tie.close (tie.spec Inv-loop μ-loop
-    (λ c. search fits)
-    (λ c. search needs)
-    (λ c. search needs)
-    (λ c. search fits)
-    (λ c. search needs)
-    (λ c. search needs)
-    (λ c. search fits)
+    (λ c. search fits) (λ c. search needs) (λ c. search needs) (λ c. search fits) (λ c. search needs) (λ c. search needs) (λ c. search fits)
     (λ c. search fits))

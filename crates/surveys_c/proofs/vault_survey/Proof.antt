@@ -6,8 +6,5 @@ use Rattle.surveys_c.proofs.vault_survey.Tie as tie
 pub vault-survey-spec : {M : Type 1} → statement M
 vault-survey-spec =
     tie.close (tie.spec
-    (λ c κs. search needs)
-    (λ c κs. search needs)
-    (λ c. search needs)
-    (λ c. search needs)
+    (λ c κs. search needs) (λ c κs. search needs) (λ c. search needs) (λ c. search needs)
     (λ c. cc))

@@ -7,9 +7,5 @@ use Rattle.tags.proofs.is_accepted.Tie as tie
 pub is-accepted-spec : {M : Type 1} → statement M
 is-accepted-spec =
     tie.close (tie.spec
-    (λ c κs. search needs)
-    (λ c κs. search needs)
-    (λ c. search needs)
-    (λ c. search needs)
-    (λ c κs. search needs)
+    (λ c κs. search needs) (λ c κs. search needs) (λ c. search needs) (λ c. search needs) (λ c κs. search needs)
     (λ c. cc))

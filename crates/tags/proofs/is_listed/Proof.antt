@@ -6,6 +6,5 @@ use Rattle.tags.proofs.is_listed.Tie as tie
 pub is-listed-spec : {M : Type 1} → statement M
 is-listed-spec =
     tie.close (tie.spec
-    (λ c κs. search needs)
-    (λ c κs. search needs)
+    (λ c κs. search needs) (λ c κs. search needs)
     (λ c. cc))

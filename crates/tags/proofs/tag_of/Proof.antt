@@ -8,10 +8,6 @@ use Rattle.tags.proofs.tag_of.Tie as tie
 pub tag-of-spec : {M : Type 1} → statement M
 tag-of-spec =
     tie.close (tie.spec
-    (λ c κs. search needs)
-    (λ c κs. search needs)
-    (λ c κs. search needs)
-    (λ c κs. search needs)
-    (λ c κs. search needs)
+    (λ c κs. search needs) (λ c κs. search needs) (λ c κs. search needs) (λ c κs. search needs) (λ c κs. search needs)
     (λ c κs. search needs)
     (λ c. search (tag-fields, needs)))

@@ -7,7 +7,5 @@ use Rattle.vault_c.proofs.vault_failed.Tie as tie
 pub vault-failed-spec : {M : Type 1} → statement M
 vault-failed-spec =
     tie.close (tie.spec
-    (λ c κs. search needs)
-    (λ c κs. search needs)
-    (λ c. search needs)
+    (λ c κs. search needs) (λ c κs. search needs) (λ c. search needs)
     (λ c. search (failed-by, needs)))

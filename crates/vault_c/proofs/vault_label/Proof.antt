@@ -9,11 +9,5 @@ ruleset choices = (label-unknown, label-known, needs)
 pub vault-label-spec : {M : Type 1} → statement M
 vault-label-spec =
     tie.close (tie.spec
-    (λ c κs. search needs)
-    (λ c. search needs)
-    (λ c κs. search needs)
-    (λ c. search needs)
-    (λ c κs. search needs)
-    (λ c. search choices)
-    (λ c. search needs)
-    (λ c. search choices))
+    (λ c κs. search needs) (λ c. search needs) (λ c κs. search needs) (λ c. search needs) (λ c κs. search needs) (λ c. search choices)
+    (λ c. search needs) (λ c. search choices))

@@ -7,7 +7,5 @@ use Rattle.vault_c.proofs.vault_lookup.Tie as tie
 pub vault-lookup-spec : {M : Type 1} → statement M
 vault-lookup-spec =
     tie.close (tie.spec
-    (λ c κs. search needs)
-    (λ c κs. search needs)
-    (λ c. search needs)
+    (λ c κs. search needs) (λ c κs. search needs) (λ c. search needs)
     (λ c. search (found-by, needs)))

@@ -9,10 +9,5 @@ ruleset choices = (open-unknown, open-known, needs)
 pub vault-open-spec : {M : Type 1} → statement M
 vault-open-spec =
     tie.close (tie.spec
-    (λ c κs. search needs)
-    (λ c. search needs)
-    (λ c κs. search needs)
-    (λ c. search needs)
-    (λ c κs. search needs)
-    (λ c. search choices)
+    (λ c κs. search needs) (λ c. search needs) (λ c κs. search needs) (λ c. search needs) (λ c κs. search needs) (λ c. search choices)
     (λ c. search choices))

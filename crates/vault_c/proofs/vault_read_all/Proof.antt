@@ -7,10 +7,5 @@ use Rattle.vault_c.proofs.vault_read_all.Tie as tie
 pub vault-read-all-spec : {M : Type 1} → statement M
 vault-read-all-spec =
     tie.close (tie.spec
-    (λ c κs. search needs)
-    (λ c κs. search needs)
-    (λ c. search needs)
-    (λ c. search needs)
-    (λ c. search needs)
-    (λ c. search needs)
+    (λ c κs. search needs) (λ c κs. search needs) (λ c. search needs) (λ c. search needs) (λ c. search needs) (λ c. search needs)
     (λ c. search (all-by, needs)))

@@ -7,8 +7,5 @@ use Rattle.vault_c.proofs.vault_read_path.Tie as tie
 pub vault-read-path-spec : {M : Type 1} → statement M
 vault-read-path-spec =
     tie.close (tie.spec
-    (λ c κs. search needs)
-    (λ c κs. search needs)
-    (λ c. search needs)
-    (λ c. search needs)
+    (λ c κs. search needs) (λ c κs. search needs) (λ c. search needs) (λ c. search needs)
     (λ c. search (read-by, needs)))

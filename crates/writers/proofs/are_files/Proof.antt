@@ -9,8 +9,4 @@ ruleset rules = (files-many, files-unlike, files-short, needs)
 pub are-files-spec : {M : Type 1} → statement M
 are-files-spec =
     tie.close (tie.spec
-    (λ c κs. search rules)
-    (λ c. search rules)
-    (λ c. search rules)
-    (λ c κs. search rules)
-    (λ c. search rules))
+    (λ c κs. search rules) (λ c. search rules) (λ c. search rules) (λ c κs. search rules) (λ c. search rules))

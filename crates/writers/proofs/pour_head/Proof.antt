@@ -9,11 +9,5 @@ ruleset rules = (head-poured, needs)
 pub pour-head-spec : {M : Type 1} → statement M
 pour-head-spec =
     tie.close (tie.spec
-    (λ c κs. search rules)
-    (λ c. search rules)
-    (λ c. search rules)
-    (λ c κs. search rules)
-    (λ c κs. search rules)
-    (λ c κs. search rules)
-    (λ c. search rules)
-    (λ c. search rules))
+    (λ c κs. search rules) (λ c. search rules) (λ c. search rules) (λ c κs. search rules) (λ c κs. search rules) (λ c κs. search rules)
+    (λ c. search rules) (λ c. search rules))

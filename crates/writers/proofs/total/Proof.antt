@@ -10,13 +10,6 @@ ruleset rules = (total-bad, total-files, total-done, good-few, not-true, not-fal
 pub total-spec : {M : Type 1} → statement M
 total-spec =
     tie.close (tie.spec
-    (λ c κs. search rules)
-    (λ c κs. search rules)
-    (λ c. search rules)
-    (λ c κs. search rules)
-    (λ c κs. search rules)
-    (λ c. search rules)
+    (λ c κs. search rules) (λ c κs. search rules) (λ c. search rules) (λ c κs. search rules) (λ c κs. search rules) (λ c. search rules)
     (λ c κs. let start = c .before .before .before .before .before .before in good-few (start .args .names .now) (start .args .lengths .now) (c .before .are-files .ensures) (not-false _ (c .if2 .left)))
-    (λ c. search rules)
-    (λ c. search rules)
-    (λ c. search rules))
+    (λ c. search rules) (λ c. search rules) (λ c. search rules))

@@ -10,10 +10,5 @@ ruleset nexts = (next-nowhere, next-there, stands-low, needs)
 pub next-area-spec : {M : Type 1} → statement M
 next-area-spec =
     tie.close (tie.spec
-    (λ c κs. search nexts)
-    (λ c. search nexts)
-    (λ c. search nexts)
-    (λ c κs. search nexts)
-    (λ c κs. search nexts)
-    (λ c. search nexts)
+    (λ c κs. search nexts) (λ c. search nexts) (λ c. search nexts) (λ c κs. search nexts) (λ c κs. search nexts) (λ c. search nexts)
     (λ c. search nexts))

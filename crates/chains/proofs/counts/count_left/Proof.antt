@@ -17,14 +17,5 @@ abbrev μ-loop : tie.MeasureT-loop
 pub count-left-spec : {M : Type 1} → statement M
 count-left-spec =
     tie.close (tie.spec Inv-loop μ-loop
-    (λ c. search counts)
-    (λ c κs. search counts)
-    (λ c. search counts)
-    (λ c. search counts)
-    (λ c. search counts)
-    (λ c. search counts)
-    (λ c. search counts)
-    (λ c. search counts)
-    (λ c. search counts)
-    (λ c. search counts)
-    (λ c. search counts))
+    (λ c. search counts) (λ c κs. search counts) (λ c. search counts) (λ c. search counts) (λ c. search counts) (λ c. search counts)
+    (λ c. search counts) (λ c. search counts) (λ c. search counts) (λ c. search counts) (λ c. search counts))

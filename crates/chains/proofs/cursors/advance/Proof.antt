@@ -9,13 +9,5 @@ ruleset advances = (advance-end, advance-refused, advance-takes, advance-hops, n
 pub advance-spec : {M : Type 1} → statement M
 advance-spec =
     tie.close (tie.spec
-    (λ c κs. search advances)
-    (λ c. search advances)
-    (λ c. search advances)
-    (λ c. search advances)
-    (λ c. search advances)
-    (λ c κs. search advances)
-    (λ c. search advances)
-    (λ c. search advances)
-    (λ c. search advances)
-    (λ c. search advances))
+    (λ c κs. search advances) (λ c. search advances) (λ c. search advances) (λ c. search advances) (λ c. search advances)
+    (λ c κs. search advances) (λ c. search advances) (λ c. search advances) (λ c. search advances) (λ c. search advances))

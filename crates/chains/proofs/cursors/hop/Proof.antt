@@ -10,10 +10,5 @@ ruleset hops = (hop-out, hop-some, hop-nowhere, hop-in, stands-low, needs)
 pub hop-spec : {M : Type 1} → statement M
 hop-spec =
     tie.close (tie.spec
-    (λ c. search hops)
-    (λ c κs. search hops)
-    (λ c. search hops)
-    (λ c. search hops)
-    (λ c κs. search hops)
-    (λ c. search hops)
+    (λ c. search hops) (λ c κs. search hops) (λ c. search hops) (λ c. search hops) (λ c κs. search hops) (λ c. search hops)
     (λ c. search hops))

@@ -9,10 +9,4 @@ ruleset hops = (hop-on, needs)
 pub hop-to-spec : {M : Type 1} → statement M
 hop-to-spec =
     tie.close (tie.spec
-    (λ c. search hops)
-    (λ c. search hops)
-    (λ c κs. search hops)
-    (λ c. search hops)
-    (λ c. search hops)
-    (λ c. search hops)
-    (λ c. search hops))
+    (λ c. search hops) (λ c. search hops) (λ c κs. search hops) (λ c. search hops) (λ c. search hops) (λ c. search hops) (λ c. search hops))

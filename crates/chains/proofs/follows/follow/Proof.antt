@@ -15,20 +15,6 @@ abbrev μ-loop : tie.MeasureT-loop
 pub follow-spec : {M : Type 1} → statement M
 follow-spec =
     tie.close (tie.spec Inv-loop μ-loop
-    (λ c. search follows)
-    (λ c κs. search follows)
-    (λ c. search follows)
-    (λ c. search follows)
-    (λ c. search follows)
-    (λ c. search follows)
-    (λ c. search follows)
-    (λ c. search follows)
-    (λ c κs. search follows)
-    (λ c. search follows)
-    (λ c. search follows)
-    (λ c. search follows)
-    (λ c. search follows)
-    (λ c. search follows)
-    (λ c. search follows)
-    (λ c. search follows)
-    (λ c. search follows))
+    (λ c. search follows) (λ c κs. search follows) (λ c. search follows) (λ c. search follows) (λ c. search follows) (λ c. search follows)
+    (λ c. search follows) (λ c. search follows) (λ c κs. search follows) (λ c. search follows) (λ c. search follows) (λ c. search follows)
+    (λ c. search follows) (λ c. search follows) (λ c. search follows) (λ c. search follows) (λ c. search follows))

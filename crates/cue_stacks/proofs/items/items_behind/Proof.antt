@@ -18,10 +18,6 @@ abbrev μ-loop : tie.MeasureT-loop
 pub items-behind-spec : {M : Type 1} → statement M
 items-behind-spec =
     tie.close (tie.spec Inv-loop μ-loop
-    (λ c. search rules)
-    (λ c. search rules)
-    (λ c. search rules)
-    (λ c. search rules)
-    (λ c. search rules)
+    (λ c. search rules) (λ c. search rules) (λ c. search rules) (λ c. search rules) (λ c. search rules)
     (λ c. ⊎-elim (λ w. search rules) (λ w. search rules) (c .if1 .came))
     (λ c. search rules))

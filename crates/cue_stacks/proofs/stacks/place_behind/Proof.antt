@@ -9,10 +9,5 @@ ruleset behinds = (behind-last, behind-next, next-fits, needs)
 pub place-behind-spec : {M : Type 1} → statement M
 place-behind-spec =
     tie.close (tie.spec
-    (λ c. search behinds)
-    (λ c. search behinds)
-    (λ c κs. search behinds)
-    (λ c κs. search behinds)
-    (λ c. search behinds)
-    (λ c. search behinds)
-    (λ c. search behinds))
+    (λ c. search behinds) (λ c. search behinds) (λ c κs. search behinds) (λ c κs. search behinds) (λ c. search behinds)
+    (λ c. search behinds) (λ c. search behinds))

@@ -23,19 +23,9 @@ read c =
 pub read-item-spec : {M : Type 1} → statement M
 read-item-spec =
     tie.close (tie.spec
-    (λ c κs. search turns)
-    (λ c κs. search turns)
-    (λ c. search turns)
-    (λ c. search turns)
-    (λ c. search turns)
-    (λ c. search turns)
-    (λ c. search turns)
-    (λ c. search turns)
-    (λ c κs. search turns)
+    (λ c κs. search turns) (λ c κs. search turns) (λ c. search turns) (λ c. search turns) (λ c. search turns) (λ c. search turns)
+    (λ c. search turns) (λ c. search turns) (λ c κs. search turns)
     (λ c κs. let start = c .before .before .before .before .before .before .before .before .before .before .before .before .before .before .before .before .before .before in put-fits _ _ (start .pre .0) (start .pre .1) (c .before .before .before .before .before .before .read-reached .ensures .0))
     behind
-    (λ c. search turns)
-    (λ c. search turns)
-    (λ c. search turns)
-    (λ c. search turns)
+    (λ c. search turns) (λ c. search turns) (λ c. search turns) (λ c. search turns)
     read)

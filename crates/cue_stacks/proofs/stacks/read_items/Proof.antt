@@ -28,12 +28,6 @@ again c =
 pub read-items-spec : {M : Type 1} → statement M
 read-items-spec =
     tie.close (tie.spec Inv-loop μ-loop
-    (λ c. search reads)
-    (λ c κs. search reads)
-    (λ c. search reads)
+    (λ c. search reads) (λ c κs. search reads) (λ c. search reads)
     again
-    (λ c. search reads)
-    (λ c. search reads)
-    (λ c. search reads)
-    (λ c. search reads)
-    (λ c. search reads))
+    (λ c. search reads) (λ c. search reads) (λ c. search reads) (λ c. search reads) (λ c. search reads))

@@ -7,7 +7,5 @@ use Rattle.descriptors.proofs.file_sets.no_file_set.Tie as tie
 pub no-file-set-spec : {M : Type 1} → statement M
 no-file-set-spec =
     tie.close (tie.spec
-    (λ c κs. search needs)
-    (λ c κs. search needs)
-    (λ c κs. search needs)
+    (λ c κs. search needs) (λ c κs. search needs) (λ c κs. search needs)
     (λ c. search (file-set-none, needs)))

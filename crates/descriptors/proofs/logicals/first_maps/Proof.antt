@@ -7,9 +7,5 @@ use Rattle.descriptors.proofs.logicals.first_maps.Tie as tie
 pub first-maps-spec : {M : Type 1} → statement M
 first-maps-spec =
     tie.close (tie.spec
-    (λ c. search needs)
-    (λ c. search needs)
-    (λ c. search needs)
-    (λ c. search needs)
-    (λ c κs. search needs)
+    (λ c. search needs) (λ c. search needs) (λ c. search needs) (λ c. search needs) (λ c κs. search needs)
     (λ c. search (maps-copied, needs)))

@@ -7,7 +7,5 @@ use Rattle.descriptors.proofs.logicals.no_logical.Tie as tie
 pub no-logical-spec : {M : Type 1} → statement M
 no-logical-spec =
     tie.close (tie.spec
-    (λ c κs. search needs)
-    (λ c κs. search needs)
-    (λ c κs. search needs)
+    (λ c κs. search needs) (λ c κs. search needs) (λ c κs. search needs)
     (λ c. search (logical-none, needs)))

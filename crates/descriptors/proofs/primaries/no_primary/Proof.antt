@@ -7,6 +7,5 @@ use Rattle.descriptors.proofs.primaries.no_primary.Tie as tie
 pub no-primary-spec : {M : Type 1} → statement M
 no-primary-spec =
     tie.close (tie.spec
-    (λ c κs. search needs)
-    (λ c κs. search needs)
+    (λ c κs. search needs) (λ c κs. search needs)
     (λ c. search (primary-none, needs)))

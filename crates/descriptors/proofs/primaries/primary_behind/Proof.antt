@@ -10,13 +10,5 @@ ruleset primaries = (primary-unnamed, primary-named, needs)
 pub primary-behind-spec : {M : Type 1} → statement M
 primary-behind-spec =
     tie.close (tie.spec
-    (λ c κs. search needs)
-    (λ c. search needs)
-    (λ c κs. search needs)
-    (λ c. search needs)
-    (λ c κs. search needs)
-    (λ c. search needs)
-    (λ c κs. search needs)
-    (λ c κs. search needs)
-    (λ c. search primaries)
-    (λ c. search primaries))
+    (λ c κs. search needs) (λ c. search needs) (λ c κs. search needs) (λ c. search needs) (λ c κs. search needs) (λ c. search needs)
+    (λ c κs. search needs) (λ c κs. search needs) (λ c. search primaries) (λ c. search primaries))

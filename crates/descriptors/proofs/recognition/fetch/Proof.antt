@@ -6,10 +6,6 @@ use Rattle.descriptors.proofs.recognition.fetch.Tie as tie
 pub fetch-spec : {M : Type 1} → statement M
 fetch-spec =
     tie.close (tie.spec
-    (λ c κs. search needs)
-    (λ c κs. search needs)
-    (λ c κs. search needs)
-    (λ c κs. search needs)
-    (λ c κs. search needs)
+    (λ c κs. search needs) (λ c κs. search needs) (λ c κs. search needs) (λ c κs. search needs) (λ c κs. search needs)
     (λ c κs. search needs)
     (λ c. cc))

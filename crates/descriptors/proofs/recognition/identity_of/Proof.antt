@@ -9,12 +9,5 @@ pub identity-of-spec : {M : Type 1} → statement M
 unfolding identityOf
 identity-of-spec =
     tie.close (tie.spec
-    (λ c κs. search needs)
-    (λ c. search picks)
-    (λ c κs. search needs)
-    (λ c. search picks)
-    (λ c κs. search needs)
-    (λ c. search picks)
-    (λ c κs. search needs)
-    (λ c. search picks)
-    (λ c. search picks))
+    (λ c κs. search needs) (λ c. search picks) (λ c κs. search needs) (λ c. search picks) (λ c κs. search needs) (λ c. search picks)
+    (λ c κs. search needs) (λ c. search picks) (λ c. search picks))

@@ -7,9 +7,5 @@ use Rattle.descriptors.proofs.recognition.is_identified.Tie as tie
 pub is-identified-spec : {M : Type 1} → statement M
 is-identified-spec =
     tie.close (tie.spec
-    (λ c κs. search needs)
-    (λ c κs. search needs)
-    (λ c κs. search needs)
-    (λ c κs. search needs)
-    (λ c κs. search needs)
+    (λ c κs. search needs) (λ c κs. search needs) (λ c κs. search needs) (λ c κs. search needs) (λ c κs. search needs)
     (λ c. search (identified-bytes, needs)))

@@ -9,6 +9,4 @@ ruleset either = (nsr-either, needs)
 pub is-nsr-spec : {M : Type 1} → statement M
 is-nsr-spec =
     tie.close (tie.spec
-    (λ c κs. search needs)
-    (λ c κs. search needs)
-    (λ c. search either))
+    (λ c κs. search needs) (λ c κs. search needs) (λ c. search either))

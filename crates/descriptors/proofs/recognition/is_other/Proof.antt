@@ -9,6 +9,4 @@ ruleset either = (other-either, needs)
 pub is-other-spec : {M : Type 1} → statement M
 is-other-spec =
     tie.close (tie.spec
-    (λ c κs. search needs)
-    (λ c κs. search needs)
-    (λ c. search either))
+    (λ c κs. search needs) (λ c κs. search needs) (λ c. search either))

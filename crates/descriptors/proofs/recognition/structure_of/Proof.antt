@@ -9,9 +9,4 @@ ruleset types = (type-other, type-zero, needs)
 pub structure-of-spec : {M : Type 1} → statement M
 structure-of-spec =
     tie.close (tie.spec
-    (λ c κs. search needs)
-    (λ c. search needs)
-    (λ c. search types)
-    (λ c. search needs)
-    (λ c κs. search needs)
-    (λ c. search types))
+    (λ c κs. search needs) (λ c. search needs) (λ c. search types) (λ c. search needs) (λ c κs. search needs) (λ c. search types))

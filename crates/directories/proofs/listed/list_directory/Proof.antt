@@ -7,8 +7,5 @@ use Rattle.directories.proofs.listed.list_directory.Tie as tie
 pub list-directory-spec : {M : Type 1} → statement M
 list-directory-spec =
     tie.close (tie.spec
-    (λ c κs. search needs)
-    (λ c κs. search needs)
-    (λ c. search needs)
-    (λ c. search needs)
+    (λ c κs. search needs) (λ c κs. search needs) (λ c. search needs) (λ c. search needs)
     (λ c. (search needs, search (zeros-of, needs))))

@@ -10,14 +10,5 @@ ruleset lists = (list-refused, reads-room, list-listed, needs)
 pub list-read-spec : {M : Type 1} → statement M
 list-read-spec =
     tie.close (tie.spec
-    (λ c κs. search lists)
-    (λ c. search lists)
-    (λ c. search lists)
-    (λ c κs. search lists)
-    (λ c. search lists)
-    (λ c. search lists)
-    (λ c. search lists)
-    (λ c κs. search lists)
-    (λ c. search lists)
-    (λ c. search lists)
-    (λ c. search lists))
+    (λ c κs. search lists) (λ c. search lists) (λ c. search lists) (λ c κs. search lists) (λ c. search lists) (λ c. search lists)
+    (λ c. search lists) (λ c κs. search lists) (λ c. search lists) (λ c. search lists) (λ c. search lists))

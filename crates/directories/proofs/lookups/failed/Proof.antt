@@ -9,10 +9,5 @@ ruleset looks = (failed-answer, failed-count, failed-part, failed-room, failed-f
 pub failed-spec : {M : Type 1} → statement M
 failed-spec =
     tie.close (tie.spec
-    (λ c κs. search looks)
-    (λ c. search looks)
-    (λ c. search looks)
-    (λ c. search looks)
-    (λ c. search looks)
-    (λ c. search looks)
+    (λ c κs. search looks) (λ c. search looks) (λ c. search looks) (λ c. search looks) (λ c. search looks) (λ c. search looks)
     (λ c. (search looks, (search looks, (search looks, search looks)))))

@@ -10,8 +10,5 @@ ruleset looks = (zeros-of, look-at, look-length, needs)
 pub failed-at-spec : {M : Type 1} → statement M
 failed-at-spec =
     tie.close (tie.spec
-    (λ c κs. search looks)
-    (λ c κs. search looks)
-    (λ c. search looks)
-    (λ c. search looks)
+    (λ c κs. search looks) (λ c κs. search looks) (λ c. search looks) (λ c. search looks)
     (λ c. (search looks, (search looks, search looks))))

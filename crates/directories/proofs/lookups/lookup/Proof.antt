@@ -10,7 +10,5 @@ ruleset looks = (zeros-of, look-found, needs)
 pub lookup-spec : {M : Type 1} → statement M
 lookup-spec =
     tie.close (tie.spec
-    (λ c κs. search looks)
-    (λ c κs. search looks)
-    (λ c. search looks)
+    (λ c κs. search looks) (λ c κs. search looks) (λ c. search looks)
     (λ c. (search looks, search looks)))

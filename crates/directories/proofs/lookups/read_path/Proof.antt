@@ -9,8 +9,5 @@ ruleset reads = (zeros-of, needs)
 pub read-path-spec : {M : Type 1} → statement M
 read-path-spec =
     tie.close (tie.spec
-    (λ c κs. search reads)
-    (λ c κs. search reads)
-    (λ c. search reads)
-    (λ c. search reads)
+    (λ c κs. search reads) (λ c κs. search reads) (λ c. search reads) (λ c. search reads)
     (λ c. (search reads, search reads)))

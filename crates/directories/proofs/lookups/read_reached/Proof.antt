@@ -9,12 +9,5 @@ ruleset reads = (path-refused, path-read, needs)
 pub read-reached-spec : {M : Type 1} → statement M
 read-reached-spec =
     tie.close (tie.spec
-    (λ c κs. search reads)
-    (λ c κs. search reads)
-    (λ c. search reads)
-    (λ c. search reads)
-    (λ c κs. search reads)
-    (λ c κs. search reads)
-    (λ c. search reads)
-    (λ c. search reads)
-    (λ c. search reads))
+    (λ c κs. search reads) (λ c κs. search reads) (λ c. search reads) (λ c. search reads) (λ c κs. search reads) (λ c κs. search reads)
+    (λ c. search reads) (λ c. search reads) (λ c. search reads))

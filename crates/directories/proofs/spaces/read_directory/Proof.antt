@@ -9,6 +9,4 @@ ruleset reads = (read-within, needs)
 pub read-directory-spec : {M : Type 1} → statement M
 read-directory-spec =
     tie.close (tie.spec
-    (λ c κs. search reads)
-    (λ c. search reads)
-    (λ c. search reads))
+    (λ c κs. search reads) (λ c. search reads) (λ c. search reads))

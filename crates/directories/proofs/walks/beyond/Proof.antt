@@ -10,9 +10,4 @@ ruleset goes = (beyond-refused, beyond-lost, beyond-on, not-true, not-false, nee
 pub beyond-spec : {M : Type 1} → statement M
 beyond-spec =
     tie.close (tie.spec
-    (λ c κs. search goes)
-    (λ c κs. search goes)
-    (λ c. search goes)
-    (λ c κs. search goes)
-    (λ c. search goes)
-    (λ c. search goes))
+    (λ c κs. search goes) (λ c κs. search goes) (λ c. search goes) (λ c κs. search goes) (λ c. search goes) (λ c. search goes))

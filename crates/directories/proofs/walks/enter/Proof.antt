@@ -11,14 +11,5 @@ ruleset enters = (enter-refused, reads-room, enter-found, reads-into, needs)
 pub enter-spec : {M : Type 1} → statement M
 enter-spec =
     tie.close (tie.spec
-    (λ c κs. search enters)
-    (λ c κs. search enters)
-    (λ c. search enters)
-    (λ c. search enters)
-    (λ c κs. search enters)
-    (λ c. search enters)
-    (λ c. search enters)
-    (λ c. search enters)
-    (λ c κs. search enters)
-    (λ c. search enters)
-    (λ c. search enters))
+    (λ c κs. search enters) (λ c κs. search enters) (λ c. search enters) (λ c. search enters) (λ c κs. search enters) (λ c. search enters)
+    (λ c. search enters) (λ c. search enters) (λ c κs. search enters) (λ c. search enters) (λ c. search enters))

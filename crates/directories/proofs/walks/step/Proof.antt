@@ -29,17 +29,7 @@ entered c =
 pub step-spec : {M : Type 1} → statement M
 step-spec =
     tie.close (tie.spec
-    (λ c κs. search steps)
-    (λ c κs. search steps)
-    (λ c. search steps)
-    (λ c κs. search steps)
-    (λ c κs. search steps)
-    (λ c. search steps)
-    (λ c. search steps)
-    (λ c. search steps)
-    (λ c. search steps)
-    (λ c κs. search steps)
-    (λ c κs. search steps)
-    (λ c κs. search steps)
+    (λ c κs. search steps) (λ c κs. search steps) (λ c. search steps) (λ c κs. search steps) (λ c κs. search steps) (λ c. search steps)
+    (λ c. search steps) (λ c. search steps) (λ c. search steps) (λ c κs. search steps) (λ c κs. search steps) (λ c κs. search steps)
     (λ c. search steps)
     entered)

@@ -21,9 +21,7 @@ abbrev μ-loop : tie.MeasureT-loop
 pub walk-spec : {M : Type 1} → statement M
 walk-spec =
     tie.close (tie.spec Inv-loop μ-loop
-    (λ c. search walks)
-    (λ c κs. search walks)
-    (λ c. search walks)
+    (λ c. search walks) (λ c κs. search walks) (λ c. search walks)
     (λ c. (search walks, search needs, search walks))
     (λ c. search walks)
     (λ c. (search walks, search walks)))

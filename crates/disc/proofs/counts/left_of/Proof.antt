@@ -9,6 +9,4 @@ ruleset lefts = (left-all, left-none, left-some, needs)
 pub left-of-spec : {M : Type 1} → statement M
 left-of-spec =
     tie.close (tie.spec
-    (λ c. search lefts)
-    (λ c. search lefts)
-    (λ c. search lefts))
+    (λ c. search lefts) (λ c. search lefts) (λ c. search lefts))

@@ -8,13 +8,5 @@ ruleset sector = (sector-missing, sector-there, needs)
 pub sector-at-spec : {M : Type 1} → statement M
 sector-at-spec =
     tie.close (tie.spec
-    (λ c. search sector)
-    (λ c. search sector)
-    (λ c. search sector)
-    (λ c. search sector)
-    (λ c. search sector)
-    (λ c. search sector)
-    (λ c. search sector)
-    (λ c. search sector)
-    (λ c. search sector)
-    (λ c. search sector))
+    (λ c. search sector) (λ c. search sector) (λ c. search sector) (λ c. search sector) (λ c. search sector) (λ c. search sector)
+    (λ c. search sector) (λ c. search sector) (λ c. search sector) (λ c. search sector))

@@ -16,10 +16,5 @@ abbrev μ-loop : tie.MeasureT-loop
 pub clear-spec : {M : Type 1} → statement M
 clear-spec =
     tie.close (tie.spec Inv-loop μ-loop
-    (λ c. search clears)
-    (λ c. search clears)
-    (λ c. search clears)
-    (λ c. search clears)
-    (λ c. search clears)
-    (λ c. search clears)
+    (λ c. search clears) (λ c. search clears) (λ c. search clears) (λ c. search clears) (λ c. search clears) (λ c. search clears)
     (λ c. search clears))

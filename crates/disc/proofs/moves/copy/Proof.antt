@@ -15,14 +15,5 @@ abbrev μ-loop : tie.MeasureT-loop
 pub copy-spec : {M : Type 1} → statement M
 copy-spec =
     tie.close (tie.spec Inv-loop μ-loop
-    (λ c κs. search copies)
-    (λ c. search copies)
-    (λ c. search copies)
-    (λ c κs. search copies)
-    (λ c. search copies)
-    (λ c. search copies)
-    (λ c. search copies)
-    (λ c. search copies)
-    (λ c κs. search copies)
-    (λ c. search copies)
-    (λ c. search copies))
+    (λ c κs. search copies) (λ c. search copies) (λ c. search copies) (λ c κs. search copies) (λ c. search copies) (λ c. search copies)
+    (λ c. search copies) (λ c. search copies) (λ c κs. search copies) (λ c. search copies) (λ c. search copies))

@@ -15,13 +15,5 @@ abbrev μ-loop : tie.MeasureT-loop
 pub store-spec : {M : Type 1} → statement M
 store-spec =
     tie.close (tie.spec Inv-loop μ-loop
-    (λ c. search stores)
-    (λ c. search stores)
-    (λ c. search stores)
-    (λ c. search stores)
-    (λ c. search stores)
-    (λ c. search stores)
-    (λ c. search stores)
-    (λ c. search stores)
-    (λ c. search stores)
-    (λ c. search stores))
+    (λ c. search stores) (λ c. search stores) (λ c. search stores) (λ c. search stores) (λ c. search stores) (λ c. search stores)
+    (λ c. search stores) (λ c. search stores) (λ c. search stores) (λ c. search stores))

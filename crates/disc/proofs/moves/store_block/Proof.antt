@@ -8,9 +8,4 @@ ruleset blocks = (block-ends, needs)
 pub store-block-spec : {M : Type 1} → statement M
 store-block-spec =
     tie.close (tie.spec
-    (λ c. search blocks)
-    (λ c κs. search blocks)
-    (λ c. search blocks)
-    (λ c κs. search blocks)
-    (λ c. search blocks)
-    (λ c. search blocks))
+    (λ c. search blocks) (λ c κs. search blocks) (λ c. search blocks) (λ c κs. search blocks) (λ c. search blocks) (λ c. search blocks))

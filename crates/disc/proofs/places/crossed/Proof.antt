@@ -9,8 +9,4 @@ ruleset starts = (cross-in, needs)
 pub crossed-spec : {M : Type 1} → statement M
 crossed-spec =
     tie.close (tie.spec
-    (λ c. search needs)
-    (λ c κs. search needs)
-    (λ c. search needs)
-    (λ c. search starts)
-    (λ c. search needs))
+    (λ c. search needs) (λ c κs. search needs) (λ c. search needs) (λ c. search starts) (λ c. search needs))

@@ -6,6 +6,4 @@ use Rattle.disc.proofs.places.sector_of.Tie as tie
 pub sector-of-spec : {M : Type 1} → statement M
 sector-of-spec =
     tie.close (tie.spec
-    (λ c. search needs)
-    (λ c. search needs)
-    (λ c. search needs))
+    (λ c. search needs) (λ c. search needs) (λ c. search needs))

@@ -8,12 +8,5 @@ ruleset nexts = (next-done, next-extent, next-more, needs)
 pub next-sector-spec : {M : Type 1} → statement M
 next-sector-spec =
     tie.close (tie.spec
-    (λ c κs. search nexts)
-    (λ c. search nexts)
-    (λ c κs. search nexts)
-    (λ c. search nexts)
-    (λ c. search nexts)
-    (λ c. search nexts)
-    (λ c. search nexts)
-    (λ c. search nexts)
-    (λ c. search nexts))
+    (λ c κs. search nexts) (λ c. search nexts) (λ c κs. search nexts) (λ c. search nexts) (λ c. search nexts) (λ c. search nexts)
+    (λ c. search nexts) (λ c. search nexts) (λ c. search nexts))

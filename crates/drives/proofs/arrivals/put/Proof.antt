@@ -8,12 +8,5 @@ ruleset puts = (put-none, put-some, needs)
 pub put-spec : {M : Type 1} → statement M
 put-spec =
     tie.close (tie.spec
-    (λ c. search puts)
-    (λ c. search puts)
-    (λ c. search puts)
-    (λ c. search puts)
-    (λ c. search puts)
-    (λ c κs. search puts)
-    (λ c κs. search puts)
-    (λ c. search puts)
-    (λ c. search puts))
+    (λ c. search puts) (λ c. search puts) (λ c. search puts) (λ c. search puts) (λ c. search puts) (λ c κs. search puts)
+    (λ c κs. search puts) (λ c. search puts) (λ c. search puts))

@@ -8,16 +8,6 @@ ruleset parts = (part-body, needs)
 pub body-behind-spec : {M : Type 1} → statement M
 body-behind-spec =
     tie.close (tie.spec
-    (λ c. search parts)
-    (λ c κs. search parts)
-    (λ c. search parts)
-    (λ c κs. search parts)
-    (λ c. search parts)
-    (λ c. search parts)
-    (λ c. search parts)
-    (λ c κs. search parts)
-    (λ c. search parts)
-    (λ c. search parts)
-    (λ c. search parts)
-    (λ c. search parts)
+    (λ c. search parts) (λ c κs. search parts) (λ c. search parts) (λ c κs. search parts) (λ c. search parts) (λ c. search parts)
+    (λ c. search parts) (λ c κs. search parts) (λ c. search parts) (λ c. search parts) (λ c. search parts) (λ c. search parts)
     (λ c. search parts))

@@ -8,8 +8,4 @@ ruleset heads = (head-read, head-refused, needs)
 pub body-in-spec : {M : Type 1} → statement M
 body-in-spec =
     tie.close (tie.spec
-    (λ c. search heads)
-    (λ c κs. search heads)
-    (λ c. search heads)
-    (λ c. search heads)
-    (λ c. search heads))
+    (λ c. search heads) (λ c κs. search heads) (λ c. search heads) (λ c. search heads) (λ c. search heads))

@@ -8,16 +8,6 @@ ruleset heads = (head-body, needs)
 pub body-of-spec : {M : Type 1} → statement M
 body-of-spec =
     tie.close (tie.spec
-    (λ c κs. search heads)
-    (λ c. search heads)
-    (λ c κs. search heads)
-    (λ c. search heads)
-    (λ c κs. search heads)
-    (λ c. search heads)
-    (λ c. search heads)
-    (λ c. search heads)
-    (λ c κs. search heads)
-    (λ c. search heads)
-    (λ c. search heads)
-    (λ c κs. search heads)
+    (λ c κs. search heads) (λ c. search heads) (λ c κs. search heads) (λ c. search heads) (λ c κs. search heads) (λ c. search heads)
+    (λ c. search heads) (λ c. search heads) (λ c κs. search heads) (λ c. search heads) (λ c. search heads) (λ c κs. search heads)
     (λ c. search heads))

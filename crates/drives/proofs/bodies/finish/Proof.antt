@@ -8,9 +8,5 @@ ruleset finishes = (finish-not, finish-good, needs)
 pub finish-spec : {M : Type 1} → statement M
 finish-spec =
     tie.close (tie.spec
-    (λ c κs. search finishes)
-    (λ c κs. search finishes)
-    (λ c κs. search finishes)
-    (λ c. search finishes)
-    (λ c κs. search finishes)
+    (λ c κs. search finishes) (λ c κs. search finishes) (λ c κs. search finishes) (λ c. search finishes) (λ c κs. search finishes)
     (λ c. search finishes))

@@ -9,6 +9,4 @@ ruleset fronts = (front-none, front-some, not-true, not-false, needs)
 pub front-of-spec : {M : Type 1} → statement M
 front-of-spec =
     tie.close (tie.spec
-    (λ c. search fronts)
-    (λ c κs. search fronts)
-    (λ c. search fronts))
+    (λ c. search fronts) (λ c κs. search fronts) (λ c. search fronts))

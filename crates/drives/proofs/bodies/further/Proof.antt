@@ -8,8 +8,4 @@ ruleset furthers = (further-last, further-next, needs)
 pub further-spec : {M : Type 1} → statement M
 further-spec =
     tie.close (tie.spec
-    (λ c κs. search furthers)
-    (λ c. search furthers)
-    (λ c. search furthers)
-    (λ c. search furthers)
-    (λ c. search furthers))
+    (λ c κs. search furthers) (λ c. search furthers) (λ c. search furthers) (λ c. search furthers) (λ c. search furthers))

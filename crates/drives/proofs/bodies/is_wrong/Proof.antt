@@ -9,6 +9,4 @@ ruleset wrongs = (wrong-unchecked, wrong-short, wrong-sum, not-true, not-false, 
 pub is-wrong-spec : {M : Type 1} → statement M
 is-wrong-spec =
     tie.close (tie.spec
-    (λ c. search wrongs)
-    (λ c. search wrongs)
-    (λ c. search wrongs))
+    (λ c. search wrongs) (λ c. search wrongs) (λ c. search wrongs))

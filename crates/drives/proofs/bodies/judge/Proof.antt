@@ -9,8 +9,4 @@ ruleset judges = (judge-tag, judge-wrong, judge-head, judge-good, not-true, not-
 pub judge-spec : {M : Type 1} → statement M
 judge-spec =
     tie.close (tie.spec
-    (λ c. search judges)
-    (λ c κs. search judges)
-    (λ c. search judges)
-    (λ c. search judges)
-    (λ c. search judges))
+    (λ c. search judges) (λ c κs. search judges) (λ c. search judges) (λ c. search judges) (λ c. search judges))

@@ -9,6 +9,4 @@ ruleset lefts = (left-none, left-short, left-some, not-true, not-false, needs)
 pub left-of-spec : {M : Type 1} → statement M
 left-of-spec =
     tie.close (tie.spec
-    (λ c. search lefts)
-    (λ c. search lefts)
-    (λ c. search lefts))
+    (λ c. search lefts) (λ c. search lefts) (λ c. search lefts))

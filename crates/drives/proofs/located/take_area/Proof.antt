@@ -9,9 +9,4 @@ ruleset areas = (area-lands, head-begins, needs)
 pub take-area-spec : {M : Type 1} → statement M
 take-area-spec =
     tie.close (tie.spec
-    (λ c κs. search areas)
-    (λ c κs. search areas)
-    (λ c κs. search areas)
-    (λ c κs. search areas)
-    (λ c. search areas)
-    (λ c. search areas))
+    (λ c κs. search areas) (λ c κs. search areas) (λ c κs. search areas) (λ c κs. search areas) (λ c. search areas) (λ c. search areas))

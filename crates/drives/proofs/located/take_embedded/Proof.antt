@@ -8,11 +8,5 @@ ruleset embeds = (embed-full, embed-done, needs)
 pub take-embedded-spec : {M : Type 1} → statement M
 take-embedded-spec =
     tie.close (tie.spec
-    (λ c κs. search embeds)
-    (λ c κs. search embeds)
-    (λ c κs. search embeds)
-    (λ c. search embeds)
-    (λ c. search embeds)
-    (λ c κs. search embeds)
-    (λ c. search embeds)
-    (λ c. search embeds))
+    (λ c κs. search embeds) (λ c κs. search embeds) (λ c κs. search embeds) (λ c. search embeds) (λ c. search embeds)
+    (λ c κs. search embeds) (λ c. search embeds) (λ c. search embeds))

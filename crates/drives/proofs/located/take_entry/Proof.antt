@@ -8,14 +8,5 @@ ruleset entries = (entry-inside, entry-refused, entry-arrives, needs)
 pub take-entry-spec : {M : Type 1} → statement M
 take-entry-spec =
     tie.close (tie.spec
-    (λ c κs. search entries)
-    (λ c κs. search entries)
-    (λ c. search entries)
-    (λ c κs. search entries)
-    (λ c κs. search entries)
-    (λ c. search entries)
-    (λ c κs. search entries)
-    (λ c. search entries)
-    (λ c. search entries)
-    (λ c. search entries)
-    (λ c. search entries))
+    (λ c κs. search entries) (λ c κs. search entries) (λ c. search entries) (λ c κs. search entries) (λ c κs. search entries)
+    (λ c. search entries) (λ c κs. search entries) (λ c. search entries) (λ c. search entries) (λ c. search entries) (λ c. search entries))

@@ -8,9 +8,4 @@ ruleset begins = (begin-none, begin-some, needs)
 pub begin-sequence-spec : {M : Type 1} → statement M
 begin-sequence-spec =
     tie.close (tie.spec
-    (λ c κs. search begins)
-    (λ c κs. search begins)
-    (λ c. search begins)
-    (λ c. search begins)
-    (λ c κs. search begins)
-    (λ c. search begins))
+    (λ c κs. search begins) (λ c κs. search begins) (λ c. search begins) (λ c. search begins) (λ c κs. search begins) (λ c. search begins))

@@ -8,11 +8,5 @@ ruleset anchors = (anchor-not, anchor-leads, needs)
 pub behind-anchor-spec : {M : Type 1} → statement M
 behind-anchor-spec =
     tie.close (tie.spec
-    (λ c. search anchors)
-    (λ c κs. search anchors)
-    (λ c κs. search anchors)
-    (λ c κs. search anchors)
-    (λ c. search anchors)
-    (λ c κs. search anchors)
-    (λ c. search anchors)
-    (λ c. search anchors))
+    (λ c. search anchors) (λ c κs. search anchors) (λ c κs. search anchors) (λ c κs. search anchors) (λ c. search anchors)
+    (λ c κs. search anchors) (λ c. search anchors) (λ c. search anchors))

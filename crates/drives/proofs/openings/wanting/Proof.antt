@@ -8,5 +8,4 @@ ruleset places = (place-is, needs)
 pub wanting-spec : {M : Type 1} → statement M
 wanting-spec =
     tie.close (tie.spec
-    (λ c κs. search places)
-    (λ c. search places))
+    (λ c κs. search places) (λ c. search places))

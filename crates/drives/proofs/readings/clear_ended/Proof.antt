@@ -8,8 +8,4 @@ ruleset clears = (clear-not, clear-ended, needs)
 pub clear-ended-spec : {M : Type 1} → statement M
 clear-ended-spec =
     tie.close (tie.spec
-    (λ c κs. search clears)
-    (λ c. search clears)
-    (λ c κs. search clears)
-    (λ c. search clears)
-    (λ c. search clears))
+    (λ c κs. search clears) (λ c. search clears) (λ c κs. search clears) (λ c. search clears) (λ c. search clears))

@@ -8,5 +8,4 @@ ruleset closes = (continues-is, needs)
 pub continues-spec : {M : Type 1} → statement M
 continues-spec =
     tie.close (tie.spec
-    (λ c κs. search closes)
-    (λ c. search closes))
+    (λ c κs. search closes) (λ c. search closes))

@@ -8,8 +8,4 @@ ruleset refs = (reference-unnamed, reference-named, needs)
 pub number-in-spec : {M : Type 1} → statement M
 number-in-spec =
     tie.close (tie.spec
-    (λ c. search refs)
-    (λ c. search refs)
-    (λ c. search refs)
-    (λ c. search refs)
-    (λ c. search refs))
+    (λ c. search refs) (λ c. search refs) (λ c. search refs) (λ c. search refs) (λ c. search refs))

@@ -8,6 +8,4 @@ ruleset refs = (reference-low, reference-high, needs)
 pub reference-in-spec : {M : Type 1} → statement M
 reference-in-spec =
     tie.close (tie.spec
-    (λ c. search refs)
-    (λ c. search refs)
-    (λ c. search refs))
+    (λ c. search refs) (λ c. search refs) (λ c. search refs))

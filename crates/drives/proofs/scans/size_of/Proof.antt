@@ -10,6 +10,4 @@ pub size-of-spec : {M : Type 1} → statement M
 unfolding sizeOf
 size-of-spec =
     tie.close (tie.spec
-    (λ c. search picks)
-    (λ c. search picks)
-    (λ c. search picks))
+    (λ c. search picks) (λ c. search picks) (λ c. search picks))

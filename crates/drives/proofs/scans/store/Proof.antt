@@ -8,10 +8,5 @@ ruleset stores = (store-placed, store-lost, needs)
 pub store-spec : {M : Type 1} → statement M
 store-spec =
     tie.close (tie.spec
-    (λ c κs. search stores)
-    (λ c. search stores)
-    (λ c. search stores)
-    (λ c. search stores)
-    (λ c. search stores)
-    (λ c. search stores)
+    (λ c κs. search stores) (λ c. search stores) (λ c. search stores) (λ c. search stores) (λ c. search stores) (λ c. search stores)
     (λ c. search stores))

@@ -10,12 +10,7 @@ ruleset bytes = (byte-closed, byte-carried, byte-whole, byte-index, needs)
 pub take-byte-spec : {M : Type 1} → statement M
 take-byte-spec =
     tie.close (tie.spec
-    (λ c. search bytes)
-    (λ c. search bytes)
-    (λ c κs. search bytes)
-    (λ c. search bytes)
-    (λ c κs. search bytes)
-    (λ c. search bytes)
+    (λ c. search bytes) (λ c. search bytes) (λ c κs. search bytes) (λ c. search bytes) (λ c κs. search bytes) (λ c. search bytes)
     (λ c.
     let start = c .before .before .before .before .before .before .before .before in
     let z = c .before .before .before .before .before .before .if1 .left in

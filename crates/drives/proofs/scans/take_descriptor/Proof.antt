@@ -8,19 +8,6 @@ ruleset wholes = (whole-extent, whole-continuation, whole-end, whole-refused, ne
 pub take-descriptor-spec : {M : Type 1} → statement M
 take-descriptor-spec =
     tie.close (tie.spec
-    (λ c κs. search wholes)
-    (λ c. search wholes)
-    (λ c κs. search wholes)
-    (λ c. search wholes)
-    (λ c κs. search wholes)
-    (λ c. search wholes)
-    (λ c κs. search wholes)
-    (λ c. search wholes)
-    (λ c κs. search wholes)
-    (λ c. search wholes)
-    (λ c κs. search wholes)
-    (λ c. search wholes)
-    (λ c. search wholes)
-    (λ c. search wholes)
-    (λ c. search wholes)
-    (λ c. search wholes))
+    (λ c κs. search wholes) (λ c. search wholes) (λ c κs. search wholes) (λ c. search wholes) (λ c κs. search wholes) (λ c. search wholes)
+    (λ c κs. search wholes) (λ c. search wholes) (λ c κs. search wholes) (λ c. search wholes) (λ c κs. search wholes) (λ c. search wholes)
+    (λ c. search wholes) (λ c. search wholes) (λ c. search wholes) (λ c. search wholes))

@@ -8,6 +8,4 @@ ruleset words = (words-are, needs)
 pub words-spec : {M : Type 1} → statement M
 words-spec =
     tie.close (tie.spec
-    (λ c. search words)
-    (λ c κs. search words)
-    (λ c. search words))
+    (λ c. search words) (λ c κs. search words) (λ c. search words))

@@ -8,11 +8,5 @@ ruleset accepts = (accept-refused, accept-full, accept-continues, accept-ends, n
 pub accept-spec : {M : Type 1} → statement M
 accept-spec =
     tie.close (tie.spec
-    (λ c κs. search accepts)
-    (λ c. search accepts)
-    (λ c κs. search accepts)
-    (λ c. search accepts)
-    (λ c κs. search accepts)
-    (λ c. search accepts)
-    (λ c κs. search accepts)
-    (λ c. search accepts))
+    (λ c κs. search accepts) (λ c. search accepts) (λ c κs. search accepts) (λ c. search accepts) (λ c κs. search accepts)
+    (λ c. search accepts) (λ c κs. search accepts) (λ c. search accepts))

@@ -9,13 +9,5 @@ ruleset chains = (chain-none, chain-nowhere, chain-there, stands-low, needs)
 pub continue-chain-spec : {M : Type 1} → statement M
 continue-chain-spec =
     tie.close (tie.spec
-    (λ c κs. search chains)
-    (λ c. search chains)
-    (λ c κs. search chains)
-    (λ c κs. search chains)
-    (λ c. search chains)
-    (λ c κs. search chains)
-    (λ c. search chains)
-    (λ c κs. search chains)
-    (λ c. search chains)
-    (λ c. search chains))
+    (λ c κs. search chains) (λ c. search chains) (λ c κs. search chains) (λ c κs. search chains) (λ c. search chains)
+    (λ c κs. search chains) (λ c. search chains) (λ c κs. search chains) (λ c. search chains) (λ c. search chains))

@@ -8,12 +8,5 @@ ruleset enters = (at-done, at-skips, at-some, needs)
 pub enter-at-spec : {M : Type 1} → statement M
 enter-at-spec =
     tie.close (tie.spec
-    (λ c κs. search enters)
-    (λ c κs. search enters)
-    (λ c. search enters)
-    (λ c. search enters)
-    (λ c κs. search enters)
-    (λ c. search enters)
-    (λ c. search enters)
-    (λ c κs. search enters)
-    (λ c. search enters))
+    (λ c κs. search enters) (λ c κs. search enters) (λ c. search enters) (λ c. search enters) (λ c κs. search enters) (λ c. search enters)
+    (λ c. search enters) (λ c κs. search enters) (λ c. search enters))

@@ -17,15 +17,8 @@ abbrev μ-loop : tie.MeasureT-loop
 pub find-extent-spec : {M : Type 1} → statement M
 find-extent-spec =
     tie.close (tie.spec Inv-loop μ-loop
-    (λ c κs. search seeks)
-    (λ c. search seeks)
-    (λ c. search seeks)
-    (λ c. search seeks)
-    (λ c. search seeks)
-    (λ c κs. search seeks)
-    (λ c. search seeks)
-    (λ c. search seeks)
-    (λ c. search seeks)
+    (λ c κs. search seeks) (λ c. search seeks) (λ c. search seeks) (λ c. search seeks) (λ c. search seeks) (λ c κs. search seeks)
+    (λ c. search seeks) (λ c. search seeks) (λ c. search seeks)
     (λ c.
     let inv = c .before .before .before .before .before .loop .inv in
     let q = c .before .before .before .before .before .before .least .ensures in
@@ -33,5 +26,4 @@ find-extent-spec =
     let k = c .before .before .enter .ensures in
     let t = c .if1 .left in
     search seeks)
-    (λ c κs. search seeks)
-    (λ c. search seeks))
+    (λ c κs. search seeks) (λ c. search seeks))

@@ -8,12 +8,5 @@ ruleset wants = (continue-short, continue-long, continue-at, needs)
 pub want-continuation-spec : {M : Type 1} → statement M
 want-continuation-spec =
     tie.close (tie.spec
-    (λ c κs. search wants)
-    (λ c. search wants)
-    (λ c κs. search wants)
-    (λ c. search wants)
-    (λ c κs. search wants)
-    (λ c. search wants)
-    (λ c. search wants)
-    (λ c. search wants)
-    (λ c. search wants))
+    (λ c κs. search wants) (λ c. search wants) (λ c κs. search wants) (λ c. search wants) (λ c κs. search wants) (λ c. search wants)
+    (λ c. search wants) (λ c. search wants) (λ c. search wants))

@@ -6,6 +6,4 @@ use Rattle.entries.proofs.file_entries.area_start.Tie as tie
 pub area-start-spec : {M : Type 1} → statement M
 area-start-spec =
     tie.close (tie.spec
-    (λ c. search needs)
-    (λ c. search needs)
-    (λ c. search needs))
+    (λ c. search needs) (λ c. search needs) (λ c. search needs))

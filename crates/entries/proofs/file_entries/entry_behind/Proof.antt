@@ -9,11 +9,5 @@ ruleset behinds = (plain-prefix, extended-prefix, behind-short, behind-extended,
 pub entry-behind-spec : {M : Type 1} → statement M
 entry-behind-spec =
     tie.close (tie.spec
-    (λ c κs. search needs)
-    (λ c. search behinds)
-    (λ c κs. search needs)
-    (λ c κs. search behinds)
-    (λ c. search behinds)
-    (λ c κs. search needs)
-    (λ c κs. search behinds)
-    (λ c. search behinds))
+    (λ c κs. search needs) (λ c. search behinds) (λ c κs. search needs) (λ c κs. search behinds) (λ c. search behinds)
+    (λ c κs. search needs) (λ c κs. search behinds) (λ c. search behinds))

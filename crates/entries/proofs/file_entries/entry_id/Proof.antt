@@ -9,6 +9,4 @@ ruleset ids = (id-extended, id-plain, needs)
 pub entry-id-spec : {M : Type 1} → statement M
 entry-id-spec =
     tie.close (tie.spec
-    (λ c κs. search needs)
-    (λ c. search ids)
-    (λ c. search ids))
+    (λ c κs. search needs) (λ c. search ids) (λ c. search ids))

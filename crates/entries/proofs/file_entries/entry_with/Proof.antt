@@ -9,10 +9,5 @@ ruleset withs = (with-kind, with-over, with-read, needs)
 pub entry-with-spec : {M : Type 1} → statement M
 entry-with-spec =
     tie.close (tie.spec
-    (λ c. search withs)
-    (λ c κs. search needs)
-    (λ c. search needs)
-    (λ c. search needs)
-    (λ c. search withs)
-    (λ c κs. search needs)
+    (λ c. search withs) (λ c κs. search needs) (λ c. search needs) (λ c. search needs) (λ c. search withs) (λ c κs. search needs)
     (λ c. search withs))

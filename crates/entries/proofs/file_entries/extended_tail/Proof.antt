@@ -9,8 +9,4 @@ ruleset tails = (extended-is, needs)
 pub extended-tail-spec : {M : Type 1} → statement M
 extended-tail-spec =
     tie.close (tie.spec
-    (λ c κs. search needs)
-    (λ c κs. search needs)
-    (λ c κs. search needs)
-    (λ c κs. search needs)
-    (λ c. search tails))
+    (λ c κs. search needs) (λ c κs. search needs) (λ c κs. search needs) (λ c κs. search needs) (λ c. search tails))

@@ -9,7 +9,4 @@ ruleset tails = (plain-is, needs)
 pub plain-tail-spec : {M : Type 1} → statement M
 plain-tail-spec =
     tie.close (tie.spec
-    (λ c κs. search needs)
-    (λ c κs. search needs)
-    (λ c κs. search needs)
-    (λ c. search tails))
+    (λ c κs. search needs) (λ c κs. search needs) (λ c κs. search needs) (λ c. search tails))

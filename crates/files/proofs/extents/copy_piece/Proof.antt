@@ -9,11 +9,5 @@ ruleset copies = (copied, needs)
 pub copy-piece-spec : {M : Type 1} → statement M
 copy-piece-spec =
     tie.close (tie.spec
-    (λ c. search copies)
-    (λ c. search copies)
-    (λ c. search copies)
-    (λ c. search copies)
-    (λ c. search copies)
-    (λ c κs. search copies)
-    (λ c. search copies)
-    (λ c. search copies))
+    (λ c. search copies) (λ c. search copies) (λ c. search copies) (λ c. search copies) (λ c. search copies) (λ c κs. search copies)
+    (λ c. search copies) (λ c. search copies))

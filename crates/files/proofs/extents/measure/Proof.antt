@@ -16,25 +16,10 @@ abbrev μ-loop : tie.MeasureT-loop
 pub measure-spec : {M : Type 1} → statement M
 measure-spec =
     tie.close (tie.spec Inv-loop μ-loop
-    (λ c. search measures)
-    (λ c. search measures)
-    (λ c κs. search measures)
-    (λ c. search measures)
-    (λ c κs. search measures)
-    (λ c. search measures)
-    (λ c. search measures)
-    (λ c κs. search measures)
-    (λ c. search measures)
-    (λ c. search measures)
-    (λ c. search measures)
-    (λ c. search measures)
-    (λ c. search measures)
-    (λ c κs. search measures)
-    (λ c. search measures)
-    (λ c. search measures)
-    (λ c κs. search measures)
-    (λ c. search measures)
-    (λ c. search measures)
+    (λ c. search measures) (λ c. search measures) (λ c κs. search measures) (λ c. search measures) (λ c κs. search measures)
+    (λ c. search measures) (λ c. search measures) (λ c κs. search measures) (λ c. search measures) (λ c. search measures)
+    (λ c. search measures) (λ c. search measures) (λ c. search measures) (λ c κs. search measures) (λ c. search measures)
+    (λ c. search measures) (λ c κs. search measures) (λ c. search measures) (λ c. search measures)
     (λ c.
     let on = c .before .before .before .before .before in
     measure-next _ _ _ _ _ _ _ _ _ (on .before .loop .inv) (on .next-piece .ensures) (c .before .before .before .sectors .given .1) (c .before .add-counts2 .ensures) (search needs)))

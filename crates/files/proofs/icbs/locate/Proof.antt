@@ -10,11 +10,5 @@ ruleset locates = (locate-zero, locate-nowhere, locate-at, in-low, needs)
 pub locate-spec : {M : Type 1} → statement M
 locate-spec =
     tie.close (tie.spec
-    (λ c. search locates)
-    (λ c κs. search locates)
-    (λ c. search locates)
-    (λ c. search locates)
-    (λ c κs. search locates)
-    (λ c κs. search locates)
-    (λ c. search locates)
-    (λ c. search locates))
+    (λ c. search locates) (λ c κs. search locates) (λ c. search locates) (λ c. search locates) (λ c κs. search locates)
+    (λ c κs. search locates) (λ c. search locates) (λ c. search locates))

@@ -9,9 +9,4 @@ ruleset places = (from-missing, locate-room, from-entry, needs)
 pub place-from-spec : {M : Type 1} → statement M
 place-from-spec =
     tie.close (tie.spec
-    (λ c κs. search places)
-    (λ c. search places)
-    (λ c κs. search places)
-    (λ c. search places)
-    (λ c κs. search places)
-    (λ c. search places))
+    (λ c κs. search places) (λ c. search places) (λ c κs. search places) (λ c. search places) (λ c κs. search places) (λ c. search places))

@@ -9,9 +9,4 @@ ruleset places = (place-none, place-found, place-adds, needs)
 pub place-in-spec : {M : Type 1} → statement M
 place-in-spec =
     tie.close (tie.spec
-    (λ c κs. search places)
-    (λ c. search places)
-    (λ c. search places)
-    (λ c. search places)
-    (λ c. search places)
-    (λ c. search places))
+    (λ c κs. search places) (λ c. search places) (λ c. search places) (λ c. search places) (λ c. search places) (λ c. search places))

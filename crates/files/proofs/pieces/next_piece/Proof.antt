@@ -9,14 +9,5 @@ ruleset turns = (gives-end, gives-hop, gives-refused, gives-piece, needs)
 pub next-piece-spec : {M : Type 1} → statement M
 next-piece-spec =
     tie.close (tie.spec
-    (λ c κs. search turns)
-    (λ c. search turns)
-    (λ c. search turns)
-    (λ c. search turns)
-    (λ c κs. search turns)
-    (λ c. search turns)
-    (λ c. search turns)
-    (λ c. search turns)
-    (λ c. search turns)
-    (λ c. search turns)
-    (λ c. search turns))
+    (λ c κs. search turns) (λ c. search turns) (λ c. search turns) (λ c. search turns) (λ c κs. search turns) (λ c. search turns)
+    (λ c. search turns) (λ c. search turns) (λ c. search turns) (λ c. search turns) (λ c. search turns))

@@ -10,10 +10,5 @@ ruleset weighs = (weighs-type, weighs-nowhere, weighs-there, stands-nowhere, sta
 pub weigh-spec : {M : Type 1} → statement M
 weigh-spec =
     tie.close (tie.spec
-    (λ c. search weighs)
-    (λ c κs. search weighs)
-    (λ c. search weighs)
-    (λ c. search weighs)
-    (λ c κs. search weighs)
-    (λ c. search weighs)
+    (λ c. search weighs) (λ c κs. search weighs) (λ c. search weighs) (λ c. search weighs) (λ c κs. search weighs) (λ c. search weighs)
     (λ c. search weighs))

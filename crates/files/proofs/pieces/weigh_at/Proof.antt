@@ -9,10 +9,5 @@ ruleset weighs = (at-missing, at-held, needs)
 pub weigh-at-spec : {M : Type 1} → statement M
 weigh-at-spec =
     tie.close (tie.spec
-    (λ c κs. search weighs)
-    (λ c κs. search weighs)
-    (λ c. search weighs)
-    (λ c. search weighs)
-    (λ c. search weighs)
-    (λ c κs. search weighs)
+    (λ c κs. search weighs) (λ c κs. search weighs) (λ c. search weighs) (λ c. search weighs) (λ c. search weighs) (λ c κs. search weighs)
     (λ c. search weighs))

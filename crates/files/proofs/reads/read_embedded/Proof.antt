@@ -9,10 +9,5 @@ ruleset embeds = (embedded-full, embedded-source, embedded-done, needs)
 pub read-embedded-spec : {M : Type 1} → statement M
 read-embedded-spec =
     tie.close (tie.spec
-    (λ c κs. search embeds)
-    (λ c κs. search embeds)
-    (λ c κs. search embeds)
-    (λ c. search embeds)
-    (λ c κs. search embeds)
-    (λ c. search embeds)
-    (λ c. search embeds))
+    (λ c κs. search embeds) (λ c κs. search embeds) (λ c κs. search embeds) (λ c. search embeds) (λ c κs. search embeds)
+    (λ c. search embeds) (λ c. search embeds))

@@ -9,18 +9,6 @@ ruleset reads = (read-refused, place-inside, chain-little, read-in, read-out, ne
 pub read-file-spec : {M : Type 1} → statement M
 read-file-spec =
     tie.close (tie.spec
-    (λ c κs. search reads)
-    (λ c. search reads)
-    (λ c κs. search reads)
-    (λ c κs. search reads)
-    (λ c. search reads)
-    (λ c κs. search reads)
-    (λ c. search reads)
-    (λ c κs. search reads)
-    (λ c κs. search reads)
-    (λ c κs. search reads)
-    (λ c. search reads)
-    (λ c. search reads)
-    (λ c. search reads)
-    (λ c. search reads)
-    (λ c. search reads))
+    (λ c κs. search reads) (λ c. search reads) (λ c κs. search reads) (λ c κs. search reads) (λ c. search reads) (λ c κs. search reads)
+    (λ c. search reads) (λ c κs. search reads) (λ c κs. search reads) (λ c κs. search reads) (λ c. search reads) (λ c. search reads)
+    (λ c. search reads) (λ c. search reads) (λ c. search reads))

@@ -9,17 +9,6 @@ ruleset resolves = (resolve-refused, resolve-embedded, broken-fits, resolve-brok
 pub resolve-spec : {M : Type 1} → statement M
 resolve-spec =
     tie.close (tie.spec
-    (λ c κs. search resolves)
-    (λ c. search resolves)
-    (λ c. search resolves)
-    (λ c. search resolves)
-    (λ c κs. search resolves)
-    (λ c κs. search resolves)
-    (λ c κs. search resolves)
-    (λ c. search resolves)
-    (λ c. search resolves)
-    (λ c. search resolves)
-    (λ c. search resolves)
-    (λ c. search resolves)
-    (λ c. search resolves)
-    (λ c. search resolves))
+    (λ c κs. search resolves) (λ c. search resolves) (λ c. search resolves) (λ c. search resolves) (λ c κs. search resolves)
+    (λ c κs. search resolves) (λ c κs. search resolves) (λ c. search resolves) (λ c. search resolves) (λ c. search resolves)
+    (λ c. search resolves) (λ c. search resolves) (λ c. search resolves) (λ c. search resolves))

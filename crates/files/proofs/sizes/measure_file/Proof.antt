@@ -9,5 +9,4 @@ ruleset weighs = (measured-says, needs)
 pub measure-file-spec : {M : Type 1} → statement M
 measure-file-spec =
     tie.close (tie.spec
-    (λ c κs. search weighs)
-    (λ c. search weighs))
+    (λ c κs. search weighs) (λ c. search weighs))

@@ -9,9 +9,4 @@ ruleset weighs = (sizes-add, sizes-hops, sizes-done, needs)
 pub size-file-spec : {M : Type 1} → statement M
 size-file-spec =
     tie.close (tie.spec
-    (λ c κs. search weighs)
-    (λ c κs. search weighs)
-    (λ c. search weighs)
-    (λ c. search weighs)
-    (λ c. search weighs)
-    (λ c. search weighs))
+    (λ c κs. search weighs) (λ c κs. search weighs) (λ c. search weighs) (λ c. search weighs) (λ c. search weighs) (λ c. search weighs))

@@ -9,14 +9,5 @@ ruleset weighs = (weigh-little, weigh-refused, weigh-sized, needs)
 pub weigh-whole-spec : {M : Type 1} → statement M
 weigh-whole-spec =
     tie.close (tie.spec
-    (λ c κs. search weighs)
-    (λ c κs. search weighs)
-    (λ c. search weighs)
-    (λ c κs. search weighs)
-    (λ c κs. search weighs)
-    (λ c κs. search weighs)
-    (λ c κs. search weighs)
-    (λ c. search weighs)
-    (λ c κs. search weighs)
-    (λ c. search weighs)
-    (λ c. search weighs))
+    (λ c κs. search weighs) (λ c κs. search weighs) (λ c. search weighs) (λ c κs. search weighs) (λ c κs. search weighs)
+    (λ c κs. search weighs) (λ c κs. search weighs) (λ c. search weighs) (λ c κs. search weighs) (λ c. search weighs) (λ c. search weighs))

@@ -9,6 +9,4 @@ ruleset extents = (extent-is, needs)
 pub extent-of-spec : {M : Type 1} → statement M
 extent-of-spec =
     tie.close (tie.spec
-    (λ c. search extents)
-    (λ c κs. search extents)
-    (λ c. search extents))
+    (λ c. search extents) (λ c κs. search extents) (λ c. search extents))

@@ -64,7 +64,7 @@ use Rattle.areas.specs.declared.AllocExtent.{AllocExtent}
 use Rattle.chains.specs.inner.Walks.{left}
 use Rattle.files.specs.Files.{fileExtents}
 use Rattle.layouts.specs.Calls.{extentOf, Listed}
-use Rattle.layouts.specs.inner.Lists.{Stands, Planned}
+use Rattle.layouts.specs.inner.Lists.{ListStands, Planned}
 use Rattle.layouts.specs.declared.lists.Extent.{Extent}
 use Rattle.layouts.specs.declared.lists.Listing.{Listing}
 use Rattle.layouts.proofs.ListLaws.{Storing, store-starts, store-few, store-ends, store-slot, store-next}
@@ -206,7 +206,7 @@ module _ {M : Type 1} (𝓤 : URA M) (H : Heap 𝓤) (A : Atoms 𝓤) (W : Given
 
   -- the listing behind a listing
   abbrev Behind : Listing → Listing → Type 0
-  Behind l l′ = Stands (img .now) (left (img .now) (l .mount) (l .kind) (l .behind)) (l .reply) l′
+  Behind l l′ = ListStands (img .now) (left (img .now) (l .mount) (l .kind) (l .behind)) (l .reply) l′
 
   further-said : (l l′ : Listing) → ent 𝓤 (ensured 𝓤 H A further.ended (further.clauses 𝓤 H A mem run) (κ₀, tt) (img, (l, tt)) tt l′) (fact 𝓤 (Behind l l′))
   further-said l l′ = exE 𝓤 _ (λ ws. snd∗ 𝓤 (sem 𝓤 H A (lasts further.ended (κ₀, tt) (img, (l, tt)) ws)) (fact 𝓤 (Behind l l′)))

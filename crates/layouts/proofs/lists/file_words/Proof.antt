@@ -17,14 +17,8 @@ abbrev μ-loop : tie.MeasureT-loop
 pub file-words-spec : {M : Type 1} → statement M
 file-words-spec =
     tie.close (tie.spec Inv-loop μ-loop
-    (λ c κs. search stores)
-    (λ c. search stores)
-    (λ c κs. search stores)
+    (λ c κs. search stores) (λ c. search stores) (λ c κs. search stores)
     (λ c. let good = c .before .before .before .before .before .before .good in search stores)
-    (λ c. search stores)
-    (λ c κs. search stores)
+    (λ c. search stores) (λ c κs. search stores)
     (λ c. let good = c .before .before .before .before .before .before .before .good in search stores)
-    (λ c. search stores)
-    (λ c. search stores)
-    (λ c. search stores)
-    (λ c. search stores))
+    (λ c. search stores) (λ c. search stores) (λ c. search stores) (λ c. search stores))

@@ -9,12 +9,7 @@ ruleset lists = (list-full, list-done, needs)
 pub list-whole-spec : {M : Type 1} → statement M
 list-whole-spec =
     tie.close (tie.spec
-    (λ c κs. search lists)
-    (λ c κs. search lists)
-    (λ c κs. search lists)
-    (λ c κs. search lists)
-    (λ c. search lists)
-    (λ c κs. search lists)
+    (λ c κs. search lists) (λ c κs. search lists) (λ c κs. search lists) (λ c κs. search lists) (λ c. search lists) (λ c κs. search lists)
     (λ c.
     let start = c .before .before .before .before in
     let good = start .good .1 .1 in

@@ -17,14 +17,5 @@ abbrev μ-loop : tie.MeasureT-loop
 pub listing-at-spec : {M : Type 1} → statement M
 listing-at-spec =
     tie.close (tie.spec Inv-loop μ-loop
-    (λ c. search walks)
-    (λ c κs. search walks)
-    (λ c. search walks)
-    (λ c κs. search walks)
-    (λ c. search walks)
-    (λ c. search walks)
-    (λ c. search walks)
-    (λ c. search walks)
-    (λ c. search walks)
-    (λ c κs. search walks)
-    (λ c. search walks))
+    (λ c. search walks) (λ c κs. search walks) (λ c. search walks) (λ c κs. search walks) (λ c. search walks) (λ c. search walks)
+    (λ c. search walks) (λ c. search walks) (λ c. search walks) (λ c κs. search walks) (λ c. search walks))

@@ -9,9 +9,4 @@ ruleset parts = (file-part-gives, file-part-room, file-part-fits, needs)
 pub file-part-spec : {M : Type 1} → statement M
 file-part-spec =
     tie.close (tie.spec
-    (λ c κs. search parts)
-    (λ c. search parts)
-    (λ c. search parts)
-    (λ c. search parts)
-    (λ c. search parts)
-    (λ c. search parts))
+    (λ c κs. search parts) (λ c. search parts) (λ c. search parts) (λ c. search parts) (λ c. search parts) (λ c. search parts))

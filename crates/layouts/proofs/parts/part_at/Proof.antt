@@ -9,13 +9,5 @@ ruleset parts = (part-refused, place-refused, part-out, place-out, part-in, plac
 pub part-at-spec : {M : Type 1} → statement M
 part-at-spec =
     tie.close (tie.spec
-    (λ c κs. search parts)
-    (λ c. search parts)
-    (λ c κs. search parts)
-    (λ c κs. search parts)
-    (λ c. search parts)
-    (λ c. search parts)
-    (λ c κs. search parts)
-    (λ c. search parts)
-    (λ c. search parts)
-    (λ c. search parts))
+    (λ c κs. search parts) (λ c. search parts) (λ c κs. search parts) (λ c κs. search parts) (λ c. search parts) (λ c. search parts)
+    (λ c κs. search parts) (λ c. search parts) (λ c. search parts) (λ c. search parts))

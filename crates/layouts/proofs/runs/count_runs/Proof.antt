@@ -16,23 +16,9 @@ abbrev μ-loop : tie.MeasureT-loop
 pub count-runs-spec : {M : Type 1} → statement M
 count-runs-spec =
     tie.close (tie.spec Inv-loop μ-loop
-    (λ c. search counts)
-    (λ c κs. search counts)
-    (λ c. search counts)
-    (λ c. search counts)
-    (λ c. search counts)
-    (λ c κs. search counts)
-    (λ c. search counts)
-    (λ c. search counts)
-    (λ c. search counts)
-    (λ c. search counts)
-    (λ c. search counts)
-    (λ c κs. search counts)
-    (λ c κs. search counts)
-    (λ c. search counts)
-    (λ c. search counts)
-    (λ c. search counts)
-    (λ c. search counts)
+    (λ c. search counts) (λ c κs. search counts) (λ c. search counts) (λ c. search counts) (λ c. search counts) (λ c κs. search counts)
+    (λ c. search counts) (λ c. search counts) (λ c. search counts) (λ c. search counts) (λ c. search counts) (λ c κs. search counts)
+    (λ c κs. search counts) (λ c. search counts) (λ c. search counts) (λ c. search counts) (λ c. search counts)
     (λ c.
     let counted = c .before .before in
     let taken = counted .before .before in

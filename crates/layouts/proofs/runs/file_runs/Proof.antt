@@ -16,13 +16,5 @@ abbrev μ-loop : tie.MeasureT-loop
 pub file-runs-spec : {M : Type 1} → statement M
 file-runs-spec =
     tie.close (tie.spec Inv-loop μ-loop
-    (λ c κs. search stores)
-    (λ c. search stores)
-    (λ c. search stores)
-    (λ c. search stores)
-    (λ c κs. search stores)
-    (λ c. search stores)
-    (λ c. search stores)
-    (λ c. search stores)
-    (λ c. search stores)
-    (λ c. search stores))
+    (λ c κs. search stores) (λ c. search stores) (λ c. search stores) (λ c. search stores) (λ c κs. search stores) (λ c. search stores)
+    (λ c. search stores) (λ c. search stores) (λ c. search stores) (λ c. search stores))

@@ -9,11 +9,5 @@ ruleset plans = (entry-full, entry-done, needs)
 pub plan-entry-spec : {M : Type 1} → statement M
 plan-entry-spec =
     tie.close (tie.spec
-    (λ c κs. search plans)
-    (λ c κs. search plans)
-    (λ c κs. search plans)
-    (λ c κs. search plans)
-    (λ c κs. search plans)
-    (λ c. search plans)
-    (λ c κs. search plans)
-    (λ c. search plans))
+    (λ c κs. search plans) (λ c κs. search plans) (λ c κs. search plans) (λ c κs. search plans) (λ c κs. search plans) (λ c. search plans)
+    (λ c κs. search plans) (λ c. search plans))

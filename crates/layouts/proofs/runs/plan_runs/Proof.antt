@@ -9,16 +9,6 @@ ruleset plans = (plan-refused, plan-in, plan-small, plan-out, needs)
 pub plan-runs-spec : {M : Type 1} → statement M
 plan-runs-spec =
     tie.close (tie.spec
-    (λ c κs. search plans)
-    (λ c. search plans)
-    (λ c κs. search plans)
-    (λ c κs. search plans)
-    (λ c κs. search plans)
-    (λ c. search plans)
-    (λ c κs. search plans)
-    (λ c. search plans)
-    (λ c κs. search plans)
-    (λ c κs. search plans)
-    (λ c. search plans)
-    (λ c. search plans)
+    (λ c κs. search plans) (λ c. search plans) (λ c κs. search plans) (λ c κs. search plans) (λ c κs. search plans) (λ c. search plans)
+    (λ c κs. search plans) (λ c. search plans) (λ c κs. search plans) (λ c κs. search plans) (λ c. search plans) (λ c. search plans)
     (λ c. search plans))

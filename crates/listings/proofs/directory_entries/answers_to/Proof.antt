@@ -9,11 +9,5 @@ ruleset names = (skipped-unnamed, part-named, needs)
 pub answers-to-spec : {M : Type 1} → statement M
 answers-to-spec =
     tie.close (tie.spec
-    (λ c κs. search names)
-    (λ c. search names)
-    (λ c. search names)
-    (λ c. search names)
-    (λ c. search names)
-    (λ c. search names)
-    (λ c κs. search names)
-    (λ c. search names))
+    (λ c κs. search names) (λ c. search names) (λ c. search names) (λ c. search names) (λ c. search names) (λ c. search names)
+    (λ c κs. search names) (λ c. search names))

@@ -9,8 +9,4 @@ ruleset reads = (comes, needs)
 pub entry-at-spec : {M : Type 1} → statement M
 entry-at-spec =
     tie.close (tie.spec
-    (λ c. search reads)
-    (λ c. search reads)
-    (λ c. search reads)
-    (λ c κs. search reads)
-    (λ c. search reads))
+    (λ c. search reads) (λ c. search reads) (λ c. search reads) (λ c κs. search reads) (λ c. search reads))

@@ -9,5 +9,4 @@ ruleset skips = (skipped-is, needs)
 pub is-skipped-spec : {M : Type 1} → statement M
 is-skipped-spec =
     tie.close (tie.spec
-    (λ c κs. search skips)
-    (λ c. search skips))
+    (λ c κs. search skips) (λ c. search skips))

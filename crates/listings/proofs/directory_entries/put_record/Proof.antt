@@ -18,18 +18,7 @@ returns c =
 pub put-record-spec : {M : Type 1} → statement M
 put-record-spec =
     tie.close (tie.spec
-    (λ c. search records)
-    (λ c. search records)
-    (λ c. search records)
-    (λ c. search records)
-    (λ c κs. search records)
-    (λ c. search records)
-    (λ c. search records)
-    (λ c. search records)
-    (λ c κs. search records)
-    (λ c κs. search records)
-    (λ c. search records)
-    (λ c κs. search records)
-    (λ c. search records)
-    (λ c. search records)
+    (λ c. search records) (λ c. search records) (λ c. search records) (λ c. search records) (λ c κs. search records) (λ c. search records)
+    (λ c. search records) (λ c. search records) (λ c κs. search records) (λ c κs. search records) (λ c. search records)
+    (λ c κs. search records) (λ c. search records) (λ c. search records)
     returns)

@@ -8,7 +8,4 @@ ruleset sizes = (picks)
 pub record-size-spec : {M : Type 1} → statement M
 record-size-spec =
     tie.close (tie.spec
-    (λ c κs. search sizes)
-    (λ c. search sizes)
-    (λ c. search sizes)
-    (λ c. search sizes))
+    (λ c κs. search sizes) (λ c. search sizes) (λ c. search sizes) (λ c. search sizes))

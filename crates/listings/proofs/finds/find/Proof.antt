@@ -17,17 +17,6 @@ abbrev μ-loop : tie.MeasureT-loop
 pub find-spec : {M : Type 1} → statement M
 find-spec =
     tie.close (tie.spec Inv-loop μ-loop
-    (λ c κs. search finds)
-    (λ c. search finds)
-    (λ c. search finds)
-    (λ c κs. search finds)
-    (λ c κs. search finds)
-    (λ c. search finds)
-    (λ c. search finds)
-    (λ c. search finds)
-    (λ c. search finds)
-    (λ c. search finds)
-    (λ c κs. search finds)
-    (λ c. search finds)
-    (λ c. search finds)
-    (λ c. search finds))
+    (λ c κs. search finds) (λ c. search finds) (λ c. search finds) (λ c κs. search finds) (λ c κs. search finds) (λ c. search finds)
+    (λ c. search finds) (λ c. search finds) (λ c. search finds) (λ c. search finds) (λ c κs. search finds) (λ c. search finds)
+    (λ c. search finds) (λ c. search finds))

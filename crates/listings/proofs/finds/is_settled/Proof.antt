@@ -9,9 +9,4 @@ ruleset settles = (settled-case, settled-written, settled-only, needs)
 pub is-settled-spec : {M : Type 1} → statement M
 is-settled-spec =
     tie.close (tie.spec
-    (λ c. search settles)
-    (λ c. search settles)
-    (λ c. search settles)
-    (λ c. search settles)
-    (λ c. search settles)
-    (λ c. search settles))
+    (λ c. search settles) (λ c. search settles) (λ c. search settles) (λ c. search settles) (λ c. search settles) (λ c. search settles))

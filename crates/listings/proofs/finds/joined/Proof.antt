@@ -9,8 +9,4 @@ ruleset joins = (joined-again, joined-first, needs)
 pub joined-spec : {M : Type 1} → statement M
 joined-spec =
     tie.close (tie.spec
-    (λ c κs. search joins)
-    (λ c κs. search joins)
-    (λ c. search joins)
-    (λ c κs. search joins)
-    (λ c. search joins))
+    (λ c κs. search joins) (λ c κs. search joins) (λ c. search joins) (λ c κs. search joins) (λ c. search joins))

@@ -9,10 +9,5 @@ ruleset notes = (noted-settled, noted-none, noted-this, needs)
 pub noted-spec : {M : Type 1} → statement M
 noted-spec =
     tie.close (tie.spec
-    (λ c κs. search notes)
-    (λ c. search notes)
-    (λ c κs. search notes)
-    (λ c κs. search notes)
-    (λ c κs. search notes)
-    (λ c. search notes)
+    (λ c κs. search notes) (λ c. search notes) (λ c κs. search notes) (λ c κs. search notes) (λ c κs. search notes) (λ c. search notes)
     (λ c. search notes))

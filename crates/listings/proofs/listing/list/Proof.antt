@@ -9,15 +9,5 @@ ruleset lists = (list-bad, list-full, list-done, needs)
 pub list-spec : {M : Type 1} → statement M
 list-spec =
     tie.close (tie.spec
-    (λ c κs. search lists)
-    (λ c κs. search lists)
-    (λ c. search lists)
-    (λ c κs. search lists)
-    (λ c κs. search lists)
-    (λ c. search lists)
-    (λ c. search lists)
-    (λ c. search lists)
-    (λ c. search lists)
-    (λ c κs. search lists)
-    (λ c. search lists)
-    (λ c. search lists))
+    (λ c κs. search lists) (λ c κs. search lists) (λ c. search lists) (λ c κs. search lists) (λ c κs. search lists) (λ c. search lists)
+    (λ c. search lists) (λ c. search lists) (λ c. search lists) (λ c κs. search lists) (λ c. search lists) (λ c. search lists))

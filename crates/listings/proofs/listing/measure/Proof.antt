@@ -17,13 +17,5 @@ abbrev μ-loop : tie.MeasureT-loop
 pub measure-spec : {M : Type 1} → statement M
 measure-spec =
     tie.close (tie.spec Inv-loop μ-loop
-    (λ c. search measures)
-    (λ c. search measures)
-    (λ c κs. search measures)
-    (λ c. search measures)
-    (λ c κs. search measures)
-    (λ c. search measures)
-    (λ c. search measures)
-    (λ c. search measures)
-    (λ c. search measures)
-    (λ c. search measures))
+    (λ c. search measures) (λ c. search measures) (λ c κs. search measures) (λ c. search measures) (λ c κs. search measures)
+    (λ c. search measures) (λ c. search measures) (λ c. search measures) (λ c. search measures) (λ c. search measures))

@@ -18,18 +18,6 @@ abbrev μ-loop : tie.MeasureT-loop
 pub put-entries-spec : {M : Type 1} → statement M
 put-entries-spec =
     tie.close (tie.spec Inv-loop μ-loop
-    (λ c. search fills)
-    (λ c. search fills)
-    (λ c. search fills)
-    (λ c. search fills)
-    (λ c. search fills)
-    (λ c. search fills)
-    (λ c. search fills)
-    (λ c. search fills)
-    (λ c κs. search fills)
-    (λ c. search fills)
-    (λ c. search fills)
-    (λ c. search fills)
-    (λ c. search fills)
-    (λ c. search fills)
-    (λ c. search fills))
+    (λ c. search fills) (λ c. search fills) (λ c. search fills) (λ c. search fills) (λ c. search fills) (λ c. search fills)
+    (λ c. search fills) (λ c. search fills) (λ c κs. search fills) (λ c. search fills) (λ c. search fills) (λ c. search fills)
+    (λ c. search fills) (λ c. search fills) (λ c. search fills))

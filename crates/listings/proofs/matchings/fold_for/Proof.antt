@@ -9,9 +9,4 @@ ruleset folds = (fold-case, fold-written, fold-only, needs)
 pub fold-for-spec : {M : Type 1} → statement M
 fold-for-spec =
     tie.close (tie.spec
-    (λ c. search folds)
-    (λ c. search folds)
-    (λ c. search folds)
-    (λ c. search folds)
-    (λ c. search folds)
-    (λ c. search folds))
+    (λ c. search folds) (λ c. search folds) (λ c. search folds) (λ c. search folds) (λ c. search folds) (λ c. search folds))

@@ -9,6 +9,4 @@ pub matching-of-spec : {M : Type 1} → statement M
 unfolding matchingOf
 matching-of-spec =
     tie.close (tie.spec
-    (λ c. search picks)
-    (λ c. search picks)
-    (λ c. search picks))
+    (λ c. search picks) (λ c. search picks) (λ c. search picks))

@@ -17,10 +17,5 @@ abbrev μ-loop : tie.MeasureT-loop
 pub component-end-spec : {M : Type 1} → statement M
 component-end-spec =
     tie.close (tie.spec Inv-loop μ-loop
-    (λ c. search rules)
-    (λ c. search rules)
-    (λ c. search rules)
-    (λ c. search rules)
-    (λ c. search rules)
-    (λ c. search rules)
+    (λ c. search rules) (λ c. search rules) (λ c. search rules) (λ c. search rules) (λ c. search rules) (λ c. search rules)
     (λ c. search rules))

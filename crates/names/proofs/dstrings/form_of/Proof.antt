@@ -9,11 +9,5 @@ ruleset forms = (form-empty, form-none, form-bytes, form-odd, form-pairs, form-b
 pub form-of-spec : {M : Type 1} → statement M
 form-of-spec =
     tie.close (tie.spec
-    (λ c. search forms)
-    (λ c. search needs)
-    (λ c κs. search needs)
-    (λ c. search forms)
-    (λ c. search forms)
-    (λ c. search forms)
-    (λ c. search forms)
-    (λ c. search forms))
+    (λ c. search forms) (λ c. search needs) (λ c κs. search needs) (λ c. search forms) (λ c. search forms) (λ c. search forms)
+    (λ c. search forms) (λ c. search forms))

@@ -9,11 +9,5 @@ ruleset sizes = (has-body, size-empty, size-units, size-bad, needs)
 pub name-size-spec : {M : Type 1} → statement M
 name-size-spec =
     tie.close (tie.spec
-    (λ c κs. search sizes)
-    (λ c. search sizes)
-    (λ c. search sizes)
-    (λ c κs. search sizes)
-    (λ c. search sizes)
-    (λ c. search sizes)
-    (λ c. search sizes)
-    (λ c. search sizes))
+    (λ c κs. search sizes) (λ c. search sizes) (λ c. search sizes) (λ c κs. search sizes) (λ c. search sizes) (λ c. search sizes)
+    (λ c. search sizes) (λ c. search sizes))

@@ -9,12 +9,5 @@ ruleset writes = (has-body, write-empty, write-units, write-bad, needs)
 pub put-name-spec : {M : Type 1} → statement M
 put-name-spec =
     tie.close (tie.spec
-    (λ c κs. search writes)
-    (λ c. search writes)
-    (λ c. search writes)
-    (λ c κs. search writes)
-    (λ c. search writes)
-    (λ c. search writes)
-    (λ c. search writes)
-    (λ c. search writes)
-    (λ c. search writes))
+    (λ c κs. search writes) (λ c. search writes) (λ c. search writes) (λ c κs. search writes) (λ c. search writes) (λ c. search writes)
+    (λ c. search writes) (λ c. search writes) (λ c. search writes))

@@ -17,14 +17,5 @@ abbrev μ-loop : tie.MeasureT-loop
 pub put-text-spec : {M : Type 1} → statement M
 put-text-spec =
     tie.close (tie.spec Inv-loop μ-loop
-    (λ c. search writes)
-    (λ c. search writes)
-    (λ c κs. search writes)
-    (λ c. search writes)
-    (λ c. search writes)
-    (λ c κs. search writes)
-    (λ c. search writes)
-    (λ c. search writes)
-    (λ c. search writes)
-    (λ c. search writes)
-    (λ c. search writes))
+    (λ c. search writes) (λ c. search writes) (λ c κs. search writes) (λ c. search writes) (λ c. search writes) (λ c κs. search writes)
+    (λ c. search writes) (λ c. search writes) (λ c. search writes) (λ c. search writes) (λ c. search writes))

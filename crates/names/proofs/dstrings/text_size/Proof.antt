@@ -17,13 +17,5 @@ abbrev μ-loop : tie.MeasureT-loop
 pub text-size-spec : {M : Type 1} → statement M
 text-size-spec =
     tie.close (tie.spec Inv-loop μ-loop
-    (λ c. search sizes)
-    (λ c. search sizes)
-    (λ c κs. search sizes)
-    (λ c. search sizes)
-    (λ c κs. search sizes)
-    (λ c. search sizes)
-    (λ c. search sizes)
-    (λ c. search sizes)
-    (λ c. search sizes)
-    (λ c. search sizes))
+    (λ c. search sizes) (λ c. search sizes) (λ c κs. search sizes) (λ c. search sizes) (λ c κs. search sizes) (λ c. search sizes)
+    (λ c. search sizes) (λ c. search sizes) (λ c. search sizes) (λ c. search sizes))

@@ -9,10 +9,5 @@ ruleset fronts = (front-long, front-size, front-none, needs)
 pub field-size-spec : {M : Type 1} → statement M
 field-size-spec =
     tie.close (tie.spec
-    (λ c κs. search fronts)
-    (λ c. search fronts)
-    (λ c. search fronts)
-    (λ c κs. search fronts)
-    (λ c. search fronts)
-    (λ c. search fronts)
+    (λ c κs. search fronts) (λ c. search fronts) (λ c. search fronts) (λ c κs. search fronts) (λ c. search fronts) (λ c. search fronts)
     (λ c. search fronts))

@@ -9,10 +9,5 @@ ruleset fields = (field-empty, field-bad, field-front, needs)
 pub measured-spec : {M : Type 1} → statement M
 measured-spec =
     tie.close (tie.spec
-    (λ c. search fields)
-    (λ c. search needs)
-    (λ c. search needs)
-    (λ c κs. search needs)
-    (λ c. search needs)
-    (λ c. search fields)
+    (λ c. search fields) (λ c. search needs) (λ c. search needs) (λ c κs. search needs) (λ c. search needs) (λ c. search fields)
     (λ c. search fields))

@@ -9,12 +9,5 @@ ruleset fronts = (front-long, front-wrote, front-left, needs)
 pub write-field-spec : {M : Type 1} → statement M
 write-field-spec =
     tie.close (tie.spec
-    (λ c κs. search fronts)
-    (λ c. search fronts)
-    (λ c. search fronts)
-    (λ c κs. search fronts)
-    (λ c. search fronts)
-    (λ c κs. search fronts)
-    (λ c. search fronts)
-    (λ c. search fronts)
-    (λ c. search fronts))
+    (λ c κs. search fronts) (λ c. search fronts) (λ c. search fronts) (λ c κs. search fronts) (λ c. search fronts) (λ c κs. search fronts)
+    (λ c. search fronts) (λ c. search fronts) (λ c. search fronts))

@@ -19,17 +19,6 @@ abbrev μ-loop : tie.MeasureT-loop
 pub front-spec : {M : Type 1} → statement M
 front-spec =
     tie.close (tie.spec Inv-loop μ-loop
-    (λ c. search fronts)
-    (λ c. search fronts)
-    (λ c κs. search fronts)
-    (λ c. search fronts)
-    (λ c. search fronts)
-    (λ c. search fronts)
-    (λ c κs. search fronts)
-    (λ c. search fronts)
-    (λ c κs. search fronts)
-    (λ c. search fronts)
-    (λ c. search fronts)
-    (λ c. search fronts)
-    (λ c. search fronts)
-    (λ c. search fronts))
+    (λ c. search fronts) (λ c. search fronts) (λ c κs. search fronts) (λ c. search fronts) (λ c. search fronts) (λ c. search fronts)
+    (λ c κs. search fronts) (λ c. search fronts) (λ c κs. search fronts) (λ c. search fronts) (λ c. search fronts) (λ c. search fronts)
+    (λ c. search fronts) (λ c. search fronts))

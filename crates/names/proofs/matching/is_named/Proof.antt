@@ -10,13 +10,5 @@ ruleset matches = (named-long, named-bad, named-empty, has-body, named-text, nee
 pub is-named-spec : {M : Type 1} → statement M
 is-named-spec =
     tie.close (tie.spec
-    (λ c. search matches)
-    (λ c κs. search needs)
-    (λ c. search needs)
-    (λ c. search needs)
-    (λ c. search needs)
-    (λ c κs. search matches)
-    (λ c κs. search needs)
-    (λ c. search matches)
-    (λ c. search matches)
-    (λ c. search matches))
+    (λ c. search matches) (λ c κs. search needs) (λ c. search needs) (λ c. search needs) (λ c. search needs) (λ c κs. search matches)
+    (λ c κs. search needs) (λ c. search matches) (λ c. search matches) (λ c. search matches))

@@ -9,8 +9,4 @@ ruleset plains = (plain-not, plain-yes, needs)
 pub is-plain-spec : {M : Type 1} → statement M
 is-plain-spec =
     tie.close (tie.spec
-    (λ c. search plains)
-    (λ c. search plains)
-    (λ c. search needs)
-    (λ c κs. search needs)
-    (λ c. search plains))
+    (λ c. search plains) (λ c. search plains) (λ c. search needs) (λ c κs. search needs) (λ c. search plains))

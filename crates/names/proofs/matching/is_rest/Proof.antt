@@ -20,15 +20,6 @@ abbrev μ-loop : tie.MeasureT-loop
 pub is-rest-spec : {M : Type 1} → statement M
 is-rest-spec =
     tie.close (tie.spec Inv-loop μ-loop
-    (λ c. search compares)
-    (λ c. search compares)
-    (λ c. search compares)
-    (λ c. search compares)
-    (λ c κs. search compares)
-    (λ c. search compares)
-    (λ c κs. search compares)
-    (λ c. search compares)
-    (λ c. search compares)
-    (λ c. search compares)
-    (λ c. search compares)
-    (λ c. search compares))
+    (λ c. search compares) (λ c. search compares) (λ c. search compares) (λ c. search compares) (λ c κs. search compares)
+    (λ c. search compares) (λ c κs. search compares) (λ c. search compares) (λ c. search compares) (λ c. search compares)
+    (λ c. search compares) (λ c. search compares))

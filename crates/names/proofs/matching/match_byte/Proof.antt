@@ -9,8 +9,4 @@ ruleset bytes = (byte-none, byte-some, needs)
 pub match-byte-spec : {M : Type 1} → statement M
 match-byte-spec =
     tie.close (tie.spec
-    (λ c. search bytes)
-    (λ c. search needs)
-    (λ c κs. search needs)
-    (λ c. search needs)
-    (λ c. search bytes))
+    (λ c. search bytes) (λ c. search needs) (λ c κs. search needs) (λ c. search needs) (λ c. search bytes))

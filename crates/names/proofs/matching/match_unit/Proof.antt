@@ -9,10 +9,5 @@ ruleset units = (unit-one, unit-none, unit-long, needs)
 pub match-unit-spec : {M : Type 1} → statement M
 match-unit-spec =
     tie.close (tie.spec
-    (λ c. search needs)
-    (λ c κs. search needs)
-    (λ c. search units)
-    (λ c κs. search needs)
-    (λ c. search units)
-    (λ c κs. search needs)
+    (λ c. search needs) (λ c κs. search needs) (λ c. search units) (λ c κs. search needs) (λ c. search units) (λ c κs. search needs)
     (λ c. search units))

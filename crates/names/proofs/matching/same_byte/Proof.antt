@@ -9,10 +9,5 @@ ruleset sames = (same-alike, same-lower, same-apart, needs)
 pub same-byte-spec : {M : Type 1} → statement M
 same-byte-spec =
     tie.close (tie.spec
-    (λ c. search sames)
-    (λ c. search sames)
-    (λ c κs. search sames)
-    (λ c κs. search sames)
-    (λ c. search sames)
-    (λ c. search sames)
+    (λ c. search sames) (λ c. search sames) (λ c κs. search sames) (λ c κs. search sames) (λ c. search sames) (λ c. search sames)
     (λ c. search sames))

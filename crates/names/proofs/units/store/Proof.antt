@@ -9,7 +9,4 @@ ruleset stores = (stored-out, needs)
 pub store-spec : {M : Type 1} → statement M
 store-spec =
     tie.close (tie.spec
-    (λ c. search needs)
-    (λ c. search needs)
-    (λ c. search needs)
-    (λ c. search stores))
+    (λ c. search needs) (λ c. search needs) (λ c. search needs) (λ c. search stores))

@@ -8,5 +8,4 @@ pub surrogate-spec : {M : Type 1} → statement M
 unfolding surrogate
 surrogate-spec =
     tie.close (tie.spec
-    (λ c. search picks)
-    (λ c. search picks))
+    (λ c. search picks) (λ c. search picks))

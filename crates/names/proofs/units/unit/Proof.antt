@@ -10,14 +10,7 @@ pub unit-spec : {M : Type 1} → statement M
 unfolding unitAt
 unit-spec =
     tie.close (tie.spec
-    (λ c. search needs)
-    (λ c κs. search needs)
-    (λ c. search needs)
-    (λ c. search needs)
-    (λ c. search needs)
-    (λ c κs. search needs)
+    (λ c. search needs) (λ c κs. search needs) (λ c. search needs) (λ c. search needs) (λ c. search needs) (λ c κs. search needs)
     (λ c. search needs)
     (λ c. search (pair-is, picks))
-    (λ c. search needs)
-    (λ c κs. search needs)
-    (λ c. search picks))
+    (λ c. search needs) (λ c κs. search needs) (λ c. search picks))

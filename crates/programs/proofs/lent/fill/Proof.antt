@@ -17,10 +17,5 @@ abbrev μ-loop : tie.MeasureT-loop
 pub fill-spec : {M : Type 1} → statement M
 fill-spec =
     tie.close (tie.spec Inv-loop μ-loop
-    (λ c. search fills)
-    (λ c. search fills)
-    (λ c. search fills)
-    (λ c. search fills)
-    (λ c. search fills)
-    (λ c. search fills)
+    (λ c. search fills) (λ c. search fills) (λ c. search fills) (λ c. search fills) (λ c. search fills) (λ c. search fills)
     (λ c. search fills))

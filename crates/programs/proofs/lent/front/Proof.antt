@@ -21,8 +21,4 @@ ruleset fronts = (all-of, from-0, needs)
 pub front-spec : {M : Type 1} → statement M
 front-spec =
     tie.close (tie.spec
-    (λ c. search fronts)
-    (λ c. search fronts)
-    (λ c. search fronts)
-    (λ c. search fronts)
-    (λ c. search fronts))
+    (λ c. search fronts) (λ c. search fronts) (λ c. search fronts) (λ c. search fronts) (λ c. search fronts))

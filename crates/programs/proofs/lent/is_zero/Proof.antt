@@ -17,10 +17,5 @@ abbrev μ-loop : tie.MeasureT-loop
 pub is-zero-spec : {M : Type 1} → statement M
 is-zero-spec =
     tie.close (tie.spec Inv-loop μ-loop
-    (λ c. search zeros)
-    (λ c. search zeros)
-    (λ c. search zeros)
-    (λ c. search zeros)
-    (λ c. search zeros)
-    (λ c. search zeros)
+    (λ c. search zeros) (λ c. search zeros) (λ c. search zeros) (λ c. search zeros) (λ c. search zeros) (λ c. search zeros)
     (λ c. search zeros))

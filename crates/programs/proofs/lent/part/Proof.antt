@@ -6,14 +6,5 @@ use Rattle.programs.proofs.lent.part.Tie as tie
 pub part-spec : {M : Type 1} → statement M
 part-spec =
     tie.close (tie.spec
-    (λ c. search picks)
-    (λ c. search picks)
-    (λ c. search picks)
-    (λ c. search picks)
-    (λ c. search picks)
-    (λ c. search picks)
-    (λ c. search picks)
-    (λ c. search picks)
-    (λ c. search picks)
-    (λ c. search picks)
-    (λ c. search picks))
+    (λ c. search picks) (λ c. search picks) (λ c. search picks) (λ c. search picks) (λ c. search picks) (λ c. search picks)
+    (λ c. search picks) (λ c. search picks) (λ c. search picks) (λ c. search picks) (λ c. search picks))

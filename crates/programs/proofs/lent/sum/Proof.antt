@@ -17,12 +17,5 @@ abbrev μ-loop : tie.MeasureT-loop
 pub sum-spec : {M : Type 1} → statement M
 sum-spec =
     tie.close (tie.spec Inv-loop μ-loop
-    (λ c. search sums)
-    (λ c. search sums)
-    (λ c. search sums)
-    (λ c κs. search sums)
-    (λ c. search sums)
-    (λ c. search sums)
-    (λ c. search sums)
-    (λ c. search sums)
-    (λ c. search sums))
+    (λ c. search sums) (λ c. search sums) (λ c. search sums) (λ c κs. search sums) (λ c. search sums) (λ c. search sums) (λ c. search sums)
+    (λ c. search sums) (λ c. search sums))

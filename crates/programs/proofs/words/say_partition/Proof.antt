@@ -9,10 +9,5 @@ ruleset digits = (unnamed-digits, named-digits, needs)
 pub say-partition-spec : {M : Type 1} → statement M
 say-partition-spec =
     tie.close (tie.spec
-    (λ c. search needs)
-    (λ c. search needs)
-    (λ c κs. search needs)
-    (λ c. search needs)
-    (λ c κs. search needs)
-    (λ c. search digits)
+    (λ c. search needs) (λ c. search needs) (λ c κs. search needs) (λ c. search needs) (λ c κs. search needs) (λ c. search digits)
     (λ c. search digits))

@@ -9,6 +9,4 @@ ruleset digits = (decimal-same, needs)
 pub say-refusal-spec : {M : Type 1} → statement M
 say-refusal-spec =
     tie.close (tie.spec
-    (λ c κs. search needs)
-    (λ c κs. search needs)
-    (λ c. search digits))
+    (λ c κs. search needs) (λ c κs. search needs) (λ c. search digits))

@@ -7,10 +7,7 @@ use Rattle.programs.proofs.words.say_zero.Tie as tie
 pub say-zero-spec : {M : Type 1} → statement M
 say-zero-spec =
     tie.close (tie.spec
-    (λ c κs. search needs)
-    (λ c. search needs)
-    (λ c κs. search needs)
+    (λ c κs. search needs) (λ c. search needs) (λ c κs. search needs)
     (λ c. search (zero-said, needs))
-    (λ c. search needs)
-    (λ c κs. search needs)
+    (λ c. search needs) (λ c κs. search needs)
     (λ c. search (zero-said, needs)))

@@ -11,8 +11,5 @@ ruleset pasts = (extent-past, needs)
 pub extent-at-spec : {M : Type 1} → statement M
 extent-at-spec =
     tie.close (tie.spec
-    (λ c. search pasts)
-    (λ c κs. search needs)
-    (λ c. search needs)
-    (λ c κs. search needs)
+    (λ c. search pasts) (λ c κs. search needs) (λ c. search needs) (λ c κs. search needs)
     (λ c. search (extent-fields, needs)))

@@ -11,14 +11,6 @@ ruleset pasts = (long-past, needs)
 pub long-at-spec : {M : Type 1} → statement M
 long-at-spec =
     tie.close (tie.spec
-    (λ c κs. search needs)
-    (λ c. search pasts)
-    (λ c κs. search needs)
-    (λ c. search needs)
-    (λ c. search needs)
-    (λ c κs. search needs)
-    (λ c. search needs)
-    (λ c κs. search needs)
-    (λ c. search needs)
-    (λ c κs. search needs)
+    (λ c κs. search needs) (λ c. search pasts) (λ c κs. search needs) (λ c. search needs) (λ c. search needs) (λ c κs. search needs)
+    (λ c. search needs) (λ c κs. search needs) (λ c. search needs) (λ c κs. search needs)
     (λ c. search (long-fields, needs)))

@@ -11,9 +11,5 @@ ruleset pasts = (short-past, needs)
 pub short-at-spec : {M : Type 1} → statement M
 short-at-spec =
     tie.close (tie.spec
-    (λ c. search pasts)
-    (λ c κs. search needs)
-    (λ c. search needs)
-    (λ c. search needs)
-    (λ c κs. search needs)
+    (λ c. search pasts) (λ c κs. search needs) (λ c. search needs) (λ c. search needs) (λ c κs. search needs)
     (λ c. search (short-fields, needs)))

@@ -10,6 +10,4 @@ ruleset pasts = (byte-past, needs)
 pub byte-at-spec : {M : Type 1} → statement M
 byte-at-spec =
     tie.close (tie.spec
-    (λ c. search pasts)
-    (λ c. search needs)
-    (λ c. search needs))
+    (λ c. search pasts) (λ c. search needs) (λ c. search needs))

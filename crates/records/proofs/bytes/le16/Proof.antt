@@ -10,9 +10,4 @@ ruleset pasts = (u16-past, needs)
 pub le16-spec : {M : Type 1} → statement M
 le16-spec =
     tie.close (tie.spec
-    (λ c. search pasts)
-    (λ c. search needs)
-    (λ c. search needs)
-    (λ c κs. search needs)
-    (λ c κs. search needs)
-    (λ c. search needs))
+    (λ c. search pasts) (λ c. search needs) (λ c. search needs) (λ c κs. search needs) (λ c κs. search needs) (λ c. search needs))

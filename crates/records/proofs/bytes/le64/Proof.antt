@@ -9,9 +9,5 @@ ruleset pasts = (u64-past, needs)
 pub le64-spec : {M : Type 1} → statement M
 le64-spec =
     tie.close (tie.spec
-    (λ c. search pasts)
-    (λ c κs. search needs)
-    (λ c. search needs)
-    (λ c κs. search needs)
-    (λ c κs. search needs)
+    (λ c. search pasts) (λ c κs. search needs) (λ c. search needs) (λ c κs. search needs) (λ c κs. search needs)
     (λ c. search (u64-parts, needs)))

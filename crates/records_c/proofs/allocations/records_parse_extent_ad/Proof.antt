@@ -9,9 +9,4 @@ ruleset arms = (extent-yes, extent-no, needs)
 pub records-parse-extent-ad-spec : {M : Type 1} → statement M
 records-parse-extent-ad-spec =
     tie.close (tie.spec
-    (λ c κs. search needs)
-    (λ c. search needs)
-    (λ c. search needs)
-    (λ c κs. search needs)
-    (λ c. search arms)
-    (λ c. search arms))
+    (λ c κs. search needs) (λ c. search needs) (λ c. search needs) (λ c κs. search needs) (λ c. search arms) (λ c. search arms))

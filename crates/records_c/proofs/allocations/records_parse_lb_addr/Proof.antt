@@ -9,9 +9,4 @@ ruleset arms = (address-yes, address-no, needs)
 pub records-parse-lb-addr-spec : {M : Type 1} → statement M
 records-parse-lb-addr-spec =
     tie.close (tie.spec
-    (λ c κs. search needs)
-    (λ c. search needs)
-    (λ c. search needs)
-    (λ c κs. search needs)
-    (λ c. search arms)
-    (λ c. search arms))
+    (λ c κs. search needs) (λ c. search needs) (λ c. search needs) (λ c κs. search needs) (λ c. search arms) (λ c. search arms))

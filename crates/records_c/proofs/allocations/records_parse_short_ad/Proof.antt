@@ -9,9 +9,4 @@ ruleset arms = (short-yes, short-no, needs)
 pub records-parse-short-ad-spec : {M : Type 1} → statement M
 records-parse-short-ad-spec =
     tie.close (tie.spec
-    (λ c κs. search needs)
-    (λ c. search needs)
-    (λ c. search needs)
-    (λ c κs. search needs)
-    (λ c. search arms)
-    (λ c. search arms))
+    (λ c κs. search needs) (λ c. search needs) (λ c. search needs) (λ c κs. search needs) (λ c. search arms) (λ c. search arms))

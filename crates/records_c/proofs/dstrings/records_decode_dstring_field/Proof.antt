@@ -7,6 +7,5 @@ use Rattle.records_c.proofs.dstrings.records_decode_dstring_field.Tie a
 pub records-decode-dstring-field-spec : {M : Type 1} → statement M
 records-decode-dstring-field-spec =
     tie.close (tie.spec
-    (λ c κs. search needs)
-    (λ c. search needs)
+    (λ c κs. search needs) (λ c. search needs)
     (λ c. search (decode-is, needs)))

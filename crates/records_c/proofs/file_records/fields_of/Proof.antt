@@ -6,6 +6,5 @@ use Rattle.records_c.proofs.file_records.fields_of.Tie as tie
 pub fields-of-spec : {M : Type 1} → statement M
 fields-of-spec =
     tie.close (tie.spec
-    (λ c κs. search needs)
-    (λ c κs. search needs)
+    (λ c κs. search needs) (λ c κs. search needs)
     (λ c. rw (c .before .has-size .ensures, c .size-in .ensures)))

@@ -9,11 +9,5 @@ ruleset arms = (entry-yes, entry-no, needs)
 pub records-parse-file-entry-spec : {M : Type 1} → statement M
 records-parse-file-entry-spec =
     tie.close (tie.spec
-    (λ c κs. search needs)
-    (λ c. search needs)
-    (λ c κs. search needs)
-    (λ c. search needs)
-    (λ c κs. search needs)
-    (λ c κs. search needs)
-    (λ c. search arms)
-    (λ c. search arms))
+    (λ c κs. search needs) (λ c. search needs) (λ c κs. search needs) (λ c. search needs) (λ c κs. search needs) (λ c κs. search needs)
+    (λ c. search arms) (λ c. search arms))

@@ -9,10 +9,5 @@ ruleset arms = (icb-tag-yes, icb-tag-no, needs)
 pub records-parse-icb-tag-spec : {M : Type 1} → statement M
 records-parse-icb-tag-spec =
     tie.close (tie.spec
-    (λ c κs. search needs)
-    (λ c. search needs)
-    (λ c. search needs)
-    (λ c κs. search needs)
-    (λ c κs. search needs)
-    (λ c. search arms)
+    (λ c κs. search needs) (λ c. search needs) (λ c. search needs) (λ c κs. search needs) (λ c κs. search needs) (λ c. search arms)
     (λ c. search arms))

@@ -9,10 +9,5 @@ ruleset arms = (aed-yes, aed-no, needs)
 pub records-parse-aed-spec : {M : Type 1} → statement M
 records-parse-aed-spec =
     tie.close (tie.spec
-    (λ c κs. search needs)
-    (λ c. search needs)
-    (λ c. search needs)
-    (λ c κs. search needs)
-    (λ c κs. search needs)
-    (λ c. search arms)
+    (λ c κs. search needs) (λ c. search needs) (λ c. search needs) (λ c κs. search needs) (λ c κs. search needs) (λ c. search arms)
     (λ c. search arms))

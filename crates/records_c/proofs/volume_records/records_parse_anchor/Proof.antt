@@ -9,10 +9,5 @@ ruleset arms = (anchor-yes, anchor-no, needs)
 pub records-parse-anchor-spec : {M : Type 1} → statement M
 records-parse-anchor-spec =
     tie.close (tie.spec
-    (λ c κs. search needs)
-    (λ c. search needs)
-    (λ c. search needs)
-    (λ c κs. search needs)
-    (λ c κs. search needs)
-    (λ c. search arms)
+    (λ c κs. search needs) (λ c. search needs) (λ c. search needs) (λ c κs. search needs) (λ c κs. search needs) (λ c. search arms)
     (λ c. search arms))

@@ -9,10 +9,5 @@ ruleset arms = (partition-yes, partition-no, needs)
 pub records-parse-partition-spec : {M : Type 1} → statement M
 records-parse-partition-spec =
     tie.close (tie.spec
-    (λ c κs. search needs)
-    (λ c. search needs)
-    (λ c. search needs)
-    (λ c κs. search needs)
-    (λ c κs. search needs)
-    (λ c. search arms)
+    (λ c κs. search needs) (λ c. search needs) (λ c. search needs) (λ c κs. search needs) (λ c κs. search needs) (λ c. search arms)
     (λ c. search arms))

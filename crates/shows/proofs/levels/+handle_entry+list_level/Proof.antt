@@ -14,7 +14,7 @@ use Rattle.shows.specs.Shows.{nodesAt}
 use Rattle.shows.specs.inner.Placings.{nodePlaced}
 use Rattle.shows.specs.inner.Turns.{lent}
 use Rattle.shows.proofs.LevelLaws.{handle-bad, next-fits, handle-skipped, handle-file, handle-directory}
-use Rattle.shows.proofs.LoopLaws.{held-own, Listing, list-starts, list-ends, list-next, list-stops, level-none, level-refused, level-fits, level-held, level-shown, handles-same, list-fits, list-over}
+use Rattle.shows.proofs.LoopLaws.{held-own, Listing, list-starts, list-ends, list-next, list-stops, level-none, level-refused, level-fits, level-held, level-visited, handles-same, list-fits, list-over}
 use Rattle.shows.proofs.levels.handle_entry.Reads as handle-entry
 use Rattle.shows.proofs.levels.handle_entry.Kinds as handle-entry-kinds
 use Rattle.shows.proofs.levels.+handle_entry+list_level.Lts-handle_entry as handle-entry-lts
@@ -254,7 +254,7 @@ pub +handle-entry+list-level-spec : {M : Type 1} → statement M
     let worked = good .before .before .before .before in
     let opened = worked .before in
     let n = opened .open-level .result .length in
-    level-shown _ _ _ _ (opened .before .before .if1 .left) (opened .open-level .ensures) (good .if2 .left) (worked .work .given)
+    level-visited _ _ _ _ (opened .before .before .if1 .left) (opened .open-level .ensures) (good .if2 .left) (worked .work .given)
     (list-stops _ _ _ _ _ _ _ _ (i .0) (handles-same (i .1) (ap (λ l. l - n) (i .2)) (handled .handle-entry .ensures .0)) (c .if3 .taken)))
     -- loop-less
     (λ c.
@@ -285,5 +285,5 @@ pub +handle-entry+list-level-spec : {M : Type 1} → statement M
     let good = c .before .before in
     let worked = good .before .before .before .before in
     let opened = worked .before in
-    level-shown _ _ _ _ (opened .before .before .if1 .left) (opened .open-level .ensures) (good .if2 .left) (worked .work .given)
+    level-visited _ _ _ _ (opened .before .before .if1 .left) (opened .open-level .ensures) (good .if2 .left) (worked .work .given)
     (list-ends _ _ _ _ _ _ _ _ (i .0) (list-over _ _ _ (c .loop-test .left))))

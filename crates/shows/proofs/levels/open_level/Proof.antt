@@ -29,22 +29,9 @@ good c =
 pub open-level-spec : {M : Type 1} → statement M
 open-level-spec =
     tie.close (tie.spec
-    (λ c κs. search needs)
-    (λ c κs. search needs)
-    (λ c κs. search needs)
-    (λ c κs. search needs)
-    (λ c. search needs)
-    (λ c. search opens)
-    (λ c κs. search needs)
-    (λ c. search needs)
-    (λ c. search opens)
-    (λ c κs. search needs)
-    (λ c. search needs)
-    (λ c. search needs)
-    (λ c. search opens)
-    (λ c κs. search needs)
-    (λ c κs. search needs)
-    (λ c. search needs)
+    (λ c κs. search needs) (λ c κs. search needs) (λ c κs. search needs) (λ c κs. search needs) (λ c. search needs) (λ c. search opens)
+    (λ c κs. search needs) (λ c. search needs) (λ c. search opens) (λ c κs. search needs) (λ c. search needs) (λ c. search needs)
+    (λ c. search opens) (λ c κs. search needs) (λ c κs. search needs) (λ c. search needs)
     bad
     (λ c. search needs)
     good)

@@ -9,12 +9,5 @@ ruleset notes = (noted-past, noted-put, needs)
 pub put-node-spec : {M : Type 1} → statement M
 put-node-spec =
     tie.close (tie.spec
-    (λ c κs. search notes)
-    (λ c κs. search notes)
-    (λ c. search notes)
-    (λ c. search notes)
-    (λ c. search notes)
-    (λ c. search notes)
-    (λ c κs. search notes)
-    (λ c. search notes)
-    (λ c. search notes))
+    (λ c κs. search notes) (λ c κs. search notes) (λ c. search notes) (λ c. search notes) (λ c. search notes) (λ c. search notes)
+    (λ c κs. search notes) (λ c. search notes) (λ c. search notes))

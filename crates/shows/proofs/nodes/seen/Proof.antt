@@ -6,7 +6,5 @@ use Rattle.shows.proofs.nodes.seen.Tie as tie
 pub seen-spec : {M : Type 1} → statement M
 seen-spec =
     tie.close (tie.spec
-    (λ c κs. search needs)
-    (λ c κs. search needs)
-    (λ c κs. search needs)
+    (λ c κs. search needs) (λ c κs. search needs) (λ c κs. search needs)
     (λ c. cc))

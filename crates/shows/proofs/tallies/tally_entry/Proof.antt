@@ -8,9 +8,7 @@ pub tally-entry-spec : {M : Type 1} → statement M
 tally-entry-spec =
     tie.close (tie.spec
     (λ c. search (entry-none, needs))
-    (λ c κs. search needs)
-    (λ c. search needs)
+    (λ c κs. search needs) (λ c. search needs)
     (λ c. search (entry-directory, needs))
-    (λ c κs. search needs)
-    (λ c. search needs)
+    (λ c κs. search needs) (λ c. search needs)
     (λ c. search (entry-file, needs)))

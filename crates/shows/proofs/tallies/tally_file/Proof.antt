@@ -9,10 +9,5 @@ ruleset tallies = (file-none, file-left, needs)
 pub tally-file-spec : {M : Type 1} → statement M
 tally-file-spec =
     tie.close (tie.spec
-    (λ c κs. search needs)
-    (λ c. search needs)
-    (λ c. search tallies)
-    (λ c κs. search needs)
-    (λ c κs. search needs)
-    (λ c. search needs)
+    (λ c κs. search needs) (λ c. search needs) (λ c. search tallies) (λ c κs. search needs) (λ c κs. search needs) (λ c. search needs)
     (λ c. search tallies))

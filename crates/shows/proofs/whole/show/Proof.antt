@@ -7,8 +7,5 @@ use Rattle.shows.proofs.whole.show.Tie as tie
 pub show-spec : {M : Type 1} → statement M
 show-spec =
     tie.close (tie.spec
-    (λ c κs. search needs)
-    (λ c κs. search needs)
-    (λ c. search needs)
-    (λ c. search needs)
+    (λ c κs. search needs) (λ c κs. search needs) (λ c. search needs) (λ c. search needs)
     (λ c. (search needs, search (zeros-of, needs))))

@@ -7,8 +7,5 @@ use Rattle.shows.proofs.whole.tally_tree.Tie as tie
 pub tally-tree-spec : {M : Type 1} → statement M
 tally-tree-spec =
     tie.close (tie.spec
-    (λ c κs. search needs)
-    (λ c κs. search needs)
-    (λ c. search needs)
-    (λ c. search needs)
+    (λ c κs. search needs) (λ c κs. search needs) (λ c. search needs) (λ c. search needs)
     (λ c. search (tallied-cleared, needs)))

@@ -13,9 +13,4 @@ abbrev μ-loop : tie.MeasureT-loop
 pub changes-spec : {M : Type 1} → statement M
 changes-spec =
     tie.close (tie.spec Inv-loop μ-loop
-    (λ c. search needs)
-    (λ c κs. search needs)
-    (λ c. search needs)
-    (λ c. search needs)
-    (λ c. search needs)
-    (λ c. search needs))
+    (λ c. search needs) (λ c κs. search needs) (λ c. search needs) (λ c. search needs) (λ c. search needs) (λ c. search needs))

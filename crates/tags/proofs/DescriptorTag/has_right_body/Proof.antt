@@ -9,11 +9,5 @@ ruleset bodies = (right-short, right-summed, needs)
 pub has-right-body-spec : {M : Type 1} → statement M
 has-right-body-spec =
     tie.close (tie.spec
-    (λ c. search needs)
-    (λ c. search needs)
-    (λ c. search bodies)
-    (λ c. search needs)
-    (λ c. search needs)
-    (λ c. search needs)
-    (λ c κs. search needs)
-    (λ c. search bodies))
+    (λ c. search needs) (λ c. search needs) (λ c. search bodies) (λ c. search needs) (λ c. search needs) (λ c. search needs)
+    (λ c κs. search needs) (λ c. search bodies))

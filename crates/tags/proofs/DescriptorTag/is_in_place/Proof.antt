@@ -10,7 +10,4 @@ ruleset checks = (place-partition, place-other, needs)
 pub is-in-place-spec : {M : Type 1} → statement M
 is-in-place-spec =
     tie.close (tie.spec
-    (λ c κs. search needs)
-    (λ c. search checks)
-    (λ c. search needs)
-    (λ c. search checks))
+    (λ c κs. search needs) (λ c. search checks) (λ c. search needs) (λ c. search checks))

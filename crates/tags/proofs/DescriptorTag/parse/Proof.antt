@@ -10,11 +10,5 @@ ruleset reads = (tag-short, tag-read, tag-not, needs)
 pub parse-spec : {M : Type 1} → statement M
 parse-spec =
     tie.close (tie.spec
-    (λ c. search reads)
-    (λ c κs. search needs)
-    (λ c. search needs)
-    (λ c κs. search needs)
-    (λ c. search needs)
-    (λ c κs. search needs)
-    (λ c. search reads)
-    (λ c. search reads))
+    (λ c. search reads) (λ c κs. search needs) (λ c. search needs) (λ c κs. search needs) (λ c. search needs) (λ c κs. search needs)
+    (λ c. search reads) (λ c. search reads))

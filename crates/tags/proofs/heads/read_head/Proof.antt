@@ -10,11 +10,6 @@ ruleset heads = (head-short, head-plain, head-ruined, head-right, needs)
 pub read-head-spec : {M : Type 1} → statement M
 read-head-spec =
     tie.close (tie.spec
-    (λ c. search heads)
-    (λ c κs. search needs)
-    (λ c. search heads)
-    (λ c κs. search needs)
-    (λ c. search heads)
-    (λ c κs. search needs)
+    (λ c. search heads) (λ c κs. search needs) (λ c. search heads) (λ c κs. search needs) (λ c. search heads) (λ c κs. search needs)
     (λ c κs. search needs)
     (λ c. ⊎-elim (λ w. search heads) (⊎-elim (λ w. search heads) (λ w. search heads)) (c .before .before .if2 .came)))

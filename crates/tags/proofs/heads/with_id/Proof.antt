@@ -9,8 +9,4 @@ ruleset ids = (id-refused, id-other, id-same, needs)
 pub with-id-spec : {M : Type 1} → statement M
 with-id-spec =
     tie.close (tie.spec
-    (λ c. search needs)
-    (λ c. search needs)
-    (λ c. search ids)
-    (λ c. search ids)
-    (λ c. search ids))
+    (λ c. search needs) (λ c. search needs) (λ c. search ids) (λ c. search ids) (λ c. search ids))

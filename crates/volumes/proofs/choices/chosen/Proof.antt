@@ -9,5 +9,4 @@ ruleset choices = (choice-high, choice-known, needs)
 pub chosen-spec : {M : Type 1} → statement M
 chosen-spec =
     tie.close (tie.spec
-    (λ c. search choices)
-    (λ c. search choices))
+    (λ c. search choices) (λ c. search choices))

@@ -9,10 +9,5 @@ ruleset labels = (label-refused, label-written, needs)
 pub label-spec : {M : Type 1} → statement M
 label-spec =
     tie.close (tie.spec
-    (λ c κs. search needs)
-    (λ c κs. search needs)
-    (λ c. search labels)
-    (λ c. search needs)
-    (λ c κs. search needs)
-    (λ c. search needs)
+    (λ c κs. search needs) (λ c κs. search needs) (λ c. search labels) (λ c. search needs) (λ c κs. search needs) (λ c. search needs)
     (λ c. search labels))

@@ -7,6 +7,5 @@ use Rattle.volumes.proofs.mounts.is_plain_map.Tie as tie
 pub is-plain-map-spec : {M : Type 1} → statement M
 is-plain-map-spec =
     tie.close (tie.spec
-    (λ c κs. search needs)
-    (λ c κs. search needs)
+    (λ c κs. search needs) (λ c κs. search needs)
     (λ c. search (plain-bytes, needs)))

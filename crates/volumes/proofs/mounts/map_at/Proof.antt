@@ -7,9 +7,5 @@ use Rattle.volumes.proofs.mounts.map_at.Tie as tie
 pub map-at-spec : {M : Type 1} → statement M
 map-at-spec =
     tie.close (tie.spec
-    (λ c. search needs)
-    (λ c. search needs)
-    (λ c. search needs)
-    (λ c. search needs)
-    (λ c. search needs)
+    (λ c. search needs) (λ c. search needs) (λ c. search needs) (λ c. search needs) (λ c. search needs)
     (λ c. search (map-part, needs)))

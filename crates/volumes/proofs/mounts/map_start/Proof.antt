@@ -10,11 +10,5 @@ ruleset starts = (not-true, not-false, map-other, map-unnumbered, map-numbered, 
 pub map-start-spec : {M : Type 1} → statement M
 map-start-spec =
     tie.close (tie.spec
-    (λ c κs. search needs)
-    (λ c κs. search needs)
-    (λ c. search starts)
-    (λ c κs. search needs)
-    (λ c κs. search needs)
-    (λ c κs. search needs)
-    (λ c. search starts)
-    (λ c. search starts))
+    (λ c κs. search needs) (λ c κs. search needs) (λ c. search starts) (λ c κs. search needs) (λ c κs. search needs) (λ c κs. search needs)
+    (λ c. search starts) (λ c. search starts))

@@ -17,15 +17,5 @@ abbrev μ-loop : tie.MeasureT-loop
 pub map-starts-spec : {M : Type 1} → statement M
 map-starts-spec =
     tie.close (tie.spec Inv-loop μ-loop
-    (λ c. search needs)
-    (λ c. search maps)
-    (λ c κs. search needs)
-    (λ c κs. search needs)
-    (λ c κs. search needs)
-    (λ c. search maps)
-    (λ c. search needs)
-    (λ c. search needs)
-    (λ c. search needs)
-    (λ c. search needs)
-    (λ c. search maps)
-    (λ c. search maps))
+    (λ c. search needs) (λ c. search maps) (λ c κs. search needs) (λ c κs. search needs) (λ c κs. search needs) (λ c. search maps)
+    (λ c. search needs) (λ c. search needs) (λ c. search needs) (λ c. search needs) (λ c. search maps) (λ c. search maps))

@@ -9,8 +9,4 @@ ruleset words = (word-none, word-is, needs)
 pub map-word-spec : {M : Type 1} → statement M
 map-word-spec =
     tie.close (tie.spec
-    (λ c. search needs)
-    (λ c. search words)
-    (λ c κs. search needs)
-    (λ c κs. search needs)
-    (λ c. search words))
+    (λ c. search needs) (λ c. search words) (λ c κs. search needs) (λ c κs. search needs) (λ c. search words))

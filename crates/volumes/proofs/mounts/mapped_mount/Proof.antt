@@ -10,14 +10,5 @@ ruleset maps = (not-true, not-false, table-few, reference-few, table-not, starts
 pub mapped-mount-spec : {M : Type 1} → statement M
 mapped-mount-spec =
     tie.close (tie.spec
-    (λ c κs. search needs)
-    (λ c κs. search needs)
-    (λ c. search maps)
-    (λ c κs. search maps)
-    (λ c κs. search needs)
-    (λ c. search maps)
-    (λ c. search needs)
-    (λ c κs. search needs)
-    (λ c. search maps)
-    (λ c κs. search maps)
-    (λ c. search maps))
+    (λ c κs. search needs) (λ c κs. search needs) (λ c. search maps) (λ c κs. search maps) (λ c κs. search needs) (λ c. search maps)
+    (λ c. search needs) (λ c κs. search needs) (λ c. search maps) (λ c κs. search maps) (λ c. search maps))

@@ -12,10 +12,5 @@ pub table-answer-spec : {M : Type 1} → statement M
 unfolding tabled
 table-answer-spec =
     tie.close (tie.spec
-    (λ c. search picks)
-    (λ c. search needs)
-    (λ c. search picks)
-    (λ c. search needs)
-    (λ c. search needs)
-    (λ c. search picks)
+    (λ c. search picks) (λ c. search needs) (λ c. search picks) (λ c. search needs) (λ c. search needs) (λ c. search picks)
     (λ c. search picks))

@@ -13,8 +13,4 @@ pub kept-answer-spec : {M : Type 1} → statement M
 unfolding mountable
 kept-answer-spec =
     tie.close (tie.spec
-    (λ c. search picks)
-    (λ c. search picks)
-    (λ c. search picks)
-    (λ c. search picks)
-    (λ c. search picks))
+    (λ c. search picks) (λ c. search picks) (λ c. search picks) (λ c. search picks) (λ c. search picks))

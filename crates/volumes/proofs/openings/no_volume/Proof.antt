@@ -7,6 +7,5 @@ use Rattle.volumes.proofs.openings.no_volume.Tie as tie
 pub no-volume-spec : {M : Type 1} → statement M
 no-volume-spec =
     tie.close (tie.spec
-    (λ c κs. search needs)
-    (λ c κs. search needs)
+    (λ c κs. search needs) (λ c κs. search needs)
     (λ c. search (volume-none, needs)))

@@ -9,15 +9,5 @@ ruleset opens = (scan-few, scan-fits, anchor-not, anchor-stops, anchor-leads, ne
 pub open-from-spec : {M : Type 1} → statement M
 open-from-spec =
     tie.close (tie.spec
-    (λ c. search needs)
-    (λ c κs. search needs)
-    (λ c κs. search needs)
-    (λ c. search needs)
-    (λ c κs. search needs)
-    (λ c. search opens)
-    (λ c κs. search needs)
-    (λ c. search opens)
-    (λ c. search opens)
-    (λ c κs. search opens)
-    (λ c. search opens)
-    (λ c. search opens))
+    (λ c. search needs) (λ c κs. search needs) (λ c κs. search needs) (λ c. search needs) (λ c κs. search needs) (λ c. search opens)
+    (λ c κs. search needs) (λ c. search opens) (λ c. search opens) (λ c κs. search opens) (λ c. search opens) (λ c. search opens))

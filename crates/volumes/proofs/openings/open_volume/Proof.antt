@@ -9,10 +9,5 @@ ruleset opens = (opening-gone, opening-there, needs)
 pub open-volume-spec : {M : Type 1} → statement M
 open-volume-spec =
     tie.close (tie.spec
-    (λ c κs. search needs)
-    (λ c κs. search needs)
-    (λ c. search opens)
-    (λ c κs. search needs)
-    (λ c κs. search needs)
-    (λ c κs. search needs)
+    (λ c κs. search needs) (λ c κs. search needs) (λ c. search opens) (λ c κs. search needs) (λ c κs. search needs) (λ c κs. search needs)
     (λ c. search opens))

@@ -9,7 +9,4 @@ ruleset volumes = (volume-not, volume-is, needs)
 pub volume-in-spec : {M : Type 1} → statement M
 volume-in-spec =
     tie.close (tie.spec
-    (λ c κs. search volumes)
-    (λ c κs. search volumes)
-    (λ c. search volumes)
-    (λ c. search volumes))
+    (λ c κs. search volumes) (λ c κs. search volumes) (λ c. search volumes) (λ c. search volumes))

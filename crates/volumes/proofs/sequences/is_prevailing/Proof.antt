@@ -10,5 +10,4 @@ ruleset picks = (pick-yes, pick-no, refl, needs)
 pub is-prevailing-spec : {M : Type 1} → statement M
 is-prevailing-spec =
     tie.close (tie.spec
-    (λ c. search picks)
-    (λ c. search picks))
+    (λ c. search picks) (λ c. search picks))

@@ -10,6 +10,4 @@ ruleset picks = (pick-yes, pick-no, refl, needs)
 pub is-taken-spec : {M : Type 1} → statement M
 is-taken-spec =
     tie.close (tie.spec
-    (λ c κs. search needs)
-    (λ c. search picks)
-    (λ c. search picks))
+    (λ c κs. search needs) (λ c. search picks) (λ c. search picks))

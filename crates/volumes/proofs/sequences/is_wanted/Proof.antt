@@ -7,7 +7,5 @@ use Rattle.volumes.proofs.sequences.is_wanted.Tie as tie
 pub is-wanted-spec : {M : Type 1} → statement M
 is-wanted-spec =
     tie.close (tie.spec
-    (λ c. search needs)
-    (λ c. search needs)
-    (λ c. search needs)
+    (λ c. search needs) (λ c. search needs) (λ c. search needs)
     (λ c. search (numbered-is, needs)))

@@ -10,11 +10,5 @@ ruleset turns = (logical-fails, logical-taken, logical-passed, not-true, not-fal
 pub take-logical-spec : {M : Type 1} → statement M
 take-logical-spec =
     tie.close (tie.spec
-    (λ c κs. search needs)
-    (λ c κs. search needs)
-    (λ c. search turns)
-    (λ c κs. search needs)
-    (λ c κs. search needs)
-    (λ c. search turns)
-    (λ c κs. search needs)
-    (λ c. search turns))
+    (λ c κs. search needs) (λ c κs. search needs) (λ c. search turns) (λ c κs. search needs) (λ c κs. search needs) (λ c. search turns)
+    (λ c κs. search needs) (λ c. search turns))

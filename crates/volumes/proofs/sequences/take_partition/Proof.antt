@@ -10,16 +10,6 @@ ruleset turns = (partition-fails, partition-unwanted, partition-taken, partition
 pub take-partition-spec : {M : Type 1} → statement M
 take-partition-spec =
     tie.close (tie.spec
-    (λ c. search needs)
-    (λ c κs. search needs)
-    (λ c κs. search needs)
-    (λ c. search needs)
-    (λ c κs. search needs)
-    (λ c κs. search needs)
-    (λ c. search turns)
-    (λ c κs. search needs)
-    (λ c κs. search needs)
-    (λ c. search turns)
-    (λ c κs. search needs)
-    (λ c. search turns)
+    (λ c. search needs) (λ c κs. search needs) (λ c κs. search needs) (λ c. search needs) (λ c κs. search needs) (λ c κs. search needs)
+    (λ c. search turns) (λ c κs. search needs) (λ c κs. search needs) (λ c. search turns) (λ c κs. search needs) (λ c. search turns)
     (λ c. search turns))

@@ -10,11 +10,5 @@ ruleset turns = (primary-fails, primary-taken, primary-passed, not-true, not-fal
 pub take-primary-spec : {M : Type 1} → statement M
 take-primary-spec =
     tie.close (tie.spec
-    (λ c κs. search needs)
-    (λ c κs. search needs)
-    (λ c. search turns)
-    (λ c κs. search needs)
-    (λ c κs. search needs)
-    (λ c. search turns)
-    (λ c κs. search needs)
-    (λ c. search turns))
+    (λ c κs. search needs) (λ c κs. search needs) (λ c. search turns) (λ c κs. search needs) (λ c κs. search needs) (λ c. search turns)
+    (λ c κs. search needs) (λ c. search turns))

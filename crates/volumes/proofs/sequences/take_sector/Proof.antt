@@ -9,14 +9,5 @@ ruleset ids = (id-primary, id-partition, id-logical, id-terminating, id-other, n
 pub take-sector-spec : {M : Type 1} → statement M
 take-sector-spec =
     tie.close (tie.spec
-    (λ c κs. search needs)
-    (λ c κs. search needs)
-    (λ c. search ids)
-    (λ c κs. search needs)
-    (λ c κs. search needs)
-    (λ c. search ids)
-    (λ c κs. search needs)
-    (λ c. search ids)
-    (λ c. search ids)
-    (λ c κs. search needs)
-    (λ c. search ids))
+    (λ c κs. search needs) (λ c κs. search needs) (λ c. search ids) (λ c κs. search needs) (λ c κs. search needs) (λ c. search ids)
+    (λ c κs. search needs) (λ c. search ids) (λ c. search ids) (λ c κs. search needs) (λ c. search ids))

@@ -17,11 +17,5 @@ abbrev μ-loop : tie.MeasureT-loop
 pub are-short-spec : {M : Type 1} → statement M
 are-short-spec =
     tie.close (tie.spec Inv-loop μ-loop
-    (λ c. search rules)
-    (λ c. search rules)
-    (λ c. search rules)
-    (λ c. search rules)
-    (λ c. search rules)
-    (λ c. search rules)
-    (λ c. search rules)
-    (λ c. search rules))
+    (λ c. search rules) (λ c. search rules) (λ c. search rules) (λ c. search rules) (λ c. search rules) (λ c. search rules)
+    (λ c. search rules) (λ c. search rules))

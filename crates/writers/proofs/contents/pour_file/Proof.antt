@@ -9,12 +9,5 @@ ruleset rules = (file-none, file-poured, needs)
 pub pour-file-spec : {M : Type 1} → statement M
 pour-file-spec =
     tie.close (tie.spec
-    (λ c. search rules)
-    (λ c. search rules)
-    (λ c. search rules)
-    (λ c. search rules)
-    (λ c κs. search rules)
-    (λ c. search rules)
-    (λ c κs. search rules)
-    (λ c. search rules)
-    (λ c. search rules))
+    (λ c. search rules) (λ c. search rules) (λ c. search rules) (λ c. search rules) (λ c κs. search rules) (λ c. search rules)
+    (λ c κs. search rules) (λ c. search rules) (λ c. search rules))

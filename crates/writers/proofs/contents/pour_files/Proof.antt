@@ -17,18 +17,6 @@ abbrev μ-loop : tie.MeasureT-loop
 pub pour-files-spec : {M : Type 1} → statement M
 pour-files-spec =
     tie.close (tie.spec Inv-loop μ-loop
-    (λ c. search rules)
-    (λ c. search rules)
-    (λ c. search rules)
-    (λ c. search rules)
-    (λ c κs. search rules)
-    (λ c. search rules)
-    (λ c. search rules)
-    (λ c. search rules)
-    (λ c. search rules)
-    (λ c κs. search rules)
-    (λ c. search rules)
-    (λ c. search rules)
-    (λ c. search rules)
-    (λ c. search rules)
-    (λ c. search rules))
+    (λ c. search rules) (λ c. search rules) (λ c. search rules) (λ c. search rules) (λ c κs. search rules) (λ c. search rules)
+    (λ c. search rules) (λ c. search rules) (λ c. search rules) (λ c κs. search rules) (λ c. search rules) (λ c. search rules)
+    (λ c. search rules) (λ c. search rules) (λ c. search rules))

@@ -17,12 +17,5 @@ abbrev μ-loop : tie.MeasureT-loop
 pub sum-of-spec : {M : Type 1} → statement M
 sum-of-spec =
     tie.close (tie.spec Inv-loop μ-loop
-    (λ c. search rules)
-    (λ c. search rules)
-    (λ c. search rules)
-    (λ c κs. search rules)
-    (λ c. search rules)
-    (λ c. search rules)
-    (λ c. search rules)
-    (λ c. search rules)
-    (λ c. search rules))
+    (λ c. search rules) (λ c. search rules) (λ c. search rules) (λ c κs. search rules) (λ c. search rules) (λ c. search rules)
+    (λ c. search rules) (λ c. search rules) (λ c. search rules))

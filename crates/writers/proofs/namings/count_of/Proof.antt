@@ -17,10 +17,5 @@ abbrev μ-loop : tie.MeasureT-loop
 pub count-of-spec : {M : Type 1} → statement M
 count-of-spec =
     tie.close (tie.spec Inv-loop μ-loop
-    (λ c. search rules)
-    (λ c κs. search rules)
-    (λ c. search rules)
-    (λ c. search rules)
-    (λ c. search rules)
-    (λ c. search rules)
+    (λ c. search rules) (λ c κs. search rules) (λ c. search rules) (λ c. search rules) (λ c. search rules) (λ c. search rules)
     (λ c. search rules))

@@ -18,13 +18,5 @@ abbrev μ-loop : tie.MeasureT-loop
 pub is-good-spec : {M : Type 1} → statement M
 is-good-spec =
     tie.close (tie.spec Inv-loop μ-loop
-    (λ c. search rules)
-    (λ c. search rules)
-    (λ c. search rules)
-    (λ c. search rules)
-    (λ c κs. search rules)
-    (λ c. search rules)
-    (λ c. search rules)
-    (λ c. search rules)
-    (λ c. search rules)
-    (λ c. search rules))
+    (λ c. search rules) (λ c. search rules) (λ c. search rules) (λ c. search rules) (λ c κs. search rules) (λ c. search rules)
+    (λ c. search rules) (λ c. search rules) (λ c. search rules) (λ c. search rules))

@@ -9,7 +9,4 @@ pub is-plain-spec : {M : Type 1} → statement M
 unfolding isPlain
 is-plain-spec =
     tie.close (tie.spec
-    (λ c. search picks)
-    (λ c. search picks)
-    (λ c. search picks)
-    (λ c. search picks))
+    (λ c. search picks) (λ c. search picks) (λ c. search picks) (λ c. search picks))

@@ -9,7 +9,4 @@ pub lower-spec : {M : Type 1} → statement M
 unfolding lower
 lower-spec =
     tie.close (tie.spec
-    (λ c. search picks)
-    (λ c. search needs)
-    (λ c. search picks)
-    (λ c. search picks))
+    (λ c. search picks) (λ c. search needs) (λ c. search picks) (λ c. search picks))

@@ -10,16 +10,11 @@ use Rattle.writers.proofs.numbers.put32.Tie as tie
 pub put32-spec : {M : Type 1} → statement M
 put32-spec =
     tie.close (tie.spec
-    (λ c. search needs)
-    (λ c. search needs)
-    (λ c. search needs)
-    (λ c. search needs)
+    (λ c. search needs) (λ c. search needs) (λ c. search needs) (λ c. search needs)
     (λ c. simp length-set (omega arith))
-    (λ c. search needs)
-    (λ c. search needs)
+    (λ c. search needs) (λ c. search needs)
     (λ c. simp length-set (omega arith))
-    (λ c. search needs)
-    (λ c. search needs)
+    (λ c. search needs) (λ c. search needs)
     (λ c. simp length-set (omega arith))
     (λ c. search needs)
     (λ c. stored4 (c .args .out .now) (c .args .at) (c .args .n % 256) (c .args .n / 256 % 256) (c .args .n / 65536 % 256) (c .args .n / 16777216 % 256)))

@@ -9,10 +9,5 @@ ruleset rules = (directory-poured, needs)
 pub pour-directory-spec : {M : Type 1} → statement M
 pour-directory-spec =
     tie.close (tie.spec
-    (λ c κs. search rules)
-    (λ c κs. search rules)
-    (λ c. search rules)
-    (λ c. search rules)
-    (λ c κs. search rules)
-    (λ c. search rules)
+    (λ c κs. search rules) (λ c κs. search rules) (λ c. search rules) (λ c. search rules) (λ c κs. search rules) (λ c. search rules)
     (λ c. search rules))

@@ -9,7 +9,4 @@ ruleset rules = (end-poured, needs)
 pub pour-end-spec : {M : Type 1} → statement M
 pour-end-spec =
     tie.close (tie.spec
-    (λ c κs. search rules)
-    (λ c κs. search rules)
-    (λ c. search rules)
-    (λ c. search rules))
+    (λ c κs. search rules) (λ c κs. search rules) (λ c. search rules) (λ c. search rules))

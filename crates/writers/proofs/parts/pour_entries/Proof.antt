@@ -9,8 +9,4 @@ ruleset rules = (entries-poured, needs)
 pub pour-entries-spec : {M : Type 1} → statement M
 pour-entries-spec =
     tie.close (tie.spec
-    (λ c κs. search rules)
-    (λ c. search rules)
-    (λ c κs. search rules)
-    (λ c. search rules)
-    (λ c. search rules))
+    (λ c κs. search rules) (λ c. search rules) (λ c κs. search rules) (λ c. search rules) (λ c. search rules))

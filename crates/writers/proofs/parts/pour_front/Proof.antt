@@ -9,10 +9,5 @@ ruleset rules = (front-poured, needs)
 pub pour-front-spec : {M : Type 1} → statement M
 pour-front-spec =
     tie.close (tie.spec
-    (λ c κs. search rules)
-    (λ c κs. search rules)
-    (λ c κs. search rules)
-    (λ c κs. search rules)
-    (λ c κs. search rules)
-    (λ c. search rules)
+    (λ c κs. search rules) (λ c κs. search rules) (λ c κs. search rules) (λ c κs. search rules) (λ c κs. search rules) (λ c. search rules)
     (λ c. search rules))

@@ -9,10 +9,5 @@ ruleset rules = (integrity-poured, needs)
 pub pour-integrity-spec : {M : Type 1} → statement M
 pour-integrity-spec =
     tie.close (tie.spec
-    (λ c κs. search rules)
-    (λ c κs. search rules)
-    (λ c κs. search rules)
-    (λ c κs. search rules)
-    (λ c κs. search rules)
-    (λ c. search rules)
+    (λ c κs. search rules) (λ c κs. search rules) (λ c κs. search rules) (λ c κs. search rules) (λ c κs. search rules) (λ c. search rules)
     (λ c. search rules))

@@ -9,13 +9,5 @@ ruleset rules = (recognition-poured, needs)
 pub pour-recognition-spec : {M : Type 1} → statement M
 pour-recognition-spec =
     tie.close (tie.spec
-    (λ c κs. search rules)
-    (λ c. search rules)
-    (λ c κs. search rules)
-    (λ c. search rules)
-    (λ c κs. search rules)
-    (λ c. search rules)
-    (λ c κs. search rules)
-    (λ c κs. search rules)
-    (λ c. search rules)
-    (λ c. search rules))
+    (λ c κs. search rules) (λ c. search rules) (λ c κs. search rules) (λ c. search rules) (λ c κs. search rules) (λ c. search rules)
+    (λ c κs. search rules) (λ c κs. search rules) (λ c. search rules) (λ c. search rules))

@@ -9,9 +9,4 @@ ruleset rules = (root-poured, needs)
 pub pour-root-spec : {M : Type 1} → statement M
 pour-root-spec =
     tie.close (tie.spec
-    (λ c κs. search rules)
-    (λ c κs. search rules)
-    (λ c κs. search rules)
-    (λ c κs. search rules)
-    (λ c. search rules)
-    (λ c. search rules))
+    (λ c κs. search rules) (λ c κs. search rules) (λ c κs. search rules) (λ c κs. search rules) (λ c. search rules) (λ c. search rules))

@@ -9,7 +9,4 @@ ruleset pours = (put-ends, blank-ends, blanks-laid, seal-ends, needs)
 pub blank-sectors-spec : {M : Type 1} → statement M
 blank-sectors-spec =
     tie.close (tie.spec
-    (λ c. search pours)
-    (λ c κs. search pours)
-    (λ c. search pours)
-    (λ c. search pours))
+    (λ c. search pours) (λ c κs. search pours) (λ c. search pours) (λ c. search pours))

@@ -9,10 +9,5 @@ ruleset pours = (put-ends, blank-ends, blanks-laid, seal-ends, needs)
 pub put-spec : {M : Type 1} → statement M
 put-spec =
     tie.close (tie.spec
-    (λ c. search pours)
-    (λ c. search pours)
-    (λ c. search pours)
-    (λ c. search pours)
-    (λ c κs. search pours)
-    (λ c. search pours)
+    (λ c. search pours) (λ c. search pours) (λ c. search pours) (λ c. search pours) (λ c κs. search pours) (λ c. search pours)
     (λ c. search pours))

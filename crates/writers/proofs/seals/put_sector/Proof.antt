@@ -9,8 +9,4 @@ ruleset rules = (text-laid, needs)
 pub put-sector-spec : {M : Type 1} → statement M
 put-sector-spec =
     tie.close (tie.spec
-    (λ c κs. search rules)
-    (λ c. search rules)
-    (λ c κs. search rules)
-    (λ c. search rules)
-    (λ c. search rules))
+    (λ c κs. search rules) (λ c. search rules) (λ c κs. search rules) (λ c. search rules) (λ c. search rules))

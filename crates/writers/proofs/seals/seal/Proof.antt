@@ -9,11 +9,5 @@ ruleset pours = (put-ends, blank-ends, blanks-laid, seal-ends, needs)
 pub seal-spec : {M : Type 1} → statement M
 seal-spec =
     tie.close (tie.spec
-    (λ c κs. search pours)
-    (λ c. search pours)
-    (λ c κs. search pours)
-    (λ c. search pours)
-    (λ c κs. search pours)
-    (λ c κs. search pours)
-    (λ c. search pours)
-    (λ c. search pours))
+    (λ c κs. search pours) (λ c. search pours) (λ c κs. search pours) (λ c. search pours) (λ c κs. search pours) (λ c κs. search pours)
+    (λ c. search pours) (λ c. search pours))

@@ -9,8 +9,4 @@ ruleset rules = (sealed-laid, needs)
 pub seal-sector-spec : {M : Type 1} → statement M
 seal-sector-spec =
     tie.close (tie.spec
-    (λ c κs. search rules)
-    (λ c. search rules)
-    (λ c κs. search rules)
-    (λ c. search rules)
-    (λ c. search rules))
+    (λ c κs. search rules) (λ c. search rules) (λ c κs. search rules) (λ c. search rules) (λ c. search rules))

@@ -7,5 +7,4 @@ use Rattle.writers.proofs.structures.block_of.Tie as tie
 pub block-of-spec : {M : Type 1} → statement M
 block-of-spec =
     tie.close (tie.spec
-    (λ c. search picks)
-    (λ c. search picks))
+    (λ c. search picks) (λ c. search picks))

@@ -11,12 +11,5 @@ pub entry-body-spec : {M : Type 1} → statement M
 unfolding entryBody
 entry-body-spec =
     tie.close (tie.spec
-    (λ c. search rules)
-    (λ c. search rules)
-    (λ c κs. search rules)
-    (λ c. search rules)
-    (λ c κs. search rules)
-    (λ c. search rules)
-    (λ c κs. search rules)
-    (λ c κs. search rules)
-    (λ c. search rules))
+    (λ c. search rules) (λ c. search rules) (λ c κs. search rules) (λ c. search rules) (λ c κs. search rules) (λ c. search rules)
+    (λ c κs. search rules) (λ c κs. search rules) (λ c. search rules))

@@ -8,7 +8,5 @@ pub info-spec : {M : Type 1} → statement M
 unfolding infoBody
 info-spec =
     tie.close (tie.spec
-    (λ c. search needs)
-    (λ c κs. search needs)
-    (λ c. search needs)
+    (λ c. search needs) (λ c κs. search needs) (λ c. search needs)
     (λ c. c .before .before .seal-sector .ensures))

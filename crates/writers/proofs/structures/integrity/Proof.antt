@@ -9,8 +9,4 @@ ruleset bodies = (body-laid, needs)
 pub integrity-spec : {M : Type 1} → statement M
 integrity-spec =
     tie.close (tie.spec
-    (λ c κs. search needs)
-    (λ c. search needs)
-    (λ c κs. search needs)
-    (λ c. search needs)
-    (λ c. search bodies))
+    (λ c κs. search needs) (λ c. search needs) (λ c κs. search needs) (λ c. search needs) (λ c. search bodies))

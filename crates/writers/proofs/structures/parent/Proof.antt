@@ -8,7 +8,5 @@ pub parent-spec : {M : Type 1} → statement M
 unfolding identifierBody
 parent-spec =
     tie.close (tie.spec
-    (λ c. search needs)
-    (λ c κs. search needs)
-    (λ c. search needs)
+    (λ c. search needs) (λ c κs. search needs) (λ c. search needs)
     (λ c. c .before .before .seal .ensures))

@@ -9,6 +9,5 @@ pub partition-body-spec : {M : Type 1} → statement M
 unfolding partitionBody
 partition-body-spec =
     tie.close (tie.spec
-    (λ c. search needs)
-    (λ c κs. search needs)
+    (λ c. search needs) (λ c κs. search needs)
     (λ c. partition-ends _ (c .before .put32 .ensures)))

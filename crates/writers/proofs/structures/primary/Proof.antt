@@ -8,7 +8,5 @@ pub primary-spec : {M : Type 1} → statement M
 unfolding primaryBody
 primary-spec =
     tie.close (tie.spec
-    (λ c. search needs)
-    (λ c κs. search needs)
-    (λ c. search needs)
+    (λ c. search needs) (λ c κs. search needs) (λ c. search needs)
     (λ c. c .before .before .seal-sector .ensures))

@@ -9,11 +9,5 @@ ruleset rules = (sized-ends, needs)
 pub sized-body-spec : {M : Type 1} → statement M
 sized-body-spec =
     tie.close (tie.spec
-    (λ c. search rules)
-    (λ c κs. search rules)
-    (λ c κs. search rules)
-    (λ c. search rules)
-    (λ c κs. search rules)
-    (λ c. search rules)
-    (λ c κs. search rules)
-    (λ c. search rules))
+    (λ c. search rules) (λ c κs. search rules) (λ c κs. search rules) (λ c. search rules) (λ c κs. search rules) (λ c. search rules)
+    (λ c κs. search rules) (λ c. search rules))

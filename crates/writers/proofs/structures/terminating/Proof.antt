@@ -8,7 +8,5 @@ pub terminating-spec : {M : Type 1} → statement M
 unfolding terminatingBody
 terminating-spec =
     tie.close (tie.spec
-    (λ c. search needs)
-    (λ c κs. search needs)
-    (λ c. search needs)
+    (λ c. search needs) (λ c κs. search needs) (λ c. search needs)
     (λ c. c .before .before .seal-sector .ensures))

@@ -10,10 +10,5 @@ ruleset anchors = (anchor-no, anchor-yes, needs)
 pub parse-spec : {M : Type 1} → statement M
 parse-spec =
     tie.close (tie.spec
-    (λ c κs. search needs)
-    (λ c. search needs)
-    (λ c. search needs)
-    (λ c κs. search needs)
-    (λ c κs. search needs)
-    (λ c. search anchors)
+    (λ c κs. search needs) (λ c. search needs) (λ c. search needs) (λ c κs. search needs) (λ c κs. search needs) (λ c. search anchors)
     (λ c. search anchors))

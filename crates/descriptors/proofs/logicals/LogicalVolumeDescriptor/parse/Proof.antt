@@ -11,10 +11,5 @@ ruleset logicals = (head-long, logical-no, logical-yes, needs)
 pub parse-spec : {M : Type 1} → statement M
 parse-spec =
     tie.close (tie.spec
-    (λ c κs. search needs)
-    (λ c. search needs)
-    (λ c κs. search needs)
-    (λ c. search needs)
-    (λ c κs. search logicals)
-    (λ c. search logicals)
+    (λ c κs. search needs) (λ c. search needs) (λ c κs. search needs) (λ c. search needs) (λ c κs. search logicals) (λ c. search logicals)
     (λ c. search logicals))

@@ -10,13 +10,5 @@ ruleset partitions = (partition-no, partition-yes, needs)
 pub parse-spec : {M : Type 1} → statement M
 parse-spec =
     tie.close (tie.spec
-    (λ c κs. search needs)
-    (λ c. search needs)
-    (λ c. search needs)
-    (λ c κs. search needs)
-    (λ c κs. search needs)
-    (λ c κs. search needs)
-    (λ c κs. search needs)
-    (λ c κs. search needs)
-    (λ c. search partitions)
-    (λ c. search partitions))
+    (λ c κs. search needs) (λ c. search needs) (λ c. search needs) (λ c κs. search needs) (λ c κs. search needs) (λ c κs. search needs)
+    (λ c κs. search needs) (λ c κs. search needs) (λ c. search partitions) (λ c. search partitions))

@@ -11,10 +11,5 @@ ruleset primaries = (head-long, primary-no, primary-yes, needs)
 pub parse-spec : {M : Type 1} → statement M
 parse-spec =
     tie.close (tie.spec
-    (λ c κs. search needs)
-    (λ c. search needs)
-    (λ c κs. search needs)
-    (λ c. search needs)
-    (λ c κs. search primaries)
-    (λ c. search primaries)
+    (λ c κs. search needs) (λ c. search needs) (λ c κs. search needs) (λ c. search needs) (λ c κs. search primaries) (λ c. search primaries)
     (λ c. search primaries))

@@ -9,8 +9,4 @@ ruleset starts = (at-foreign, at-in, needs)
 pub at-entry-spec : {M : Type 1} → statement M
 at-entry-spec =
     tie.close (tie.spec
-    (λ c κs. search needs)
-    (λ c. search needs)
-    (λ c. search needs)
-    (λ c. search starts)
-    (λ c. search starts))
+    (λ c κs. search needs) (λ c. search needs) (λ c. search needs) (λ c. search starts) (λ c. search starts))

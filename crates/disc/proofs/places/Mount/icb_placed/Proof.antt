@@ -9,6 +9,4 @@ ruleset places = (place-icb, needs)
 pub icb-placed-spec : {M : Type 1} → statement M
 icb-placed-spec =
     tie.close (tie.spec
-    (λ c κs. search needs)
-    (λ c κs. search needs)
-    (λ c. search places))
+    (λ c κs. search needs) (λ c κs. search needs) (λ c. search places))

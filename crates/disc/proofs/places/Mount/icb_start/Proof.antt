@@ -9,7 +9,4 @@ ruleset starts = (icb-mapped, icb-own, needs)
 pub icb-start-spec : {M : Type 1} → statement M
 icb-start-spec =
     tie.close (tie.spec
-    (λ c κs. search needs)
-    (λ c κs. search needs)
-    (λ c. search starts)
-    (λ c. search starts))
+    (λ c κs. search needs) (λ c κs. search needs) (λ c. search starts) (λ c. search starts))

@@ -9,9 +9,4 @@ ruleset starts = (map-over, map-past, map-in, needs)
 pub mapped-spec : {M : Type 1} → statement M
 mapped-spec =
     tie.close (tie.spec
-    (λ c. search needs)
-    (λ c. search starts)
-    (λ c. search starts)
-    (λ c. search needs)
-    (λ c. search needs)
-    (λ c. search starts))
+    (λ c. search needs) (λ c. search starts) (λ c. search starts) (λ c. search needs) (λ c. search needs) (λ c. search starts))

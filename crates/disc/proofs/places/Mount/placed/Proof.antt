@@ -9,10 +9,5 @@ ruleset places = (place-unnamed, place-named, needs)
 pub placed-spec : {M : Type 1} → statement M
 placed-spec =
     tie.close (tie.spec
-    (λ c. search needs)
-    (λ c κs. search needs)
-    (λ c. search needs)
-    (λ c κs. search needs)
-    (λ c κs. search needs)
-    (λ c. search places)
+    (λ c. search needs) (λ c κs. search needs) (λ c. search needs) (λ c κs. search needs) (λ c κs. search needs) (λ c. search places)
     (λ c. search places))

@@ -9,8 +9,4 @@ ruleset starts = (start-mapped, start-foreign, start-own, needs)
 pub start-for-spec : {M : Type 1} → statement M
 start-for-spec =
     tie.close (tie.spec
-    (λ c κs. search needs)
-    (λ c κs. search needs)
-    (λ c. search starts)
-    (λ c. search starts)
-    (λ c. search starts))
+    (λ c κs. search needs) (λ c κs. search needs) (λ c. search starts) (λ c. search starts) (λ c. search starts))

@@ -8,8 +8,4 @@ ruleset wanting = (wanting-over, wanting-far, wanting-near, needs)
 pub is-wanting-spec : {M : Type 1} → statement M
 is-wanting-spec =
     tie.close (tie.spec
-    (λ c. search wanting)
-    (λ c. search wanting)
-    (λ c. search wanting)
-    (λ c. search wanting)
-    (λ c. search wanting))
+    (λ c. search wanting) (λ c. search wanting) (λ c. search wanting) (λ c. search wanting) (λ c. search wanting))

@@ -9,6 +9,4 @@ ruleset starts = (stands-anchor, anchor-is, needs)
 pub start-spec : {M : Type 1} → statement M
 start-spec =
     tie.close (tie.spec
-    (λ c κs. search starts)
-    (λ c κs. search starts)
-    (λ c. search starts))
+    (λ c κs. search starts) (λ c κs. search starts) (λ c. search starts))

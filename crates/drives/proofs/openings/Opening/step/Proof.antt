@@ -9,11 +9,5 @@ ruleset steps = (step-stays, step-lost, step-taken, wanting-is, not-true, not-fa
 pub step-spec : {M : Type 1} → statement M
 step-spec =
     tie.close (tie.spec
-    (λ c κs. search steps)
-    (λ c. search steps)
-    (λ c κs. search steps)
-    (λ c κs. search steps)
-    (λ c κs. search steps)
-    (λ c. search steps)
-    (λ c κs. search steps)
-    (λ c. search steps))
+    (λ c κs. search steps) (λ c. search steps) (λ c κs. search steps) (λ c κs. search steps) (λ c κs. search steps) (λ c. search steps)
+    (λ c κs. search steps) (λ c. search steps))

@@ -8,12 +8,5 @@ ruleset phases = (taken-anchor, taken-sector, taken-set, wanting-low, needs)
 pub taken-spec : {M : Type 1} → statement M
 taken-spec =
     tie.close (tie.spec
-    (λ c κs. search phases)
-    (λ c κs. search phases)
-    (λ c. search phases)
-    (λ c κs. search phases)
-    (λ c. search phases)
-    (λ c κs. search phases)
-    (λ c κs. search phases)
-    (λ c κs. search phases)
-    (λ c. search phases))
+    (λ c κs. search phases) (λ c κs. search phases) (λ c. search phases) (λ c κs. search phases) (λ c. search phases)
+    (λ c κs. search phases) (λ c κs. search phases) (λ c κs. search phases) (λ c. search phases))

@@ -8,13 +8,5 @@ ruleset sounds = (sound-header, sound-other, sound-whole, sound-body, needs)
 pub is-sound-spec : {M : Type 1} → statement M
 is-sound-spec =
     tie.close (tie.spec
-    (λ c. search sounds)
-    (λ c. search sounds)
-    (λ c. search sounds)
-    (λ c. search sounds)
-    (λ c. search sounds)
-    (λ c. search sounds)
-    (λ c κs. search sounds)
-    (λ c. search sounds)
-    (λ c. search sounds)
-    (λ c. search sounds))
+    (λ c. search sounds) (λ c. search sounds) (λ c. search sounds) (λ c. search sounds) (λ c. search sounds) (λ c. search sounds)
+    (λ c κs. search sounds) (λ c. search sounds) (λ c. search sounds) (λ c. search sounds))

@@ -8,10 +8,5 @@ ruleset wanting = (want-over, want-past, want-far, want-sound, needs)
 pub is-wanting-spec : {M : Type 1} → statement M
 is-wanting-spec =
     tie.close (tie.spec
-    (λ c. search wanting)
-    (λ c. search wanting)
-    (λ c. search wanting)
-    (λ c. search wanting)
-    (λ c. search wanting)
-    (λ c κs. search wanting)
+    (λ c. search wanting) (λ c. search wanting) (λ c. search wanting) (λ c. search wanting) (λ c. search wanting) (λ c κs. search wanting)
     (λ c. search wanting))

@@ -9,11 +9,7 @@ ruleset starts = (start-short, start-nowhere, start-at, short-is, nowhere-is, pl
 pub start-spec : {M : Type 1} → statement M
 start-spec =
     tie.close (tie.spec
-    (λ c κs. search starts)
-    (λ c κs. search starts)
-    (λ c κs. search starts)
-    (λ c κs. search starts)
-    (λ c. search starts)
+    (λ c κs. search starts) (λ c κs. search starts) (λ c κs. search starts) (λ c κs. search starts) (λ c. search starts)
     (λ c.
     let z = c .before .before .before .before .before .before .before .before .clear-row .ensures in
     let f = c .before .before .before .before .at-entry .ensures in
@@ -21,13 +17,8 @@ start-spec =
     let b = c .before .before2 .ensures in
     let p = c .over .ensures in
     search starts)
-    (λ c κs. search starts)
-    (λ c. search starts)
-    (λ c κs. search starts)
-    (λ c κs. search starts)
-    (λ c. search starts)
-    (λ c κs. search starts)
-    (λ c. search starts)
+    (λ c κs. search starts) (λ c. search starts) (λ c κs. search starts) (λ c κs. search starts) (λ c. search starts)
+    (λ c κs. search starts) (λ c. search starts)
     (λ c.
     let z = c .before .before .before .before .before .before .before .before .before .before .before .clear-row .ensures in
     let f = c .before .before .before .before .before .before .before .at-entry .ensures in

@@ -10,12 +10,7 @@ ruleset steps = (read-stays, read-lost, not-true, not-false, needs)
 pub step-spec : {M : Type 1} → statement M
 step-spec =
     tie.close (tie.spec
-    (λ c κs. search steps)
-    (λ c. search steps)
-    (λ c κs. search steps)
-    (λ c κs. search steps)
-    (λ c κs. search steps)
-    (λ c. search steps)
+    (λ c κs. search steps) (λ c. search steps) (λ c κs. search steps) (λ c κs. search steps) (λ c κs. search steps) (λ c. search steps)
     (λ c.
     let e = c .before .before .before .before .before .before .before .is-wanting .ensures in
     let h = c .before .before .before .before .before .before .if1 .left in
@@ -28,9 +23,7 @@ step-spec =
     let e = c .before .before .before .before .before .is-wanting .ensures in
     let h = c .before .before .before .before .if1 .left in
     (search needs, sym e ∙ search (h, not-false)))
-    (λ c κs. search steps)
-    (λ c. search steps)
-    (λ c. search steps)
+    (λ c κs. search steps) (λ c. search steps) (λ c. search steps)
     (λ c.
     let e = c .before .before .before .before .before .before .before .before .before .before .before .before .is-wanting .ensures in
     let h = c .before .before .before .before .before .before .before .before .before .before .before .if1 .left in

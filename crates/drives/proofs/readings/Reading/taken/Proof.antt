@@ -8,17 +8,6 @@ ruleset takes = (taken-entry, taken-header, taken-part, taken-extent, want-low, 
 pub taken-spec : {M : Type 1} → statement M
 taken-spec =
     tie.close (tie.spec
-    (λ c κs. search takes)
-    (λ c. search takes)
-    (λ c. search takes)
-    (λ c. search takes)
-    (λ c κs. search takes)
-    (λ c. search takes)
-    (λ c. search takes)
-    (λ c κs. search takes)
-    (λ c. search takes)
-    (λ c. search takes)
-    (λ c κs. search takes)
-    (λ c. search takes)
-    (λ c. search takes)
-    (λ c. search takes))
+    (λ c κs. search takes) (λ c. search takes) (λ c. search takes) (λ c. search takes) (λ c κs. search takes) (λ c. search takes)
+    (λ c. search takes) (λ c κs. search takes) (λ c. search takes) (λ c. search takes) (λ c κs. search takes) (λ c. search takes)
+    (λ c. search takes) (λ c. search takes))

@@ -9,6 +9,4 @@ ruleset wants = (wants-none, wants-at, not-true, not-false, needs)
 pub wants-spec : {M : Type 1} → statement M
 wants-spec =
     tie.close (tie.spec
-    (λ c κs. search wants)
-    (λ c. search wants)
-    (λ c. search wants))
+    (λ c κs. search wants) (λ c. search wants) (λ c. search wants))

@@ -10,10 +10,5 @@ ruleset reads = (head-long, entry-no, entry-yes, needs)
 pub parse-spec : {M : Type 1} → statement M
 parse-spec =
     tie.close (tie.spec
-    (λ c κs. search needs)
-    (λ c κs. search needs)
-    (λ c. search needs)
-    (λ c. search needs)
-    (λ c κs. search reads)
-    (λ c. search reads)
+    (λ c κs. search needs) (λ c κs. search needs) (λ c. search needs) (λ c. search needs) (λ c κs. search reads) (λ c. search reads)
     (λ c. search reads))

@@ -9,6 +9,4 @@ pub parse-spec : {M : Type 1} → statement M
 unfolding readIcbTag
 parse-spec =
     tie.close (tie.spec
-    (λ c. search picks)
-    (λ c κs. search needs)
-    (λ c. search picks))
+    (λ c. search picks) (λ c κs. search needs) (λ c. search picks))

@@ -8,6 +8,4 @@ use Rattle.records.proofs.allocations.ExtentAd.parse.Tie as tie
 pub parse-spec : {M : Type 1} → statement M
 parse-spec =
     tie.close (tie.spec
-    (λ c κs. search needs)
-    (λ c. search picks)
-    (λ c. search picks))
+    (λ c κs. search needs) (λ c. search picks) (λ c. search picks))

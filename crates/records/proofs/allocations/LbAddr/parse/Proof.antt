@@ -8,7 +8,6 @@ use Rattle.records.proofs.allocations.LbAddr.parse.Tie as tie
 pub parse-spec : {M : Type 1} → statement M
 parse-spec =
     tie.close (tie.spec
-    (λ c κs. search needs)
-    (λ c κs. search needs)
+    (λ c κs. search needs) (λ c κs. search needs)
     (λ c. simp (lt-leb _ _ (c .if1 .taken)))
     (λ c. simp (le-leb _ _ (c .before .before .if1 .left)) cc))

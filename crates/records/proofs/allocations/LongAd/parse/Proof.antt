@@ -8,7 +8,6 @@ use Rattle.records.proofs.allocations.LongAd.parse.Tie as tie
 pub parse-spec : {M : Type 1} → statement M
 parse-spec =
     tie.close (tie.spec
-    (λ c κs. search needs)
-    (λ c κs. search needs)
+    (λ c κs. search needs) (λ c κs. search needs)
     (λ c. simp (lt-leb _ _ (c .before .if1 .taken)) cc)
     (λ c. simp (le-leb _ _ (c .before .if1 .left)) cc))

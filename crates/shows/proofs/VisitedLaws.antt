@@ -29,7 +29,7 @@ use Rattle.identifiers.specs.Identifiers.{isDirectory}
 use Rattle.listings.specs.Entries.{Entry, isSkipped}
 use Rattle.shows.specs.Shows.{Node, under, nodesOf, nodeRecord, nodeRecords}
 use Rattle.shows.specs.inner.Placings.{eachPlaced}
-use Rattle.shows.specs.inner.Turns.{stoppedAt, Held, behindBy, cappedBy, Lent, Shown, turnOf}
+use Rattle.shows.specs.inner.Turns.{stoppedAt, Held, behindBy, cappedBy, Lent, Visited, turnOf}
 use Rattle.shows.specs.declared.levels.ShowPlace.{ShowPlace}
 
 -- ---- trees behind each other
@@ -141,21 +141,21 @@ capped-held p n {q} q′ e z = ⊎-elim
 -- ---- parts that are shown
 
 -- nothing shown
-pub shown-none : {of : Node → List ℕ → List ℕ} {most : ℕ} {p : ShowPlace} → Held most p → {r : Ran (List Node)} → r ≡ told (answered []) → (l : Lent) {l′ : Lent} → (p .size ≤ length (l .out) → l′ .out ≡ l .out) → l′ .tally ≡ l .tally
-    → Shown of r p l p l′
+pub visited-none : {of : Node → List ℕ → List ℕ} {most : ℕ} {p : ShowPlace} → Held most p → {r : Ran (List Node)} → r ≡ told (answered []) → (l : Lent) {l′ : Lent} → (p .size ≤ length (l .out) → l′ .out ≡ l .out) → l′ .tally ≡ l .tally
+    → Visited of r p l p l′
 unfolding nodeRecords eachPlaced
-shown-none {p = p} h e l f g = rw e (record {
+visited-none {p = p} h e l f g = rw e (record {
   says = same-place (h .going) (omega (arith, h .counted, h .bounded)) (omega (arith, h .sized)) refl ∙ sym (capped-none h _);
   puts = λ ns k w room b. let z : ns ≡ [] = cc in rw z (f (omega arith));
   tallied = λ ns k w. let z : ns ≡ [] = cc in rw z g;
 })
 
 -- one node shown
-pub shown-one : {of : Node → List ℕ → List ℕ} {most : ℕ} {p : ShowPlace} → Held most p → {n : Node} {r : Ran (List Node)} → r ≡ told (answered (n ∷ [])) → {z : ℕ} → z ≡ reported (p .size + length (nodeRecord n)) → {l l′ : Lent}
+pub visited-one : {of : Node → List ℕ → List ℕ} {most : ℕ} {p : ShowPlace} → Held most p → {n : Node} {r : Ran (List Node)} → r ≡ told (answered (n ∷ [])) → {z : ℕ} → z ≡ reported (p .size + length (nodeRecord n)) → {l l′ : Lent}
     → (p .size + length (nodeRecord n) ≤ length (l .out) → l′ .out ≡ sets (l .out) (p .size) (nodeRecord n)) → l′ .tally ≡ of n (l .tally)
-    → Shown of r p l (record { answer = 0; count = p .count; size = z; most = p .most }) l′
+    → Visited of r p l (record { answer = 0; count = p .count; size = z; most = p .most }) l′
 unfolding eachPlaced
-shown-one {of} {most} {p} h {n} e q f g = rw e (record {
+visited-one {of} {most} {p} h {n} e q f g = rw e (record {
   says = same-place refl (omega (arith, h .counted, h .bounded)) (q ∙ rw (records-one n)) refl ∙ sym (capped-none h _);
   puts = λ ns k v room b.
       let z : ns ≡ n ∷ [] = cc in
@@ -165,14 +165,14 @@ shown-one {of} {most} {p} h {n} e q f g = rw e (record {
 })
 
 -- refused
-pub shown-refused : {of : Node → List ℕ → List ℕ} {p : ShowPlace} (why : Refusal) (n : ℕ) {r : Ran (List Node)} → r ≡ record { outcome = refused why; count = n } → {q : ShowPlace}
-    → q ≡ cappedBy p n (stoppedAt (number why) (reported (p .count + n))) → {l l′ : Lent} → Shown of r p l q l′
-shown-refused why n e f = rw e (record { says = f; puts = λ ns k. never k; tallied = λ ns k. never k })
+pub visited-refused : {of : Node → List ℕ → List ℕ} {p : ShowPlace} (why : Refusal) (n : ℕ) {r : Ran (List Node)} → r ≡ record { outcome = refused why; count = n } → {q : ShowPlace}
+    → q ≡ cappedBy p n (stoppedAt (number why) (reported (p .count + n))) → {l l′ : Lent} → Visited of r p l q l′
+visited-refused why n e f = rw e (record { says = f; puts = λ ns k. never k; tallied = λ ns k. never k })
 
 -- it wants more sectors than it may ask for
-pub shown-over : {of : Node → List ℕ → List ℕ} {r : Ran (List Node)} {p : ShowPlace} → p .most < reported (p .count + r .count) → {q : ShowPlace} → q ≡ stoppedAt (number OverBudget) (p .most) → {l l′ : Lent}
-    → Shown of r p l q l′
-shown-over {r = r} {p} h e = record {
+pub visited-over : {of : Node → List ℕ → List ℕ} {r : Ran (List Node)} {p : ShowPlace} → p .most < reported (p .count + r .count) → {q : ShowPlace} → q ≡ stoppedAt (number OverBudget) (p .most) → {l l′ : Lent}
+    → Visited of r p l q l′
+visited-over {r = r} {p} h e = record {
   says = e ∙ sym (capped-over p (r .count) (behindBy p (r .outcome) (r .count)) h);
   puts = λ ns k w. absurd (omega (arith, w));
   tallied = λ ns k w. absurd (omega (arith, w));
@@ -187,8 +187,8 @@ pub record Answers (r : Ran (List Node)) (p q : ShowPlace) : Type 0 where
   pub within : reported (p .count + r .count) ≤ p .most
   pub place : q ≡ record { answer = 0; count = reported (p .count + r .count); size = reported (p .size + length (nodeRecords ns)); most = p .most }
 
-pub shown-answers : {of : Node → List ℕ → List ℕ} {r : Ran (List Node)} {p : ShowPlace} {l : Lent} {q : ShowPlace} {l′ : Lent} → Shown of r p l q l′ → q .answer ≡ 0 → Answers r p q
-shown-answers {r = r} {p} {q = q} s z =
+pub visited-answers : {of : Node → List ℕ → List ℕ} {r : Ran (List Node)} {p : ShowPlace} {l : Lent} {q : ShowPlace} {l′ : Lent} → Visited of r p l q l′ → q .answer ≡ 0 → Answers r p q
+visited-answers {r = r} {p} {q = q} s z =
     let w = capped-held p (r .count) (behindBy p (r .outcome) (r .count)) (s .says) z in
     by w (r .outcome) refl (s .says ∙ capped-within p (r .count) (behindBy p (r .outcome) (r .count)) w)
   where
@@ -196,14 +196,14 @@ shown-answers {r = r} {p} {q = q} s z =
     by w (answered ns) f e = record { ns = ns; are = f; within = w; place = e }
     by w (refused why) f e = absurd (refusal-numbered why (sym (ap (λ (x : ShowPlace). x .answer) e) ∙ z))
 
-pub shown-held : {of : Node → List ℕ → List ℕ} {r : Ran (List Node)} {p : ShowPlace} {l : Lent} {q : ShowPlace} {l′ : Lent} → p .most ≤ 0xffff_ffff_ffff_ffff → Shown of r p l q l′ → q .answer ≡ 0 → Held (p .most) q
-shown-held b s z = let a = shown-answers s z in rw (a .place) (record { going = refl; lends = refl; counted = a .within; bounded = b; sized = omega arith })
+pub visited-held : {of : Node → List ℕ → List ℕ} {r : Ran (List Node)} {p : ShowPlace} {l : Lent} {q : ShowPlace} {l′ : Lent} → p .most ≤ 0xffff_ffff_ffff_ffff → Visited of r p l q l′ → q .answer ≡ 0 → Held (p .most) q
+visited-held b s z = let a = visited-answers s z in rw (a .place) (record { going = refl; lends = refl; counted = a .within; bounded = b; sized = omega arith })
 
 -- a part shown behind n sectors that were read for it
-pub shown-after : {of : Node → List ℕ → List ℕ} {r : Ran (List Node)} {p p₁ : ShowPlace} (n : ℕ) → p₁ ≡ record { answer = 0; count = reported (p .count + n); size = p .size; most = p .most } → {l : Lent} {q : ShowPlace} {l′ : Lent}
-    → Shown of r p₁ l q l′ → Shown of (record { outcome = r .outcome; count = n + r .count }) p l q l′
-shown-after {of} {r} {p} n e {l} {q} {l′} s =
-    let t : Shown of r behind l q l′ = rw e at s in
+pub visited-after : {of : Node → List ℕ → List ℕ} {r : Ran (List Node)} {p p₁ : ShowPlace} (n : ℕ) → p₁ ≡ record { answer = 0; count = reported (p .count + n); size = p .size; most = p .most } → {l : Lent} {q : ShowPlace} {l′ : Lent}
+    → Visited of r p₁ l q l′ → Visited of (record { outcome = r .outcome; count = n + r .count }) p l q l′
+visited-after {of} {r} {p} n e {l} {q} {l′} s =
+    let t : Visited of r behind l q l′ = rw e at s in
     record {
       says = t .says ∙ ap (λ c. pick (leb c (p .most)) (behindBy behind (r .outcome) (r .count)) (stoppedAt (number OverBudget) (p .most))) sum ∙ ap (cappedBy p (n + r .count)) (by (r .outcome));
       puts = λ ns h w. t .puts ns h (omega (arith, sum));
@@ -222,12 +222,12 @@ shown-after {of} {r} {p} n e {l} {q} {l′} s =
 
 -- ---- one part behind another
 
-module _ {of : Node → List ℕ → List ℕ} {r : Ran (List Node)} {p : ShowPlace} {l : Lent} {q : ShowPlace} {l₁ : Lent} (s : Shown of r p l q l₁) where
+module _ {of : Node → List ℕ → List ℕ} {r : Ran (List Node)} {p : ShowPlace} {l : Lent} {q : ShowPlace} {l₁ : Lent} (s : Visited of r p l q l₁) where
   -- the first is refused, or wants too many sectors
-  pub joined-stops : (k : Ran (List Node)) → (q .answer ≡ 0 → ⊥) → Shown of (joined r k) p l q l₁
+  pub joined-stops : (k : Ran (List Node)) → (q .answer ≡ 0 → ⊥) → Visited of (joined r k) p l q l₁
   joined-stops k n = ⊎-elim
       (λ (w : reported (p .count + r .count) ≤ p .most). by w (r .outcome) (s .says ∙ capped-within p (r .count) (behindBy p (r .outcome) (r .count)) w))
-      (λ (w : p .most < reported (p .count + r .count)). shown-over (omega (arith, more (r .outcome) (k .outcome))) (s .says ∙ capped-over p (r .count) (behindBy p (r .outcome) (r .count)) w))
+      (λ (w : p .most < reported (p .count + r .count)). visited-over (omega (arith, more (r .outcome) (k .outcome))) (s .says ∙ capped-over p (r .count) (behindBy p (r .outcome) (r .count)) w))
       (split (reported (p .count + r .count)) (p .most))
     where
       more : (o o′ : Outcome (List Node)) → r .count ≤ onward o (r .count) (λ a. onward o′ (k .count) (λ b. told (answered (a ++ b)))) .count
@@ -235,11 +235,11 @@ module _ {of : Node → List ℕ → List ℕ} {r : Ran (List Node)} {p : ShowPl
       more (answered a) (refused why) = omega arith
       more (refused why) o′ = omega arith
 
-      by : reported (p .count + r .count) ≤ p .most → (o : Outcome (List Node)) → q ≡ behindBy p o (r .count) → Shown of (onward o (r .count) (λ a. followed k (λ b. told (answered (a ++ b))))) p l q l₁
+      by : reported (p .count + r .count) ≤ p .most → (o : Outcome (List Node)) → q ≡ behindBy p o (r .count) → Visited of (onward o (r .count) (λ a. followed k (λ b. told (answered (a ++ b))))) p l q l₁
       by w (answered a) e = absurd (n (ap (λ (x : ShowPlace). x .answer) e))
-      by w (refused why) e = shown-refused why (r .count) refl (e ∙ sym (capped-within p (r .count) (stoppedAt (number why) (reported (p .count + r .count))) w))
+      by w (refused why) e = visited-refused why (r .count) refl (e ∙ sym (capped-within p (r .count) (stoppedAt (number why) (reported (p .count + r .count))) w))
 
-  module _ {k : Ran (List Node)} {q′ : ShowPlace} {l₂ : Lent} (t : Shown of k q l₁ q′ l₂) where
+  module _ {k : Ran (List Node)} {q′ : ShowPlace} {l₂ : Lent} (t : Visited of k q l₁ q′ l₂) where
     -- the first is answered, and its place is the second's start
     module _ (a : List Node) (f : r .outcome ≡ answered a) (within : reported (p .count + r .count) ≤ p .most)
         (lends : q .most ≡ p .most) (counts : q .count ≡ reported (p .count + r .count)) (sizes : q .size ≡ reported (p .size + length (nodeRecords a))) where
@@ -248,7 +248,7 @@ module _ {of : Node → List ℕ → List ℕ} {r : Ran (List Node)} {p : ShowPl
           let c : reported (q .count + k .count) ≡ reported (p .count + n) = omega (arith, counts) in
           t .says ∙ rw (c, lends)
 
-      both : {b : List Node} → k .outcome ≡ answered b → Shown of (record { outcome = answered (a ++ b); count = r .count + (k .count + 0) }) p l q′ l₂
+      both : {b : List Node} → k .outcome ≡ answered b → Visited of (record { outcome = answered (a ++ b); count = r .count + (k .count + 0) }) p l q′ l₂
       both {b} h =
           let w : length (nodeRecords (a ++ b)) ≡ length (nodeRecords a) + length (nodeRecords b) = rw (records-joined a b, length-append) in
           let c : r .count + (k .count + 0) ≡ r .count + k .count = omega arith in
@@ -272,16 +272,16 @@ module _ {of : Node → List ℕ → List ℕ} {r : Ran (List Node)} {p : ShowPl
                 t .tallied b h u ∙ rw (z, s .tallied a f within) (sym (placed-joined of a b (l .tally)));
           }
 
-      goes-on : Shown of (joined r k) p l q′ l₂
+      goes-on : Visited of (joined r k) p l q′ l₂
       goes-on = rw f (by (k .outcome) refl)
         where
-          by : (o : Outcome (List Node)) → k .outcome ≡ o → Shown of (after (r .count) (onward o (k .count) (λ b. told (answered (a ++ b))))) p l q′ l₂
+          by : (o : Outcome (List Node)) → k .outcome ≡ o → Visited of (after (r .count) (onward o (k .count) (λ b. told (answered (a ++ b))))) p l q′ l₂
           by (answered b) h = both h
           by (refused why) h =
-              shown-refused why (r .count + k .count) refl
+              visited-refused why (r .count + k .count) refl
               (second (r .count + k .count) refl ∙ ap (cappedBy p (r .count + k .count)) (ap (λ o. behindBy q o (k .count)) h ∙ ap (stoppedAt (number why)) (omega (arith, counts))))
 
-    pub joined-goes : q .answer ≡ 0 → Shown of (joined r k) p l q′ l₂
+    pub joined-goes : q .answer ≡ 0 → Visited of (joined r k) p l q′ l₂
     joined-goes g =
-        let x = shown-answers s g in
+        let x = visited-answers s g in
         goes-on (x .ns) (x .are) (x .within) (ap (λ (y : ShowPlace). y .most) (x .place)) (ap (λ (y : ShowPlace). y .count) (x .place)) (ap (λ (y : ShowPlace). y .size) (x .place))
