@@ -120,7 +120,7 @@ class Tree:
         for found in CITED.finditer(text):
             for number in NUMBER.findall(found[1]):
                 if number not in self.rules:
-                    yield path, line(text, found), f"{RULES} has no rule {number}"
+                    yield path, line(text, found), f"{RULES} has no {number}"
 
 
 def line(text, found):
@@ -152,8 +152,8 @@ FAULTS = (
     ("a name that no source has", "docs/GUIDE.md", r"\Z", "\n`vault_opens`\n", "the name vault_opens"),
     ("an option that no source has", "docs/GUIDE.md", r"\Z", "\n`vault ls --hidden-things`\n", "the option --hidden-things"),
     ("a path that isn't there", "docs/GUIDE.md", r"\Z", "\nSee crates/vaults/src.\n", "crates/vaults/src isn't there"),
-    ("a rule that isn't there", "docs/GUIDE.md", r"\Z", "\nRULES" + " 2.1 and 2.99\n", "no rule 2.99"),
-    ("a rule of a source that isn't there", "tools/rules.py", r"\Z", "\n# RULES" + " 2.98\n", "no rule 2.98"),
+    ("a rule that isn't there", "docs/GUIDE.md", r"\Z", "\nRULES" + " 2.1 and 2.99\n", "has no 2.99"),
+    ("a rule of a source that isn't there", "tools/rules.py", r"\Z", "\n# RULES" + " 2.98\n", "has no 2.98"),
 )
 
 
