@@ -1,4 +1,12 @@
-// Figures over a shelf of images, one behind another in a lent slice: a place for each image, and one for the shelf behind them.
+// Figures over a shelf of images, one after another in a lent slice: a place for each image, and a last one for the shelf.
+//
+// `survey` first tests that the lengths fit the shelf and that the row has places enough. Then each image is opened (`open_within`), `tally_tree`
+// goes over its tree with what opening left of the budget, and `figures::total` adds the places up. The recursion is that of a show, lent a place
+// for figures and no output. A file is sized without a copy (`files::sizes`): its extents are measured up to the information length as for a read,
+// and counted from there to the end of its chain.
+//
+// The figures are defined as true numbers. In a place each is a number held at 2^64 - 1 and a mark; `Holds` says that a place has given figures in
+// it. That adding in a place agrees with adding true numbers is proved once, in `figures`.
 ghost use mathlib.Core.Path.{_≡_};
 ghost use Prim.Native.Nat.{_*_, _≤_};
 ghost use lib.ListN.{length};

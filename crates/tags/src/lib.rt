@@ -1,4 +1,12 @@
 // Descriptor tags, the place check, the body check, the gate that every descriptor goes through, and the header of an allocation extent.
+//
+// All eight readers of descriptors go through `heads::read_head`: enough bytes, a good tag, with `check` a right body, the id. Opening takes the
+// choice to check and leaves it in the volume's `Mount`. Each call on the volume takes it from there (`Mount::is_checked`) and hands it to the
+// readers of entries, of continuations' headers and of directory entries.
+//
+// A call with the check is the call without it, except for refusal 10. To prove that, one tree stands for both calls, with a mark wherever a
+// descriptor is parsed (`disc` specs/Marks.antt). Without the marks it is the one call (`plain`); with each mark tested it is the other (`guarded`).
+// `Guards` says that two trees are such a pair, and the GuardLaws of each crate build it along the definitions.
 pub mod heads;
 
 ghost use mathlib.Core.Path.{_≡_};

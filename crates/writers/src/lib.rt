@@ -1,4 +1,13 @@
-// A vault written from a staging area: a complete image in what is lent, front to back.
+// A disc written from a staging area: a complete image in what is lent, front to back.
+//
+// `write` tests the names, the files, the staging area and the room, in this order, and writes nothing before the last test. `pour` then writes from
+// front to back, at a place that only rises: 280 sectors up to the directory, the directory, the entries, the files, zeros and the last anchor.
+// Descriptors are constant arrays (`bodies`), with the numbers that vary stored into a copy, and `seals::seal` makes every tag. Names and lengths
+// are looked at again, without relying on the first look: each is held to the most that is allowed, and a file that has no room is left out.
+//
+// specs/Layout.antt has the image as a list of bytes, in the order of docs/LAYOUT.md, and specs/Refusing.antt the whole call (`writes`). The
+// contract of a piece says that its bytes stand at a place, so what was poured is that list. Tag, CRC and equal names are the reader's own
+// definitions, which keeps the proof short that the reader reads the image.
 mod bodies;
 pub mod contents;
 pub mod namings;
