@@ -212,9 +212,9 @@ def images(data):
 # ---- what is printed of a call
 
 # `file NAME`, `image NAME`, and for each query a line `query` and a line for each call: its name, its answer number, `count`, and what the call gives.
-# The line of a query has volume, there, matching, levels, most, room, work, slots, answers, icb and text, in this order. It omits a field that is
-# 0 or empty, `there` if it is the whole length, and `most` if it is no budget. Bytes from 20 to 7E except \ stand for themselves; any other is \
-# and two hex digits.
+# The line of a query has volume, there, matching, levels, most, room, work, slots, answers, icb and text, in this order. It omits `there` if it
+# is the whole length, `most` if it is no budget, and every other field that is 0 or empty. Bytes from 20 to 7E except \ stand for themselves; any
+# other is \ and two hex digits.
 #
 # Output, work space and rows are lent full of A5. `sum` is taken over the bytes that were written: 31 times the sum so far plus the byte, in 32 bits.
 # `kept` says that everything after what was written is unchanged, `zero` that the work space came back all zero. The two rows of a list are
