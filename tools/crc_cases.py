@@ -1,5 +1,5 @@
 #!/usr/bin/env python3
-"""Prints what the program crc_cases is to print: the CRC of RULES 3.16, bit by bit.
+"""Prints what the program crc_cases is to print: the CRC of RULES 3.21, bit by bit.
 
     tools/crc_cases.py > crates/crc_cases/stdout
 
