@@ -1,6 +1,6 @@
 #!/usr/bin/env python3
 """The files of queries that the program `asker` answers, crates/asker/data, and what it is to print of them: what the rules say (tools/rules.py).
-docs/COMPARING.md has the format.
+The format of the files is described below under "the records", that of the lines under "what is printed of a call".
 
     tools/asked.py                     writes crates/asker/stdout
     tools/asked.py --check             fails where that file isn't what the rules say, and says which query's line is the first
@@ -35,6 +35,40 @@ OTHER_BYTES = "a name of other bytes"
 
 
 # ---- the records
+
+# A file is a sequence of records. All numbers are little-endian. A record is an image and the queries on it:
+#
+#     2, n   length of the name; the name, in ASCII
+#     1      0: the image stands alone; 1: it is laid over the last image that stood alone
+#     4, n   length of the packed image; the packed image, which begins with the length of the image itself
+#     2, n   number of volumes made by hand; 62 bytes for each: start u32, partition u16, checked u32, maps u32, volumes 4 x u16,
+#            numbers 4 x u16, starts 4 x u32, the root's ICB as recorded
+#     4, n   length of the queries; the queries
+#
+# A packed image is u32 image length, u32 number of runs, and for each run u32 offset, u32 length and that many bytes. Every other byte is 0,
+# or the byte of the image below. An image has at most 2 MiB.
+#
+# A query is 64 bytes, followed by its text:
+#
+#      0  calls     u32, a bit for each call to make: 0 probe, 1 open, 2 label, 3 lookup, 4 failed, 5 list, 6 read, 7 part, 8 extents,
+#                   9 read_path, 10 read_all, 11 show, 12 measure, 13 runs, 14 failed_at, 15 part_at
+#      4  volume    u32; 0 to 7: the volume that the whole image opens to in this way (the sum of 1 checked, 2 maps, 4 highest), or all zeros
+#                   if it does not open; 8 and above: a volume made by hand
+#      8  there     u32, how many bytes of the image are there, counted from its front; 2^32 - 1: the image is watched as it grows
+#     12  matching  u32, the number of a choice of matching
+#     16  levels    u32, for a show
+#     20  room      u32, bytes of output that are lent, at most 65,536
+#     24  work      u32, bytes of work space that are lent, at most 65,536
+#     28  slots     u32, places that are lent for extents, for runs and for the lengths of a list, at most 1,024
+#     32  answers   u32, places that are lent for the answers of a list, at most 1,024
+#     36  icb       16 bytes, as recorded
+#     52  most      u64, the budget of a show in sectors; 2^64 - 1: no budget
+#     60  size      u32, length of the text
+#     64  text      the path, or the list of paths
+#
+# `open` and `label` open the image in the way that `volume` gives, so they can't be asked of a volume made by hand. This module, the program and
+# strandlodge-sys/src/asked.rs all refuse a file that is cut or holds a number without a meaning. The program names the first byte of the image
+# or query that is wrong; the other two name the first byte of the field.
 
 
 class Query(NamedTuple):
@@ -111,7 +145,7 @@ class Cursor:
 
 
 def unpacked(packed, base=b"", longest=LONGEST_IMAGE):
-    """An image that is kept sparse, over another: docs/COMPARING.md."""
+    """An image that is kept sparse, over another."""
     length, many = packed.number(4, "the image's length", longest), packed.number(4, "how many runs")
     image = bytearray(base[:length].ljust(length, b"\0"))
     for _ in range(many):
@@ -176,6 +210,19 @@ def images(data):
 
 
 # ---- what is printed of a call
+
+# `file NAME`, `image NAME`, and for each query a line `query` and a line for each call: its name, its answer number, `count`, and what the call gives.
+# The line of a query has volume, there, matching, levels, most, room, work, slots, answers, icb and text, in this order. It omits `there` if it
+# is the whole length, `most` if it is no budget, and every other field that is 0 or empty. Bytes from 20 to 7E except \ stand for themselves; any
+# other is \ and two hex digits.
+#
+# Output, work space and rows are lent full of A5. `sum` is taken over the bytes that were written: 31 times the sum so far plus the byte, in 32 bits.
+# `kept` says that everything after what was written is unchanged, `zero` that the work space came back all zero. The two rows of a list are
+# printed whole.
+#
+# A watched image is cut one byte before the end of each sector, at its end, and one byte after it. Each call is made on every cut. A line is
+# printed, after `at` and the length, only if it differs from that of the cut before. The volume is that of the whole image, so calls are answered
+# even on cuts that could not be opened.
 
 
 def shown(data):

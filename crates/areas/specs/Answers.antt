@@ -1,4 +1,4 @@
--- The answer number and the values of each answer that is an enum: 0 and what was read, or the refusal's number and zeros. RULES 12.3.
+-- The answer number and the values of each enum answer: 0 and what was read, or the refusal's number and zeros. RULES 12.3.
 use mathlib.Core.Option.{Option, none, some}
 use Rattle.disc.specs.Refusals.{number}
 use Rattle.disc.specs.Replies.{Answer}
@@ -9,7 +9,7 @@ use Rattle.areas.specs.declared.AdStep.the-variants.{Extent, Continuatio
 use Rattle.areas.specs.declared.AdEnding.{AdEnding}
 use Rattle.areas.specs.declared.AdEnding.the-variants.{End, Continuation, Refused}
 
--- what a step gives: an extent, or where the next area stands, or neither
+-- what a step gives: an extent, or where the next area is, or neither
 pub record StepValue : Type 0 where
   pub extent : Option AllocExtent
   pub continuation : Option AdContinuation

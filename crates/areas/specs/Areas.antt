@@ -109,6 +109,6 @@ stepped size c (Data e) = Extent e (record { at = c .at + size; left = c .left -
 stepped size c (Continued a) = Continues a
 stepped size c Compressed = Refuses Unsupported
 
--- what stands at a cursor: the end, where no whole descriptor is left
+-- the step at a cursor: the area ends where no whole descriptor is left
 unfoldable pub nextOf : ℕ → List ℕ → AdCursor → AdStep
 nextOf kind s c = pick (ltb (c .left) (sizeOf kind)) Ends (stepped (sizeOf kind) c (descriptorAt kind s (c .at)))

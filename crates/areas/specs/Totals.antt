@@ -1,4 +1,4 @@
--- The bytes of extents in all.
+-- How many bytes extents have in all.
 use mathlib.Core.List.{[], List, _∷_}
 use Prim.Native.Nat.{_+_, ℕ}
 use Rattle.areas.specs.declared.AllocExtent.{AllocExtent}

@@ -19,32 +19,32 @@ use Rattle.areas.specs.declared.AdEnding.{AdEnding}
 use Rattle.areas.specs.declared.AdEnding.the-variants.{End, Continuation, Refused}
 use Rattle.areas.specs.Areas.{Area, areaAt}
 
--- no more continuations than these are followed, and none is longer than this
+-- at most this many continuations are followed, and none is longer than this
 abbrev pub mostContinuations : ℕ
 mostContinuations = 32
 
 abbrev pub longestContinuation : ℕ
 longestContinuation = 1048576
 
--- the area behind a header (4/14.5), in an extent of `size` bytes whose sectors are s
+-- the area after a header (4/14.5), in a continuation of `size` bytes whose sectors are s
 abbrev pub areaIn : ℕ → ℕ → List ℕ → AedRead → Ask Area
 areaIn kind size s (NoHeader r) = refuse r
 areaIn kind size s (Header h) =
     pick (ltb size (24 + h .«length_of_allocation_descriptors»)) (refuse Malformed)
     (done (areaAt kind s 24 (h .«length_of_allocation_descriptors»)))
 
--- the area in `length` bytes from a sector on, with the checks in order
+-- the area in a continuation of `length` bytes from a sector on, with the checks in order
 unfoldable pub areaFrom : Bool → ℕ → ℕ → ℕ → Ask Area
 areaFrom check kind length at =
     pick (ltb length 24) (refuse Malformed)
     (pick (ltb longestContinuation length) (refuse Unsupported)
     (then (sectors (sectorsFor length) at) (λ s. areaIn kind length s (readAed check s))))
 
--- the area that continues another: before those checks, where it stands
+-- the area of a continuation: before those checks, its partition must be of this volume
 unfoldable pub nextArea : Mount → ℕ → AdContinuation → Ask Area
 nextArea m kind a = standing (placed m (a .«partition_ref») (a .block .0)) (areaFrom (isChecked m) kind (a .length))
 
--- the extents behind an area, through n continuations at most: one more is refused before it is looked at
+-- the extents after an area, through at most n continuations: one more is refused before it is looked at
 unfoldable pub continued : Mount → ℕ → ℕ → AdEnding → Ask (List AllocExtent)
 continued m kind zero End = done []
 continued m kind zero (Refused r) = refuse r
@@ -56,7 +56,7 @@ continued m kind (suc n) (Continuation a) =
     then (continued m kind n (x .ending)) (λ more.
     done (x .extents ++ more)))
 
--- how many continuations are followed behind an area
+-- how many continuations are followed after an area
 unfoldable pub hops : Mount → ℕ → ℕ → AdEnding → Ask ℕ
 hops m kind zero End = done 0
 hops m kind zero (Refused r) = refuse r

@@ -10,7 +10,7 @@ use Rattle.areas.specs.Totals.{total}
 pub record AtMost {A : Type 0} (n : ℕ) (m : Ask A) : Type 0 where
   pub most : (d : Disc) → ran d m .count ≤ n
 
--- the size of what is answered: none of a refusal
+-- the size of the answer; 0 for a refusal
 abbrev pub sizeIn : {A : Type 0} → (A → ℕ) → Outcome A → ℕ
 sizeIn size (answered a) = size a
 sizeIn size (refused r) = 0

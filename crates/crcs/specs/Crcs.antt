@@ -25,6 +25,6 @@ crcFrom c (b ∷ s) = crcFrom (oneByte c b) s
 unfoldable pub crcOf : List ℕ → ℕ
 crcOf s = crcFrom 0 s
 
--- What is left of a byte that stands alone in the high byte.
+-- The CRC of a byte alone.
 unfoldable pub remainder : ℕ → ℕ
 remainder b = eightBits (b * 0x100)

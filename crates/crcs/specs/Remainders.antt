@@ -5,7 +5,7 @@ use Prim.Native.Nat.{suc, ℕ}
 use lib.Dec.{eqb}
 use Rattle.crcs.specs.Crcs.{remainder}
 
--- Each entry is the remainder of its place, counted from i.
+-- Each entry is the remainder of its index, counted from i.
 abbrev pub remaindersFrom : ℕ → List ℕ → Bool
 remaindersFrom i [] = true
 remaindersFrom i (x ∷ t) = eqb x (remainder i) && remaindersFrom (suc i) t

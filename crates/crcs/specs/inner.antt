@@ -1,2 +1,2 @@
--- What contracts below the face alone cite.
+-- What only the contracts of internal functions cite.
 pub mod Tables

@@ -13,12 +13,12 @@ abbrev pub zeros : List ℕ → ℕ
 zeros [] = 0
 zeros (b ∷ s) = pick (eqb b 0) (suc (zeros s)) (zeros s)
 
--- none of them has a zero
+-- no item has a zero byte
 abbrev pub NoZeros : List (List ℕ) → Type 0
 NoZeros [] = Unit {0}
 NoZeros (p ∷ ps) = (zeros p ≡ 0) × NoZeros ps
 
--- with a zero between each two
+-- items joined, with a zero byte between each two
 abbrev pub joined : List ℕ → List (List ℕ) → List ℕ
 joined p [] = p
 joined p (q ∷ ps) = p ++ 0 ∷ joined q ps
@@ -37,11 +37,11 @@ abbrev pub total : List ℕ → ℕ
 total [] = 0
 total (n ∷ row) = n + total row
 
--- where the bytes of the item at i start: behind those of the items before it
+-- where the bytes of the item at i start: after those of the items before it
 abbrev pub startOf : Stacked → ℕ → ℕ
 startOf left i = total (take i (left .lengths))
 
--- the item at i is answered, and its bytes stand, as a reply and an output say
+-- the answer number, the length and the bytes of the item at i are those of a reply and an output
 pub record Holds (left : Stacked) (i : ℕ) (reply : Reply) (after : List ℕ) : Type 0 where
   pub answer : getD (left .answers) i 0 ≡ reply .answer
   pub length : getD (left .lengths) i 0 ≡ reply .length

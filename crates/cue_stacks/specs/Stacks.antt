@@ -1,4 +1,4 @@
--- Files read by a list of paths, one behind another: RULES 8.26 to 8.33.
+-- Files read by a list of paths, one after another: RULES 8.26 to 8.33.
 use Prim.Native.Nat.{ℕ, _+_, min}
 use mathlib.Core.Bool.{Bool}
 use mathlib.Core.List.{List, [], _∷_, _++_}
@@ -20,7 +20,7 @@ unfoldable pub item : List ℕ → List ℕ
 item [] = []
 item (b ∷ s) = pick (eqb b 0) [] (b ∷ item s)
 
--- the items behind the first zero
+-- the items after the first zero
 unfoldable pub itemsBehind : List ℕ → List (List ℕ)
 itemsBehind [] = []
 itemsBehind (b ∷ s) = pick (eqb b 0) (item s ∷ itemsBehind s) (itemsBehind s)
@@ -31,17 +31,17 @@ items s = item s ∷ itemsBehind s
 
 -- ---- one item in the room that is left to it (RULES 8.28 to 8.30)
 
--- what is said of it: the answer and the length of reading its path alone
+-- the reply for an item: the answer and the length of reading its path alone
 abbrev pub replyIn : List ℕ → Ran (List ℕ) → Reply
 replyIn room r = replyOf NoRoom (length room) r
 
--- the room behind its bytes: all of it where it is refused
+-- the room left after an item: all of it where the item is refused
 abbrev pub roomLeft : List ℕ → Ran (List ℕ) → List ℕ
 roomLeft room r = drop (replyIn room r .length) (leftBy room (r .outcome))
 
 -- ---- all of them
 
--- what the items leave: the room with their bytes in it, one behind another, and for each its length and its answer number
+-- what the items leave: the room with their bytes in it, one after another, and for each its length and its answer number
 pub record Stack : Type 0 where
   pub out : List ℕ
   pub lengths : List ℕ
@@ -58,7 +58,7 @@ onTop room r rest = record {
   filled = replyIn room r .length + rest .filled;
 }
 
--- `read` is what a path comes to
+-- the items in turn; `read` gives the run of a path
 unfoldable pub stacked : (List ℕ → Ran (List ℕ)) → List ℕ → List (List ℕ) → Stack
 stacked read room [] = record { out = room; lengths = []; answers = []; count = 0; filled = 0 }
 stacked read room (p ∷ ps) = onTop room (read p) (stacked read (roomLeft room (read p)) ps)
@@ -72,7 +72,7 @@ pub record Stacked : Type 0 where
   pub lengths : List ℕ
   pub answers : List ℕ
 
--- a row with what is written over its front
+-- a row with `written` over its front
 abbrev pub onFront : List ℕ → List ℕ → List ℕ
 onFront written row = written ++ drop (length written) row
 
@@ -88,7 +88,7 @@ laid lengths answers s = record {
 abbrev pub placesFor : List ℕ → List ℕ → List ℕ → Bool
 placesFor paths lengths answers = leb (length (items paths)) (min (length lengths) (length answers))
 
--- 12 comes first, and changes nothing
+-- the call: refusal 12 comes first, and changes nothing
 unfoldable pub readAllOf : (List ℕ → Ran (List ℕ)) → List ℕ → List ℕ → List ℕ → List ℕ → Stacked
 readAllOf read paths out lengths answers =
     pick (placesFor paths lengths answers)
@@ -97,11 +97,11 @@ readAllOf read paths out lengths answers =
 
 -- ---- the call's list of sectors (RULES 8.32)
 
--- those of the items' trees, joined in their order
+-- the sectors that the items ask for, joined in their order
 unfoldable pub askedByEach : Disc → (List ℕ → Ask (List ℕ)) → List (List ℕ) → List ℕ
 askedByEach d tree [] = []
 askedByEach d tree (p ∷ ps) = asked d (tree p) ++ askedByEach d tree ps
 
--- none at 12
+-- the list of the call, empty at refusal 12
 unfoldable pub askedByAll : Disc → (List ℕ → Ask (List ℕ)) → List ℕ → List ℕ → List ℕ → List ℕ
 askedByAll d tree paths lengths answers = pick (placesFor paths lengths answers) (askedByEach d tree (items paths)) []

@@ -4,7 +4,7 @@ use mathlib.Core.List.{List, [], _∷_}
 use Rattle.disc.specs.Counts.{reported}
 use Rattle.disc.specs.Ran.{Ran}
 
--- what a path counts, read alone: `read` is what it comes to
+-- the count of a path read alone; `read` gives its run
 abbrev pub countAlone : (List ℕ → Ran (List ℕ)) → List ℕ → ℕ
 countAlone read path = reported (read path .count)
 

@@ -1,4 +1,4 @@
--- What is known of a descriptor that is accepted: its tag, and each field by its place.
+-- What is known of an accepted descriptor: its tag, and each field by its place.
 use mathlib.Core.Bool.{Bool}
 use mathlib.Core.List.{List}
 use mathlib.Core.Path.{_≡_}
@@ -24,14 +24,14 @@ pub record GoodPartition (check : Bool) (s : List ℕ) (p : PartitionDescriptor)
   pub head : Passed check s 5 196 (p .tag)
   pub is : p ≡ partitionOf s (p .tag)
 
--- primary volume descriptor (3/10.1), whose name is read
+-- primary volume descriptor (3/10.1), whose label is a name
 pub record GoodPrimary (check : Bool) (s : List ℕ) (d : PrimaryVolumeDescriptor) : Type 0 where
   pub head : Passed check s 1 56 (d .tag)
   pub is : d ≡ primaryOf s (d .tag)
   pub name : List ℕ
   pub named : nameOfField (d .«volume_identifier») ≡ answered name
 
--- logical volume descriptor (3/10.6), whose name is read
+-- logical volume descriptor (3/10.6), whose label is a name
 pub record GoodLogical (check : Bool) (s : List ℕ) (d : LogicalVolumeDescriptor) : Type 0 where
   pub head : Passed check s 6 440 (d .tag)
   pub is : d ≡ logicalOf s (d .tag)

@@ -12,7 +12,7 @@ use Rattle.tags.specs.declared.DescriptorTag.{DescriptorTag}
 use Rattle.descriptors.specs.declared.file_sets.FileSetDescriptor.{FileSetDescriptor}
 use Rattle.descriptors.specs.declared.file_sets.FileSetRead.{FileSetRead}
 
--- The root directory's place (4/14.1.15).
+-- The ICB of the root directory (4/14.1.15).
 abbrev pub fileSetOf : List ℕ → DescriptorTag → FileSetDescriptor
 fileSetOf s t = record { tag = t; «root_directory_icb» = longOf s 400 }
 

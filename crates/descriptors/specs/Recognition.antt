@@ -1,4 +1,4 @@
--- What a volume structure descriptor says it is (ECMA-167 2/9.1): RULES 5.17, of one sector's bytes.
+-- What a volume structure descriptor says it is (ECMA-167 2/9.1), by the bytes of its sector: RULES 5.17.
 use Prim.Native.Nat.{ℕ}
 use mathlib.Core.Bool.{Bool, _&&_, _||_}
 use mathlib.Core.List.{List}
@@ -28,10 +28,10 @@ terminates s = identified s 84 69 65 48 49
 unfoldable pub other : List ℕ → Bool
 other s = identified s 67 68 48 48 49 || identified s 67 68 87 48 50
 
--- By the identifier alone.
+-- What the sector is, by its identifier alone.
 unfoldable pub identityOf : List ℕ → Structure
 identityOf s = pick (begins s) Beginning (pick (nsr s) Nsr (pick (terminates s) Terminating (pick (other s) Other Unknown)))
 
--- The structure type, byte 0, is 0 (2/9.1.1), and then by the identifier.
+-- What the sector is: unknown unless the structure type, byte 0, is 0 (2/9.1.1).
 unfoldable pub structureOf : List ℕ → Structure
 structureOf s = pick (eqb (byte s 0) 0) (identityOf s) Unknown

@@ -1,5 +1,5 @@
--- The descriptors of a volume descriptor sequence, and the anchor that leads to it (ECMA-167 3/10): RULES 5.2 and 5.7 to 5.10. Whether bodies are
--- checked comes first.
+-- The descriptors of a volume descriptor sequence, and the anchor that leads to it (ECMA-167 3/10): RULES 5.2 and 5.7 to 5.10. The first argument of
+-- a reader says whether bodies are checked.
 use Prim.Native.Nat.{ℕ}
 use mathlib.Core.Bool.{Bool}
 use mathlib.Core.List.{List}
@@ -37,7 +37,7 @@ anchorOf s t = record {
   «reserve_volume_descriptor_sequence» = extentOf s 24;
 }
 
--- Behind the gate: its refusal, or what it leads to.
+-- After the gate: its refusal, or the anchor.
 abbrev pub anchorAfter : List ℕ → TagRead → AnchorRead
 anchorAfter s (NoTag r) = NoAnchor r
 anchorAfter s (ATag t) = AnAnchor (anchorOf s t)
@@ -57,7 +57,7 @@ primaryOf s t = record {
   «volume_identifier» = take 32 (drop 24 s);
 }
 
--- The label is the last check: one that is decoded leads on, and of a bad one the refusal passes through (1/7.2.12).
+-- The label is the last check: a bad one refuses the descriptor (1/7.2.12).
 abbrev pub labelled : {A : Type 0} → Outcome (List ℕ) → A → Outcome A
 labelled (refused r) d = refused r
 labelled (answered name) d = answered d
@@ -95,7 +95,7 @@ partitionOf s t = record {
   «partition_length» = u32at s 192;
 }
 
--- Behind the gate: its refusal, or what it leads to.
+-- After the gate: its refusal, or the descriptor.
 abbrev pub partitionAfter : List ℕ → TagRead → PartitionRead
 partitionAfter s (NoTag r) = NoPartition r
 partitionAfter s (ATag t) = APartition (partitionOf s t)
@@ -106,12 +106,12 @@ readPartition check s = partitionAfter s (readHead check s 5 196)
 
 -- ---- logical volume descriptor: id 6, 440 bytes (3/10.6)
 
--- The first 24 bytes of the map table, as recorded, over as many zeros: room for four maps of type 1 (3/10.6.13, 10.7.2).
+-- The first 24 bytes of the map table, with zeros where there are fewer: room for four maps of type 1 (3/10.6.13, 10.7.2).
 abbrev pub mapsIn : List ℕ → List ℕ
 mapsIn s = over (drop 440 s) (replicate 24 0)
 
--- Sequence number, the label's field as recorded, block size, the logical volume contents use, which has the file set descriptor's place, and the
--- map table: its length in bytes, how many maps there are, and its front (3/10.6.2, 10.6.4, 10.6.5, 10.6.7 to 10.6.9, 10.6.13; 4/3.1).
+-- Sequence number, the label's field as recorded, block size, logical volume contents use (the place of the file set descriptor), and the map table:
+-- its length in bytes, the number of maps, and its front (3/10.6.2, 10.6.4, 10.6.5, 10.6.7 to 10.6.9, 10.6.13; 4/3.1).
 abbrev pub logicalOf : List ℕ → DescriptorTag → LogicalVolumeDescriptor
 logicalOf s t = record {
   tag = t;

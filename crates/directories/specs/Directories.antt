@@ -17,7 +17,7 @@ use Rattle.listings.specs.Listings.{listing}
 unfoldable pub within : ℕ → List ℕ → Outcome (List ℕ)
 within work b = pick (leb (length b) work) (answered b) (refused NoWork)
 
--- a directory is a file (ECMA-167 4/8.6), read into a work space of so many bytes
+-- a directory is a file (ECMA-167 4/8.6), read into a work space of `work` bytes
 unfoldable pub directoryBytes : Mount → ℕ → LongAd → Ask (List ℕ)
 directoryBytes v work icb = then (fileBytes v icb) (λ b. ended (within work b))
 

@@ -24,7 +24,7 @@ use Rattle.directories.specs.Directories.{directoryBytes}
 use Rattle.directories.specs.Lookups.{Sought, seeking}
 use Rattle.directories.specs.Lookups.Sought.{lost, reached}
 
--- no two listed names of the directories on the way are: those in which a component is to be found, and to which the first choice leads
+-- in each directory along the components, taken by the first choice, no two listed names are equal with ASCII case ignored
 unfoldable pub ApartOn : Disc → Mount → ℕ → List Component → LongAd → Bool → Type 0
 ApartOn d v work [] icb directory = Unit {0}
 ApartOn d v work (c ∷ cs) icb false = Unit {0}
@@ -32,13 +32,13 @@ ApartOn d v work (c ∷ cs) icb true =
     (b : List ℕ) (es : List Entry) → ran d (directoryBytes v work icb) .outcome ≡ answered b → entries (isChecked v) b ≡ answered es
     → Apart es × ((e : Entry) → firstNamed lower (c .bytes) es ≡ some e → ApartOn d v work cs (e .identifier .icb) (isDirectory (e .identifier)))
 
--- a walk that was lost at a component, which is refused by 3
+-- the walk ended at a component that wasn't found, which is refused by 3
 pub record IsLost (r : Ran Sought) : Type 0 where
   pub component : Component
   pub is : r .outcome ≡ answered (lost component)
 
--- e is what a name takes in the directory at icb: the directory is read into the work space, all of its entries are parsed, and e is what the choice
--- of matching takes of those that answer to the name
+-- e is the entry taken for a name in the directory at icb: the directory is read into the work space, all of its entries are parsed, and the choice
+-- of matching takes e of those that answer to the name
 pub record Takes (d : Disc) (matching : Matching) (v : Mount) (work : ℕ) (icb : LongAd) (name : List ℕ) (e : Entry) : Type 0 where
   pub bytes : List ℕ
   pub read : ran d (directoryBytes v work icb) .outcome ≡ answered bytes
@@ -46,19 +46,19 @@ pub record Takes (d : Disc) (matching : Matching) (v : Mount) (work : ℕ) (icb 
   pub parsed : entries (isChecked v) bytes ≡ answered all
   pub takes : chosen matching (allNamed (foldIn matching) name all) ≡ answered (some e)
 
--- what it takes is a directory, with whose ICB the next goes on
+-- the entry taken is a directory, and `next` holds for its ICB
 pub record Enters (d : Disc) (matching : Matching) (v : Mount) (work : ℕ) (icb : LongAd) (name : List ℕ) (next : LongAd → Type 0) : Type 0 where
   pub entry : Entry
   pub takes : Takes d matching v work icb name entry
   pub directory : isDirectory (entry .identifier) ≡ true
   pub on : next (entry .identifier .icb)
 
--- components lead from the directory at one ICB to that at another, from directory to directory
+-- components lead from the directory at `from` to the one at `to`, from directory to directory
 unfoldable pub Leads : Disc → Matching → Mount → ℕ → List Component → LongAd → LongAd → Type 0
 Leads d matching v work [] from to = from ≡ to
 Leads d matching v work (c ∷ cs) from to = Enters d matching v work from (c .bytes) (λ icb. Leads d matching v work cs icb to)
 
--- a directory that a part of the components leads to, and in which several entries match the next
+-- the first of the components lead to a directory in which several entries match the next one
 pub record Doubles (d : Disc) (v : Mount) (work : ℕ) (cs : List Component) (from : LongAd) : Type 0 where
   pub before : List Component
   pub next : Component
@@ -72,7 +72,7 @@ pub record Doubles (d : Disc) (v : Mount) (work : ℕ) (cs : List Component) (fr
   pub parsed : entries (isChecked v) bytes ≡ answered all
   pub several : Several (allNamed lower (next .bytes) all)
 
--- a directory that a part of the components leads to, and in which the next is to be found, reads as more bytes than the work space has
+-- the first of the components lead to a directory in which the next is looked for, and which has more bytes than the work space
 pub record Overflows (d : Disc) (matching : Matching) (v : Mount) (work : ℕ) (cs : List Component) (from : LongAd) : Type 0 where
   pub before : List Component
   pub next : Component
@@ -89,7 +89,7 @@ pub record Led (d : Disc) (matching : Matching) (v : Mount) (work : ℕ) (cs : L
   pub to : LongAd
   pub leads : Leads d matching v work cs from to
 
--- where a walk ends that comes with its last component to an entry, or to none
+-- where a walk ends whose last component has this entry, or none
 abbrev pub lastOf : Component → Option Entry → Sought
 lastOf c none = lost c
 lastOf c (some e) = reached (e .identifier .icb)

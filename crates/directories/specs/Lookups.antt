@@ -28,8 +28,8 @@ use Rattle.directories.specs.declared.lookups.Found.{Found}
 
 -- ---- the walk
 
--- the entry of a name in the directory at icb, if it has one, by a choice of matching: a component that is ambiguous under it is refused once the
--- directory has been read
+-- the entry of a name in the directory at icb, if there is one, by a choice of matching: an ambiguous component is refused once the directory has
+-- been read
 unfoldable pub entering : Matching → Mount → ℕ → LongAd → List ℕ → Ask (Option Entry)
 entering matching v work icb component = then (directoryBytes v work icb) (λ b. ended (findIn (isChecked v) matching component b))
 
@@ -42,7 +42,7 @@ abbrev pub orLost : {A : Type 0} → Component → Option A → (A → Ask Sough
 orLost c none f = done (lost c)
 orLost c (some a) f = f a
 
--- the components one after the other; one under what is no directory is lost before any further sector
+-- the components in turn; one under a file is lost before any further sector
 unfoldable pub seeking : Matching → Mount → ℕ → List Component → LongAd → Bool → Ask Sought
 seeking matching v work [] icb directory = done (reached icb)
 seeking matching v work (c ∷ cs) icb false = done (lost c)
@@ -56,16 +56,16 @@ seekPath matching v work root path = seeking matching v work (components path) r
 
 -- ---- what is asked of a path
 
--- a component that isn't there is 3
+-- a component that isn't there is refused by 3
 abbrev pub icbOf : Sought → Outcome LongAd
 icbOf (reached icb) = answered icb
 icbOf (lost c) = refused NotBluray
 
--- the ICB that it names
+-- the ICB that the path names
 unfoldable pub lookupOf : Matching → Mount → ℕ → LongAd → List ℕ → Ask LongAd
 lookupOf matching v work root path = then (seekPath matching v work root path) (λ s. ended (icbOf s))
 
--- the bytes of the file that it names: a lookup, then a read
+-- the bytes of the file that the path names: a lookup, then a read
 unfoldable pub readPathOf : Matching → Mount → ℕ → LongAd → List ℕ → Ask (List ℕ)
 readPathOf matching v work root path = then (lookupOf matching v work root path) (λ icb. fileBytes v icb)
 
@@ -98,6 +98,6 @@ pub record Failed : Type 0 where
 abbrev pub failedOf : Ran Sought → Failed
 failedOf r = record { answer = answerOf (andThen (r .outcome) icbOf); count = reported (r .count); component = lostOf (r .outcome) }
 
--- by its length
+-- the reply with the length of the component that failed
 abbrev pub failedReply : Failed → Reply
 failedReply f = record { answer = f .answer; count = f .count; length = length (f .component .bytes) }

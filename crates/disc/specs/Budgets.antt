@@ -13,7 +13,7 @@ use Rattle.disc.specs.Ran.{Ran}
 use Rattle.disc.specs.declared.refusals.Refusal.{Refusal}
 use Rattle.disc.specs.declared.refusals.Refusal.the-variants.{OverBudget}
 
--- the same call, refused by 16 in the place of asking for its (n + 1)th sector
+-- the same call, refused by 16 instead of asking for its (n + 1)th sector
 unfoldable pub within : {A : Type 0} → ℕ → Ask A → Ask A
 within n (done a) = done a
 within n (refuse r) = refuse r
@@ -31,19 +31,19 @@ isBudget most = ltb most unlimited
 abbrev pub budgeted : {A : Type 0} → ℕ → Ask A → Ask A
 budgeted most m = pick (isBudget most) (within most m) m
 
--- what a call leaves of `most` sectors that asked for n of them
+-- what is left of `most` sectors after a call that asked for n
 abbrev pub leftOf : ℕ → ℕ → ℕ
 leftOf most n = pick (isBudget most) (most - n) most
 
--- refused for want of sectors, after as many as were lent
+-- refused by 16, after as many sectors as were lent
 abbrev pub overRun : {A : Type 0} → ℕ → Ran A
 overRun most = record { outcome = refused OverBudget; count = most }
 
--- what a call that is lent `most` sectors comes to, by what it comes to without a budget
+-- the run of a call that is lent `most` sectors, from its run without a budget
 abbrev pub capped : {A : Type 0} → ℕ → Ran A → Ran A
 capped most r = pick (leb (reported (r .count)) most) r (overRun most)
 
--- an outcome that is refused by 16
+-- the outcome is refusal 16
 abbrev pub isOver : {A : Type 0} → Outcome A → Bool
 isOver (answered a) = false
 isOver (refused why) = eqb (number why) 16

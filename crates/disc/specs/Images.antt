@@ -1,4 +1,4 @@
--- The disc that a lent image is, and a run of its sectors: RULES 2.1 and 2.5.
+-- A lent image as a disc, and n sectors in turn: RULES 2.1 and 2.5.
 use mathlib.Core.Bool.{Bool, true, false}
 use mathlib.Core.List.{List, [], _++_}
 use Prim.Native.Nat.{ℕ, zero, suc, _+_, _-_, _*_, _/_}
@@ -10,7 +10,7 @@ use Rattle.disc.specs.Ask.Held.{holds, lacks}
 use Rattle.disc.specs.Ask.Ask.{done, ask}
 use Rattle.disc.specs.Ask.Outcome.{answered, refused}
 
--- sector s is there where bytes 2,048 s to 2,048 s + 2,047 all are
+-- sector s is there if bytes 2,048 s to 2,048 s + 2,047 all are
 abbrev pub there : List ℕ → ℕ → Bool
 there image s = leb (2048 * s + 2048) (length image)
 
@@ -30,7 +30,7 @@ sectorsFor n = (n + 2047) / 2048
 abbrev pub heldFrom : List ℕ → ℕ → ℕ
 heldFrom image first = length image / 2048 - first
 
--- the bytes of an answer, none where it was refused
+-- the bytes of an answer; none where the call was refused
 abbrev pub bytesOf : Outcome (List ℕ) → List ℕ
 bytesOf (answered b) = b
 bytesOf (refused r) = []

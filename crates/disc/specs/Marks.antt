@@ -1,4 +1,4 @@
--- A call, and the same call with the bodies of its descriptors checked: both are one tree in which it is marked where a descriptor is parsed.
+-- A call with and without the check of bodies: both come from one tree, which has a mark wherever a descriptor is parsed.
 use mathlib.Core.Bool.{Bool, false, _||_, not}
 use mathlib.Core.List.{List, [], _∷_, _++_}
 use mathlib.Core.Path.{_≡_}
@@ -16,50 +16,50 @@ use Rattle.disc.specs.declared.refusals.Refusal.the-variants.{BadCrc}
 abbrev pub ButBad : Refusal → Type 0
 ButBad why = number why ≡ 10 → ⊥
 
--- a call in which it is marked where a descriptor is parsed: the bytes at hand begin with it, and its tag is accepted
+-- a call with a mark wherever a descriptor is parsed: the bytes of a mark begin with the descriptor, whose tag is accepted
 pub data Marked (A : Type 0) : Type 0 where
   answers : A → Marked A
   refuses : (why : Refusal) → ButBad why → Marked A
   asks : ℕ → (List ℕ → Marked A) → Marked A
   parses : List ℕ → Marked A → Marked A
 
--- the call without the marks: no body is looked at
+-- the call without the check
 unfoldable pub plain : {A : Type 0} → Marked A → Ask A
 plain (answers a) = done a
 plain (refuses why n) = refuse why
 plain (asks s k) = ask s (λ b. plain (k b))
 plain (parses s m) = plain m
 
--- the call that is refused by 10 at the first mark whose body isn't right
+-- the call with the check: refused by 10 at the first mark with a wrong body
 unfoldable pub guarded : {A : Type 0} → (List ℕ → Bool) → Marked A → Ask A
 guarded right (answers a) = done a
 guarded right (refuses why n) = refuse why
 guarded right (asks s k) = ask s (λ b. guarded right (k b))
 guarded right (parses s m) = pick (right s) (guarded right m) (refuse BadCrc)
 
--- the descriptors that the call without the marks parses, up to its end
+-- the descriptors that the call without the check parses, up to its end
 unfoldable pub parsed : {A : Type 0} → Disc → Marked A → List (List ℕ)
 parsed d (answers a) = []
 parsed d (refuses why n) = []
 parsed d (asks s k) = given (d s) (λ b. parsed d (k b)) []
 parsed d (parses s m) = s ∷ parsed d m
 
--- one of them has a body that isn't right
+-- one of them has a wrong body
 unfoldable pub anyWrong : (List ℕ → Bool) → List (List ℕ) → Bool
 anyWrong right [] = false
 anyWrong right (s ∷ rest) = not (right s) || anyWrong right rest
 
--- refused for a wrong body
+-- the outcome is refusal 10
 abbrev pub isBad : {A : Type 0} → Outcome A → Bool
 isBad (answered a) = false
 isBad (refused why) = eqb (number why) 10
 
--- a list that begins with another
+-- `long` begins with `short`
 pub record Front (short long : List ℕ) : Type 0 where
   pub rest : List ℕ
   pub is : long ≡ short ++ rest
 
--- two calls of which the first is the second with bodies checked
+-- m is the call n with bodies checked
 pub record Guards {A : Type 0} (right : List ℕ → Bool) (m n : Ask A) : Type 0 where
   pub tree : Marked A
   pub checks : guarded right tree ≡ m

@@ -3,6 +3,6 @@ use mathlib.Core.List.{List, _++_}
 use Prim.Native.Nat.{ℕ}
 use lib.ListN.{length, take, drop}
 
--- a text over the front of what was lent: what has no room is left out, and what is behind it stays
+-- `text` over the front of `lent`: what doesn't fit is left out, and the bytes after it stay
 abbrev pub over : List ℕ → List ℕ → List ℕ
 over text lent = take (length lent) text ++ drop (length text) lent

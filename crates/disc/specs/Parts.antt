@@ -10,7 +10,7 @@ use mir.Val.{Fits}
 abbrev pub Bytes : List ℕ → Type 0
 Bytes s = (i : ℕ) → Fits w8 (getD s i 0)
 
--- a part stands at a place of s
+-- `part` is in s, from `at` on
 pub record PartAt (s part : List ℕ) (at : ℕ) : Type 0 where
   pub bytes : take (length part) (drop at s) ≡ part
   pub inside : at + length part ≤ length s

@@ -35,32 +35,32 @@ mapCount m = min (m .maps) 4
 unfoldable pub mappedStart : Mount → ℕ → Option ℕ
 mappedStart m p = pick (ltb p (mapCount m)) (some (getD (m .starts) p 0)) none
 
--- where the partition starts that a descriptor names: through the maps, or without them by the volume's own number (the original's rule)
+-- the start of the partition that a descriptor names: through the maps or, without maps, only by the volume's own number (the original's rule)
 unfoldable pub startFor : Mount → ℕ → Option ℕ
 startFor m p = pick (isMapped m) (mappedStart m p) (pick (eqb p (m .partition)) (some (m .start)) none)
 
--- and that an ICB names: without maps its reference isn't looked at
+-- the start of the partition that an ICB names: without maps its reference isn't looked at
 unfoldable pub icbStart : Mount → ℕ → Option ℕ
 icbStart m p = pick (isMapped m) (mappedStart m p) (some (m .start))
 
 -- ---- the sector of a block
 
--- a block of the partition that starts there
+-- the sector of a block in the partition with this start
 abbrev pub crossing : ℕ → Option ℕ → Option ℕ
 crossing block none = none
 crossing block (some start) = some (sectorOf start block)
 
--- under the reference that a descriptor gives, none where the reference isn't of this volume: a short_ad names no partition, and stands in that of
+-- the sector of a block by a descriptor's reference, none where that isn't of this volume; a short_ad names no partition, and its block is in that of
 -- its entry, which is the mount's own
 unfoldable pub placed : Mount → PartitionRef → ℕ → Option ℕ
 placed m Unnamed block = some (sectorOf (m .start) block)
 placed m (Named p) block = crossing block (startFor m p)
 
--- of an ICB
+-- the sector of a block by an ICB's reference
 unfoldable pub icbPlaced : Mount → ℕ → ℕ → Option ℕ
 icbPlaced m p block = crossing block (icbStart m p)
 
--- how the descriptors of an entry are read: the partition in which the entry stands is the mount's own
+-- the mount for the descriptors of an entry: its own partition is the one that the entry stands in
 abbrev pub startedAt : Mount → Option ℕ → Mount
 startedAt m none = m
 startedAt m (some s) = record {
@@ -92,12 +92,12 @@ unchecked m = record {
   starts = m .starts;
 }
 
--- go on in a sector; what stands nowhere on this volume is refused by 4
+-- go on with the sector; a block that is in no partition of this volume is refused by 4
 abbrev pub standing : {A : Type 0} → Option ℕ → (ℕ → Ask A) → Ask A
 standing none f = refuse Unsupported
 standing (some s) f = f s
 
--- ---- as the code says it
+-- ---- as the code reports it
 
 abbrev pub placedBy : Option ℕ → Placed
 placedBy none = Nowhere

@@ -1,4 +1,4 @@
--- What a call comes to on a disc, together with how many sectors it asked for.
+-- The run of a call: its outcome on a disc, with how many sectors it asked for.
 use Prim.Native.Nat.{ℕ, _+_}
 use mathlib.Core.List.{List, map}
 use lib.ListN.{length}
@@ -12,7 +12,7 @@ pub record Ran (A : Type 0) : Type 0 where
 unfoldable pub ran : {A : Type 0} → Disc → Ask A → Ran A
 ran d m = record { outcome = Rattle.disc.specs.Ask.outcome d m; count = length (asked d m) }
 
--- the same after n sectors more
+-- the same outcome, with n more sectors counted
 abbrev pub after : {A : Type 0} → ℕ → Ran A → Ran A
 after n r = record { outcome = r .outcome; count = n + r .count }
 
@@ -21,15 +21,15 @@ abbrev pub onward : {A B : Type 0} → Outcome A → ℕ → (A → Ran B) → R
 onward (answered a) n f = after n (f a)
 onward (refused r) n f = record { outcome = refused r; count = n }
 
--- one run behind another, counts added
+-- one run after another, counts added
 abbrev pub followed : {A B : Type 0} → Ran A → (A → Ran B) → Ran B
 followed r f = onward (r .outcome) (r .count) f
 
--- what is known of bytes at hand asks for no sector
+-- an outcome known from bytes at hand: no sector is asked for
 abbrev pub told : {A : Type 0} → Outcome A → Ran A
 told o = record { outcome = o; count = 0 }
 
--- the same of each element of a list
+-- f of each element that was answered
 abbrev pub eachIn : {A B : Type 0} → (A → B) → Outcome (List A) → Outcome (List B)
 eachIn f (answered l) = answered (map f l)
 eachIn f (refused r) = refused r

@@ -23,7 +23,7 @@ number BadFiles = 14
 number BadShelf = 15
 number OverBudget = 16
 
--- the refusal of a number; a number of no refusal is none that a step gives
+-- the refusal with this number; any number of no refusal, which no step gives, counts as `Io`
 unfoldable pub refusalOf : ℕ → Refusal
 refusalOf n =
     pick (eqb n 2) Malformed

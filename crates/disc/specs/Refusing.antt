@@ -1,4 +1,4 @@
--- Which refusals a call can come to.
+-- Which refusals a call can have.
 use mathlib.Core.Bool.{false, Bool}
 use mathlib.Core.List.{List}
 use mathlib.Core.Path.{_≡_}
@@ -10,26 +10,26 @@ use Rattle.disc.specs.Ask.Outcome.{answered, refused}
 use Rattle.disc.specs.Refusals.{number}
 use Rattle.disc.specs.declared.refusals.Refusal.{Refusal}
 
--- every refusal of a call is P, and every answer is Q
+-- whatever the disc holds, every refusal of the call satisfies P and every answer Q
 unfoldable pub Only : {A : Type 0} → (Refusal → Type 0) → (A → Type 0) → Ask A → Type 0
 Only P Q (done a) = Q a
 Only P Q (refuse r) = P r
 Only P Q (ask s k) = (b : List ℕ) → Only P Q (k b)
 
--- the same as one fact, whose parts are never written out
+-- the same as one record, which is never unfolded
 pub record Refuses {A : Type 0} (P : Refusal → Type 0) (Q : A → Type 0) (m : Ask A) : Type 0 where
   pub only : Only P Q m
 
--- an outcome that is no refusal but by P
+-- the outcome is an answer, or a refusal that satisfies P
 unfoldable pub Within : {A : Type 0} → (Refusal → Type 0) → Outcome A → Type 0
 Within P (answered a) = Unit {0}
 Within P (refused r) = P r
 
--- anything
+-- always true
 abbrev pub Any : {A : Type 0} → A → Type 0
 Any a = Unit {0}
 
--- refused for a missing sector
+-- the outcome is refusal 1, for a missing sector
 abbrev pub isIo : {A : Type 0} → Outcome A → Bool
 isIo (answered a) = false
 isIo (refused why) = eqb (number why) 1

@@ -1,4 +1,4 @@
--- The answer number and the values of each answer that is an enum: 0 and what was read, or the refusal's number and zeros. RULES 12.3.
+-- The answer number and the values of each enum answer: 0 and what was read, or the refusal's number and zeros. RULES 12.3.
 use Rattle.disc.specs.Refusals.{number}
 use Rattle.disc.specs.Replies.{Answer}
 use Rattle.tags.specs.Answers.{noTag}

@@ -42,7 +42,7 @@ extendedTail s = record {
 abbrev pub kindOf : IcbTag → ℕ
 kindOf i = i .flags % 8
 
--- every field at its offset (4/14.9.1 to 14.9.10 and 14.17.1 to 14.17.10 are alike); the area stands behind the attributes
+-- every field at its offset (4/14.9.1 to 14.9.10 and 14.17.1 to 14.17.10 are alike); the area follows the attributes
 unfoldable pub entryOf : List ℕ → DescriptorTag → IcbTag → EntryTail → FileEntry
 entryOf s t i d = record {
   tag = t;
@@ -64,30 +64,30 @@ entryOf s t i d = record {
   «area_length» = d .descriptors;
 }
 
--- the kind is at most 3, and attributes and area lie within the bytes given
+-- the kind must be at most 3, and attributes and area must lie within the bytes given
 unfoldable pub entryWith : List ℕ → DescriptorTag → IcbTag → EntryTail → EntryRead
 entryWith s t i d =
     pick (ltb 3 (kindOf i)) (Refused Malformed)
     (pick (ltb (length s) (d .prefix + d .attributes + d .descriptors)) (Refused Malformed)
     (Read (entryOf s t i d)))
 
--- the id that an entry has to have: 266, that of an extended one, where it is recorded, and else 261, that of a plain one
+-- the id that an entry must have: 266 (extended) if that is recorded, otherwise 261 (plain)
 abbrev pub entryId : List ℕ → ℕ
 entryId s = pick (eqb (u16at s 0) 266) 266 261
 
--- an extended entry has 216 bytes at least
+-- an extended entry has at least 216 bytes
 unfoldable pub entryBehind : List ℕ → DescriptorTag → EntryRead
 entryBehind s t =
     pick (eqb (t .id) 266)
     (pick (ltb (length s) 216) (Refused Malformed) (entryWith s t (icbTagOf s 16) (extendedTail s)))
     (entryWith s t (icbTagOf s 16) (plainTail s))
 
--- behind the gate: its refusal, or what it leads to
+-- after the gate: its refusal, or the entry
 abbrev pub entryAfter : List ℕ → TagRead → EntryRead
 entryAfter s (NoTag r) = Refused r
 entryAfter s (ATag t) = entryBehind s t
 
--- reading an entry at the front of s: 176 bytes at least
+-- reading an entry at the front of s: at least 176 bytes
 unfoldable pub readEntry : Bool → List ℕ → EntryRead
 readEntry check s = entryAfter s (readHead check s (entryId s) 176)
 

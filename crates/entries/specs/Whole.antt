@@ -1,4 +1,4 @@
--- What is known of a file entry that is accepted.
+-- What is known of an accepted file entry.
 use mathlib.Core.Bool.{Bool}
 use mathlib.Core.List.{List}
 use mathlib.Core.Path.{_≡_}

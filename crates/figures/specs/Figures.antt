@@ -36,7 +36,7 @@ oneAt n = replicate n 0 ++ 1 ∷ replicate (answerNumbers - 1 - n) 0
 abbrev pub nothing : Figures
 nothing = record { files = 0; directories = 0; bytes = 0; extents = 0; sectors = 0; byFiles = none; byImages = none; chain = 0 }
 
--- of a directory; of a file by its answer number and what it adds; of an image by its answer number
+-- the figures of one directory; of one file, by its answer number and what it adds; of one image, by its answer number
 abbrev pub oneDirectory : Figures
 oneDirectory = record { files = 0; directories = 1; bytes = 0; extents = 0; sectors = 0; byFiles = none; byImages = none; chain = 0 }
 
@@ -65,7 +65,7 @@ added a b = record {
   chain = max (a .chain) (b .chain);
 }
 
--- in turn, behind what there was
+-- figures added in turn to what there was
 unfoldable pub addedTo : Figures → List Figures → Figures
 addedTo a [] = a
 addedTo a (f ∷ fs) = addedTo (added a f) fs
@@ -78,7 +78,7 @@ unfoldable pub sum : List ℕ → ℕ
 sum [] = 0
 sum (n ∷ ns) = n + sum ns
 
--- ---- in a place of a row of 64-bit numbers (RULES 16.3): each figure as two, the number, held at 2^64 - 1, and whether it is over that, 1 or 0
+-- ---- in a place of a row of 64-bit numbers (RULES 16.3): two for each figure, the number held at 2^64 - 1, and 1 if it is over that, else 0
 
 abbrev pub most : ℕ
 most = 0xffff_ffff_ffff_ffff
@@ -113,7 +113,7 @@ pub record Holds (f : Figures) (s : List ℕ) : Type 0 where
   pub wide : Wide f
   pub is : s ≡ row f
 
--- one place behind another
+-- one place after another
 unfoldable pub rows : List Figures → List ℕ
 rows [] = []
 rows (f ∷ fs) = row f ++ rows fs
@@ -122,17 +122,17 @@ rows (f ∷ fs) = row f ++ rows fs
 abbrev pub Adds : Figures → List ℕ → List ℕ → Type 0
 Adds g before after = (f : Figures) → Holds f before → Holds (added f g) after
 
--- ---- places added up where they stand (RULES 16.11): what is said of any numbers, also of such as no figures give
+-- ---- places added up within the row (RULES 16.11), whatever numbers they have
 
--- a figure h with its mark o, and another, added: over where one of them is, or the sum is
+-- two figures added, h with its mark o and n with its mark p: over if one of them is, or the sum is
 abbrev pub summed : ℕ → ℕ → ℕ → ℕ → List ℕ
 summed h o n p = pick (eqb o 0 && eqb p 0 && leb (h + n) most) ((h + n) ∷ 0 ∷ []) (most ∷ 1 ∷ [])
 
--- the greater of them: over where one of them is
+-- the greater of two figures: over if one of them is
 abbrev pub greater : ℕ → ℕ → ℕ → ℕ → List ℕ
 greater h o n p = pick (eqb o 0 && eqb p 0) (max h n ∷ 0 ∷ []) (most ∷ 1 ∷ [])
 
--- k sums, and the greater of the figures behind them
+-- two places added: k sums, then the greater of the next figures
 unfoldable pub placesAdded : ℕ → List ℕ → List ℕ → List ℕ
 placesAdded k [] t = []
 placesAdded k (h ∷ []) t = h ∷ []
@@ -141,12 +141,12 @@ placesAdded k (h ∷ o ∷ s) (n ∷ []) = h ∷ o ∷ s
 placesAdded zero (h ∷ o ∷ s) (n ∷ p ∷ t) = greater h o n p ++ s
 placesAdded (suc k) (h ∷ o ∷ s) (n ∷ p ∷ t) = summed h o n p ++ placesAdded k s t
 
--- n places of a row in turn, behind what there was
+-- n places of a row, added in turn to a total
 unfoldable pub totalOf : ℕ → List ℕ → List ℕ → List ℕ
 totalOf zero total places = total
 totalOf (suc n) total places = totalOf n (placesAdded sums total (take place places)) (drop place places)
 
--- the place behind n of them has their total, where the row has as many: else nothing is changed
+-- the total of the first n places goes into the one after them, if the row has it; otherwise nothing is changed
 abbrev pub totaled : ℕ → List ℕ → List ℕ
 totaled n places =
     pick (leb (place * (n + 1)) (length places))
@@ -156,7 +156,7 @@ totaled n places =
 abbrev pub totalAnswer : ℕ → List ℕ → ℕ
 totalAnswer n places = pick (leb (place * (n + 1)) (length places)) 0 (number BadShelf)
 
--- each has a count for each answer number
+-- each of the figures has a count for each answer number
 pub data AllWide : List Figures → Type 0 where
   none-wide : AllWide []
   more-wide : {f : Figures} {fs : List Figures} → Wide f → AllWide fs → AllWide (f ∷ fs)

@@ -1,4 +1,4 @@
--- A directory, a file and an image added where a place stands, by the figures that they change: said of any numbers, also of such as no figures give. RULES 16.2 and 16.3.
+-- A directory, a file or an image added to a place, by the figures that it changes, whatever numbers the place has. RULES 16.2 and 16.3.
 use Prim.Native.Nat.{ℕ, _+_, _*_}
 use mathlib.Core.List.{List}
 use lib.ListN.{length, getD}
@@ -8,7 +8,7 @@ use Rattle.disc.specs.Choice.{pick}
 use Rattle.disc.specs.Counts.{reported}
 use Rattle.figures.specs.Figures.{over, place, summed, greater}
 
--- a figure added to the one at `at`, and the greater of the two left there: the two numbers of each, itself and its mark
+-- the figure at `at` with n added, or the greater of the two: a figure is two numbers, itself and its mark
 abbrev pub summedAt : ℕ → ℕ → List ℕ → List ℕ
 summedAt at n s = sets s at (summed (getD s at 0) (getD s (at + 1) 0) (reported n) (over n))
 
@@ -22,7 +22,7 @@ inPlace put s = pick (eqb (length s) place) (put s) s
 unfoldable pub withDirectory : List ℕ → List ℕ
 withDirectory s = inPlace (summedAt 2 1) s
 
--- by its answer number, its bytes, extents and sectors, and its chain: six figures
+-- a file, by its answer number, bytes, extents, sectors and chain: six figures
 abbrev pub filed : ℕ → ℕ → ℕ → ℕ → ℕ → List ℕ → List ℕ
 filed answer bytes extents sectors chain s = greaterAt 78 chain (summedAt (10 + 2 * answer) 1 (summedAt 8 sectors (summedAt 6 extents (summedAt 4 bytes (summedAt 0 1 s)))))
 

@@ -14,11 +14,11 @@ use Rattle.files.specs.Files.{entryMount}
 abbrev pub example : List AllocExtent
 example = extent 3000 0 10 Unnamed ∷ extent 100 0 20 Unnamed ∷ extent 5000 1 30 Unnamed ∷ []
 
--- how the extents of a file are read
+-- the mount for the extents of a file
 abbrev pub own : Mount → LongAd → Mount
 own m icb = entryMount m icb
 
--- so many bytes of block 10, and of block 20
+-- n bytes from block 10 on, and from block 20 on
 abbrev pub first : List ℕ → Mount → LongAd → ℕ → List ℕ
 first image m icb n = take n (drop (2048 * sectorOf (own m icb .start) 10) image)
 

@@ -7,7 +7,7 @@ use Rattle.disc.specs.Places.{placed}
 use Rattle.disc.specs.declared.places.Mount.{Mount}
 use Rattle.areas.specs.declared.AllocExtent.{AllocExtent}
 
--- n sectors from one on
+-- the n sectors from `at` on
 unfoldable pub run : ℕ → ℕ → List ℕ
 run zero at = []
 run (suc n) at = at ∷ run n (at + 1)
@@ -17,7 +17,7 @@ abbrev pub sectorsIn : ℕ → Option ℕ → List ℕ
 sectorsIn size none = []
 sectorsIn size (some at) = run (sectorsFor size) at
 
--- and of extents in turn
+-- all sectors of extents in turn
 unfoldable pub extentSectors : Mount → List AllocExtent → List ℕ
 extentSectors m [] = []
 extentSectors m (e ∷ es) = sectorsIn (e .length) (placed m (e .«partition_ref») (e .block .0)) ++ extentSectors m es

@@ -36,17 +36,17 @@ located at s (Read e) = done (record { at = at; sector = s; entry = e })
 abbrev pub entryIn : Bool → ℕ → Ask Located
 entryIn check at = ask at (λ s. located at s (readEntry check s))
 
--- an ICB's length 0 is refused before any sector, and then a reference beyond the maps; its type isn't looked at
+-- refused before any sector: an ICB of length 0, then a reference beyond the maps; its type isn't looked at
 unfoldable pub entryAt : Mount → LongAd → Ask Located
 entryAt m icb =
     pick (eqb (icb .length) 0) (refuse Malformed)
     (standing (icbPlaced m (icb .location .«partition_ref») (icb .location .block)) (entryIn (isChecked m)))
 
--- how the entry's own descriptors are read, those of its chain and its extents: a short_ad stands in the partition that the ICB names
+-- the mount for the descriptors of the entry, of its chain and of its extents: a short_ad is in the partition that the ICB names
 abbrev pub entryMount : Mount → LongAd → Mount
 entryMount m icb = atEntry m (icb .location .«partition_ref»)
 
--- kind 3: the file stands in the entry itself (ECMA-167 4/14.6.8)
+-- kind 3: the file is in the entry itself (ECMA-167 4/14.6.8)
 abbrev pub embeddedKind : ℕ
 embeddedKind = 3
 
@@ -87,7 +87,7 @@ contentOf m (chained x es) = extentsBytes m es (x .entry .«information_length»
 unfoldable pub fileBytes : Mount → LongAd → Ask (List ℕ)
 fileBytes m icb = then (fileAt m icb) (contentOf (entryMount m icb))
 
--- its part of the image, by its place and its bytes: the embedded bytes, or none for any other file
+-- an embedded file as a part of the image, by its place and its bytes; any other file has none
 pub record Part : Type 0 where
   pub at : ℕ
   pub bytes : List ℕ
@@ -110,11 +110,11 @@ extentsOf (chained x es) = es
 unfoldable pub fileExtents : Mount → LongAd → Ask (List AllocExtent)
 fileExtents m icb = then (fileAt m icb) (λ f. done (extentsOf f))
 
--- the length of its chain: an embedded file has none
+-- the length of its chain: 0 for an embedded file
 unfoldable pub fileHops : Mount → LongAd → Ask ℕ
 fileHops m icb = then (entryAt m icb) (λ x. pick (isEmbedded x) (done 0) (hopsOf (entryMount m icb) x))
 
--- how many extents a read visits: none of an embedded file
+-- how many extents a read visits: none for an embedded file
 abbrev pub visitsOf : File → ℕ
 visitsOf (embedded x) = 0
 visitsOf (chained x es) = visited es (x .entry .«information_length»)

@@ -12,7 +12,7 @@ use Rattle.records.specs.declared.allocations.LongAd.{LongAd}
 use Rattle.files.specs.Files.{fileBytes, fileExtents, fileHops}
 use Rattle.files.specs.declared.sizes.FileSizes.{FileSizes}
 
--- how many were answered, none where the call is refused
+-- how many were answered; 0 where the call is refused
 abbrev pub lengthIn : {A : Type 0} → Outcome (List A) → ℕ
 lengthIn (answered l) = length l
 lengthIn (refused r) = 0
@@ -21,7 +21,7 @@ abbrev pub numberIn : Outcome ℕ → ℕ
 numberIn (answered n) = n
 numberIn (refused r) = 0
 
--- the reply with the length of the chain: nothing is said of the chain of a file that isn't read
+-- the reply with the number of extents and of continuations, both 0 where the read is refused
 abbrev pub sizesBy : Reply → Outcome (List ℕ) → ℕ → ℕ → FileSizes
 sizesBy reply (answered b) extents hops = record { reply = reply; extents = extents; hops = hops }
 sizesBy reply (refused why) extents hops = record { reply = reply; extents = 0; hops = 0 }

@@ -1,4 +1,4 @@
--- What contracts below the face alone cite.
+-- What only the contracts of internal functions cite.
 pub mod Answers
 pub mod Wholes
 pub mod Pieces

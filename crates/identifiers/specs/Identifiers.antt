@@ -22,7 +22,7 @@ use Rattle.identifiers.specs.declared.IdentifierRead.{IdentifierRead}
 
 -- ---- the name
 
--- it stands behind the implementation use, whose length is at 36 (4/14.4.6 to 14.4.8); its own length is at 19 (4/14.4.4)
+-- where it starts: after the implementation use, whose length is at 36 (4/14.4.6 to 14.4.8); its own length is at 19 (4/14.4.4)
 unfoldable pub nameAt : List ℕ → ℕ
 nameAt s = 38 + u16at s 36
 
@@ -55,18 +55,18 @@ identifierOf s t at n size = record {
   «total_size» = rounded (at + n);
 }
 
--- a bad d-string is refused as its name is
+-- a bad d-string refuses the identifier
 unfoldable pub identifierSized : List ℕ → DescriptorTag → ℕ → ℕ → NameSize → Outcome FileIdentifierDescriptor
 identifierSized s t at n (NoName why) = refused why
 identifierSized s t at n (Size size) = answered (identifierOf s t at n size)
 
--- before that, a name that ends past the bytes given
+-- before that, a name that ends past the bytes given is refused
 unfoldable pub identifierNamed : List ℕ → DescriptorTag → Outcome FileIdentifierDescriptor
 identifierNamed s t =
     pick (ltb (length s) (nameEnd s)) (refused Malformed)
     (identifierSized s t (nameAt s) (byte s 19) (sizeOf (nameOf (recordedName s))))
 
--- reading an identifier at the front of s: id 257, 38 bytes at least; the bytes at hand for its body are all of s, the directory's from the entry on
+-- reading an identifier at the front of s: id 257, at least 38 bytes; its body is checked in all of s, the directory's bytes from this entry on
 unfoldable pub readIdentifier : Bool → List ℕ → Outcome FileIdentifierDescriptor
 readIdentifier check s = gated (readHead check s 257 38) (identifierNamed s)
 

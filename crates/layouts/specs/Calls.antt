@@ -1,4 +1,4 @@
--- What the calls on a file say beside its bytes: the answer with a part of the image, and the answer with a list of extents. RULES 7.12 to 7.17.
+-- What the calls on a file answer besides its bytes: a part of the image, and a list of extents. RULES 7.12 to 7.17.
 use Prim.Native.Nat.{ℕ}
 use mathlib.Core.Path.{_≡_}
 use mathlib.Core.List.{List, [], _∷_}
@@ -53,6 +53,6 @@ fieldsOf e = e .length ∷ e .«extent_type» ∷ e .block ∷ e .partition ∷ 
 abbrev pub wordsOf : AllocExtent → List ℕ
 wordsOf e = fieldsOf (extentOf e)
 
--- the reply, and the row as the call leaves it, for whatever f a slot holds of an extent: more extents than slots are refused after every other refusal
+-- the reply, and the row as the call leaves it, f being what a slot holds of an extent: more extents than slots are refused after every other refusal
 abbrev pub Listed : {A : Type 0} → (AllocExtent → A) → Ran (List AllocExtent) → List A → List A → Reply → Type 0
 Listed f r before after reply = Replied NoSlot (each f r) before after reply

@@ -1,4 +1,4 @@
--- A file as runs of the image: where the bytes of a read stand, in reading order: RULES 7.19.
+-- A file as runs of the image, where the bytes of a read are, in reading order: RULES 7.19.
 use Prim.Native.Nat.{ℕ, zero, suc, _-_, _*_, min}
 use mathlib.Core.List.{List, [], _∷_, _++_}
 use lib.ListN.{length, take, drop}
@@ -21,12 +21,12 @@ use Rattle.files.specs.Files.{File, fileAt, entryMount, partOf}
 use Rattle.files.specs.Files.File.{embedded, chained}
 use Rattle.layouts.specs.declared.runs.Run.{Run}
 
--- no byte is no run
+-- a run, left out where it is empty
 abbrev pub runHere : ℕ → ℕ → List Run
 runHere at zero = []
 runHere at (suc n) = record { at = at; length = suc n } ∷ []
 
--- the questions of a read: it stops if it has the `want` bytes that are missing, and what is past them is cut; else more runs follow
+-- what a read asks: it stops once it has the `want` bytes that are missing, and cuts what is past them; otherwise more runs follow
 abbrev pub running : ℕ → ℕ → ℕ → Ask (List Run) → Ask (List Run)
 running want at n more = pick (leb want n) (done (runHere at (min n want))) (then more (λ rest. done (runHere at n ++ rest)))
 
@@ -39,7 +39,7 @@ extentsRuns m (e ∷ es) want =
     running want (2048 * at) (length b) (extentsRuns m es (want - length b)))))
     (refuse Unsupported)
 
--- of a file: the embedded bytes are one run
+-- the runs of a file: embedded bytes are one
 abbrev pub runsOf : Mount → File → Ask (List Run)
 runsOf m (embedded x) = done (runHere (partOf (embedded x) .at) (length (partOf (embedded x) .bytes)))
 runsOf m (chained x es) = extentsRuns m es (x .entry .«information_length»)

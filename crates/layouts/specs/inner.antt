@@ -1,3 +1,3 @@
--- What contracts below the face alone cite.
+-- What only the contracts of internal functions cite.
 pub mod Lists
 pub mod RunLists

@@ -1,4 +1,4 @@
--- What it is for components to be those of a path, said without cutting it: RULES 8.11.
+-- When components are those of a path, stated without cutting it: RULES 8.11.
 use Prim.Native.Nat.{ℕ, _+_, _<_}
 use mathlib.Core.Path.{_≡_}
 use mathlib.Core.List.{List, [], _∷_, _++_}
@@ -20,8 +20,8 @@ unfoldable pub Parted : List ℕ → Type 0
 Parted [] = Unit {0}
 Parted (b ∷ s) = b ≡ 0x2f
 
--- c is the first component of bytes that start at `at`: slashes alone stand before it, it is not empty and has none, and one ends it, or the path
--- does; the others are those of what stands behind it
+-- c is the first component of s, which starts at `at` of the path: only slashes come before it, it isn't empty and has no slash, and it ends at a
+-- slash or with the path; `others` holds for what follows
 pub record Heads (at : ℕ) (s : List ℕ) (c : Component) (others : ℕ → List ℕ → Type 0) : Type 0 where
   pub before : List ℕ
   pub rest : List ℕ
@@ -33,7 +33,7 @@ pub record Heads (at : ℕ) (s : List ℕ) (c : Component) (others : ℕ → Lis
   pub parted : Parted rest
   pub on : others (at + length before + length (c .bytes)) rest
 
--- behind the last component are slashes alone
+-- after the last component there are only slashes
 unfoldable pub CutFrom : ℕ → List ℕ → List Component → Type 0
 CutFrom at s [] = Slashes s
 CutFrom at s (c ∷ cs) = Heads at s c (λ i rest. CutFrom i rest cs)

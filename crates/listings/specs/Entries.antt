@@ -1,4 +1,4 @@
--- A directory's bytes: its file identifiers (ECMA-167 4/14.4) one behind the other. RULES 8.2 to 8.8.
+-- A directory's bytes: its file identifiers (ECMA-167 4/14.4) one after another. RULES 8.2 to 8.8.
 use Prim.Native.Nat.{ℕ, zero, suc, _-_}
 use mathlib.Core.Bool.{Bool, _||_}
 use mathlib.Core.List.{List, [], _∷_}
@@ -22,7 +22,7 @@ pub record Entry : Type 0 where
 abbrev pub entryOf : List ℕ → FileIdentifierDescriptor → Entry
 entryOf s f = record { identifier = f; recorded = recordedName s }
 
--- reading it: an identifier that is refused refuses the entry; where bodies are checked, by all the bytes from the entry on
+-- reading it: a refused identifier refuses the entry; a body is checked in all the bytes from the entry on
 abbrev pub entryIn : List ℕ → Outcome FileIdentifierDescriptor → Outcome Entry
 entryIn s o = andThen o (λ f. answered (entryOf s f))
 

@@ -24,11 +24,11 @@ use Rattle.listings.specs.declared.matchings.Matching.the-variants.{Case
 
 -- ---- the listing
 
--- a record: mark, 1 for a directory, the ICB's 16 bytes, the name's length, and behind them the name
+-- the head of a record: mark, 1 for a directory, the ICB's 16 bytes, the name's length; the name follows
 unfoldable pub recordHead : Bool → LongAd → ℕ → List ℕ
 recordHead directory icb n = 0x44 ∷ 0x45 ∷ pick directory 1 0 ∷ (encodeLong icb ++ le16 n)
 
--- deleted and parent entries are skipped
+-- the record of an entry: none for deleted and parent entries
 unfoldable pub entryRecord : Entry → List ℕ
 entryRecord e =
     pick (isSkipped (e .identifier)) []
@@ -38,13 +38,13 @@ unfoldable pub records : List Entry → List ℕ
 records [] = []
 records (e ∷ es) = entryRecord e ++ records es
 
--- a bad entry refuses it
+-- the listing: a bad entry refuses it
 unfoldable pub listing : Bool → List ℕ → Outcome (List ℕ)
 listing check s = andThen (entries check s) (λ es. answered (records es))
 
 -- ---- the entries of a name
 
--- what a choice of matching makes of the bytes of a name and of a component
+-- the fold of a choice of matching, for the bytes of a name and of a component
 abbrev pub foldFor : Matching → Fold
 foldFor CaseIgnored = Lower
 foldFor AsWritten = AsIs
@@ -53,7 +53,7 @@ foldFor Unambiguous = Lower
 abbrev pub foldIn : Matching → ℕ → ℕ
 foldIn m = foldOf (foldFor m)
 
--- the choice that has a number, as C and Rust say it; any other number is the choice that refuses most
+-- the choice with this number, for C and Rust; any other number is the choice that refuses most
 unfoldable pub matchingOf : ℕ → Matching
 matchingOf n = pick (eqb n 0) CaseIgnored (pick (eqb n 1) AsWritten Unambiguous)
 
@@ -66,7 +66,7 @@ unfoldable pub allNamed : (ℕ → ℕ) → List ℕ → List Entry → List Ent
 allNamed fold component [] = []
 allNamed fold component (e ∷ es) = pick (answersTo fold component e) (e ∷ allNamed fold component es) (allNamed fold component es)
 
--- what is done with the entries that match: none is none, and one is taken; of two or more the first, or a refusal
+-- which matching entry is taken: none if there is none, the only one, and of two or more the first, or a refusal
 unfoldable pub chosen : Matching → List Entry → Outcome (Option Entry)
 chosen m [] = answered none
 chosen m (e ∷ []) = answered (some e)

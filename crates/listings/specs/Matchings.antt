@@ -18,19 +18,19 @@ takesFirst CaseIgnored = true
 takesFirst AsWritten = true
 takesFirst Unambiguous = false
 
--- several of them: those that a refusal by 9 is for
+-- two or more entries: what a refusal by 9 is for
 pub record Several (xs : List Entry) : Type 0 where
   pub one : Entry
   pub other : Entry
   pub more : List Entry
   pub are : xs ≡ one ∷ other ∷ more
 
--- the name of an entry, if it is listed, is none of the others' that are
+-- if e is listed, no listed entry of the others has its name, with ASCII case ignored
 unfoldable pub NoneAlike : Entry → List Entry → Type 0
 NoneAlike e [] = Unit {0}
 NoneAlike e (f ∷ fs) = (isSkipped (e .identifier) ≡ false → isSkipped (f .identifier) ≡ false → map lower (nameIn e) ≡ map lower (nameIn f) → ⊥) × NoneAlike e fs
 
--- and so of all of them
+-- no two listed entries have the same name, with ASCII case ignored
 unfoldable pub Apart : List Entry → Type 0
 Apart [] = Unit {0}
 Apart (e ∷ es) = NoneAlike e es × Apart es
@@ -40,7 +40,7 @@ unfoldable pub NoneAnswers : (ℕ → ℕ) → List ℕ → List Entry → Type 
 NoneAnswers fold component [] = Unit {0}
 NoneAnswers fold component (e ∷ more) = (answersTo fold component e ≡ false) × NoneAnswers fold component more
 
--- the only entry as it stands in its directory: none before it answers, and none behind it
+-- e is the only entry of its directory that answers: none before it does, and none after it
 pub record Only (fold : ℕ → ℕ) (c : List ℕ) (es : List Entry) (e : Entry) : Type 0 where
   pub before : List Entry
   pub rest : List Entry
@@ -56,6 +56,6 @@ pub record WasRead (e : Entry) : Type 0 where
   pub are : Bytes raw
   pub is : entryRead check raw ≡ answered e
 
--- a component under the fold, wherever it stands
+-- a component's bytes under the fold, without its place
 abbrev pub folded : (ℕ → ℕ) → Component → List ℕ
 folded fold c = map fold (c .bytes)

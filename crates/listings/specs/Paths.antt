@@ -23,12 +23,12 @@ abbrev pub unlessEmpty : List ℕ → ℕ → List Component → List Component
 unlessEmpty [] at cs = cs
 unlessEmpty (b ∷ c) at cs = record { bytes = b ∷ c; at = at } ∷ cs
 
--- the components behind the first slash of bytes that start at `at`
+-- the components after the first slash of bytes that start at `at`
 unfoldable pub behind : ℕ → List ℕ → List Component
 behind at [] = []
 behind at (b ∷ s) = pick (eqb b 0x2f) (unlessEmpty (front s) (suc at) (behind (suc at) s)) (behind (suc at) s)
 
--- the bytes cut at 2F
+-- the components of bytes that start at `at`, cut at 2F
 unfoldable pub componentsFrom : ℕ → List ℕ → List Component
 componentsFrom at s = unlessEmpty (front s) at (behind at s)
 

@@ -1,5 +1,5 @@
 -- What a recorded name says, and when two names match: RULES 4.
--- A d-string is OSTA UDF 2.1.3's, in a field ECMA-167 1/7.2.12's.
+-- D-strings are those of OSTA UDF 2.1.3, and d-string fields those of ECMA-167 1/7.2.12.
 use Prim.Native.Nat.{ℕ, _+_, _-_, _*_, _/_, _%_}
 use mathlib.Core.Path.{_≡_}
 use mathlib.Core.Bool.{Bool, true, false, _||_}
@@ -27,7 +27,7 @@ pairs [] = []
 pairs (a ∷ []) = []
 pairs (a ∷ b ∷ s) = (a * 256 + b) ∷ pairs s
 
--- What stands before the first zero.
+-- The list up to the first zero.
 unfoldable pub untilZero : List ℕ → List ℕ
 untilZero [] = []
 untilZero (u ∷ us) = pick (eqb u 0) [] (u ∷ untilZero us)
@@ -36,7 +36,7 @@ untilZero (u ∷ us) = pick (eqb u 0) [] (u ∷ untilZero us)
 unfoldable pub surrogate : ℕ → Bool
 surrogate u = pick (ltb u 0xd800) false (ltb u 0xe000)
 
--- What is left without surrogates.
+-- The list without its surrogates.
 unfoldable pub dropSurrogates : List ℕ → List ℕ
 dropSurrogates [] = []
 dropSurrogates (u ∷ us) = pick (surrogate u) (dropSurrogates us) (u ∷ dropSurrogates us)
@@ -57,8 +57,7 @@ utf8 (u ∷ us) = encode u ++ utf8 us
 
 -- ---- names
 
--- The compression ids of a name that is empty, whatever stands behind them: 0, and those of deleted names, 254 and 255 (OSTA UDF
--- 2.1.1 of 2.01).
+-- The compression ids of an empty name, whatever follows them: 0, and those of deleted names, 254 and 255 (OSTA UDF 2.1.1 of 2.01).
 abbrev pub nameless : ℕ → Bool
 nameless id = (eqb id 0 || eqb id 254) || eqb id 255
 
@@ -78,7 +77,7 @@ nameOfField f =
     (pick (ltb (length f - 1) (getD f (length f - 1) 0)) (refused Malformed)
     (nameOf (take (getD f (length f - 1) 0) f)))
 
--- What is written of a name: nothing where it is refused.
+-- The bytes written for a name: none where it is refused.
 abbrev pub written : Outcome (List ℕ) → List ℕ
 written name = bytesOf name
 
@@ -110,7 +109,7 @@ lower b = pick (ltb b 0x41) b (pick (ltb b 0x5b) (b + 0x20) b)
 abbrev pub asIs : ℕ → ℕ
 asIs b = b
 
--- What a fold of the code makes of a byte.
+-- The function that each fold of the code applies.
 abbrev pub foldOf : Fold → ℕ → ℕ
 foldOf Lower = lower
 foldOf AsIs = asIs
@@ -127,6 +126,6 @@ abbrev pub matched : (ℕ → ℕ) → Outcome (List ℕ) → List ℕ → Bool
 matched fold (refused why) component = false
 matched fold (answered name) component = sameName fold name component
 
--- A d-string names a component of a path. No directory entry records one of more than 255 bytes: ECMA-167 4/14.4.4.
+-- A d-string names a component of a path. One of more than 255 bytes names none: no directory entry records it (ECMA-167 4/14.4.4).
 unfoldable pub isNamed : (ℕ → ℕ) → List ℕ → List ℕ → Bool
 isNamed fold s component = pick (ltb 255 (length s)) false (matched fold (nameOf s) component)

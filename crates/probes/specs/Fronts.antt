@@ -1,11 +1,11 @@
--- The fronts of a recognition sequence: which are known, and what stands before one.
+-- The first bytes of the sectors of a recognition sequence: which are known, and what comes before the last.
 use mathlib.Core.List.{_∷_, [], List}
 use mathlib.Core.Logic.{_⊎_}
 use mathlib.Core.Path.{_≡_}
 use Prim.Native.Nat.{ℕ, _*_, _<_, _≤_, _+_}
 use lib.ListN.{take, drop, length}
 
--- the letters of each identifier behind a first byte of 0
+-- a first byte of 0, then the letters of each identifier
 abbrev pub BEA01 : List ℕ
 BEA01 = 0 ∷ 66 ∷ 69 ∷ 65 ∷ 48 ∷ 49 ∷ []
 
@@ -28,18 +28,18 @@ CDW02 = 0 ∷ 67 ∷ 68 ∷ 87 ∷ 48 ∷ 50 ∷ []
 abbrev pub front : List ℕ → ℕ → List ℕ
 front image s = take 6 (drop (2048 * s) image)
 
--- 0 and one of the identifiers but TEA01
+-- 0 and any of the identifiers except TEA01
 abbrev pub Passed : List ℕ → Type 0
 Passed f = (f ≡ BEA01) ⊎ (f ≡ NSR02) ⊎ (f ≡ NSR03) ⊎ (f ≡ CD001) ⊎ (f ≡ CDW02)
 
--- a sector that starts so stands from 16 on and before sector t
+-- some sector from 16 on, before sector t, starts with f
 pub record Before (image : List ℕ) (t : ℕ) (f : List ℕ) : Type 0 where
   pub sector : ℕ
   pub from : 16 ≤ sector
   pub before : sector < t
   pub is : front image sector ≡ f
 
--- sector t is the first TEA01 among the eight from 16 on, and what stands before it is as the rule wants it
+-- sector t is the first TEA01 among the eight from 16 on, and the sectors before it are as RULES 5.17 says
 pub record Recognised (image : List ℕ) (t : ℕ) : Type 0 where
   pub from : 16 ≤ t
   pub within : t < 16 + 8

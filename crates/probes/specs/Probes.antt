@@ -10,7 +10,7 @@ use Rattle.descriptors.specs.Recognition.{structureOf}
 use Rattle.descriptors.specs.declared.recognition.Structure.{Structure}
 use Rattle.descriptors.specs.declared.recognition.Structure.the-variants.{Beginning, Nsr, Terminating, Other, Unknown}
 
--- by what a sector is: `began` and `named` say whether a BEA01 and an NSR stood before it
+-- go on by what a sector is: `began` and `named` say whether a BEA01 and an NSR came before it
 abbrev pub probedBy : Structure → Bool → Bool → (Bool → Bool → Ask Bool) → Ask Bool
 probedBy Beginning began named rest = rest true named
 probedBy Nsr began named rest = rest began true

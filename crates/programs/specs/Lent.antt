@@ -10,7 +10,7 @@ use Rattle.disc.specs.Choice.{pick}
 abbrev pub partOf : List ℕ → ℕ → ℕ → List ℕ
 partOf s a e = pick (ltb (length s) e) [] (pick (ltb e a) [] (take (e - a) (drop a s)))
 
--- the bytes of s summed on top of k, so that the sum tells where each stands
+-- the bytes of s summed onto k, so that the sum depends on where each stands
 unfoldable pub summed : ℕ → List ℕ → ℕ
 summed k [] = k
 summed k (b ∷ s) = summed ((k * 31 + b) % 4294967296) s

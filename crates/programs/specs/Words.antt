@@ -1,4 +1,4 @@
--- How many digits a number that was printed has.
+-- How many digits a printed number has.
 use Prim.Native.Nat.{ℕ}
 use mathlib.Core.Path.{_≡_}
 use Rattle.disc.specs.declared.places.PartitionRef.{PartitionRef}

@@ -7,7 +7,7 @@ use lib.ListN.{getD}
 abbrev pub byte : List ℕ → ℕ → ℕ
 byte s i = getD s i 0
 
--- the numbers of the two, the four and the eight bytes at i
+-- the number in the two, the four or the eight bytes at i
 abbrev pub u16at : List ℕ → ℕ → ℕ
 u16at s i = byte s i + byte s (i + 1) * 256
 
@@ -17,7 +17,7 @@ u32at s i = byte s i + byte s (i + 1) * 256 + byte s (i + 2) * 65536 + byte s (i
 abbrev pub u64at : List ℕ → ℕ → ℕ
 u64at s i = u32at s i + u32at s (i + 4) * 0x1_0000_0000
 
--- a number's two and four low bytes, the lowest first
+-- the low two or four bytes of a number, lowest first
 abbrev pub le16 : ℕ → List ℕ
 le16 n = n % 256 ∷ n / 256 % 256 ∷ []
 

@@ -8,7 +8,7 @@ use Rattle.records.specs.declared.allocations.LbAddr.{LbAddr}
 use Rattle.records.specs.declared.allocations.LongAd.{LongAd}
 use Rattle.records.specs.declared.allocations.ExtAd.{ExtAd}
 
--- ---- a value of each record: every field in the range of its type
+-- ---- every field of a record is in the range of its type
 
 pub record ExtentValue (a : ExtentAd) : Type 0 where
   pub length : a .length < 2 ^ 32

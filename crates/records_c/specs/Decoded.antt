@@ -15,7 +15,7 @@ pub record Decoded : Type 0 where
   pub length : ℕ
   pub out : List ℕ
 
--- Of a name, or of its refusal: it is written over the front of the output, unless it has more bytes than the output.
+-- By a name or its refusal: the name is written over the front of the output, unless it has more bytes than the output.
 unfoldable pub decoded : Outcome (List ℕ) → List ℕ → Decoded
 decoded (refused why) out = record { answer = number why; length = 0; out = out }
 decoded (answered name) out =

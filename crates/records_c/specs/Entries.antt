@@ -1,4 +1,4 @@
--- The entry of a file as it crosses: an enum can't.
+-- The entry of a file as it crosses to C, which an enum can't.
 use Prim.Native.Nat.{ℕ}
 use mathlib.Core.Bool.{Bool, true, false}
 use Rattle.disc.specs.Replies.{Answer}

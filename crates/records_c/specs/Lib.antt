@@ -1,3 +1,3 @@
--- What the contracts cite beside the definitions of the crates below.
+-- What the contracts cite besides the definitions of the crates below.
 pub mod Decoded
 pub mod Entries

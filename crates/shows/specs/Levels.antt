@@ -1,4 +1,4 @@
--- A show level by level: what is refused by 11, and what stands at a level.
+-- A show level by level: what is refused by 11, and the nodes of a level.
 use mathlib.Core.Bool.{false}
 use mathlib.Core.List.{[], List, _∷_, _++_}
 use mathlib.Core.Path.{_≡_}
@@ -20,22 +20,22 @@ use Rattle.listings.specs.Listings.{entryRecord}
 use Rattle.directories.specs.Directories.{directoryBytes}
 use Rattle.shows.specs.Shows.{leveled, Node}
 
--- two calls that come to the same after the same sectors
+-- two calls with the same outcome and the same list of sectors
 pub record Alike {A : Type 0} (d : Disc) (m n : Ask A) : Type 0 where
   pub outcomes : outcome d n ≡ outcome d m
   pub lists : asked d n ≡ asked d m
 
--- refused by 11, with nothing asked for
+-- refused by 11, with no sector asked for
 pub record Eleven {A : Type 0} (d : Disc) (m : Ask A) : Type 0 where
   pub refuses : outcome d m ≡ refused TooDeep
   pub numbered : number TooDeep ≡ 11
   pub asks : asked d m ≡ []
 
--- an outcome after so many sectors
+-- an outcome after n sectors
 abbrev pub counted : {A : Type 0} → ℕ → Outcome A → Ran A
 counted n o = record { outcome = o; count = n }
 
--- the entries of the directory at icb, which a listing and a show have alike
+-- the entries of the directory at icb, as a listing and a show both have them
 abbrev pub entriesAt : Mount → ℕ → LongAd → Ask (List Entry)
 entriesAt m work icb = then (directoryBytes m work icb) (λ b. ended (entries (isChecked m) b))
 
@@ -44,7 +44,7 @@ unfoldable pub leveledRecords : ℕ → List Entry → List ℕ
 leveledRecords level [] = []
 leveledRecords level (e ∷ es) = pick (isSkipped (e .identifier)) (leveledRecords level es) (leveled level (entryRecord e) ++ leveledRecords level es)
 
--- its entries as nodes
+-- the listed entries as nodes
 unfoldable pub levelNodes : ℕ → List Entry → List Node
 levelNodes level [] = []
 levelNodes level (e ∷ es) = pick (isSkipped (e .identifier)) (levelNodes level es) (record { level = level; entry = e } ∷ levelNodes level es)

@@ -23,11 +23,11 @@ pub record Node : Type 0 where
   pub level : ℕ
   pub entry : Entry
 
--- what stands under an entry: `inside` is asked of a directory alone, by its ICB
+-- the nodes under an entry: for a directory `inside` of its ICB, for a file none
 abbrev pub under : (LongAd → Ask (List Node)) → Entry → Ask (List Node)
 under inside e = pick (isDirectory (e .identifier)) (inside (e .identifier .icb)) (done [])
 
--- the entries of a directory in turn, each before what stands under it; deleted and parent entries are skipped as in a listing
+-- the entries of a directory in turn, each before what is under it; deleted and parent entries are skipped as in a listing
 unfoldable pub nodesOf : (LongAd → Ask (List Node)) → ℕ → List Entry → Ask (List Node)
 nodesOf inside level [] = done []
 nodesOf inside level (e ∷ es) =
@@ -36,8 +36,8 @@ nodesOf inside level (e ∷ es) =
     then (nodesOf inside level es) (λ others.
     done (record { level = level; entry = e } ∷ (below ++ others)))))
 
--- the directory at icb and what stands under it, with so many levels left and so many bytes of work space behind the directories above it: one with no
--- level left is refused before its sectors; all its entries are parsed before the first of them has its turn
+-- the nodes of the directory at icb, with `left` levels left, and `work` bytes of work space after the directories above it: with no level left it is
+-- refused before its sectors; all its entries are parsed before the first of them has its turn
 unfoldable pub nodesAt : Mount → ℕ → ℕ → ℕ → LongAd → Ask (List Node)
 nodesAt m zero level work icb = refuse TooDeep
 nodesAt m (suc left) level work icb =
@@ -55,7 +55,7 @@ tree m levels work root = pick (leb 1 levels && leb levels mostLevels) (nodesAt 
 
 -- ---- its listing (RULES 8.34)
 
--- a record of a listing, with the level behind its mark of two bytes
+-- a record of a listing, with the level after its mark of two bytes
 unfoldable pub leveled : ℕ → List ℕ → List ℕ
 leveled level r = take 2 r ++ level ∷ drop 2 r
 
@@ -66,6 +66,6 @@ unfoldable pub nodeRecords : List Node → List ℕ
 nodeRecords [] = []
 nodeRecords (n ∷ ns) = nodeRecord n ++ nodeRecords ns
 
--- the call: 5 comes behind all of it (`Replied`)
+-- the call: 5 comes after every other refusal (`Replied`)
 unfoldable pub treeRecords : Mount → ℕ → ℕ → LongAd → Ask (List ℕ)
 treeRecords m levels work root = then (tree m levels work root) (λ ns. done (nodeRecords ns))

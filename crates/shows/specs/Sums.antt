@@ -25,7 +25,7 @@ filesIn [] = []
 filesIn (n ∷ ns) = pick (isDirectory (n .entry .identifier)) (filesIn ns) (n ∷ filesIn ns)
 
 module _ (d : Disc) (m : Mount) where
-  -- the read of a file, and what it says where output room is taken as enough: the number of bytes, and the count
+  -- the read of a file, and its number of bytes and its count, output room taken as enough
   abbrev pub readOf : Node → Ran (List ℕ)
   readOf n = ran d (fileBytes m (n .entry .identifier .icb))
 
@@ -42,7 +42,7 @@ module _ (d : Disc) (m : Mount) where
   abbrev pub hopsOf : Node → ℕ
   hopsOf n = numberIn (ran d (fileHops m (n .entry .identifier .icb)) .outcome)
 
-  -- the files whose read has this answer number: those that are read are the ones of 0
+  -- the files whose read has this answer number: 0 for those that are read
   unfoldable pub answering : ℕ → List Node → List Node
   answering k [] = []
   answering k (n ∷ ns) = pick (eqb (answerOf (readOf n .outcome)) k) (n ∷ answering k ns) (answering k ns)

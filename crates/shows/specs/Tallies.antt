@@ -22,7 +22,7 @@ use Rattle.shows.specs.Shows.{Node, mostLevels, tree}
 
 -- ---- of a file, output room taken as enough
 
--- one that is read adds its bytes, its extents and its chain; one that is refused its answer number and its sectors alone
+-- a file that is read adds its bytes, its extents and its chain; a refused one only its answer number and its sectors
 abbrev pub fileBy : ℕ → Outcome (List ℕ) → ℕ → ℕ → Figures
 fileBy sectors (answered b) extents chain = oneFile 0 (length b) extents sectors chain
 fileBy sectors (refused why) extents chain = oneFile (number why) 0 0 sectors 0
@@ -43,7 +43,7 @@ ofNode d m n = ofEntry d m (isDirectory (n .entry .identifier)) (n .entry .ident
 abbrev pub ofNodes : Disc → Mount → List Node → Figures
 ofNodes d m ns = allAdded (map (ofNode d m) ns)
 
--- the counts that reading the files among the nodes reports
+-- the counts reported by the reads of the files among the nodes
 unfoldable pub readCounts : Disc → Mount → List Node → List ℕ
 readCounts d m [] = []
 readCounts d m (n ∷ ns) =
@@ -56,20 +56,20 @@ readCounts d m (n ∷ ns) =
 abbrev pub lentRead : Disc → Mount → ℕ → Node → Ran (List ℕ)
 lentRead d m most n = ran d (budgeted most (fileBytes m (n .entry .identifier .icb)))
 
--- the files are read in the order of the nodes, each with what those before it have left: none of them wants more
+-- no read wants too many sectors: the files are read in the order of the nodes, each with what those before it have left
 unfoldable pub readsWithin : Disc → Mount → ℕ → List Node → Bool
 readsWithin d m most [] = true
 readsWithin d m most (n ∷ ns) =
     pick (isDirectory (n .entry .identifier)) (readsWithin d m most ns)
     (not (isOver (lentRead d m most n .outcome)) && readsWithin d m (leftOf most (lentRead d m most n .count)) ns)
 
--- ---- a tree and the reads of its files: an answer number, and the figures, of which there are none under any number but 0
+-- ---- a tree and the reads of its files: an answer number, and the figures, which are all 0 under any number but 0
 
 pub record Tally : Type 0 where
   pub answer : ℕ
   pub figures : Figures
 
--- the tree comes first, and what it has left is for the reads
+-- the tree comes first, and the reads have what it has left
 abbrev pub tallyBy : Disc → Mount → ℕ → Outcome (List Node) → Tally
 tallyBy d m left (answered ns) = pick (readsWithin d m left ns) (record { answer = 0; figures = ofNodes d m ns }) (record { answer = number OverBudget; figures = nothing })
 tallyBy d m left (refused why) = record { answer = number why; figures = nothing }
@@ -81,7 +81,7 @@ tallyOf d m most r = tallyBy d m (leftOf most (r .count)) (r .outcome)
 abbrev pub treeTally : Disc → Mount → LongAd → ℕ → ℕ → Tally
 treeTally d m root most work = tallyOf d m most (ran d (budgeted most (tree m mostLevels work root)))
 
--- the figures in a place; a slice that is none is 15, and stays as it came
+-- the figures in a place; a slice of another length is 15, and stays as it came
 pub record Tallied : Type 0 where
   pub answer : ℕ
   pub place : List ℕ

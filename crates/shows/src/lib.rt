@@ -7,7 +7,7 @@
 // before. The place is passed by value, with the budget `most`, which `open_level` compares with the count once a directory is read.
 //
 // The definition (specs/Shows.antt) knows no passes: `nodesAt` and `nodesOf` answer a list of entries with their levels, and `nodeRecords` makes
-// bytes of it. `Shown` (specs/inner/Turns.antt) is what is proved of the recursion.
+// bytes of it. `Visited` (specs/inner/Turns.antt) is what is proved of the recursion.
 pub mod levels;
 pub mod nodes;
 pub mod tallies;

@@ -8,15 +8,15 @@ use Rattle.disc.specs.Choice.{pick}
 use Rattle.disc.specs.Moves.{over}
 use Rattle.records.specs.Bytes.{u32at}
 
--- a run over an image from `at` on; what has no room there is left out
+-- a run written over an image from `at` on; what doesn't fit is left out
 abbrev pub laid : List ℕ → ℕ → List ℕ → List ℕ
 laid run at image = take at image ++ over run (drop at image)
 
--- where the run at i ends, behind its head of 8 bytes and as many bytes as its second number says
+-- the end of the run at i: a head of 8 bytes, then as many bytes as its second number says
 abbrev pub behind : List ℕ → ℕ → ℕ
 behind s i = i + 8 + u32at s (i + 4)
 
--- the same: 0 where the run isn't whole
+-- the same, or 0 where the run isn't whole
 unfoldable pub runEnd : List ℕ → ℕ → ℕ
 runEnd s i = pick (leb (behind s i) (length s)) (behind s i) 0
 

@@ -68,11 +68,11 @@ eachOf how most work lengths shelf = map (ofImage how most work) (images lengths
 abbrev pub shelfOf : Choice → ℕ → ℕ → List ℕ → List ℕ → Figures
 shelfOf how most work lengths shelf = allAdded (eachOf how most work lengths shelf)
 
--- the lengths pass the bytes lent, or there is no place for each image and the shelf
+-- the lengths exceed the bytes lent, or there are too few places for the images and the shelf
 abbrev pub Short : List ℕ → List ℕ → List ℕ → Type 0
 Short shelf lengths figures = (length shelf < sum lengths) ⊎ (length figures < 80 * (length lengths + 1))
 
--- the chain of one of them
+-- one of the figures has this chain
 pub record OneOf (fs : List Figures) (d : Figures) (chain : ℕ) : Type 0 where
   pub which : ℕ
   pub inside : which < length fs

@@ -1,4 +1,4 @@
--- Figures over a shelf of images, one behind another: RULES 16.6 to 16.10, and 16.13.
+-- Figures over a shelf of images, one after another: RULES 16.6 to 16.10, and 16.13.
 use Prim.Native.Nat.{ℕ, _+_, _*_}
 use mathlib.Core.Bool.{Bool, _&&_}
 use mathlib.Core.List.{List, [], _∷_, _++_, map}
@@ -18,7 +18,7 @@ use Rattle.volumes.specs.declared.openings.VolumeRecord.{VolumeRecord}
 use Rattle.figures.specs.Figures.{Figures, oneImage, added, allAdded, rows, place, sum}
 use Rattle.shows.specs.Tallies.{Tally, treeTally}
 
--- ---- of an image: one whose opening or tree is refused, or that wants more sectors than it is lent, counts under its number, and its other figures are 0
+-- ---- of an image: where its opening or tree is refused, or it wants more sectors than it is lent, it counts under that number, and all else is 0
 
 -- the figures of its tree, and one image
 abbrev pub imageBy : Tally → Figures
@@ -53,7 +53,7 @@ surveyed how most work lengths shelf = withTotal (map (ofImage how most work) (i
 
 -- ---- the call
 
--- the lengths don't pass the bytes lent, and there is a place for each image and for the shelf
+-- the lengths don't exceed the bytes lent, and there is a place for each image and for the shelf
 abbrev pub fits : List ℕ → List ℕ → List ℕ → Bool
 fits shelf lengths figures = leb (sum lengths) (length shelf) && leb (place * (length lengths + 1)) (length figures)
 
@@ -62,7 +62,7 @@ pub record Surveyed : Type 0 where
   pub figures : List ℕ
   pub work : List ℕ
 
--- 15 comes first, and then nothing is written but the zeros of the work space
+-- the call: refusal 15 comes first, and then only the zeros of the work space are written
 abbrev pub surveys : Choice → ℕ → List ℕ → List ℕ → List ℕ → List ℕ → Surveyed
 surveys how most shelf lengths figures work =
     pick (fits shelf lengths figures)

@@ -40,7 +40,7 @@ ofPartition id = leb 256 id && leb id 266
 abbrev pub listed : ℕ → Bool
 listed id = ofVolume id || ofPartition id
 
--- the sum, modulo 256, of the first 16 bytes but the fifth (3/7.2.3)
+-- the sum, modulo 256, of the first 16 bytes except the fifth (3/7.2.3)
 abbrev pub checksum : List ℕ → ℕ
 checksum s = (sum4 s 0 + byte s 5 + byte s 6 + byte s 7 + sum4 s 8 + sum4 s 12) % 256
 
@@ -63,46 +63,46 @@ encodeTag t = tagBytes t (checksum (tagBytes t 0))
 
 -- ---- the place check
 
--- the number that a tag's location must be: the logical block's, in its partition, for an id of those recorded in a partition (4/7.2.8), and the
--- sector's for every other id (3/7.2.8)
+-- what a tag's location must be: for an id recorded in a partition, the number of the logical block there (4/7.2.8); for any other id, the sector's
+-- (3/7.2.8)
 unfoldable pub placeOf : ℕ → ℕ → ℕ → ℕ
 placeOf id sector block = pick (ofPartition id) block sector
 
--- a tag is in place where its location is that number of the sector and the block that hold its first byte
+-- a tag is in place if its location is that number; `sector` and `block` are those that hold its first byte
 unfoldable pub inPlace : DescriptorTag → ℕ → ℕ → Bool
 inPlace t sector block = eqb (t .location) (placeOf (t .id) sector block)
 
 -- ---- the body
 
--- a descriptor's body is right where as many bytes as its CRC length are at hand behind the tag, and have the CRC that the tag says (3/7.2.6, 3/7.2.7)
+-- a descriptor's body is right if as many bytes as its CRC length follow the tag, and have the tag's CRC (3/7.2.6, 3/7.2.7)
 unfoldable pub bodyRight : List ℕ → DescriptorTag → Bool
 bodyRight s t = leb (16 + t .«crc_length») (length s) && eqb (crcOf (take (t .«crc_length») (drop 16 s))) (t .crc)
 
 -- ---- the gate that every descriptor goes through
 
--- a tag that was read, unless bodies are checked and the body behind it, in s, isn't right
+-- the tag, unless bodies are checked and its body in s is wrong
 unfoldable pub withBody : Bool → List ℕ → TagRead → TagRead
 withBody check s (Refused r) = Refused r
 withBody check s (Read t) = pick check (pick (bodyRight s t) (Read t) (Refused BadCrc)) (Read t)
 
--- a tag that was read, unless it has another id than the descriptor's (3/7.2.1, 4/7.2.1)
+-- the tag, unless it has another id than the descriptor's (3/7.2.1, 4/7.2.1)
 unfoldable pub withId : ℕ → TagRead → TagRead
 withId id (Refused r) = Refused r
 withId id (Read t) = pick (eqb (t .id) id) (Read t) (Refused Malformed)
 
--- the tag of the descriptor at the front of s, which has this id and at least this many bytes: too few bytes, the tag's own refusals, where bodies
--- are checked a wrong one, another id
+-- the tag of the descriptor at the front of s, with this id and at least `size` bytes; refused, in this order, for too few bytes, a bad tag, a wrong
+-- body where bodies are checked, or another id
 unfoldable pub readHead : Bool → List ℕ → ℕ → ℕ → TagRead
 readHead check s id size = pick (leb size (length s)) (withId id (withBody check s (readTag s))) (Refused Malformed)
 
--- what stands behind the gate: a refusal of the gate passes through
+-- what comes after the gate: its refusal passes through
 abbrev pub gated : {A : Type 0} → TagRead → (DescriptorTag → Outcome A) → Outcome A
 gated (Refused r) f = refused r
 gated (Read t) f = f t
 
 -- ---- the header of an allocation extent: id 258, 24 bytes
 
--- behind the gate
+-- after the gate: its refusal, or the header
 unfoldable pub aedAfter : List ℕ → TagRead → AedRead
 aedAfter s (Refused r) = NoHeader r
 aedAfter s (Read t) = Header (record { tag = t; «previous_allocation_extent_location» = u32at s 16; «length_of_allocation_descriptors» = u32at s 20 })

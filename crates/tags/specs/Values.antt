@@ -1,4 +1,4 @@
--- A value of each record: every field in the range of its type.
+-- Every field of a record is in the range of its type.
 use Prim.Native.Nat.{_<_, _^_}
 use Rattle.tags.specs.declared.DescriptorTag.{DescriptorTag}
 use Rattle.tags.specs.declared.AllocationExtentDescriptor.{AllocationExtentDescriptor}

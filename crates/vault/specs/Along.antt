@@ -24,6 +24,6 @@ along failer v path matching work = fails v path matching work
 along placer v path matching work = failsAt v path matching work
 along (reader out) v path matching work = readsPath v path matching out work
 
--- two choices of matching leave the same, whatever is called
+-- two choices of matching leave the same, whichever of the calls is made
 pub record Same (image : List ℕ) (v : VolumeRecord) (path : List ℕ) (matching matching′ : Matching) (work : List ℕ) : Type 1 where
   pub calls : {A R : Type 0} (w : Walker A R) → leaves (along w v path matching work) image ≡ leaves (along w v path matching′ work) image

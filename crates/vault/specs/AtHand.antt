@@ -25,22 +25,22 @@ use Rattle.vault.specs.Public.{third}
 abbrev pub counted : ℕ → Reply → Reply
 counted n r = record { answer = r .answer; count = n; length = r .length }
 
--- the numbers that `find_in` answers
+-- the numbers that `find_in` can answer
 abbrev pub inFind : VolumeRecord → Matching → ℕ → Bool
 inFind v matching n = eqb n 0 || eqb n 2 || (eqb n 9 && third matching) || (eqb n 10 && isChecked (v .mount))
 
--- what the walk goes on with: it is refused, or the component isn't there, or it goes on from the entry that was found
+-- the rest of the walk: it is refused, or the component isn't there, or it goes on from the entry that was found
 abbrev pub onFrom : Disc → VolumeRecord → ℕ → Matching → Component → List Component → Named → Ran Sought
 onFrom d v work matching c cs r =
     pick (eqb (r .answer) 0)
     (pick (r .found) (ran d (seeking matching (v .mount) work cs (r .icb) (r .directory))) (told (answered (lost c))))
     (told (refused (refusalOf (r .answer))))
 
--- the component that it names
+-- the component that `nextComponent` names
 abbrev pub componentOf : List ℕ → ℕ → Component
 componentOf path at = record { bytes = take (nextComponent path at .length) (drop (nextComponent path at .at) path); at = nextComponent path at .at }
 
--- where that ends
+-- where that component ends
 abbrev pub behindOf : List ℕ → ℕ → ℕ
 behindOf path at = nextComponent path at .at + nextComponent path at .length
 

@@ -24,7 +24,7 @@ checkedBy h maps = record { highest = h; checked = true; maps = maps }
 abbrev pub plainBy : Bool → Bool → How
 plainBy h maps = record { highest = h; checked = false; maps = maps }
 
--- an opening without the check, as it is with it: the volume says that it is checked
+-- what opening without the check gives, with the volume marked as checked
 abbrev pub asOpened : Opened → Opened
 asOpened o = record { answer = o .answer; count = o .count; volume = pick (eqb (o .answer) 0) (asChecked (o .volume)) (o .volume) }
 

@@ -1,4 +1,4 @@
--- Two cues whose names differ in case alone, in a listing.
+-- Two cues whose names differ only in case, in a listing.
 use mathlib.Core.List.{List, _∷_, _++_, []}
 use mathlib.Core.Logic.{_⊎_}
 use mathlib.Core.Path.{_≡_}
@@ -22,19 +22,19 @@ use Rattle.vault.specs.Paths.{directoryRead, sectorsTo, LeadTo}
 abbrev pub icbAt : List ℕ → ℕ → LongAd
 icbAt listing at = longOf (drop at listing) 3
 
--- the length of the name in that record, and the name: so many bytes behind the record's head
+-- the length of the name in that record, and the name, which follows the record's head
 abbrev pub sizeAt : List ℕ → ℕ → ℕ
 sizeAt listing at = u16at (drop at listing) 19
 
 abbrev pub nameAt : List ℕ → ℕ → List ℕ
 nameAt listing at = take (sizeAt listing at) (drop 21 (drop at listing))
 
--- where an entry's record starts behind those of others
+-- where an entry's record starts, after those of the entries before it
 abbrev pub placeBehind : List Entry → ℕ
 placeBehind before = length (records before)
 
--- a listing with room for the records of the directory at icb, whose entries are `before`, e and those behind e: the record of e stands behind
--- those before it, a read by the ICB in it is a read by the ICB of e, and the name in it, of at most 508 bytes, is that of e
+-- a listing with room for the records of the directory at icb, whose entries are `before`, e and `rest`: the record of e follows those before it, a
+-- read by its ICB is a read by the ICB of e, and its name, of at most 508 bytes, is that of e
 pub record CueListed (image : List ℕ) (v : VolumeRecord) (icb : LongAd) (out work : List ℕ) (before : List Entry) (e : Entry) (rest : List Entry) : Type 0 where
   pub says : lists image v icb out work .reply ≡ record { answer = 0; count = reported (directoryRead image v work icb .count); length = length (records (before ++ e ∷ rest)) }
   pub listing : lists image v icb out work .out ≡ records before ++ entryRecord e ++ records rest ++ drop (length (records (before ++ e ∷ rest))) out
@@ -44,8 +44,8 @@ pub record CueListed (image : List ℕ) (v : VolumeRecord) (icb : LongAd) (out w
   pub size : sizeAt (lists image v icb out work .out) (placeBehind before) ≡ length (nameIn e)
   pub name : nameAt (lists image v icb out work .out) (placeBehind before) ≡ nameIn e
 
--- e and, behind it, f: the listing has both, and a path whose last component is the name of either, in this directory, takes e, if nothing before e
--- answers to it
+-- e, and f after it: the listing has both and, with case ignored, a path whose last component in this directory is the name of either takes e, if
+-- nothing before e answers to it
 pub record Cues (image : List ℕ) (v : VolumeRecord) (icb : LongAd) (out work : List ℕ) (before : List Entry) (e : Entry) (between : List Entry) (f : Entry) (rest : List Entry) : Type 0 where
   pub first : CueListed image v icb out work before e (between ++ f ∷ rest)
   pub other : CueListed image v icb out work (before ++ e ∷ between) f rest

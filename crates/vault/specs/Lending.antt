@@ -1,4 +1,4 @@
--- The list of a show with no budget, and how many sectors it wants: as many as the count of that show says.
+-- The list of sectors of a show with no budget, and how many it wants: the count of that show.
 use mathlib.Core.List.{List}
 use Prim.Native.Nat.{ℕ, min}
 use lib.ListN.{length}

@@ -17,22 +17,22 @@ abbrev pub overfull : ℕ → Outcome (List ℕ) → Bool
 overfull room (answered b) = not (leb (length b) room)
 overfull room (refused why) = false
 
--- the answer number of bytes, where there is room for so many
+-- the answer number for bytes, with room for `room` of them
 abbrev pub roomed : ℕ → Outcome (List ℕ) → ℕ
 roomed room (refused why) = number why
 roomed room (answered b) = pick (leb (length b) room) 0 5
 
--- of the entries that were read
+-- the answer number for the entries of a directory
 abbrev pub entriesAnswer : ℕ → Outcome (List Entry) → ℕ
 entriesAnswer room (refused why) = number why
 entriesAnswer room (answered es) = pick (leb (length (records es)) room) 0 5
 
--- of a directory that was read: 6 comes before its entries, and 5 last
+-- the answer number of a listing: 6 comes before the entries, and 5 last
 abbrev pub listingAnswer : Bool → ℕ → ℕ → Outcome (List ℕ) → ℕ
 listingAnswer check work room (refused why) = number why
 listingAnswer check work room (answered b) = pick (leb (length b) work) (entriesAnswer room (entries check b)) 6
 
--- of a path that was looked up: the read's own number behind the lookup's
+-- the answer number of a read by path: the lookup's, then the read's own
 abbrev pub pathAnswer : ℕ → Outcome LongAd → (LongAd → Outcome (List ℕ)) → ℕ
 pathAnswer room (refused why) f = number why
 pathAnswer room (answered icb) f = roomed room (f icb)

@@ -22,7 +22,7 @@ use Rattle.directories.specs.Leads.{ApartOn, Doubles, Leads, Takes, Overflows}
 use Rattle.directories.specs.Lookups.{seeking}
 use Rattle.vault.specs.Calls.{finds, reading}
 
--- no two listed names of a directory along the path are the same but for case
+-- in no directory along the path are two listed names the same, with ASCII case ignored
 abbrev pub AllApart : List ℕ → VolumeRecord → List ℕ → List ℕ → Type 0
 AllApart image v path work = ApartOn (disc image) (v .mount) (length work) (components path) (v .root) true
 
@@ -38,21 +38,22 @@ LeadTo image v matching work cs i = Leads (disc image) matching (v .mount) (leng
 abbrev pub directoryRead : List ℕ → VolumeRecord → List ℕ → LongAd → Ran (List ℕ)
 directoryRead image v work i = ran (disc image) (directoryBytes (v .mount) (length work) i)
 
--- the sectors of the way to it, and its own
+-- how many sectors the way to a directory takes, its own included
 abbrev pub sectorsTo : List ℕ → VolumeRecord → Matching → List ℕ → List Component → LongAd → ℕ
 sectorsTo image v matching work cs i = ran (disc image) (seeking matching (v .mount) (length work) cs (v .root) true) .count + directoryRead image v work i .count
 
--- the sectors up to the directory that has several
+-- the same for the directory with several matches
 abbrev pub sectorsOfSeveral : (image : List ℕ) (v : VolumeRecord) (path work : List ℕ) → SeveralOn image v path work → ℕ
 sectorsOfSeveral image v path work o = sectorsTo image v Unambiguous work (o .before) (o .directory)
 
--- what is made of a lookup by an entry that was taken, by none, or by a refusal
+-- the outcome of a lookup by its last entry: the ICB, 3 if there is no entry, or the refusal
 abbrev pub icbOr3 : Outcome (Option Entry) → Outcome LongAd
 icbOr3 (answered none) = refused NotBluray
 icbOr3 (answered (some e)) = answered (e .identifier .icb)
 icbOr3 (refused why) = refused why
 
--- a lookup took an entry: it is the first in its directory that answers to the last component, it is listed, and its name is the component under the choice of matching
+-- a lookup took an entry: the first of its directory that answers to the last component; it is listed, and its name is the component under the choice
+-- of matching
 pub record Taken (image : List ℕ) (v : VolumeRecord) (path : List ℕ) (matching : Matching) (work : List ℕ) (cs : List Component) (c : Component) : Type 0 where
   pub directory : LongAd
   pub led : LeadTo image v matching work cs directory
@@ -68,7 +69,7 @@ pub record Taken (image : List ℕ) (v : VolumeRecord) (path : List ℕ) (matchi
 abbrev pub Exceeds : List ℕ → VolumeRecord → List ℕ → Matching → List ℕ → Type 0
 Exceeds image v path matching work = Overflows (disc image) matching (v .mount) (length work) (components path) (v .root)
 
--- the sectors up to that directory, which is read whole
+-- how many sectors are asked for up to that directory, all of its own included
 abbrev pub sectorsOfExcess : (image : List ℕ) (v : VolumeRecord) (path : List ℕ) (matching : Matching) (work : List ℕ) → Exceeds image v path matching work → ℕ
 sectorsOfExcess image v path matching work o =
     ran (disc image) (seeking matching (v .mount) (length work) (o .before) (v .root) true) .count + ran (disc image) (reading v (o .directory)) .count

@@ -1,4 +1,5 @@
--- The calls of the library that read an image, each at its arguments and what it is lent, in one type: every promise is one theorem over it (proofs/Promises.antt).
+-- The calls of the library that read an image, with their arguments and what they are lent, as one type: every promise is one theorem over it
+-- (proofs/Promises.antt).
 use Prim.Native.Nat.{ℕ}
 use mathlib.Core.Bool.{Bool, true, false, _||_, _&&_, not}
 use mathlib.Core.List.{List, [], _∷_}
@@ -33,7 +34,7 @@ use Rattle.disc.specs.Ask.Outcome.{answered, refused}
 use Rattle.disc.specs.Lists.{anyMissing}
 use Rattle.disc.specs.Refusals.{number}
 
--- ---- how a call tells of a run
+-- ---- how a call reports a run
 
 pub record Way (A R : Type 0) : Type 0 where
   pub told : Ran A → R  -- all that it leaves: answer, count and memory
@@ -84,11 +85,11 @@ byLost work = record { told = lostBy work; answer = λ r. r .answer; count = λ 
 abbrev pub byLostPlace : List ℕ → Way Sought LostPlace
 byLostPlace work = record { told = lostPlace work; answer = λ r. r .reply .answer; count = λ r. r .reply .count; bare = λ a n. record { reply = replied a n; at = 0; work = cleared work }; fits = isReached; last = 3; holds = 3 }
 
--- the number of what the questions came to
+-- the answer number for what the tree answered
 abbrev pub gives : {A R : Type 0} → Way A R → A → ℕ
 gives w a = pick (w .fits a) 0 (w .last)
 
--- ---- the numbers that a call's questions say by themselves (RULES 1.1): 2, and as it is said here
+-- ---- the refusals of a call's tree besides 1 (RULES 1.1): 2, and those marked here
 
 pub record Row : Type 0 where
   pub three : Bool
@@ -123,7 +124,7 @@ ofDirectory v = record { three = false; four = true; six = true; nine = false; e
 abbrev ofPath : VolumeRecord → Matching → Row
 ofPath v matching = record { three = true; four = true; six = true; nine = third matching; eleven = false; sixteen = false; ten = isChecked (v .mount) }
 
--- a component that isn't there is what a walk comes to, and no refusal of its own
+-- a component that isn't there is an answer of the walk, and no refusal
 abbrev ofWalk : VolumeRecord → Matching → Row
 ofWalk v matching = record { three = false; four = true; six = true; nine = third matching; eleven = false; sixteen = false; ten = isChecked (v .mount) }
 
@@ -131,7 +132,7 @@ ofWalk v matching = record { three = false; four = true; six = true; nine = thir
 abbrev ofShow : VolumeRecord → ℕ → Row
 ofShow v most = record { three = false; four = true; six = true; nine = false; eleven = true; sixteen = isBudget most; ten = isChecked (v .mount) }
 
--- ---- the calls: what their questions come to, and what they leave
+-- ---- the calls: what their trees answer, and what they leave
 
 pub data Call : Type 0 → Type 0 → Type 1 where
   opens : How → Call VolumeRecord Opened
@@ -181,7 +182,7 @@ module _ {A R : Type 0} (c : Call A R) where
   abbrev pub way : Way A R
   way = spec c .way
 
-  -- the numbers that it may answer
+  -- the numbers that the call may answer
   abbrev pub may : ℕ → Bool
   may n = eqb n 0 || eqb n 1 || eqb n (way .last) || says (spec c .row) n
 
@@ -205,7 +206,7 @@ abbrev pub numberOf : {A R : Type 0} → Way A R → Outcome A → ℕ
 numberOf w (answered a) = gives w a
 numberOf w (refused why) = number why
 
--- some sector of the list has a byte behind the image's end
+-- some sector of the list isn't wholly inside the image
 abbrev pub lacking : {A : Type 0} → List ℕ → Ask A → Bool
 lacking image call = anyMissing image (asked (disc image) call)
 

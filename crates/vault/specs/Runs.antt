@@ -14,7 +14,7 @@ unfoldable pub rowHolds : List ℕ → List (List ℕ) → List ℕ
 rowHolds image [] = []
 rowHolds image (slot ∷ row) = take (getD slot 1 0) (drop (getD slot 0 0) image) ++ rowHolds image row
 
--- each slot has a byte at least, and what it names stands in the image
+-- each slot names at least one byte, and all that it names is inside the image
 unfoldable pub RowLies : List ℕ → List (List ℕ) → Type 0
 RowLies image [] = Unit {0}
 RowLies image (slot ∷ row) = (1 ≤ getD slot 1 0) × (getD slot 0 0 + getD slot 1 0 ≤ length image) × RowLies image row

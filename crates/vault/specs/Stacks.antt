@@ -19,7 +19,7 @@ use Rattle.vault.specs.Checks.{plainly}
 abbrev pub alone : VolumeRecord → Matching → List ℕ → List ℕ → Ask (List ℕ)
 alone v matching work path = pathReading v (length work) path matching
 
--- what all of them leave of output and rows
+-- what all items leave in the output and the rows
 abbrev pub left : List ℕ → VolumeRecord → List ℕ → Matching → List ℕ → List ℕ → List ℕ → List ℕ → Stacked
 left image v paths matching out lengths answers work = readAllOf (λ path. ran (disc image) (alone v matching work path)) paths out lengths answers
 
@@ -27,11 +27,11 @@ left image v paths matching out lengths answers work = readAllOf (λ path. ran (
 abbrev pub numbers : List ℕ → VolumeRecord → List ℕ → Matching → List ℕ → List ℕ → List ℕ → List ℕ → List ℕ
 numbers image v paths matching out lengths answers work = take (length (items paths)) (readsAll image v paths matching out lengths answers work .answers)
 
--- the marks that the read of each item and its read without the check come from
+-- for each item, the read and the read without the check come from one marked tree
 abbrev pub Marking : VolumeRecord → Matching → List ℕ → Type 0
 Marking v matching work = (p : List ℕ) → Guards rightAt (alone v matching work p) (alone (plainly v) matching work p)
 
--- a descriptor that an item's read without the check parses has a wrong body
+-- some descriptor that an item's read without the check parses has a wrong body
 abbrev pub wrongAmong : List ℕ → (v : VolumeRecord) (matching : Matching) (work : List ℕ) → Marking v matching work → List (List ℕ) → Bool
 wrongAmong image v matching work marks [] = false
 wrongAmong image v matching work marks (p ∷ ps) = anyWrong rightAt (parsed (disc image) (marks p .tree)) || wrongAmong image v matching work marks ps

@@ -1,4 +1,4 @@
--- How a show comes to a refusal: the directory that it meets first.
+-- How a show is refused: by the first refused directory that it meets.
 use mathlib.Core.Bool.{true, false}
 use mathlib.Core.List.{List, [], _∷_}
 use mathlib.Core.Logic.{_⊎_}
@@ -20,7 +20,7 @@ use Rattle.directories.specs.Directories.{directoryBytes}
 use Rattle.shows.specs.Shows.{Node, under, nodesAt}
 
 module _ (d : Disc) (m : Mount) (why : Refusal) where
-  -- what stands under an entry is answered
+  -- the nodes under an entry are answered
   pub record Passed (a : Ask (List Node)) : Type 0 where
     pub nodes : List Node
     pub is : outcome d a ≡ answered nodes
@@ -33,7 +33,7 @@ module _ (d : Disc) (m : Mount) (why : Refusal) where
       ⊎ ((isSkipped (e .identifier) ≡ false) × ((isDirectory (e .identifier) ≡ true) × R (e .identifier .icb)))
       ⊎ ((isSkipped (e .identifier) ≡ false) × (Passed (under inside e) × Meets R inside es))
 
-  -- a directory that is read and parsed, among whose entries one is met
+  -- a directory that is read and parsed, and one of whose entries is refused in this way
   pub record Under (R : ℕ → LongAd → Type 0) (inside : ℕ → LongAd → Ask (List Node)) (work : ℕ) (icb : LongAd) : Type 0 where
     pub bytes : List ℕ
     pub es : List Entry
@@ -47,7 +47,7 @@ module _ (d : Disc) (m : Mount) (why : Refusal) where
     pub read : outcome d (directoryBytes m work icb) ≡ answered bytes
     pub bad : entries (isChecked m) bytes ≡ refused why
 
-  -- the directory at icb is refused, with so many levels left: it has none; it can't be read, or doesn't fit; it has a bad entry; or one under it is refused at its turn
+  -- the directory at icb is refused: no level is left; it can't be read, or doesn't fit; it has a bad entry; or one under it is refused at its turn
   unfoldable pub Stops : ℕ → ℕ → ℕ → LongAd → Type 0
   Stops zero level work icb = TooDeep ≡ why
   Stops (suc left) level work icb =
@@ -55,6 +55,6 @@ module _ (d : Disc) (m : Mount) (why : Refusal) where
       ⊎ Bad work icb
       ⊎ Under (λ w i. Stops left (suc level) w i) (λ w i. nodesAt m left (suc level) w i) work icb
 
--- the walk from the root is refused so
+-- the walk from the root is refused in one of these ways
 abbrev pub StopsBy : List ℕ → VolumeRecord → ℕ → List ℕ → Refusal → Type 0
 StopsBy image v levels work why = Stops (disc image) (v .mount) why levels 1 (length work) (v .root)

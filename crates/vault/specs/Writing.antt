@@ -1,4 +1,4 @@
--- An image that was written, as the calls of the vault are asked of it.
+-- A written image, for the calls of the vault.
 use mathlib.Core.List.{List}
 use Prim.Native.Nat.{ℕ, _+_}
 use lib.ListN.{take, drop, getD}
@@ -14,7 +14,7 @@ made names lengths staging lent = writes names lengths staging lent .image
 abbrev pub called : List ℕ → List (List ℕ)
 called names = namesIn names
 
--- the i-th file: as many bytes as its length says, behind those before it
+-- the i-th file: as many bytes as its length says, after those before it
 abbrev pub fileAt : List ℕ → List ℕ → ℕ → List ℕ
 fileAt lengths staging i = take (getD lengths i 0) (drop (sum (take i lengths)) staging)
 

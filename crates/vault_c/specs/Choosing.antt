@@ -27,7 +27,7 @@ labelsBy image none out = record { reply = record { answer = 4; count = 0; lengt
 abbrev pub labelsAs : List ℕ → ℕ → List ℕ → Written
 labelsAs image n out = labelsBy image (howOf n) out
 
--- the row of the choice; of none it is any row, for 4 is in each
+-- the numbers that the call may answer; only 4 where the number has a bit of no choice
 abbrev pub mayBy : {A R : Type 0} → (How → Call A R) → Option How → ℕ → Bool
 mayBy call (some how) k = may (call how) k
 mayBy call none k = eqb k 4

@@ -1,4 +1,4 @@
--- What following a chain says: `Followed`, which is what the run of the chain's tree comes to, and what it is made of.
+-- What following a chain reports (`Followed`): the run of the chain's tree.
 use Prim.Native.Nat.{ℕ, _+_, _*_, _≤_}
 use mathlib.Core.Path.{_≡_}
 use mathlib.Core.Bool.{Bool}
@@ -21,7 +21,7 @@ use Rattle.chains.specs.declared.follows.Chain.the-variants.{Whole, Refu
 use Rattle.chains.specs.Chains.{areaFrom, nextArea, chain}
 use Rattle.chains.specs.inner.Walks.{areaPlace, areaSize, nextThere, left}
 
--- the next area, where it stands in the image
+-- the next area was found in the image, or is refused, after n sectors
 pub record FoundArea (image : List ℕ) (m : Mount) (a : AdContinuation) (at size n : ℕ) : Type 0 where
   pub runs : (kind : ℕ) → ran (disc image) (nextArea m kind a) ≡ record { outcome = answered (areaAt kind image at size); count = n }
   pub there : (kind : ℕ) → nextThere image m kind a ≡ areaAt kind image at size
@@ -35,7 +35,7 @@ abbrev pub Reaches : List ℕ → Mount → AdContinuation → NextArea → Type
 Reaches image m a (Found at size n) = FoundArea image m a at size n
 Reaches image m a (Refused r n) = NoArea image m a r n
 
--- the same of the bytes from a sector on
+-- the same for the bytes from a sector on
 pub record FoundFrom (check : Bool) (image : List ℕ) (length first at size n : ℕ) : Type 0 where
   pub runs : (kind : ℕ) → ran (disc image) (areaFrom check kind length first) ≡ record { outcome = answered (areaAt kind image at size); count = n }
   pub place : at ≡ areaPlace first
@@ -50,11 +50,11 @@ abbrev pub ReachesFrom : Bool → List ℕ → ℕ → ℕ → NextArea → Type
 ReachesFrom check image length first (Found at size n) = FoundFrom check image length first at size n
 ReachesFrom check image length first (Refused r n) = NoneFrom check image length first r n
 
--- what is left to run of a chain from a cursor on
+-- the run of the rest of a chain, from a cursor on
 abbrev pub chainAt : List ℕ → Mount → ℕ → ChainCursor → Ran (List AllocExtent)
 chainAt image m kind c = ran (disc image) (chain m kind (c .hops) (areaAt kind image (c .at) (c .left)))
 
--- a chain that is whole lists what the cursor stands for
+-- the chain is whole, and its extents are those left at the cursor; or it is refused
 pub record WholeChain (image : List ℕ) (m : Mount) (kind : ℕ) (c : ChainCursor) (n : ℕ) : Type 0 where
   pub runs : chainAt image m kind c ≡ record { outcome = answered (left image m kind c); count = n }
   pub few : n ≤ 512 * c .hops

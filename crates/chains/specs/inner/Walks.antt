@@ -1,5 +1,5 @@
--- What a cursor stands for: the extents that are left of a chain, read off the image where its areas stand.
--- That these are the extents of a chain that is whole is proved (proofs/FollowLaws.antt).
+-- What a cursor stands for: the extents left of a chain, read from the image where its areas are. That these are the extents of a whole chain is
+-- proved (proofs/FollowLaws.antt).
 use Prim.Native.Nat.{ℕ, zero, suc, _+_, _-_, _*_, _≤_, _^_}
 use mathlib.Core.Path.{_≡_}
 use mathlib.Core.List.{List, [], _++_}
@@ -37,21 +37,21 @@ areaThere image kind (some s) = areaAt kind image (areaPlace s) (areaSize image 
 abbrev pub nextThere : List ℕ → Mount → ℕ → AdContinuation → Area
 nextThere image m kind a = areaThere image kind (placed m (a .«partition_ref») (a .block .0))
 
--- the extents behind an area, through n areas at most
+-- the extents after an area, through at most n more areas
 unfoldable pub beyond : List ℕ → Mount → ℕ → ℕ → AdEnding → List AllocExtent
 beyond image m kind zero how = []
 beyond image m kind (suc n) End = []
 beyond image m kind (suc n) (Refused r) = []
 beyond image m kind (suc n) (Continuation a) = nextThere image m kind a .extents ++ beyond image m kind n (nextThere image m kind a .ending)
 
--- the extents of an area and behind it
+-- the extents of an area, and those after it
 abbrev pub through : List ℕ → Mount → ℕ → ℕ → Area → List AllocExtent
 through image m kind n x = x .extents ++ beyond image m kind n (x .ending)
 
 unfoldable pub left : List ℕ → Mount → ℕ → ChainCursor → List AllocExtent
 left image m kind c = through image m kind (c .hops) (areaAt kind image (c .at) (c .left))
 
--- how many areas are gone to behind an area, through n at most
+-- how many areas are followed after an area, at most n
 abbrev pub oneMore : Option ℕ → ℕ → ℕ
 oneMore none n = 0
 oneMore (some s) n = suc n
@@ -87,7 +87,7 @@ stepped image m hops (Continues a) = hopping image m a hops
 unfoldable pub stepOf : List ℕ → Mount → ℕ → ChainCursor → ChainStep
 stepOf image m kind c = stepped image m (c .hops) (nextOf kind image (record { at = c .at; left = c .left }))
 
--- ---- what is left, counted: the hops that could still follow and those that were made are all that were allowed
+-- ---- what is left, counted: the hops still allowed and those made are all that were allowed
 
 pub record Counts (image : List ℕ) (m : Mount) (kind : ℕ) (c : ChainCursor) (r : Counted) : Type 0 where
   pub extents : r .extents ≡ reported (length (left image m kind c))

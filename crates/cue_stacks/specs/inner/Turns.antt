@@ -13,11 +13,11 @@ use Rattle.disc.specs.declared.replies.Reply.{Reply}
 use Rattle.cue_stacks.specs.Stacks.{items, Stack, stacked, Stacked, laid}
 use Rattle.cue_stacks.specs.declared.stacks.ItemPlace.{ItemPlace}
 
--- whether the item that ends at `end`, with which so many places are taken, is the last one that is read
+-- whether an item is the last one read: it ends at `end`, and with it `places` places are taken
 unfoldable pub isLast : ℕ → ℕ → ℕ → ℕ → Bool
 isLast bytes rows end places = leb bytes end || leb rows places
 
--- the place behind an item that ends at `end` and was answered so, in a list of so many bytes; `rows` is how many places the shorter row has
+-- the place after an item that ends at `end` and has this reply, in a list of `bytes` bytes; the shorter row has `rows` places
 unfoldable pub placeBehind : ℕ → ℕ → ItemPlace → ℕ → Reply → ItemPlace
 placeBehind bytes rows p end reply =
     pick (isLast bytes rows end (p .places + 1))
@@ -28,7 +28,7 @@ placeBehind bytes rows p end reply =
 unfoldable pub itemsAt : List ℕ → ItemPlace → List (List ℕ)
 itemsAt paths p = pick (p .going) (items (drop (p .from) paths)) []
 
--- what the call leaves once a stack is laid behind what the items before it took
+-- what the call leaves once a stack is laid after what the items before it took
 abbrev pub laidAt : ItemPlace → List ℕ → List ℕ → List ℕ → Stack → Stacked
 laidAt p out lengths answers s = record {
   reply = record { answer = 0; count = reported (p .count + s .count); length = p .filled + s .filled };
@@ -37,7 +37,7 @@ laidAt p out lengths answers s = record {
   answers = sets answers (p .places) (s .answers);
 }
 
--- what a place leads to: the rest is read into the room behind what is filled
+-- what a place leads to: the rest is read into the room after what is filled
 unfoldable pub leadsTo : (List ℕ → Ran (List ℕ)) → List ℕ → ItemPlace → List ℕ → List ℕ → List ℕ → Stacked
 leadsTo read paths p out lengths answers = laidAt p out lengths answers (stacked read (drop (p .filled) out) (itemsAt paths p))
 
@@ -74,7 +74,7 @@ pub record Turns (read : List ℕ → Ran (List ℕ)) (paths : List ℕ) (p : It
   pub enough : Enough paths (min (length lengths) (length answers)) p → Enough paths (min (length lengths) (length answers)) q
   pub same : Enough paths (min (length lengths) (length answers)) p → leadsTo read paths q out′ lengths′ answers′ ≡ leadsTo read paths p out lengths answers
 
--- all items read that have a place in both rows: what is filled is inside the output. Where each item has one, all are read.
+-- the items with a place in both rows are read, inside the output; where each item has one, all are read
 pub record Passes (read : List ℕ → Ran (List ℕ)) (paths out lengths answers : List ℕ) (left : Stacked) : Type 0 where
   pub room : left .reply .length ≤ length out
   pub out-long : length (left .out) ≡ length out

@@ -25,18 +25,18 @@ use Rattle.directories.specs.declared.lookups.Found.{Found}
 use Rattle.directories.specs.declared.walks.Entered.{Entered}
 use Rattle.directories.specs.declared.walks.PathPlace.{PathPlace}
 
--- what looking for a component's entry in a directory gives
+-- what looking for a component's entry in a directory reports
 abbrev pub enteredOf : Ran (Option Entry) → Entered
 enteredOf r = record { entry = namedOf (r .outcome); count = reported (r .count) }
 
--- the end of a walk: with an answer, and where a component was lost, its place
+-- the end of a walk: its answer and, where a component was lost, that component's place
 abbrev pub stoppedAt : ℕ → LongAd → ℕ → ℕ → ℕ → PathPlace
 stoppedAt answer icb count from end = record { going = false; answer = answer; icb = icb; directory = false; count = count; from = from; end = end }
 
 abbrev pub lostAt : ℕ → ℕ → ℕ → PathPlace
 lostAt count from end = stoppedAt (number NotBluray) noLong count from end
 
--- the place behind a component whose entry was looked for
+-- the place after a component whose entry was looked for
 unfoldable pub beyondOf : Named → ℕ → ℕ → ℕ → PathPlace
 beyondOf e count from end =
     pick (eqb (e .answer) 0)
@@ -63,7 +63,7 @@ leadsTo d matching v work path p =
       lost = record { bytes = take (p .end - p .from) (drop (p .from) path); at = p .from };
     })
 
--- a place on the path, by its numbers alone
+-- the numbers of a place lie within the path
 pub record On (path : List ℕ) (p : PathPlace) : Type 0 where
   pub ordered : p .from ≤ p .end
   pub within : p .end ≤ length path

@@ -1,4 +1,4 @@
--- What a walk along a path leaves in the work space: each directory that was read, over the front of what the one before it left.
+-- What a walk along a path leaves in the work space: each directory read, over the front of what the one before it left.
 use Prim.Native.Nat.{ℕ}
 use mathlib.Core.Bool.{Bool, true, false}
 use mathlib.Core.List.{List, [], _∷_}
@@ -19,17 +19,17 @@ use Rattle.directories.specs.Lookups.{entering}
 use Rattle.directories.specs.inner.Spaces.{onFront}
 use Rattle.directories.specs.declared.walks.PathPlace.{PathPlace}
 
--- with the directory at icb read into it: as it came, where that is refused
+-- the work space once the directory at icb is read into it; as it came where that is refused
 abbrev pub readInto : Disc → Mount → List ℕ → LongAd → List ℕ
 readInto d v work icb = onFront (ran d (directoryBytes v (length work) icb) .outcome) work
 
--- behind a component that was looked for: the walk goes on at its entry, or has ended
+-- after a component was looked for: the walk goes on at its entry, or has ended
 abbrev pub walkedOn : Outcome (Option Entry) → List ℕ → (Entry → List ℕ) → List ℕ
 walkedOn (answered (some e)) work rest = rest e
 walkedOn (answered none) work rest = work
 walkedOn (refused r) work rest = work
 
--- behind a walk along components: one under what is no directory is lost before anything is read
+-- after a walk along components: one under a file is lost before anything is read
 unfoldable pub walkLeaves : Disc → Matching → Mount → List Component → LongAd → Bool → List ℕ → List ℕ
 walkLeaves d matching v [] icb directory work = work
 walkLeaves d matching v (c ∷ cs) icb false work = work
@@ -37,11 +37,11 @@ walkLeaves d matching v (c ∷ cs) icb true work =
     walkedOn (ran d (entering matching v (length work) icb (c .bytes)) .outcome) (readInto d v work icb)
     (λ e. walkLeaves d matching v cs (e .identifier .icb) (isDirectory (e .identifier)) (readInto d v work icb))
 
--- behind a walk along a path from the root
+-- after a walk along a path from the root
 unfoldable pub pathLeaves : Disc → Matching → Mount → LongAd → List ℕ → List ℕ → List ℕ
 pathLeaves d matching v root path work = walkLeaves d matching v (components path) root true work
 
--- behind the rest of a walk, from a place on
+-- after the rest of a walk, from a place on
 unfoldable pub placeLeaves : Disc → Matching → Mount → List ℕ → PathPlace → List ℕ → List ℕ
 placeLeaves d matching v path p work =
     pick (p .going) (walkLeaves d matching v (componentsFrom (p .from) (drop (p .from) path)) (p .icb) (p .directory) work) work

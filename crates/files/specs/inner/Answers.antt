@@ -1,4 +1,4 @@
--- The answer number and the values of the answers that are enums: RULES 12.3.
+-- The answer number and the values of the enum answers: RULES 12.3.
 use Prim.Native.Nat.{ℕ}
 use mathlib.Core.Option.{Option, none, some}
 use Rattle.disc.specs.Refusals.{number}

@@ -1,4 +1,4 @@
--- What the passes over a file's extents say: for the contracts of private functions.
+-- What the passes over a file's extents report: for the contracts of private functions.
 use Prim.Native.Nat.{ℕ, _+_, _≤_}
 use mathlib.Core.Path.{_≡_}
 use mathlib.Core.Bool.{true}
@@ -19,7 +19,7 @@ use Rattle.files.specs.declared.extents.Sizes.{Sizes}
 use Rattle.files.specs.declared.extents.Measured.{Measured}
 use Rattle.files.specs.declared.extents.Measured.the-variants.{Sized, Refused}
 
--- what measuring comes to: bytes and sectors, or a refusal and sectors
+-- the result of measuring: bytes and sectors, or a refusal and sectors
 pub data Came : Type 0 where
   comes : ℕ → ℕ → Came
   stops : Refusal → ℕ → Came
@@ -28,11 +28,11 @@ abbrev pub sizedBy : {A : Type 0} → ℕ → ℕ → Outcome (List A) → Came
 sizedBy size count (answered b) = comes (size + length b) count
 sizedBy size count (refused r) = stops r count
 
--- what is measured, behind `size` bytes, or what else is listed, and `count` sectors
+-- the result of measuring r, after `size` bytes (or other elements) and `count` sectors
 unfoldable pub sized : {A : Type 0} → ℕ → ℕ → Ran (List A) → Came
 sized size count r = sizedBy size (reported (count + r .count)) (r .outcome)
 
--- the extents that were begun and those behind them are all, and so are the areas that were gone to before and behind
+-- the extents begun and those left are all, and so are the areas followed and those left
 pub record SizedTo (image : List ℕ) (m : Mount) (kind : ℕ) (first : ChainCursor) (want : ℕ) (s : Sizes) : Type 0 where
   pub came : comes (s .size) (s .count) ≡ sized 0 0 (restAt image m kind first want)
   pub begun : s .visits ≡ visited (left image m kind first) want
@@ -44,7 +44,7 @@ abbrev pub Measures : List ℕ → Mount → ℕ → ChainCursor → ℕ → Mea
 Measures image m kind first want (Sized s) = SizedTo image m kind first want s
 Measures image m kind first want (Refused r n) = stops r n ≡ sized 0 0 (restAt image m kind first want)
 
--- what a copy of at most `want` bytes leaves: the bytes of a read that is answered over the front, and after any read all that is behind `want` as it came
+-- what a copy of at most `want` bytes leaves: if the read is answered, its bytes over the front; after any read, all past `want` as it came
 pub record Copied (r : Ran (List ℕ)) (want : ℕ) (before after : List ℕ) : Type 0 where
   pub bytes : isAnswered (r .outcome) ≡ true → after ≡ bytesOf (r .outcome) ++ drop (length (bytesOf (r .outcome))) before
   pub kept : drop want after ≡ drop want before

@@ -1,4 +1,4 @@
--- What the next piece of a file is, against the tree of its extents: for the contracts of private functions.
+-- What the next piece of a file is, by the tree of its extents: for the contracts of private functions.
 use Prim.Native.Nat.{ℕ, _+_, _-_, _*_, _≤_, _<_, min, max}
 use mathlib.Core.Path.{_≡_}
 use mathlib.Core.List.{List, [], _∷_, _++_}
@@ -26,7 +26,7 @@ use Rattle.files.specs.declared.pieces.Turn.the-variants.{Piece as APiec
 abbrev pub sectorsRead : ℕ → ℕ → ℕ
 sectorsRead size want = sectorsFor (min size (max 1 want))
 
--- bytes in front of what is answered
+-- bytes in front of the answer
 abbrev pub beforeOutcome : List ℕ → Outcome (List ℕ) → Outcome (List ℕ)
 beforeOutcome b (answered more) = answered (b ++ more)
 beforeOutcome b (refused r) = refused r
@@ -34,18 +34,18 @@ beforeOutcome b (refused r) = refused r
 abbrev pub inFront : List ℕ → ℕ → Ran (List ℕ) → Ran (List ℕ)
 inFront b n r = record { outcome = beforeOutcome b (r .outcome); count = n + r .count }
 
--- a piece of k bytes: it is all that was wanted, or more comes behind it
+-- a piece of k bytes: all that was wanted, or more follows
 abbrev pub joined : List ℕ → ℕ → ℕ → ℕ → Ran (List ℕ) → Ran (List ℕ)
 joined b n k want more = pick (leb want k) (record { outcome = answered b; count = n }) (inFront b n more)
 
--- what is left to run for extents, and for a cursor
+-- the run of the rest of a read: by the extents that are left, and by a cursor
 abbrev pub restOf : List ℕ → Mount → List AllocExtent → ℕ → Ran (List ℕ)
 restOf image m es want = ran (disc image) (extentsBytes m es want)
 
 abbrev pub restAt : List ℕ → Mount → ℕ → ChainCursor → ℕ → Ran (List ℕ)
 restAt image m kind c want = restOf image m (left image m kind c) want
 
--- k bytes at `from`, no more than are wanted
+-- k bytes at `from`, inside the image and no more than are wanted
 pub record Lies (image : List ℕ) (from k want : ℕ) : Type 0 where
   pub small : k ≤ want
   pub within : k ≤ length image - from
@@ -57,7 +57,7 @@ weighedAt image s size want =
     (Held (2048 * s) (sectorsRead size want) (min size want))
     (Refused Io (heldFrom image s + 1))
 
--- an extent that is recorded and stands on this volume, and the sectors that are read of it are there
+-- the extent is recorded and in a partition of this volume, and the sectors to be read of it are there
 pub record There (image : List ℕ) (m : Mount) (e : AllocExtent) (want : ℕ) : Type 0 where
   pub at : ℕ
   pub recorded : e .«extent_type» ≡ 0
@@ -76,7 +76,7 @@ abbrev pub Weighed : List ℕ → Mount → AllocExtent → ℕ → Piece → Ty
 Weighed image m e want (Held from n k) = HeldPiece image m e want from n k
 Weighed image m e want (Refused r n) = (es : List AllocExtent) → restOf image m (e ∷ es) want ≡ record { outcome = refused r; count = n }
 
--- a turn of a walk: one extent is begun, and how many areas are gone to stays what it was
+-- a turn of a walk: one extent is begun, and the number of areas followed in all stays the same
 pub record PieceTurn (image : List ℕ) (m : Mount) (kind : ℕ) (c : ChainCursor) (want from n k : ℕ) (c′ : ChainCursor) : Type 0 where
   pub runs : restAt image m kind c want ≡ joined (take k (drop from image)) n k want (restAt image m kind c′ (want - k))
   pub lies : Lies image from k want

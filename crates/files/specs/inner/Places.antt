@@ -1,4 +1,4 @@
--- Where the entry that an ICB names stands in the image: what `locate` says.
+-- Where the entry named by an ICB is in the image: what `locate` reports.
 use Prim.Native.Nat.{ℕ, _+_, _*_}
 use mathlib.Core.Bool.{Bool}
 use mathlib.Core.List.{List}
@@ -14,7 +14,7 @@ use Rattle.files.specs.declared.icbs.FilePlace.{FilePlace}
 use Rattle.files.specs.declared.icbs.PlaceRead.{PlaceRead}
 use Rattle.files.specs.declared.icbs.PlaceRead.the-variants.{Found, Refused}
 
--- an entry in a sector that stands at `from`: its area, or the file itself, is counted from the image's start
+-- the place of an entry whose sector starts at `from`: its area, or the file itself, counted from the image's start
 abbrev pub placeAt : ℕ → FileEntry → FilePlace
 placeAt from e = record { kind = e .kind; information = e .«information_length»; at = from + e .«area_at»; size = e .«area_length» }
 
@@ -22,7 +22,7 @@ abbrev pub placeBy : Outcome Located → ℕ → PlaceRead
 placeBy (answered x) n = Found (placeAt (2048 * x .at) (x .entry))
 placeBy (refused why) n = Refused why n
 
--- what a tree that finds an entry comes to on an image
+-- where a tree finds an entry on an image
 unfoldable pub placeOn : List ℕ → Ask Located → PlaceRead
 placeOn image t = placeBy (ran (disc image) t .outcome) (ran (disc image) t .count)
 

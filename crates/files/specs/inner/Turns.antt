@@ -20,16 +20,16 @@ use Rattle.files.specs.declared.pieces.Piece.the-variants.{Held, Refused
 use Rattle.files.specs.declared.pieces.Turn.{Turn}
 use Rattle.files.specs.declared.pieces.Turn.the-variants.{Piece as APiece, Hop, Refused as Stopped, End}
 
--- an extent of `size` bytes that may stand nowhere on the volume
+-- the piece of an extent of `size` bytes; without a sector, its partition isn't of this volume
 abbrev pub weighedIn : List ℕ → ℕ → ℕ → Option ℕ → Piece
 weighedIn image size want none = Refused Unsupported 0
 weighedIn image size want (some s) = weighedAt image s size want
 
--- an extent: it is recorded, it stands on this volume, and its sectors are there (RULES 7.4, 7.5)
+-- an extent must be recorded and in a partition of this volume, with its sectors there (RULES 7.3 to 7.5)
 abbrev pub weighedOf : List ℕ → Mount → AllocExtent → ℕ → Piece
 weighedOf image m e want = pick (eqb (e .«extent_type») 0) (weighedIn image (e .length) want (placed m (e .«partition_ref») (e .block .0))) (Refused Unsupported 0)
 
--- an extent that was weighed, with the cursor behind it
+-- an extent that was weighed, with the cursor after it
 abbrev pub turnWith : ChainCursor → Piece → Turn
 turnWith next (Refused why n) = Stopped why n
 turnWith next (Held from n k) = APiece from n k next

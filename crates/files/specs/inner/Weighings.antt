@@ -20,15 +20,15 @@ use Rattle.files.specs.declared.icbs.FilePlace.{FilePlace}
 use Rattle.files.specs.declared.sizes.FileSizes.{FileSizes}
 use Rattle.files.specs.declared.sizes.Weighing.{Weighing}
 
--- where no chain is to be counted
+-- where there is no chain to count
 abbrev pub uncountedBy : Mount → Reply → Weighing
 uncountedBy m reply = record { reply = reply; visits = 0; mount = m; kind = 0; behind = record { at = 0; left = 0; hops = mostContinuations } }
 
--- with what is left behind the cursor counted
+-- the sizes, once what is left after the cursor is counted
 abbrev pub sizedWith : Weighing → Counted → FileSizes
 sizedWith w k = record { reply = w .reply; extents = w .visits + k .extents; hops = mostContinuations - k .hops }
 
--- a file whose read comes to r, of so many extents and so many continuations
+-- w weighs a file whose read comes to r, with this many extents and continuations
 pub record Weighs (image : List ℕ) (r : Ran (List ℕ)) (extents hops : ℕ) (w : Weighing) : Type 0 where
   pub says : w .reply ≡ measuredOf r
   pub rest : (k : Counted) → Counts image (w .mount) (w .kind) (w .behind) k → sizedWith w k ≡ sizesBy (measuredOf r) (r .outcome) extents hops

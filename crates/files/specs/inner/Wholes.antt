@@ -27,7 +27,7 @@ use Rattle.files.specs.declared.icbs.PlaceRead.the-variants.{Found, Refu
 use Rattle.files.specs.declared.resolves.Resolved.{Resolved}
 use Rattle.files.specs.declared.resolves.Resolved.the-variants.{Embedded, Chained, Refused as Unresolved}
 
--- the entry at the front of a sector that stands at `from`
+-- the entry in the sector that starts at `from`
 abbrev pub readBy : ℕ → EntryRead → PlaceRead
 readBy from (NoEntry r) = Refused r 1
 readBy from (Read e) = Found (placeAt from e)
@@ -35,7 +35,7 @@ readBy from (Read e) = Found (placeAt from e)
 unfoldable pub placeIn : Bool → List ℕ → ℕ → PlaceRead
 placeIn check s from = readBy from (readEntry check s)
 
--- the bytes that stand in the entry itself
+-- the bytes embedded in the entry
 abbrev pub embeddedIn : List ℕ → FilePlace → List ℕ
 embeddedIn image p = take (min (p .size) (p .information)) (drop (p .at) image)
 
@@ -46,7 +46,7 @@ embeddedRun image p = record { outcome = answered (embeddedIn image p); count = 
 abbrev pub frontOf : FilePlace → ChainCursor
 frontOf p = record { at = p .at; left = p .size; hops = mostContinuations }
 
--- an entry that a tree found, and where what stands in its sector stands in the image
+-- the entry that a tree found, and where its sector's contents are in the image
 pub record FoundPlace (image : List ℕ) (t : Ask Located) (p : FilePlace) : Type 0 where
   pub entry : Located
   pub runs : ran (disc image) t ≡ record { outcome = answered entry; count = 1 }
@@ -63,7 +63,7 @@ Finds image t (Refused r n) = ran (disc image) t ≡ record { outcome = refused 
 abbrev pub Locates : List ℕ → Mount → LongAd → PlaceRead → Type 0
 Locates image m icb r = Finds image (entryAt m icb) r
 
--- a file whose entry and chain were read: the chain as the entry's own descriptors are
+-- a file whose entry and chain were read, the chain with the mount of the entry
 pub record EmbeddedFile (image : List ℕ) (m : Mount) (icb : LongAd) (p : FilePlace) : Type 0 where
   pub entry : Located
   pub runs : ran (disc image) (fileAt m icb) ≡ record { outcome = answered (embedded entry); count = 1 }

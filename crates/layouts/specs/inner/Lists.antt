@@ -1,4 +1,4 @@
--- What the passes over a list of extents say: for the contracts of private functions.
+-- What the passes over a list of extents report: for the contracts of private functions.
 use Prim.Native.Nat.{ℕ}
 use mathlib.Core.Path.{_≡_}
 use mathlib.Core.List.{List, [], _∷_}
@@ -18,17 +18,17 @@ use Rattle.chains.specs.declared.cursors.ChainCursor.{ChainCursor}
 use Rattle.layouts.specs.Calls.{extentOf}
 use Rattle.layouts.specs.declared.lists.Listing.{Listing}
 
--- the extents, or what else is listed, that are stored: none where the call is refused
+-- the extents (or other elements) that are stored: none where the call is refused
 abbrev pub storedOf : {E : Type 0} → ℕ → Outcome (List E) → List E
 storedOf room (refused r) = []
 storedOf room (answered es) = pick (leb (length es) room) es []
 
--- a listing has the front of the extents that are left at hand, and a cursor at those behind it
+-- a listing has the first of the extents that are left, and a cursor at those after it
 pub record Front (image : List ℕ) (e : AllocExtent) (es : List AllocExtent) (l : Listing) : Type 0 where
   pub front : l .front ≡ extentOf e
   pub behind : left image (l .mount) (l .kind) (l .behind) ≡ es
 
--- a listing where es are left, if any
+-- a listing with es left
 pub record ListStands (image : List ℕ) (es : List AllocExtent) (reply : Reply) (l : Listing) : Type 0 where
   pub same : l .reply ≡ reply
   pub next : (e : AllocExtent) (rest : List AllocExtent) → es ≡ e ∷ rest → Front image e rest l
@@ -37,6 +37,6 @@ pub record ListStands (image : List ℕ) (es : List AllocExtent) (reply : Reply)
 abbrev pub Planned : List ℕ → Ran (List AllocExtent) → ℕ → Listing → Type 0
 Planned image r room l = ListStands image (storedOf room (r .outcome)) (replyOf NoSlot room r) l
 
--- what a chain that is whole comes to, after n sectors
+-- the run of a whole chain, after n sectors
 abbrev pub listedRun : List ℕ → Mount → ℕ → ChainCursor → ℕ → Ran (List AllocExtent)
 listedRun image m kind c n = record { outcome = answered (left image m kind c); count = n }

@@ -1,4 +1,4 @@
--- What the passes over a file's runs say: for the contracts of private functions.
+-- What the passes over a file's runs report: for the contracts of private functions.
 use Prim.Native.Nat.{ℕ, _+_, _≤_, min}
 use mathlib.Core.Path.{_≡_}
 use mathlib.Core.List.{List, [], _∷_}
@@ -25,7 +25,7 @@ use Rattle.layouts.specs.declared.runs.RunCount.{RunCount}
 use Rattle.layouts.specs.declared.runs.RunCount.the-variants.{Counted, Refused}
 use Rattle.layouts.specs.declared.runs.Running.{Running}
 
--- what is left to run for extents, and for a cursor
+-- the run of the rest: by the extents that are left, and by a cursor
 abbrev pub runsOn : List ℕ → Mount → List AllocExtent → ℕ → Ran (List Run)
 runsOn image m es want = ran (disc image) (extentsRuns m es want)
 
@@ -41,7 +41,7 @@ abbrev pub countedBy : RunCount → Came
 countedBy (Counted n count) = comes n count
 countedBy (Refused r count) = stops r count
 
--- a listing has the first of the runs that are left at hand, and a cursor at those behind it
+-- a listing has the first of the runs that are left, and a cursor at those after it
 pub record RunFront (image : List ℕ) (r : Run) (rest : List Run) (l : Running) : Type 0 where
   pub at : l .at ≡ r .at
   pub length : l .length ≡ r .length
@@ -58,11 +58,11 @@ RunsLeft image m kind c want reply l = RunStands image (runsIn (runsAt image m k
 abbrev pub RunsPlanned : List ℕ → Ran (List Run) → ℕ → Running → Type 0
 RunsPlanned image r room l = RunStands image (storedOf room (r .outcome)) (replyOf NoSlot room r) l
 
--- a listing of one run at most, with none behind it
+-- a listing of at most one run
 abbrev pub aloneBy : Mount → ℕ → ℕ → Reply → Running
 aloneBy m at n reply = record { reply = reply; mount = m; kind = 0; at = at; length = n; behind = record { at = 0; left = 0; hops = 0 }; want = 0 }
 
--- the bytes in the entry, and those of a chain that is whole, after n sectors
+-- the run of an embedded file, and of a whole chain after n sectors
 abbrev pub entryRun : FilePlace → Ran (List Run)
 entryRun p = record { outcome = answered (runHere (p .at) (min (p .size) (p .information))); count = 1 }
 

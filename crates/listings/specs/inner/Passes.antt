@@ -1,4 +1,4 @@
--- What the passes over a directory's bytes say.
+-- What the passes over a directory's bytes report.
 use Prim.Native.Nat.{ℕ, _+_, _-_, _/_, _%_, _≤_}
 use mathlib.Core.Path.{_≡_}
 use mathlib.Core.Bool.{Bool, true, false, not}
@@ -26,7 +26,7 @@ use Rattle.listings.specs.declared.listing.ListingSize.{ListingSize}
 use Rattle.listings.specs.declared.matchings.Matching.{Matching}
 use Rattle.listings.specs.declared.matchings.Matching.the-variants.{CaseIgnored, AsWritten, Unambiguous}
 
--- ---- the entry that stands at a place, with its body checked or not
+-- ---- the entry at a place, with its body checked or not
 
 -- the bytes from there on
 abbrev pub tail : List ℕ → ℕ → List ℕ
@@ -58,16 +58,16 @@ icbIn s = six s 20 ++ six s 26 ++ byte s 32 ∷ byte s 33 ∷ byte s 34 ∷ byte
 unfoldable pub headIn : ℕ → List ℕ → ℕ → List ℕ
 headIn directory s n = 0x44 ∷ 0x45 ∷ directory ∷ (icbIn s ++ le16 n)
 
--- and the whole, with the entry's characteristics and a name in UTF-8
+-- the whole record, by the entry's characteristics and a name in UTF-8
 unfoldable pub recordIn : ℕ → List ℕ → List ℕ → List ℕ
 recordIn marks s name = headIn (marks / 2 % 2) s (length name) ++ name
 
--- what writing a record says: what is written has room, and it is the record where that has
+-- what writing a record reports: no more is written than there is room for, and it is the record where that fits
 pub record Recorded (marks : ℕ) (s name before after : List ℕ) (r : ℕ) : Type 0 where
   pub inside : r ≤ length before
   pub wrote : 21 + length name ≤ length before → Wrote (recordIn marks s name) before after r
 
--- what writing an entry says, whatever bytes s has: what is written has room, and the next entry starts further on, at most three
+-- what writing an entry reports, whatever bytes s has: no more is written than there is room for, and the next entry starts further on, at most three
 -- bytes past the end. Nothing is checked again: an entry that was read with its body checked is read the same without
 pub record Puts (s before after : List ℕ) (r : Put) : Type 0 where
   pub inside : r .wrote ≤ length before
@@ -76,19 +76,19 @@ pub record Puts (s before after : List ℕ) (r : Put) : Type 0 where
   pub next : (e : Entry) → entryRead false s ≡ answered e → r .next ≡ nextAt s
   pub wrote : (e : Entry) → entryRead false s ≡ answered e → length (entryRecord e) ≤ length before → Wrote (entryRecord e) before after (r .wrote)
 
--- what is lent to an entry, with its record over the front where it can be read and has room
+-- the memory lent to an entry, with the record over its front where the entry can be read and the record fits
 unfoldable pub listedOver : Outcome Entry → List ℕ → List ℕ
 listedOver (answered e) lent = pick (leb (length (entryRecord e)) (length lent)) (over (entryRecord e) lent) lent
 listedOver (refused why) lent = lent
 
 -- ---- all entries
 
--- what measuring a directory's entries says
+-- what measuring a directory's entries reports
 abbrev pub sizeOfListing : Outcome (List Entry) → ListingSize
 sizeOfListing (answered es) = record { answer = 0; size = length (records es) }
 sizeOfListing (refused why) = record { answer = number why; size = 0 }
 
--- no further entry can change what was found: the first was, or a second one that matches
+-- no further entry can change what was found: a first match or, if it must be unambiguous, a second one
 abbrev pub settled : Matching → Named → Bool
 settled CaseIgnored found = found .found
 settled AsWritten found = found .found

@@ -1,5 +1,4 @@
--- What the private functions cite: a d-string's body unit by unit, and what is found of it first. The public
--- contracts cite `Names` alone.
+-- For the private functions: the body of a d-string unit by unit, and what is found out about it first. The public contracts cite `Names` alone.
 use Prim.Native.Nat.{ℕ, _≤_, _+_, _*_}
 use mathlib.Core.Path.{_≡_}
 use mathlib.Core.List.{List, []}
@@ -26,7 +25,7 @@ unitAt s i step = pick (eqb step 2) (getD s i 0 * 256 + getD s (i + 1) 0) (getD 
 unfoldable pub unitBytes : ℕ → List ℕ
 unitBytes u = pick (surrogate u) [] (encode u)
 
--- A text was stored from `at` on, and where it ends was returned.
+-- A text was stored from `at` on, and its end was returned.
 pub record WroteAt (at : ℕ) (text before after : List ℕ) (r : ℕ) : Type 0 where
   pub count : r ≡ at + length text
   pub bytes : after ≡ sets before at text
@@ -52,13 +51,13 @@ pub record At (step : ℕ) (s : List ℕ) (i : ℕ) : Type 0 where
   pub body : Body s step
   pub within : i ≤ length s
 
--- The name of a d-string of a form.
+-- The name of a d-string that has this form.
 abbrev pub nameAs : Form → List ℕ → Outcome (List ℕ)
 nameAs Empty s = answered []
 nameAs (Units step) s = answered (textOf step (drop 1 s))
 nameAs Bad s = refused Malformed
 
--- What is known besides: of a body, that it is there.
+-- What is known besides: where there are units, there is a body.
 abbrev pub Readable : Form → List ℕ → Type 0
 Readable Empty s = Unit {0}
 Readable (Units step) s = Body s step
@@ -71,7 +70,7 @@ pub record Formed (s : List ℕ) (f : Form) : Type 0 where
 
 -- ---- a field
 
--- The name of a field whose d-string has a length.
+-- The name of a field, by the length of its d-string.
 abbrev pub frontName : FieldLength → List ℕ → Outcome (List ℕ)
 frontName (Length n) f = nameOf (take n f)
 frontName TooLong f = refused Malformed

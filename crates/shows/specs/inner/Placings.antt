@@ -1,4 +1,4 @@
--- What the recursion leaves of a place that is lent for figures, node by node: said of any numbers there, also of such as no figures give.
+-- What the recursion leaves in a place that is lent for figures, node by node, whatever numbers the place has.
 use Prim.Native.Nat.{ℕ, min}
 use mathlib.Core.Bool.{Bool}
 use mathlib.Core.List.{List, [], _∷_}
@@ -14,11 +14,11 @@ use Rattle.identifiers.specs.Identifiers.{isDirectory}
 use Rattle.figures.specs.Placed.{withDirectory, withFile}
 use Rattle.shows.specs.Shows.{Node}
 
--- a file by what is measured of it; no answer number is over 16
+-- a file is added, by what is measured of it; no answer number is over 16
 abbrev pub sizesPlaced : FileSizes → List ℕ → List ℕ
 sizesPlaced z s = withFile (min (z .reply .answer) 16) (z .reply .length) (z .extents) (z .reply .count) (z .hops) s
 
--- none is read any more once the place has more than `most` sectors
+-- no file is read once the place has more than `most` sectors
 unfoldable pub filePlaced : Disc → Mount → ℕ → LongAd → List ℕ → List ℕ
 filePlaced d m most icb s = pick (leb (getD s 8 0) most) (sizesPlaced (sizesOf d m icb) s) s
 

@@ -1,4 +1,4 @@
--- The tree an entry at a time: what one gives, and the place behind it.
+-- The tree an entry at a time: what an entry gives, and the place after it.
 use Prim.Native.Nat.{ℕ, suc, _+_, _≤_, _<_}
 use mathlib.Core.Path.{_≡_}
 use mathlib.Core.Bool.{false}
@@ -68,13 +68,13 @@ pub record SeenBad (s : List ℕ) : Type 0 where
   pub why : Refusal
   pub reads : entryRead false s ≡ refused why
 
--- the entry at the front of s was looked at, and its record written behind the first `from` bytes
+-- the entry at the front of s was looked at, and its record written after the first `from` bytes
 pub record Noted (level from : ℕ) (s before after : List ℕ) (e : EntrySeen) : Type 0 where
   pub good : e .answer ≡ 0 → SeenGood s e
   pub bad : (e .answer ≡ 0 → ⊥) → SeenBad s
   pub puts : (x : Entry) → entryRead false s ≡ answered x → from + length (ownRecord level x) ≤ length before → after ≡ sets before from (ownRecord level x)
 
--- ---- a place in a show, and the place behind a part of the tree
+-- ---- a place in a show, and the place after a part of the tree
 
 abbrev pub stoppedAt : ℕ → ℕ → ShowPlace
 stoppedAt answer count = record { answer = answer; count = count; size = 0; most = 0 }
@@ -83,7 +83,7 @@ stoppedAt answer count = record { answer = answer; count = count; size = 0; most
 abbrev pub startOf : ℕ → ShowPlace
 startOf most = record { answer = 0; count = 0; size = 0; most = most }
 
--- it isn't refused, it may ask for as many sectors as were lent, no more were asked for, and its size is held
+-- the place isn't refused, its budget is `most` sectors, it asked for no more, and its size fits 64 bits
 pub record Held (most : ℕ) (p : ShowPlace) : Type 0 where
   pub going : p .answer ≡ 0
   pub lends : p .most ≡ most
@@ -95,7 +95,7 @@ abbrev pub behindBy : ShowPlace → Outcome (List Node) → ℕ → ShowPlace
 behindBy p (answered ns) n = record { answer = 0; count = reported (p .count + n); size = reported (p .size + length (nodeRecords ns)); most = p .most }
 behindBy p (refused why) n = stoppedAt (number why) (reported (p .count + n))
 
--- the place behind a part that asks for n sectors: refused by 16 where that is more than may be asked for
+-- the place after a part that asks for n sectors: refused by 16 where that exceeds the budget
 abbrev pub cappedBy : ShowPlace → ℕ → ShowPlace → ShowPlace
 cappedBy p n q = pick (leb (reported (p .count + n)) (p .most)) q (stoppedAt (number OverBudget) (p .most))
 
@@ -107,7 +107,7 @@ pub record Lent : Type 0 where
 abbrev pub lent : List ℕ → List ℕ → Lent
 lent out tally = record { out = out; tally = tally }
 
--- a part of the tree was shown: the place behind it, its records where they have room, and the place with its nodes in it
+-- a part of the tree was shown: the place after it, its records where they fit, and the figures with its nodes added
 pub record Visited (of : Node → List ℕ → List ℕ) (r : Ran (List Node)) (p : ShowPlace) (before : Lent) (q : ShowPlace) (after : Lent) : Type 0 where
   pub says : q ≡ cappedBy p (r .count) (behindBy p (r .outcome) (r .count))
   pub puts : (ns : List Node) → r .outcome ≡ answered ns → reported (p .count + r .count) ≤ p .most → p .size + length (nodeRecords ns) ≤ length (before .out) → length (before .out) ≤ 0xffff_ffff_ffff_ffff
@@ -130,7 +130,7 @@ pub record OpenedWell (d : Disc) (m : Mount) (icb : LongAd) (p : ShowPlace) (wor
   pub within : reported (p .count + n) ≤ p .most
   pub place : o .place ≡ record { answer = 0; count = reported (p .count + n); size = p .size; most = p .most }
 
--- or it is refused, or wants too many sectors, whatever was to be done with it
+-- or it is refused, or wants too many sectors, whatever was to follow
 pub record OpenedBadly (d : Disc) (m : Mount) (icb : LongAd) (p : ShowPlace) (work : ℕ) (o : OpenedLevel) : Type 0 where
   pub shows : (of : Node → List ℕ → List ℕ) (f : List ℕ → List Entry → Ask (List Node)) (l : Lent) → Visited of (ran d (opening m work icb f)) p l (o .place) l
 
@@ -146,7 +146,7 @@ turnOf inside level e =
     pick (isSkipped (e .identifier)) (done [])
     (then (under inside e) (λ below. done (record { level = level; entry = e } ∷ below)))
 
--- the first of the entries that stand at a place had its turn, and the others stand behind it
+-- the first of the entries at a place had its turn, and the others follow it
 pub record Handled (d : Disc) (m : Mount) (left level : ℕ) (raw : List ℕ) (work : ℕ) (p : ShowPlace) (before : Lent) (t : EntryTurn) (after : Lent) (es : List Entry) : Type 0 where
   pub first : Entry
   pub others : List Entry
@@ -154,7 +154,7 @@ pub record Handled (d : Disc) (m : Mount) (left level : ℕ) (raw : List ℕ) (w
   pub are : entries false (drop (t .next) raw) ≡ answered others
   pub shows : Visited (nodePlaced d m (p .most)) (ran d (turnOf (nodesAt m left (suc level) work) level first)) p before (t .place) after
 
--- so it is where the bytes are as they were parsed; whatever they are, the next entry starts further on
+-- this holds where the bytes are as they were parsed; whatever they are, the next entry starts further on
 pub record Handles (d : Disc) (m : Mount) (left level : ℕ) (raw : List ℕ) (work at : ℕ) (p : ShowPlace) (before : Lent) (t : EntryTurn) (after : Lent) : Type 0 where
   pub further : at < t .next
   pub near : t .next ≤ length raw + 3

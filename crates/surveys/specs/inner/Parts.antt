@@ -11,6 +11,6 @@ use Rattle.surveys.specs.Surveys.{ofImage, images, surveys}
 abbrev pub EachIn : Choice → ℕ → ℕ → List ℕ → List ℕ → List ℕ → List ℕ → Type 0
 EachIn how most work shelf lengths before after = after ≡ rows (map (ofImage how most work) (images lengths shelf)) ++ drop (place * length lengths) before
 
--- the whole of it, but for the work space
+-- the whole of it, except the work space
 abbrev pub Surveys : Choice → ℕ → List ℕ → List ℕ → List ℕ → List ℕ → List ℕ → ℕ → Type 0
 Surveys how most work shelf lengths before after answer = (answer ≡ surveys how most shelf lengths before work .answer) × (after ≡ surveys how most shelf lengths before work .figures)
