@@ -1,6 +1,6 @@
 // Makes every call of `vault` on stored images. It reads the files of queries that its arguments name, makes each
-// call with the memory that its query lends, and prints what came back, a line for each. docs/COMPARING.md has the
-// form of the files and of the lines. tools/asked.py computes what is expected, from the files and the rules.
+// call with the memory that its query lends, and prints what came back, a line for each. tools/asked.py describes the
+// files and the lines, and computes what is expected from the files and the rules.
 //
 // A file that is cut off, or has a number that means nothing, is refused with a line that says where. The rest of it
 // isn't asked.

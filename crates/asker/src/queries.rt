@@ -1,5 +1,5 @@
 // A query as stored in a file: nine numbers, an ICB, a budget of sectors, the length of a text, and the text.
-// docs/COMPARING.md says what each of them means.
+// tools/asked.py says what each of them means.
 use disc::places::Mount;
 use listings::matchings::Matching;
 use listings::matchings::matching_of;

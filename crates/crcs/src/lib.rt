@@ -31,8 +31,8 @@ fn take_bytes(t: &[u32; 256], from: u32, s: &[u8]) -> u16
     c as u16
 }
 
-// The CRC of s, continued from `front`, the CRC of the bytes before it. The table is made where it is lent, so once
-// for all bytes of s.
+// The CRC of s, continued from `front`, the CRC of the bytes before it. The table is lent here, so that it is made
+// once for all bytes of s.
 pub fn crc_behind(front: u16, s: &[u8]) -> u16
     ensures { λ r. ⌜ r ≡ crcFrom front (now (s .entry)) ⌝ }
 {

@@ -35,7 +35,8 @@ pub enum Turn {
     End,
 }
 
-// How many sectors of an extent of `size` bytes are read for `want` bytes. The first is read even if `want` is 0.
+// How many sectors of an extent of `size` bytes are read for `want` bytes. The first, if there is one, is read even
+// if `want` is 0.
 fn sectors_read(size: u32, want: u64) -> u64
     ensures { λ r. ⌜ r ≡ sectorsRead size want ⌝ }
 {

@@ -12,7 +12,7 @@ use listings::directory_entries::is_skipped;
 use listings::entry_records::put_listed;
 use records::allocations::LongAd;
 
-// The size of a record before its name: that of a listing's, and the level.
+// The size of a record before its name: a listing's 21 bytes, and the level.
 const HEAD: u64 = 22;
 
 // What the tree takes from an entry: whether it is skipped, whether it is a directory, the size of its record, and
