@@ -14,10 +14,9 @@ import pathlib
 import re
 import subprocess
 import sys
-import tempfile
 
 ROOT = pathlib.Path(__file__).resolve().parents[1]
-INDEX, RULES = "docs/INDEX.md", "docs/RULES.md"
+INDEX, RULES, THIS = "docs/INDEX.md", "docs/RULES.md", "tools/documents.py"
 WORD = re.compile(r"[^\W\d][\w′]*(?:-[\w′]+)*")
 OPTION = re.compile(r"(?<![\w-])--?[A-Za-z][\w-]*")
 LINK = re.compile(r"(?<!!)\[[^\]]*\]\(([^)\s]+)\)")
@@ -26,8 +25,9 @@ FENCE = re.compile(r"^```.*?^```\s*$", re.M | re.S)
 # "RULES 8.26 to 8.33", "docs/RULES.md, 6.16", "rule 1.3": every number that follows.
 CITED = re.compile(r"(?:RULES(?:\.md)?|\b[Rr]ules?)[),:]*\s+(\d+\.\d+(?:(?:,? and |,? or | to |, |-|–)\d+\.\d+)*)")
 NUMBER = re.compile(r"\d+\.\d+")
-# Words of other programs, and of examples, that no source of ours has.
-OTHERS = set("""apt cat cd cp diff dnf echo find grep ls sudo time tr sort xargs curl brew pacman zypper""".split())
+# Functions of the original, other programs and words of UDF that no source of ours has; and what stands for any name.
+OTHERS = set("read_sector read_partition_block resolve_ad_continuations xz -dc Non-Allocatable Space".split())
+ANY = set("NAME CRATE X N".split())
 
 
 def tracked(root):
@@ -45,10 +45,10 @@ class Tree:
         self.folders = {str(up) for path in self.paths for up in pathlib.PurePath(path).parents}
         self.documents = {p: (root / p).read_text(encoding="utf-8") for p in self.paths if p.endswith(".md") and p != INDEX}
         self.sources = {p: text for p in self.paths if not p.endswith(".md") for text in [self.text(p)] if text is not None}
-        self.words, self.options = set(OTHERS), set()
+        self.words, self.options = OTHERS | ANY, {one for one in OTHERS if one.startswith("-")}
         for path, text in self.sources.items():
             self.words.update(re.split(r"[/.]", path))
-            if "/stdout" not in path:
+            if "/stdout" not in path and path != THIS:
                 self.take(text)
         self.rules = set(re.findall(r"^\*\*(\d+\.\d+)\*\*", self.documents.get(RULES, ""), re.M))
 
@@ -93,7 +93,7 @@ class Tree:
         return "/".join(parts)
 
     def cited_paths(self, path, text):
-        """What starts like a path from the root on: `..`, `*` and capitals in a part stand for any."""
+        """What starts like a path from the root on: `..`, `*` and NAME stand for any part."""
         if "/landings/" in path or path == "CHANGELOG.md":
             return
         for found in re.finditer(r"(?<![\w/.$-])(?:crates|docs|tools|strandlodge|strandlodge-sys|compare|include|packaging|\.ci)/[\w*./{}-]*[\w*}]", text):
@@ -101,8 +101,8 @@ class Tree:
                 yield path, line(text, found), f"{found[0]} isn't there"
 
     def is_path(self, cited):
-        pattern = "".join("[^/]+" if re.fullmatch(r"[A-Z]+|\*|\.\.", part) else ".*" if part in ("**",) else re.escape(part).replace(r"\*", "[^/]*")
-                          for part in re.split(r"(/|\*\*|\*|\b[A-Z]{3,}\b(?![.\w]))", cited) if part)
+        parts = re.split(r"(/|\*\*|\*|\.\.|\b[A-Z]+\b)", cited)
+        pattern = "".join(".*" if part == "**" else "[^/]*" if part in ("*", "..") or part in ANY else re.escape(part) for part in parts)
         return any(re.fullmatch(pattern, one) for one in (*self.paths, *self.folders))
 
     def names(self, path, text):
