@@ -1,4 +1,4 @@
-// Runs the cases of areas of allocation descriptors, a line each: what was asked, and what was answered.
+// Runs the cases for areas of allocation descriptors. Each line has the question and the answer.
 use areas::AdContinuation;
 use areas::AdCursor;
 use areas::AdEnding;
@@ -44,7 +44,7 @@ fn say_ending(e: AdEnding) {
     }
 }
 
-// An area, walked by the cursor, and how it ends.
+// Prints the extents of an area and how it ends, as the cursor walks it.
 fn walk(kind: u8, s: &[u8]) {
     let mut c = AdCursor {
         at: 0,
@@ -99,7 +99,7 @@ fn ext_area(s: &[u8]) {
     area(2, s);
 }
 
-// A cursor that stands at a place with a number of bytes left, in an area of two short_ads.
+// A cursor at `at` with `left` bytes left, in an area of two short_ads.
 fn step(at: usize, left: usize) {
     let s = b"\x00\x08\x00\x00\x05\x00\x00\x00\x00\x10\x00\x00\x09\x00\x00\x00";
     say(b"short_ads at");

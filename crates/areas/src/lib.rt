@@ -9,7 +9,7 @@ use records::allocations::ext_at;
 use records::allocations::long_at;
 use records::allocations::short_at;
 
-// `length` is the effective one: an ext_ad's information length, else the stored length.
+// `length` is the effective length: an ext_ad's information length, otherwise the stored length.
 pub struct AllocExtent {
     pub length: u32,
     pub extent_type: u8,
@@ -17,14 +17,14 @@ pub struct AllocExtent {
     pub partition_ref: PartitionRef,
 }
 
-// Where the next area stands.
+// Where the next area is.
 pub struct AdContinuation {
     pub length: u32,
     pub block: Block,
     pub partition_ref: PartitionRef,
 }
 
-// `left` bytes of descriptors stand at `at`.
+// `left` bytes of descriptors are left, from `at` on.
 pub struct AdCursor {
     pub at: usize,
     pub left: usize,
@@ -52,7 +52,7 @@ enum Descriptor {
     Compressed,
 }
 
-// How many bytes a descriptor of a kind takes.
+// The size of a descriptor: kind 0 is short_ad, 1 is long_ad, any other ext_ad.
 fn size_of(kind: u8) -> usize
     ensures { λ r. ⌜ r ≡ sizeOf kind ⌝ }
 {
@@ -65,7 +65,8 @@ fn size_of(kind: u8) -> usize
     20
 }
 
-// `stored` is the extent as recorded, `effective` with its effective length. Length 0 is tested first: it ends an area even with type 3.
+// `stored` is the extent as recorded; `effective` has its effective length; `whole` means that it isn't compressed.
+// Length 0 is tested first: it ends an area even with type 3.
 fn descriptor_of(stored: AllocExtent, whole: bool, effective: AllocExtent) -> Descriptor
     ensures { λ r. ⌜ r ≡ descriptorOf stored whole effective ⌝ }
 {
@@ -132,7 +133,7 @@ fn ext_descriptor(s: &[u8], i: usize) -> Descriptor
     descriptor_of(stored, a.recorded_length == a.information_length, effective)
 }
 
-// The descriptor of a kind at `i`.
+// The descriptor at `i`, of the given kind.
 fn descriptor_at(s: &[u8], kind: u8, i: usize) -> Descriptor
     ensures { λ r. ⌜ r ≡ descriptorAt kind (now (s .entry)) i ⌝ }
 {
@@ -145,7 +146,7 @@ fn descriptor_at(s: &[u8], kind: u8, i: usize) -> Descriptor
     ext_descriptor(s, i)
 }
 
-// The next descriptor of an area. Past the end of `s` all bytes are 0, and length 0 ends it.
+// The next descriptor of an area. Bytes past the end of `s` read as 0, and length 0 ends the area.
 pub fn next_ad(s: &[u8], kind: u8, c: AdCursor) -> AdStep
     ensures { λ r. ⌜ r ≡ nextOf kind (now (s .entry)) c ⌝ }
 {
@@ -172,7 +173,7 @@ pub fn next_ad(s: &[u8], kind: u8, c: AdCursor) -> AdStep
     }
 }
 
-// How the area that the cursor stands for ends.
+// How the area at the cursor ends; its extents are passed over.
 pub fn ending_of(s: &[u8], kind: u8, c: AdCursor) -> AdEnding
     ensures { λ r. ⌜ r ≡ areaAt kind (now (s .entry)) (c .at) (c .left) .ending ⌝ }
 {

@@ -1,4 +1,4 @@
-// The calls, each with the line that it comes to. A call is lent exactly what its query says, all of it full of A5.
+// Makes each call and writes its line. A call is lent exactly what its query says, all of it full of A5.
 use crate::lines::put;
 use crate::lines::put_answer;
 use crate::lines::put_kept;
@@ -116,7 +116,7 @@ fn line_of_failed_at(v: Volume, image: &[u8], q: &[u8], work: &mut [u8], line: &
     put_zero(line, b, work)
 }
 
-// What a call that writes left in its output and in its work space.
+// The line of a call that writes: its reply, its output and its work space.
 fn line_of_written(call: &[u8], r: Reply, out: &[u8], work: &[u8], line: &mut [u8]) -> usize {
     let n = r.length as usize;
     let a = put_reply(line, call, r);
@@ -149,9 +149,9 @@ fn line_of_part_at(v: Volume, image: &[u8], q: &[u8], line: &mut [u8]) -> usize 
     put_named(line, a, b" at ", place as u64)
 }
 
-// ---- any of them, by its number
+// ---- any call, by its number
 
-// Those that are lent neither output nor work space.
+// Calls that are lent neither output nor work space.
 fn lent_nothing(call: u32, v: Volume, image: &[u8], q: &[u8], line: &mut [u8]) -> usize {
     if call == 0 {
         return line_of_probe(image, line);
@@ -174,7 +174,7 @@ fn lent_nothing(call: u32, v: Volume, image: &[u8], q: &[u8], line: &mut [u8]) -
     line_of_part_at(v, image, q, line)
 }
 
-// Those that are lent one of them.
+// Calls that are lent one of the two at most.
 fn lent_one(
     call: u32,
     v: Volume,
@@ -202,7 +202,7 @@ fn lent_one(
     lent_nothing(call, v, image, q, line)
 }
 
-// The line that a call comes to, and how long it is.
+// Makes a call and writes its line; returns the line's length.
 pub(crate) fn line_of(
     call: u32,
     v: Volume,

@@ -1,5 +1,5 @@
-// A line that is put together in lent memory, so that it can be compared with the one before it. Each function puts its text at `at` and returns where
-// the next one goes; what has no room is left out.
+// A line is put together in lent memory, so that it can be compared with the one before it. Each function puts its
+// text at `at` and returns where the next one goes. What has no room is left out.
 use disc::counts::UNLIMITED;
 use disc::moves::copy;
 use disc::moves::least;
@@ -15,7 +15,7 @@ pub(crate) fn put(line: &mut [u8], at: usize, text: &[u8]) -> usize {
     from + least(text.len(), room)
 }
 
-// A word, and a number right behind it.
+// A word directly followed by a number.
 pub(crate) fn put_named(line: &mut [u8], at: usize, word: &[u8], n: u64) -> usize {
     let behind = put(line, at, word);
     let mut digits = [0u8; 20];
@@ -23,7 +23,7 @@ pub(crate) fn put_named(line: &mut [u8], at: usize, word: &[u8], n: u64) -> usiz
     put(line, behind, &digits[..k])
 }
 
-// A word, and four numbers behind it.
+// A word followed by four numbers.
 pub(crate) fn put_row(line: &mut [u8], at: usize, word: &[u8], row: [u64; 4]) -> usize {
     let a = put_named(line, at, word, row[0]);
     let b = put_named(line, a, b" ", row[1]);
@@ -39,7 +39,7 @@ pub(crate) fn wide_row16(row: [u16; 4]) -> [u64; 4] {
     [row[0] as u64, row[1] as u64, row[2] as u64, row[3] as u64]
 }
 
-// A byte that is no printable character is \ and two hex digits.
+// A backslash, or a byte that isn't printable, becomes \ and two hex digits.
 fn put_character(line: &mut [u8], at: usize, b: u8) -> usize {
     if (b < 0x20) | (b > 0x7e) | (b == b'\\') {
         let behind = put(line, at, b"\\");
@@ -51,7 +51,7 @@ fn put_character(line: &mut [u8], at: usize, b: u8) -> usize {
     put(line, at, &one)
 }
 
-// A word, and a text behind it.
+// A word followed by a text.
 pub(crate) fn put_text(line: &mut [u8], at: usize, word: &[u8], text: &[u8]) -> usize {
     let mut end = put(line, at, word);
     let mut i = 0;
@@ -62,7 +62,7 @@ pub(crate) fn put_text(line: &mut [u8], at: usize, word: &[u8], text: &[u8]) -> 
     end
 }
 
-// A number that isn't 0.
+// A number, unless it is 0.
 pub(crate) fn put_set(line: &mut [u8], at: usize, word: &[u8], n: u32) -> usize {
     if n == 0 {
         return at;
@@ -70,7 +70,7 @@ pub(crate) fn put_set(line: &mut [u8], at: usize, word: &[u8], n: u32) -> usize 
     put_named(line, at, word, n as u64)
 }
 
-// How much of an image is there, where that isn't all of it.
+// How much of an image is there, unless it is all of it.
 pub(crate) fn put_there(line: &mut [u8], at: usize, there: u32, length: usize) -> usize {
     if there as usize == length {
         return at;
@@ -78,7 +78,7 @@ pub(crate) fn put_there(line: &mut [u8], at: usize, there: u32, length: usize) -
     put_named(line, at, b" there ", there as u64)
 }
 
-// A budget of sectors, where there is one.
+// A budget of sectors, if there is one.
 pub(crate) fn put_most(line: &mut [u8], at: usize, most: u64) -> usize {
     if most == UNLIMITED {
         return at;
@@ -86,7 +86,7 @@ pub(crate) fn put_most(line: &mut [u8], at: usize, most: u64) -> usize {
     put_named(line, at, b" most ", most)
 }
 
-// A text of which a byte isn't 0.
+// A text, unless all its bytes are 0.
 pub(crate) fn put_held(line: &mut [u8], at: usize, word: &[u8], text: &[u8]) -> usize {
     if is_zero(text) {
         return at;
@@ -94,7 +94,7 @@ pub(crate) fn put_held(line: &mut [u8], at: usize, word: &[u8], text: &[u8]) -> 
     put_text(line, at, word, text)
 }
 
-// A call's name with a space behind it, and what every call answers.
+// A call's name, which ends in a space, and what every call answers.
 pub(crate) fn put_answer(line: &mut [u8], call: &[u8], answer: u64, count: u64) -> usize {
     let at = put_named(line, 0, call, answer);
     put_named(line, at, b" count ", count)
@@ -107,7 +107,7 @@ pub(crate) fn put_kept(line: &mut [u8], at: usize, is_kept: bool) -> usize {
     put(line, at, b" changed")
 }
 
-// Whether every byte is as it was lent.
+// Whether every byte is still as it was lent.
 fn is_filled(b: &[u8]) -> bool {
     let mut i = 0;
     while i < b.len() {
@@ -119,7 +119,7 @@ fn is_filled(b: &[u8]) -> bool {
     true
 }
 
-// The sum of the first n bytes of an output, and whether those behind are as they were lent.
+// The sum of the first n bytes of an output, and whether the bytes after them are as they were lent.
 pub(crate) fn put_written(line: &mut [u8], at: usize, out: &[u8], n: usize) -> usize {
     let behind = put_named(line, at, b" sum ", sum(part(out, 0, n)));
     put_kept(line, behind, is_filled(part(out, n, out.len())))

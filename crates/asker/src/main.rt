@@ -1,8 +1,9 @@
-// Asks every call of `vault` on stored images. It reads the files of queries that its arguments name, makes each call with the memory that its query
-// lends, and says in a line what came back. docs/COMPARING.md has the form of the files and of the lines. What is expected is computed by tools/asked.py,
-// from the files and the rules.
+// Makes every call of `vault` on stored images. It reads the files of queries that its arguments name, makes each
+// call with the memory that its query lends, and prints what came back, a line for each. tools/asked.py describes the
+// files and the lines, and computes what is expected from the files and the rules.
 //
-// A file that is cut, or has a number that means nothing, is refused with a line that says where; nothing behind it is asked.
+// A file that is cut off, or has a number that means nothing, is refused with a line that says where. The rest of it
+// isn't asked.
 mod calls;
 mod lines;
 mod queries;
@@ -47,7 +48,7 @@ use vault::volume::Volume;
 
 // ---- a call, on an image or on every cut of it
 
-// The line of a call that is lent memory full of A5.
+// Makes a call with memory full of A5; returns the length of its line.
 fn ask(
     call: u32,
     v: Volume,
@@ -67,7 +68,7 @@ fn say_line(line: &[u8]) {
     end_line();
 }
 
-// The line of a cut, where it is another than the one before it; how long the last line is that was said.
+// Prints the line of a cut if it differs from the line before; returns the length of the last line printed.
 fn say_changed(cut: usize, line: &[u8], before: &mut [u8], n: usize) -> usize {
     if is_same(line, front(before, n)) {
         return n;
@@ -79,7 +80,7 @@ fn say_changed(cut: usize, line: &[u8], before: &mut [u8], n: usize) -> usize {
     line.len()
 }
 
-// Each sector's end, and a byte before and behind it; no image has more than 1,024 sectors.
+// Each sector's end, a byte before it and a byte after it. No image has more than 1,024 sectors.
 fn cut_of(i: usize) -> usize {
     2047 + least(i / 3, 1024) * 2048 + i % 3
 }
@@ -105,7 +106,7 @@ fn watch(
     }
 }
 
-// A call whose bit is set.
+// Makes a call if its bit is set.
 fn ask_if(
     is_asked: bool,
     call: u32,
@@ -129,7 +130,7 @@ fn ask_if(
 
 // ---- a query
 
-// What is asked, without what is 0 or empty.
+// What is asked. Zeros are left out, and `there` if it is the whole length.
 fn put_numbers(line: &mut [u8], q: &[u8], length: usize) -> usize {
     let a = put(line, 0, b"query");
     let b = put_set(line, a, b" volume ", volume(q));
@@ -138,7 +139,7 @@ fn put_numbers(line: &mut [u8], q: &[u8], length: usize) -> usize {
     put_set(line, d, b" levels ", le32(q, 16))
 }
 
-// What is lent, without what is 0, and without a budget that is none.
+// What is lent. Zeros are left out, and a budget of UNLIMITED.
 fn put_lent(line: &mut [u8], at: usize, q: &[u8]) -> usize {
     let a = put_most(line, at, most(q));
     let b = put_set(line, a, b" room ", le32(q, 20));
@@ -155,7 +156,7 @@ fn say_query(q: &[u8], length: usize, line: &mut [u8]) {
     say_line(front(line, d));
 }
 
-// Each call in turn.
+// Makes each call of a query, in order.
 fn ask_calls(v: Volume, image: &[u8], q: &[u8], out: &mut [u8], work: &mut [u8], line: &mut [u8]) {
     let mut bits = le32(q, 0);
     let mut call: u32 = 0;
@@ -166,7 +167,7 @@ fn ask_calls(v: Volume, image: &[u8], q: &[u8], out: &mut [u8], work: &mut [u8],
     }
 }
 
-// With the memory that is lent for it.
+// Runs a query with the memory that it lends.
 fn query(image: &[u8], made: &[u8], q: &[u8], out: &mut [u8], work: &mut [u8], line: &mut [u8]) {
     say_query(q, image.len(), line);
     let n = least(room(q), out.len());
@@ -180,7 +181,8 @@ fn refuse(at: usize, why: &[u8]) {
     say_line(why);
 }
 
-// The query at i of a record that ends with `all`; where the next one stands, or 0 where it is refused.
+// Runs the query at i, in a record that ends where `all` ends. Returns where the next one starts, or 0 if it is
+// refused.
 fn next_query(
     image: &[u8],
     made: &[u8],
@@ -206,7 +208,7 @@ fn next_query(
     end
 }
 
-// Each query in turn; whether all of them were asked.
+// Runs the queries in order; false if one is refused.
 fn ask_queries(
     image: &[u8],
     made: &[u8],
@@ -229,7 +231,8 @@ fn ask_queries(
 
 // ---- an image
 
-// Where the parts of an image's record stand: the name ends; the packed image, the volumes made by hand and the queries begin and end.
+// Offsets in an image's record: the end of its name; start and end of the packed image, of the volumes made by hand
+// and of the queries.
 struct Record {
     name: usize,
     image: usize,
@@ -240,7 +243,8 @@ struct Record {
     end: usize,
 }
 
-// The record at i. A length that isn't there reads as 0, so that of a record that is cut the end is past that of the file.
+// The record at i. A length past the end of the file reads as 0, so a record that is cut off ends past the end of the
+// file.
 fn record_at(all: &[u8], i: usize) -> Record
     requires { ⌜ i < length (now all) ⌝ }
 {
@@ -259,7 +263,7 @@ fn record_at(all: &[u8], i: usize) -> Record
     }
 }
 
-// Whether a packed image has all its runs and no more, each of them within the image.
+// Whether a packed image has exactly its runs, each of them within the image.
 fn is_packed(packed: &[u8]) -> bool {
     let runs = le32(packed, 4);
     let mut i = 8;
@@ -282,7 +286,8 @@ fn packed_in(all: &[u8], r: Record) -> &[u8] {
     part(all, r.image, r.image_end)
 }
 
-// Whether the record at i says how its image is made: alone, or over that of the record at `base`, which stands in front of it.
+// Whether the record at i says how to make its image: alone, or over the image of the record at `base`, which comes
+// before it.
 fn is_image(all: &[u8], i: usize, base: usize, most: usize) -> bool
     requires { ⌜ i < length (now all) ⌝ }
 {
@@ -294,7 +299,7 @@ fn is_image(all: &[u8], i: usize, base: usize, most: usize) -> bool
         & ((how == 0) | ((how == 1) & (base < i)))
 }
 
-// The image of a record, in lent memory; how long it is.
+// Makes the image of a record in lent memory; returns its length.
 fn image_of(packed: &[u8], good: &[u8], is_alone: bool, image: &mut [u8]) -> usize {
     if is_alone {
         return expand(packed, image);
@@ -304,7 +309,7 @@ fn image_of(packed: &[u8], good: &[u8], is_alone: bool, image: &mut [u8]) -> usi
     le32(packed, 0) as usize
 }
 
-// The image at i and its queries; where the next one stands, or 0 where it is refused.
+// Runs the queries of the image at i. Returns where the next image's record starts, or 0 if it is refused.
 fn run(
     all: &[u8],
     i: usize,
@@ -344,7 +349,7 @@ fn run(
     0
 }
 
-// The last image that stands alone, up to the record at i.
+// The last record up to i whose image stands alone.
 fn base_at(all: &[u8], i: usize, base: usize) -> usize
     requires { ⌜ (i < length (now all)) × (base ≤ i) ⌝ }
     ensures { λ r. ⌜ r ≤ i ⌝ }
@@ -389,7 +394,7 @@ fn ask_file(name: &[u8], image: &mut [u8], out: &mut [u8], work: &mut [u8], line
     run_all(front(&all, n), image, out, work, line);
 }
 
-// The files that the program's arguments name, in turn.
+// Runs the files that the arguments name, in order.
 fn main() {
     let mut image = two_mebibytes();
     let mut out = io::large_buffer();

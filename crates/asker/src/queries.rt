@@ -1,4 +1,5 @@
-// A query as it stands in a file: nine numbers, an ICB, a budget of sectors, the length of a text, and the text. docs/COMPARING.md says what each of them means.
+// A query as stored in a file: nine numbers, an ICB, a budget of sectors, the length of a text, and the text.
+// tools/asked.py says what each of them means.
 use disc::places::Mount;
 use listings::matchings::Matching;
 use listings::matchings::matching_of;
@@ -12,10 +13,10 @@ use vault::volume::Volume;
 use volumes::openings::How;
 use volumes::openings::VolumeRecord;
 
-// The number for an image that is watched as it grows.
+// In place of a length: the image is watched as it grows.
 pub(crate) const WATCHED: u32 = 4294967295;
 
-// The bytes of a query in front of its text, and of a volume made by hand.
+// The size of a query before its text, and of a volume made by hand.
 pub(crate) const HEAD: usize = 64;
 
 pub(crate) const BY_HAND: usize = 62;
@@ -25,14 +26,15 @@ const BYTES: u32 = 65536;
 
 const PLACES: u32 = 1024;
 
-// So many calls there are, and so many ways of opening; no number with a bit for each call is as large.
+// How many calls there are; a number above every set of them, a bit for each call; how many ways of opening there
+// are.
 pub(crate) const CALLS: u32 = 16;
 
 const BITS: u32 = 65536;
 
 const WAYS: u32 = 8;
 
-// ---- what stands where
+// ---- the fields
 
 pub(crate) fn volume(q: &[u8]) -> u32 {
     le32(q, 4)
@@ -78,14 +80,14 @@ pub(crate) fn text(q: &[u8]) -> &[u8] {
     part(q, HEAD, q.len())
 }
 
-// ---- whether it means something
+// ---- whether a query means something
 
-// As much of the image is there, or it is watched.
+// The image has that many bytes, or it is watched.
 fn is_there(there: u32, length: usize) -> bool {
     (there as usize <= length) | (there == WATCHED)
 }
 
-// Opening is by a choice, and so is the label: a volume made by hand has none.
+// A way of opening, or a volume made by hand. Calls 1 and 2, opening and the label, take a way of opening only.
 fn is_known(calls: u32, volume: u32, by_hand: usize) -> bool {
     if volume < WAYS {
         return true;
@@ -93,7 +95,7 @@ fn is_known(calls: u32, volume: u32, by_hand: usize) -> bool {
     (((volume - WAYS) as usize) < by_hand) & (calls / 2 % 4 == 0)
 }
 
-// As much can be lent.
+// That much can be lent.
 fn is_lent(q: &[u8]) -> bool {
     (le32(q, 20) <= BYTES)
         & (le32(q, 24) <= BYTES)
@@ -101,7 +103,7 @@ fn is_lent(q: &[u8]) -> bool {
         & (le32(q, 32) <= PLACES)
 }
 
-// On an image of so many bytes, with so many volumes made by hand.
+// Whether a query means something, on an image of `length` bytes with `by_hand` volumes made by hand.
 pub(crate) fn is_meant(q: &[u8], length: usize, by_hand: usize) -> bool {
     let calls = le32(q, 0);
     let is_call = (0 < calls) & (calls < BITS);
@@ -110,7 +112,7 @@ pub(crate) fn is_meant(q: &[u8], length: usize, by_hand: usize) -> bool {
 
 // ---- the volume
 
-// A way of opening is a number: 1 with bodies checked, 2 through the maps, 4 by the highest sequence numbers, added.
+// A way of opening is a sum: 1 to check bodies, 2 to go through the maps, 4 to take the highest sequence numbers.
 pub(crate) fn how_of(number: u32) -> How {
     How {
         highest: number / 4 % 2 == 1,

@@ -1,4 +1,4 @@
-// The calls that are lent rows: the extents of a file, its runs, and a list of paths. A row comes full of A5.
+// The calls that are lent rows: a file's extents, its runs, and a list of paths. A row is lent full of A5.
 ghost use Prim.Native.Nat.{_≤_};
 ghost use lib.ListN.{length};
 use crate::calls::put_reply;
@@ -54,7 +54,7 @@ fn are_free(row: &[[u32; 4]], from: usize) -> bool {
     true
 }
 
-// The first n slots, and whether those behind are as they were lent.
+// The first n slots, and whether the slots after them are as they were lent.
 fn put_slots(line: &mut [u8], at: usize, row: &[[u32; 4]], n: usize) -> usize {
     let mut end = at;
     let mut i = 0;
@@ -65,7 +65,7 @@ fn put_slots(line: &mut [u8], at: usize, row: &[[u32; 4]], n: usize) -> usize {
     put_kept(line, end, are_free(row, n))
 }
 
-// The first n slots of the row are lent.
+// Lends the first n slots of the row.
 fn lend_extents(
     v: Volume,
     image: &[u8],

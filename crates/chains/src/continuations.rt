@@ -1,4 +1,4 @@
-// The area that continues another, looked for where it stands in the image.
+// The area that continues another, found in place in the image.
 ghost use Prim.Native.Nat.{_<_, _^_};
 ghost use Rattle.chains.specs.inner.Follows.{Reaches, ReachesFrom};
 use areas::AdContinuation;
@@ -12,7 +12,7 @@ use disc::refusals::Refusal;
 use tags::AedRead;
 use tags::AllocationExtentDescriptor;
 
-// Its place, its length and the sectors asked for; or a refusal and the sectors asked for.
+// Where the area is, its size and the sectors asked for; or a refusal and the sectors asked for.
 pub enum NextArea {
     Found {
         at: usize,
@@ -22,12 +22,13 @@ pub enum NextArea {
     Refused(Refusal, u64),
 }
 
-// A continuation has a header at least, and at most this many bytes.
+// A continuation has at least its header, and at most LONGEST bytes.
 const HEADER: u32 = 24;
 
 const LONGEST: u32 = 1048576;
 
-// The area in `length` bytes from a sector on: the checks in order. Its sectors are one part of the image: nothing is copied.
+// The area in `length` bytes from sector `first` on, checked in the order of the rules. Its sectors are contiguous in
+// the image, so nothing is copied.
 fn area_from(image: &[u8], check: bool, length: u32, first: Sector) -> NextArea
     requires { ⌜ first .0 < 2 ^ 33 ⌝ }
     ensures { λ r. ⌜ ReachesFrom check (now (image .entry)) length (first .0) r ⌝ }
@@ -59,7 +60,7 @@ fn area_from(image: &[u8], check: bool, length: u32, first: Sector) -> NextArea
     }
 }
 
-// The area that continues another; one that stands in another partition is refused before its checks.
+// The area that a continuation leads to. One in a foreign partition is refused before the other checks.
 pub(crate) fn next_area(image: &[u8], mount: Mount, a: AdContinuation) -> NextArea
     ensures { λ r. ⌜ Reaches (now (image .entry)) mount a r ⌝ }
 {

@@ -1,4 +1,4 @@
-// How much of a chain is left at a cursor, counted where it stands in the image.
+// How much of a chain is left at a cursor, counted in place in the image.
 ghost use Rattle.chains.specs.inner.Walks.{Counts};
 use crate::cursors::ChainCursor;
 use crate::cursors::ChainStep;
@@ -11,7 +11,7 @@ pub struct Counted {
     pub hops: u8,
 }
 
-// How many extents are left at a cursor, held at 2^64 - 1, and how many more areas could follow behind the last.
+// How many extents are left at a cursor, capped at 2^64 - 1, and how many more areas could follow the last one.
 pub fn count_left(image: &[u8], mount: Mount, kind: u8, first: ChainCursor) -> Counted
     ensures { λ r. ⌜ Counts (now (image .entry)) mount kind first r ⌝ }
 {

@@ -1,5 +1,5 @@
-// A cursor over the allocation descriptors of a file, through the areas that continue one another. It stands for the extents that are left:
-// it is only put to use where the chain was followed without a refusal.
+// A cursor over a file's allocation descriptors, through all areas of its chain. It stands for the extents that are
+// left, and is used only once the chain was followed without a refusal.
 ghost use mathlib.Core.Path.{_≡_};
 ghost use mathlib.Core.Option.{some};
 ghost use Prim.Native.Nat.{_≤_, _<_, _^_};
@@ -14,7 +14,7 @@ use disc::places::Placed;
 use disc::places::Sector;
 use records::bytes::le32;
 
-// `left` bytes of descriptors stand at `at`; `hops` more areas may follow.
+// `left` bytes of descriptors are left from `at` on; `hops` more areas may follow.
 pub struct ChainCursor {
     pub at: usize,
     pub left: usize,
@@ -27,7 +27,7 @@ pub enum ChainStep {
     Ends,
 }
 
-// To the area in the sectors from `first` on, behind their header of 24 bytes.
+// Hops to the area in the sectors from `first` on, past its header of 24 bytes.
 fn hop_to(image: &[u8], first: Sector, hops: u8) -> ChainStep
     requires { ⌜ (first .0 < 2 ^ 33) × (1 ≤ hops) ⌝ }
     ensures { λ r. ⌜ r ≡ hopTo (now (image .entry)) (some (first .0)) hops ⌝ }
@@ -41,7 +41,7 @@ fn hop_to(image: &[u8], first: Sector, hops: u8) -> ChainStep
     })
 }
 
-// Behind a continuation.
+// Follows a continuation, unless no hop is left.
 fn hop(image: &[u8], mount: Mount, a: AdContinuation, hops: u8) -> ChainStep
     ensures { λ r. ⌜ r ≡ hopping (now (image .entry)) mount a hops ⌝ }
 {

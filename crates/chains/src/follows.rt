@@ -9,7 +9,7 @@ use areas::ending_of;
 use disc::places::Mount;
 use disc::refusals::Refusal;
 
-// What following a chain comes to: the sectors asked for, or a refusal and the sectors asked for.
+// The sectors asked for to follow a chain; with a refusal, if there was one.
 pub enum Chain {
     Whole(u64),
     Refused(Refusal, u64),

@@ -7,8 +7,8 @@ ghost use Rattle.crcs.specs.Crcs.{oneByte, crcFrom, crcOf};
 ghost use Rattle.crcs.specs.inner.Tables.{Remainders};
 use crate::table::REMAINDERS;
 
-// The register c after the byte b: its low byte moves up, and its high byte, XORed with b, moves out and leaves its remainder. A register of 32
-// bits, of which it uses 16, needs no cut at each byte.
+// The register c after the byte b: its low byte moves up; its high byte, XORed with b, moves out and leaves its
+// remainder. A register of 32 bits, 16 of them used, needs no truncation at each byte.
 fn take_byte(t: &[u32; 256], c: u32, b: u8) -> u32
     requires { ⌜ Remainders (now t) ⌝ ∗ ⌜ c < 65536 ⌝ }
     ensures { λ r. ⌜ r ≡ oneByte c b ⌝ }
@@ -31,8 +31,8 @@ fn take_bytes(t: &[u32; 256], from: u32, s: &[u8]) -> u16
     c as u16
 }
 
-// The CRC of s behind bytes that have the CRC `front`: of all of them together, as they come in parts. The table is made where it is lent, so once
-// for all bytes of s.
+// The CRC of s, continued from `front`, the CRC of the bytes before it. The table is lent here, so that it is made
+// once for all bytes of s.
 pub fn crc_behind(front: u16, s: &[u8]) -> u16
     ensures { λ r. ⌜ r ≡ crcFrom front (now (s .entry)) ⌝ }
 {

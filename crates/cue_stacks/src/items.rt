@@ -1,4 +1,4 @@
-// The items of a list of paths, which zero bytes separate.
+// The items of a list of paths, separated by zero bytes.
 ghost use mathlib.Core.Path.{_≡_};
 ghost use Prim.Native.Nat.{_+_};
 ghost use lib.ListN.{length, drop};
@@ -18,7 +18,7 @@ pub(crate) fn item_end(paths: &[u8], at: usize) -> usize
     i
 }
 
-// How many items stand behind the first: one for each zero.
+// How many items follow the first: one for each zero.
 pub(crate) fn items_behind(paths: &[u8]) -> usize
     ensures { λ r. ⌜ r ≡ length (itemsBehind (now (paths .entry))) ⌝ }
 {

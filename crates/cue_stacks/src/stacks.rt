@@ -22,8 +22,8 @@ use disc::replies::refusal;
 use listings::matchings::Matching;
 use records::allocations::LongAd;
 
-// A place among the items: while going, the next one starts at `from`. Those before it took `places` of the rows, `filled` bytes of the output and
-// `count` sectors.
+// A place among the items. While `going`, the next item starts at `from`. Those before it took `places` places of the
+// rows, `filled` bytes of the output and `count` sectors.
 struct ItemPlace {
     going: bool,
     from: usize,
@@ -32,15 +32,15 @@ struct ItemPlace {
     count: u64,
 }
 
-// Whether the item that ends at `end`, with which so many places are taken, is the last one that is read: the list ends there, or the shorter row
-// does. Who counted the items may have found fewer than are there now.
+// Whether the item that ends at `end`, with which `places` places are taken, is the last to be read: the list ends
+// there, or the shorter row does. The list may hold more items now than were counted.
 fn is_last(bytes: usize, rows: usize, end: usize, places: usize) -> bool
     ensures { λ r. ⌜ r ≡ isLast bytes rows end places ⌝ }
 {
     (bytes <= end) | (rows <= places)
 }
 
-// The place behind an item that ends at `end` and was answered so, in a list of so many bytes.
+// The place after an item that ends at `end` and was answered with `reply`, in a list of `bytes` bytes.
 fn place_behind(bytes: usize, rows: usize, p: ItemPlace, end: usize, reply: Reply) -> ItemPlace
     requires { ⌜ (p .places + 1 < 2 ^ 64) × (p .filled + reply .length < 2 ^ 64) ⌝ }
     ensures { λ r. ⌜ r ≡ placeBehind bytes rows p end reply ⌝ }
@@ -66,7 +66,7 @@ fn place_behind(bytes: usize, rows: usize, p: ItemPlace, end: usize, reply: Repl
     }
 }
 
-// Puts what is said of an item into its places of the rows.
+// Stores the length and the answer of item i in the rows.
 fn put_reply(reply: Reply, lengths: &mut [u64], answers: &mut [u32], i: usize)
     requires { ⌜ (reply .answer < 2 ^ 32) × (i < length (now lengths)) × (i < length (now answers)) ⌝ }
     ensures { λ _. ⌜ now (lengths .exit) ≡ set (now (lengths .entry)) i (reply .length) ⌝ }
@@ -76,7 +76,7 @@ fn put_reply(reply: Reply, lengths: &mut [u64], answers: &mut [u32], i: usize)
     answers[i] = reply.answer as u32;
 }
 
-// Reads the item at a place into the room that is left, and puts its length and its answer into its places of the rows.
+// Reads the item at a place into the room that is left, and stores its length and its answer in the rows.
 fn read_item(
     image: &[u8],
     mount: Mount,
@@ -109,7 +109,7 @@ fn read_item(
     place_behind(paths.len(), rows, p, end, reply)
 }
 
-// Reads every item that has a place in both rows, each behind those before it. What is left in the work space is of no use to the caller.
+// Reads every item that has a place in both rows, one after another. The work space isn't cleared.
 fn read_items(
     image: &[u8],
     mount: Mount,
@@ -153,8 +153,8 @@ fn read_items(
     }
 }
 
-// The files that the paths name, over the front of out, one behind another; in the rows, for each path in turn, the length of its file and its
-// answer number.
+// Writes the files that the paths name to the front of out, one after another. The rows get the length and the answer
+// number of each, in the order of the paths.
 pub fn read_all(
     image: &[u8],
     mount: Mount,

@@ -1,5 +1,5 @@
-// Runs the cases of the volume's descriptors, a line each: what was read, its id, its size and the byte that was changed, and what was
-// answered.
+// Runs the cases for the volume's descriptors. Each line has what was read, its id, its size, the byte that was
+// changed, and the answer.
 use descriptors::anchors::AnchorRead;
 use descriptors::anchors::AnchorVolumeDescriptorPointer;
 use descriptors::file_sets::FileSetDescriptor;
@@ -97,7 +97,7 @@ fn put_tag(d: &mut [u8], id: u16) {
     copy(&bytes, d);
 }
 
-// A descriptor with this id, whose two label fields are good, and then the byte b at `at`.
+// A descriptor with this id and good label fields, in which byte `at` is then set to b.
 fn build(d: &mut [u8], id: u16, at: usize, b: u8) {
     fill(d);
     put_tag(d, id);
@@ -108,7 +108,7 @@ fn build(d: &mut [u8], id: u16, at: usize, b: u8) {
     put(d, at, b);
 }
 
-// What is read, and what was changed.
+// Prints what is read, and what was changed.
 fn asked(name: &[u8], id: u16, n: usize, at: usize, b: u8) {
     say(name);
     say_number(b"id", id as u64);
@@ -253,9 +253,9 @@ fn file_set_case(d: &mut [u8], id: u16, n: usize, at: usize, b: u8) {
     file_set(d, n);
 }
 
-// ---- the cases: the last byte of the memory is in none of the descriptors
+// ---- the cases: the last byte of the memory, 511, is in none of the descriptors
 
-// Whole, one byte short, two other ids and a wrong checksum: the cases of every descriptor.
+// The cases of every descriptor: whole, a byte short, two other ids and a wrong checksum.
 fn anchors(d: &mut [u8]) {
     anchor_case(d, 2, 32, 511, 0);
     anchor_case(d, 2, 31, 511, 0);
@@ -287,7 +287,7 @@ fn primary_lengths(d: &mut [u8]) {
     primary_case(d, 1, 56, 55, 255);
 }
 
-// The label's compression id, with an even number of bytes behind.
+// The label's compression id, followed by an even number of bytes.
 fn primary_labels(d: &mut [u8]) {
     primary_case(d, 1, 56, 24, 0);
     primary_case(d, 1, 56, 24, 7);
@@ -320,7 +320,7 @@ fn logicals(d: &mut [u8]) {
     logical_case(d, 6, 440, 4, 0);
 }
 
-// The same of the other label, with an odd number of bytes behind its compression id.
+// The same for the other label, with an odd number of bytes after its compression id.
 fn logical_labels(d: &mut [u8]) {
     logical_case(d, 6, 440, 211, 0);
     logical_case(d, 6, 440, 211, 127);
@@ -345,7 +345,8 @@ fn file_sets(d: &mut [u8]) {
     file_set_case(d, 256, 416, 4, 0);
 }
 
-// The map table: none of it given, its first byte, a part, all but a byte, all, and more; and one that isn't read.
+// The map table: none of it given, its first byte, a part, all but a byte, all, and more; and a descriptor that is
+// refused.
 fn map_tables(d: &mut [u8]) {
     map_case(d, 440, 511, 0);
     map_case(d, 441, 511, 0);

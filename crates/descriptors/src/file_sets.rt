@@ -23,7 +23,7 @@ pub struct FileSetDescriptor {
     pub root_directory_icb: LongAd,
 }
 
-// An enum can hold no array, so the answer is a number, with zeros where it is a refusal.
+// An enum can hold no array, so this has an answer number, and zeros on a refusal.
 #[repr(C)]
 pub struct FileSetRead {
     pub answer: u64,

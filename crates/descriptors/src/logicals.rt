@@ -40,7 +40,7 @@ pub struct LogicalVolumeDescriptor {
     pub partition_maps: [u8; 24],
 }
 
-// An enum can hold no array, so the answer is a number, with zeros where it is a refusal.
+// An enum can hold no array, so this has an answer number, and zeros on a refusal.
 #[repr(C)]
 pub struct LogicalRead {
     pub answer: u64,
@@ -65,7 +65,7 @@ fn no_logical(why: Refusal) -> LogicalRead
     }
 }
 
-// The first bytes of the map table.
+// The first 24 bytes of the map table.
 fn first_maps(s: &[u8]) -> [u8; 24]
     requires { ⌜ 440 ≤ length (now s) ⌝ }
     ensures { λ r. ⌜ r ≡ mapsIn (now (s .entry)) ⌝ }
@@ -75,7 +75,7 @@ fn first_maps(s: &[u8]) -> [u8; 24]
     maps
 }
 
-// The descriptor in `s` behind its tag `t`. The label is copied first: the copy is checked and kept.
+// The descriptor in `s`, whose tag is `t`. The label is copied first: the copy is checked and kept.
 fn logical_behind(s: &[u8], t: DescriptorTag) -> LogicalRead
     requires { ⌜ 440 ≤ length (now s) ⌝ }
     ensures { λ r. ⌜ r ≡ logicalRead (logicalBehind (now (s .entry)) t) ⌝ }

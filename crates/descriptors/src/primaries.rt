@@ -29,7 +29,7 @@ pub struct PrimaryVolumeDescriptor {
     pub volume_identifier: [u8; 32],
 }
 
-// An enum can hold no array, so the answer is a number, with zeros where it is a refusal.
+// An enum can hold no array, so this has an answer number, and zeros on a refusal.
 #[repr(C)]
 pub struct PrimaryRead {
     pub answer: u64,
@@ -50,7 +50,7 @@ fn no_primary(why: Refusal) -> PrimaryRead
     }
 }
 
-// The descriptor in `s` behind its tag `t`. The label is copied first: the copy is checked and kept.
+// The descriptor in `s`, whose tag is `t`. The label is copied first: the copy is checked and kept.
 fn primary_behind(s: &[u8], t: DescriptorTag) -> PrimaryRead
     requires { ⌜ 56 ≤ length (now s) ⌝ }
     ensures { λ r. ⌜ r ≡ primaryRead (primaryBehind (now (s .entry)) t) ⌝ }

@@ -71,7 +71,7 @@ fn identity_of(s: &[u8]) -> Structure
     Structure::Unknown
 }
 
-// What the sector `s` is: its first byte is the structure type, which is 0.
+// What the sector `s` is. Its first byte, the structure type, must be 0.
 pub fn structure_of(s: &[u8]) -> Structure
     ensures { λ r. ⌜ r ≡ structureOf (now (s .entry)) ⌝ }
 {

@@ -1,4 +1,5 @@
-// Paths looked up by a choice of matching, and files read by them. The work space is all zero on return from each.
+// Looks paths up by a choice of matching, and reads files by path. All but `read_reached` leave the work space all
+// zero.
 ghost use mathlib.Core.Path.{_≡_};
 ghost use lib.ListN.{length, replicate};
 ghost use Rattle.disc.specs.Ran.{ran};
@@ -52,8 +53,8 @@ pub fn lookup(
     }
 }
 
-// The length of the component at which a lookup is refused by 3, and in `at` its place in the path; zeros if it isn't. The answer and the
-// count are the lookup's.
+// The length of the component at which a lookup is refused by 3, and its place in the path in `at`; otherwise zeros.
+// The answer and the count are the lookup's.
 pub fn failed_at(
     image: &[u8],
     mount: Mount,
@@ -77,7 +78,7 @@ pub fn failed_at(
     }
 }
 
-// That component, as a part of the path.
+// The same component, as a part of the path.
 pub fn failed<'i, 'p>(
     image: &'i [u8],
     mount: Mount,
@@ -101,8 +102,8 @@ pub fn failed<'i, 'p>(
     &path[at..end]
 }
 
-// The bytes of the file that the path names, over the front of out, with the work space left as the walk leaves it: for a caller that reads
-// several paths, and clears it once.
+// Writes the bytes of the file that the path names to the front of out, and doesn't clear the work space: for a
+// caller that reads several paths and clears it once.
 pub fn read_reached(
     image: &[u8],
     mount: Mount,
@@ -128,7 +129,7 @@ pub fn read_reached(
     }
 }
 
-// The bytes of the file that the path names, over the front of out.
+// Writes the bytes of the file that the path names to the front of out.
 pub fn read_path(
     image: &[u8],
     mount: Mount,

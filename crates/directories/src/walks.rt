@@ -21,14 +21,14 @@ use listings::paths::component_from;
 use records::allocations::LongAd;
 use records::allocations::no_long;
 
-// What a directory has under the name of one component, and how many sectors it took to tell.
+// A component's entry in a directory, and how many sectors it took to find it.
 pub struct Entered {
     pub entry: Named,
     pub count: u64,
 }
 
-// A place on the walk along a path: while going, the directory or file at which the first component behind `from` is looked for;
-// at the end, the answer, and from `from` to `end` the component that was lost.
+// A place on the walk along a path. While `going`, the first component from `from` on is looked for at `icb`. At the
+// end there is the answer, and a component that wasn't found is from `from` to `end`.
 pub struct PathPlace {
     pub going: bool,
     pub answer: u64,
@@ -39,7 +39,7 @@ pub struct PathPlace {
     pub end: usize,
 }
 
-// The entry of a component in the directory at icb, which is read into the work space and left there.
+// The entry of a component in the directory at icb. The directory is read into the work space and left there.
 fn enter(
     image: &[u8],
     mount: Mount,
@@ -67,7 +67,7 @@ fn enter(
     }
 }
 
-// The end of a walk: with an answer, and where a component was lost, its place.
+// The end of a walk: its answer, and the place of a component that wasn't found.
 fn stopped(answer: u64, icb: LongAd, count: u64, from: usize, end: usize) -> PathPlace
     ensures { λ r. ⌜ r ≡ stoppedAt answer icb count from end ⌝ }
 {
@@ -89,7 +89,7 @@ fn lost(count: u64, from: usize, end: usize) -> PathPlace
     stopped(Refusal::NotBluray.number(), no_long(), count, from, end)
 }
 
-// Beyond a component whose entry was looked for, or stopped there.
+// The place after a component whose entry was looked for, or the end of the walk there.
 fn beyond(entry: Named, count: u64, from: usize, end: usize) -> PathPlace
     ensures { λ r. ⌜ r ≡ beyondOf entry count from end ⌝ }
 {
@@ -111,7 +111,7 @@ fn beyond(entry: Named, count: u64, from: usize, end: usize) -> PathPlace
     }
 }
 
-// One step of the walk. Slashes are passed over where the step begins, so that nothing of the path is relied on that an earlier step has seen.
+// One step of the walk. It skips slashes at its start, so it relies on nothing that an earlier step saw of the path.
 fn step(
     image: &[u8],
     mount: Mount,
@@ -138,7 +138,7 @@ fn step(
     beyond(entry, add_counts(p.count, e.count), from, end)
 }
 
-// The whole walk. What is left in the work space is of no use to the caller.
+// The whole walk. The work space isn't cleared.
 pub(crate) fn walk(
     image: &[u8],
     mount: Mount,

@@ -1,4 +1,5 @@
-// The answer numbers by name: 0, and each refusal, whose number is its name's (`Refusal::number`). 8 is struck, and isn't given to another.
+// The answer numbers by name: 0, and the number of each refusal (`Refusal::number`). 8 is struck, and isn't used
+// again.
 
 // Done.
 pub const DONE: u64 = 0;

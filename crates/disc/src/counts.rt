@@ -1,13 +1,13 @@
-// Counts of sectors, held at 2^64 - 1, what is left of a budget of them, and the lesser of two numbers.
+// Counts of sectors, capped at 2^64 - 1; what is left of a budget of them; and the lesser of two numbers.
 ghost use mathlib.Core.Path.{_≡_};
 ghost use Prim.Native.Nat.{_+_, min};
 ghost use Rattle.disc.specs.Budgets.{leftOf};
 ghost use Rattle.disc.specs.Counts.{reported};
 
-// As many sectors as a call wants: no budget.
+// No budget: as many sectors as a call wants.
 pub const UNLIMITED: u64 = 0xffff_ffff_ffff_ffff;
 
-// Two counts together.
+// The sum of two counts.
 pub fn add_counts(a: u64, b: u64) -> u64
     ensures { λ r. ⌜ r ≡ reported (a + b) ⌝ }
 {
@@ -17,7 +17,7 @@ pub fn add_counts(a: u64, b: u64) -> u64
     a + b
 }
 
-// What a call leaves of `most` sectors that asked for so many; of no budget it leaves none.
+// What is left of a budget of `most` sectors after `count` of them. No budget stays no budget.
 pub fn left_of(most: u64, count: u64) -> u64
     ensures { λ r. ⌜ r ≡ leftOf most count ⌝ }
 {

@@ -1,4 +1,4 @@
-// A lent image as a disc: sector s is the 2,048 bytes from 2,048 s on, and is there where all of them are.
+// A lent image as a disc: sector s is the 2,048 bytes from 2,048 s on, and is there if all of them are.
 ghost use mathlib.Core.Path.{_≡_};
 ghost use Prim.Native.Nat.{_+_, _-_, _*_, _/_, _<_};
 ghost use Rattle.disc.specs.Ask.{bytesIn, outcome};
@@ -23,7 +23,7 @@ pub fn held_from(image: &[u8], first: Sector) -> u64
     held - first.0
 }
 
-// A sector's bytes where they stand in the image; an empty part where it isn't there.
+// A sector's bytes, in place in the image; empty if the sector isn't there.
 pub fn sector_at(image: &[u8], s: Sector) -> &[u8]
     ensures { λ r. ⌜ now r ≡ bytesIn (disc (now (image .entry)) (s .0)) ⌝ }
 {
@@ -35,7 +35,7 @@ pub fn sector_at(image: &[u8], s: Sector) -> &[u8]
     &image[from..end]
 }
 
-// The bytes of a run of n sectors where they stand in the image; an empty part where one of them isn't there.
+// The bytes of n sectors from `first` on, in place in the image; empty if one of them isn't there.
 pub fn run_part(image: &[u8], first: Sector, n: u64) -> &[u8]
     ensures { λ r. ⌜ now r ≡ bytesOf (outcome (disc (now (image .entry))) (sectors n (first .0))) ⌝ }
 {

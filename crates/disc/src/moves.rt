@@ -24,7 +24,8 @@ fn store(s: &[u8], from: usize, out: &mut [u8], at: usize, n: usize)
     }
 }
 
-// Four sectors' worth by way of a local array: the compiler knows that the array overlaps neither side, and makes one move of both.
+// Copies four sectors' worth by way of a local array. The compiler knows that the array overlaps neither side, and
+// makes one move of both loops.
 fn store_block(s: &[u8], i: usize, out: &mut [u8])
     requires { ⌜ (i + 8192 ≤ length (now s)) × (i + 8192 ≤ length (now out)) ⌝ }
     ensures { λ _. ⌜ now (out .exit) ≡ sets (now (out .entry)) i (take 8192 (drop i (now (s .entry)))) ⌝ }
@@ -34,7 +35,7 @@ fn store_block(s: &[u8], i: usize, out: &mut [u8])
     store(&block, 0, out, i, 8192);
 }
 
-// Copies text over the front of out; what has no room there is left out.
+// Copies text over the front of out; what doesn't fit is left out.
 pub fn copy(text: &[u8], out: &mut [u8])
     ensures { λ _. ⌜ now (out .exit) ≡ over (now (text .entry)) (now (out .entry)) ⌝ }
 {
@@ -47,7 +48,7 @@ pub fn copy(text: &[u8], out: &mut [u8])
     store(text, i, out, i, n - i);
 }
 
-// All zero.
+// Zeroes `out`.
 pub fn clear(out: &mut [u8])
     ensures { λ _. ⌜ now (out .exit) ≡ replicate (length (now (out .entry))) 0 ⌝ }
 {

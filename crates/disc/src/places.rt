@@ -1,11 +1,11 @@
-// Two counters that stay apart: a block is counted from the partition's start, a sector from the disc's. One value says how a volume is read,
-// and it alone turns the one into the other.
+// Two counters that stay apart: a block is counted from the partition's start, a sector from the disc's. Only
+// `Mount`, which says how a volume is read, turns a block into a sector.
 ghost use mathlib.Core.Path.{_≡_};
 ghost use Rattle.disc.specs.Places.{sectorOf, isMapped, mappedStart, startFor, icbStart, crossing, startBy, icbPlaced, atEntry, isChecked, StandsIn, BlockStands};
 
 pub struct Block(pub u32);
 
-// The sum of two 32-bit numbers passes 2^32, so a sector's number has 64 bits.
+// The sum of two 32-bit numbers can pass 2^32, so a sector's number has 64 bits.
 pub struct Sector(pub u64);
 
 // The partition that a descriptor names: a short_ad names none.
@@ -32,7 +32,7 @@ pub struct Mount {
     pub starts: [u32; 4],
 }
 
-// Where a partition starts that a reference names: it is one of this volume, or none.
+// Where the partition that a reference names starts, if it is one of this volume.
 pub(crate) enum Start {
     In(u32),
     Foreign,
@@ -44,14 +44,14 @@ pub enum Placed {
     Nowhere,
 }
 
-// The sole crossing.
+// The only place where a block becomes a sector (RULES 9.3).
 fn sector_of(start: u32, block: Block) -> Sector
     ensures { λ r. ⌜ r .0 ≡ sectorOf start (block .0) ⌝ }
 {
     Sector(start as u64 + block.0 as u64)
 }
 
-// The sector of a block of the partition that starts there.
+// The sector of a block in the partition that starts at `start`.
 fn crossed(start: Start, block: Block) -> Placed
     ensures { λ r. ⌜ StandsIn (crossing (block .0) (startBy start)) r ⌝ }
 {
@@ -69,7 +69,7 @@ impl Mount {
         self.maps != 0
     }
 
-    // The start of a map's partition, if there is such a map.
+    // The start of the partition of map `reference`, if there is such a map.
     fn mapped(self, reference: u16) -> Start
         ensures { λ r. ⌜ startBy r ≡ mappedStart self reference ⌝ }
     {
@@ -84,7 +84,8 @@ impl Mount {
         Start::In(starts[i])
     }
 
-    // The start of the partition that a descriptor's reference names: through the maps, or by the volume's own number.
+    // The start of the partition that a descriptor's reference names: through the maps, or else only by the volume's
+    // own number.
     fn start_for(self, reference: u16) -> Start
         ensures { λ r. ⌜ startBy r ≡ startFor self reference ⌝ }
     {
@@ -97,7 +98,7 @@ impl Mount {
         Start::In(self.start)
     }
 
-    // The start of the partition that an ICB's reference names: where there are no maps it isn't looked at.
+    // The start of the partition that an ICB's reference names. Without maps the reference isn't looked at.
     fn icb_start(self, reference: u16) -> Start
         ensures { λ r. ⌜ startBy r ≡ icbStart self reference ⌝ }
     {
@@ -107,7 +108,8 @@ impl Mount {
         Start::In(self.start)
     }
 
-    // The sector of a block under the reference that a descriptor gives: one that names no partition stands in that of its entry.
+    // The sector of a block under a descriptor's reference. Without a reference, the block is in its file entry's
+    // partition.
     pub fn placed(self, reference: PartitionRef, block: Block) -> Placed
         ensures { λ r. ⌜ BlockStands self reference (block .0) r ⌝ }
     {
@@ -124,7 +126,7 @@ impl Mount {
         crossed(self.icb_start(reference), block)
     }
 
-    // How the descriptors of an entry are read that an ICB names: what names no partition stands in the entry's own.
+    // The mount for the descriptors of the entry that an ICB names: what names no partition is in the entry's own.
     pub fn at_entry(self, reference: u16) -> Mount
         ensures { λ r. ⌜ r ≡ atEntry self reference ⌝ }
     {

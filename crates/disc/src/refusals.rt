@@ -25,21 +25,21 @@ pub enum Refusal {
     Unsupported,
     // The answer has more bytes than the output holds.
     NoRoom,
-    // A directory's bytes exceed the work space; in a show, what the directories above it leave of it.
+    // A directory is larger than the work space; in a show, than what the directories above it leave of it.
     NoWork,
     // There are more extents, or runs, than slots.
     NoSlot,
     // A component of the path matches two or more entries of its directory.
     Ambiguous,
-    // A descriptor that is checked has a wrong body.
+    // A descriptor that is checked has a wrong CRC or CRC length.
     BadCrc,
-    // A directory is found at the last level that was asked for, or that number is 0 or over 16.
+    // A directory is found at the last level asked for, or the number of levels is 0 or over 16.
     TooDeep,
-    // There are more paths than places for what each is answered.
+    // There are more paths than places in one of the two rows.
     TooMany,
-    // A name of a vault that is to be written is bad, or stands there twice.
+    // On writing: a name is bad, or two are equal with ASCII case ignored.
     BadName,
-    // The files of a vault that is to be written aren't what can be written.
+    // On writing: files that can't be written (RULES 15.6 to 15.9).
     BadFiles,
     // The lengths of a shelf's images pass its bytes, or there are too few places for the figures.
     BadShelf,

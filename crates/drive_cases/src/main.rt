@@ -1,13 +1,14 @@
-// Opens and reads the discs in data/images, which tools/drive_images.py writes, straight from a drive: a sector at a time, beside the one call that has
-// the whole image. An image that has no queries is opened.
+// Opens and reads the discs in data/images, which tools/drive_images.py writes, straight from a drive: a sector at a
+// time, next to the call that has the whole image. An image without queries is opened.
 //
-// For each query what is asked, what the call answers, and a line for the fed read with slots and room enough, with as many as it needs, with one slot
-// fewer, with none, with a byte less room, and with none, whenever what it says is something else than the line before. `sum` is that of the bytes that
-// arrived, `list` that of the sectors that were wanted, in order; `zero` says that the row came back all zero, `kept` that the output behind what arrived is
-// as it came, full of A5, `still` that a step more changed nothing, and `same` that answer, count and bytes are the call's. `denied` sums up the same with a
-// sector denied at one place of the list, for each place in turn. A denied sector is a slice of 0, 2,047 or 2,049 bytes.
+// Each query prints what is asked and what the call answers. Then comes the fed read with slots and room enough, with
+// as many as it needs, with one slot fewer, with none, with a byte less room, and with none: a line for each that
+// says something other than the line before. `sum` is over the bytes that arrived, `list` over the sectors that were
+// wanted, in order. `zero`: the row came back all zero. `kept`: the output after what arrived is still full of A5.
+// `still`: one more step changed nothing. `same`: answer, count and bytes are the call's. `denied` is a sum over the
+// same with one sector of the list denied, each in turn. A denied sector is a slice of 0, 2,047 or 2,049 bytes.
 //
-// What is expected is computed by tools/drive_model.py, from the images and the rules.
+// tools/drive_model.py computes what is expected, from the images and the rules.
 ghost use mathlib.Core.Path.{_≡_};
 ghost use Prim.Native.Nat.{_<_, _≤_};
 ghost use lib.ListN.{length};
@@ -38,19 +39,19 @@ use volumes::openings::Opened;
 use volumes::openings::VolumeRecord;
 use volumes::openings::open_volume;
 
-// No list here is as long.
+// More than the sectors of any list here.
 const MOST: usize = 2000;
 
-// No sector here stands so far on.
+// No sector here has so high a number.
 const FAR: u64 = 1048576;
 
 // The slots of the row.
 const SLOTS: usize = 1024;
 
-// What a number of the row is when it is lent.
+// Each number of the row, as lent.
 const FREE: u32 = 4294901760;
 
-// A sum that goes on over a number.
+// A sum, continued by a number.
 fn mixed(sum: u64, n: u64) -> u64 {
     (sum % 4294967296 * 31 + n % 4294967296) % 4294967296
 }
@@ -70,7 +71,8 @@ fn wrong_size(i: usize) -> usize
     2049
 }
 
-// The i-th sector that is wanted: its bytes, none where the image doesn't have it, and another number of them where it is denied.
+// What is lent as the i-th sector that is wanted: nothing if the image doesn't have it, a wrong number of bytes if it
+// is denied.
 fn lent(image: &[u8], sector: u64, i: usize, denied: usize) -> &[u8] {
     if FAR < sector {
         return part(image, 0, 0);
@@ -140,7 +142,7 @@ fn walk_opening(image: &[u8], denied: usize) -> OpenWalk {
     OpenWalk { opening: o, list }
 }
 
-// Whether the opening has ended, and a step more changes nothing.
+// Whether the opening has ended, and one more step changes nothing.
 fn is_still_open(image: &[u8], o: Opening) -> bool {
     let x = o.step(part(image, 0, 2048));
     let before = of_opened(o.opened);
@@ -165,7 +167,7 @@ fn denied_opening(image: &[u8], i: usize) -> u64 {
     mixed(b, is_still_open(image, w.opening) as u64)
 }
 
-// Each place of a list of n in turn.
+// Denies each sector of a list of n in turn.
 fn say_denied_openings(image: &[u8], n: usize) {
     let mut total = 0;
     let mut i = 0;
@@ -277,7 +279,7 @@ fn is_same_place(r: Reading, x: Reading) -> bool {
     (x.phase == r.phase) & (x.answer == r.answer) & (x.count == r.count) & (x.length == r.length)
 }
 
-// How a read ended, what a step more made of it, and the sum of what it wanted.
+// How a read ended, what one more step made of it, and the sum of what it wanted.
 struct Ended {
     reading: Reading,
     more: Reading,
@@ -304,7 +306,7 @@ fn read_whole(
     }
 }
 
-// What is said of it, by the memory that it leaves behind the step more.
+// What is said of a read, from the memory that it leaves after one more step.
 fn said_of(e: Ended, row: &[[u32; 4]], out: &[u8]) -> Said {
     let r = e.reading;
     let more = e.more;
@@ -320,14 +322,14 @@ fn said_of(e: Ended, row: &[[u32; 4]], out: &[u8]) -> Said {
     }
 }
 
-// A read in the memory that it is lent.
+// A read with the memory that it is lent.
 fn read_in(image: &[u8], q: Question, denied: usize, row: &mut [[u32; 4]], out: &mut [u8]) -> Said {
     fill(out);
     let e = read_whole(image, q, denied, row, out);
     said_of(e, row, out)
 }
 
-// In so many slots and so much room.
+// A read with this many slots and this much room.
 fn read_within(
     image: &[u8],
     q: Question,
@@ -343,7 +345,7 @@ fn read_within(
     read_in(image, q, denied, &mut row[..n], &mut out[..m])
 }
 
-// ---- beside the call
+// ---- compared with the call
 
 fn is_as_called(s: Said, call: Reply, total: u64) -> bool {
     (s.answer == call.answer)
@@ -375,7 +377,8 @@ fn say_said(slots: usize, room: usize, s: Said) {
     say_flag(s.still, b" still");
 }
 
-// A read in so many slots and so much room, and a line for it where it says something else than the one before; what it says.
+// A read with this many slots and this much room, and a line for it if it says something other than the one before.
+// Returns what it says.
 fn turn(
     image: &[u8],
     q: Question,
@@ -407,7 +410,7 @@ fn denied_reading(image: &[u8], q: Question, i: usize, out: &mut [u8]) -> u64 {
     mixed(mixed(b, s.kept as u64), s.still as u64)
 }
 
-// Each place of the list in turn.
+// Denies each sector of the list in turn.
 fn say_denied_readings(image: &[u8], q: Question, n: usize, out: &mut [u8])
     requires { ⌜ n ≤ 2000 ⌝ }
 {
@@ -433,20 +436,21 @@ fn slots_needed(image: &[u8], q: Question, enough: Said, out: &mut [u8]) -> usiz
     n
 }
 
-// With as many slots and bytes as it needs, with a slot fewer, and with none; what the last says.
+// The read with as many slots and bytes as it needs, with a slot fewer, and with none. Returns what the last one
+// says.
 fn say_fewer_slots(image: &[u8], q: Question, s: Said, needed: usize, out: &mut [u8]) -> Said {
     let exact = turn(image, q, needed, s.length, s, out);
     let short = turn(image, q, below(needed), q.room, exact, out);
     turn(image, q, 0, q.room, short, out)
 }
 
-// With a byte less, and with no room.
+// The read with a byte less room, and with none.
 fn say_less_room(image: &[u8], q: Question, s: Said, before: Said, out: &mut [u8]) {
     let short = turn(image, q, SLOTS, below(s.length), before, out);
     turn(image, q, SLOTS, 0, short, out);
 }
 
-// Beside a read with slots and room enough.
+// The other reads, after the one with slots and room enough.
 fn say_turns(image: &[u8], q: Question, s: Said, out: &mut [u8]) {
     let needed = slots_needed(image, q, s, out);
     say_named(b"needs ", needed as u64);
@@ -464,7 +468,7 @@ fn say_reading(image: &[u8], q: Question, call: Reply, total: u64, out: &mut [u8
     say_turns(image, q, s, out);
 }
 
-// The sum of the front of what a call left.
+// The sum of the bytes that a call wrote.
 fn total_in(r: Reply, out: &[u8]) -> u64 {
     sum(front(out, r.length as usize))
 }
@@ -493,7 +497,7 @@ fn say_query(q: Question) {
     end_line();
 }
 
-// The volume of a query: what stands where is said above `queries`.
+// The volume of a query. The comment on `queries` has the fields.
 fn volume_of(q: &[u8]) -> VolumeRecord {
     let numbers: [u16; 4] = [0; 4];
     VolumeRecord {
@@ -527,8 +531,9 @@ fn query(image: &[u8], b: &[u8], out: &mut [u8]) {
     say_reading(image, q, call, total, out);
 }
 
-// The queries of 50 bytes each: the partition's start (32 bits), its number (16), whether bodies are checked and how many maps there are (32 each), the starts
-// of four of these (32 each), an ICB's 16 bytes, and the room of the output (32).
+// The queries, of 50 bytes each: the partition's start (32 bits), its number (16), whether bodies are checked and how
+// many maps there are (32 each), the starts of four maps (32 each), an ICB's 16 bytes, and the room of the output
+// (32).
 fn queries(image: &[u8], all: &[u8], out: &mut [u8]) {
     let mut i = 0;
     while i < all.len() {
@@ -547,7 +552,7 @@ fn ask(image: &[u8], all: &[u8], out: &mut [u8]) {
 
 // ---- the file of images
 
-// The image at i and its queries; where the next one stands.
+// Runs the image at i with its queries; returns where the next image is.
 fn run(all: &[u8], i: usize, image: &mut [u8], out: &mut [u8]) -> usize
     requires { ⌜ i < length (now all) ⌝ }
     ensures { λ r. ⌜ i < r ⌝ }

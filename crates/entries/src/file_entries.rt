@@ -14,7 +14,7 @@ use tags::DescriptorTag;
 use tags::TagRead;
 use tags::heads::read_head;
 
-// A plain entry, ECMA-167 4/14.9, and an extended one, 4/14.17: the size is that of what stands before the attributes.
+// A plain entry, ECMA-167 4/14.9, and an extended one, 4/14.17. The sizes end where the attributes start.
 const PLAIN_ID: u16 = 261;
 
 const PLAIN_SIZE: usize = 176;
@@ -29,7 +29,8 @@ pub enum ObjectSize {
     Absent,
 }
 
-// `area_at` and `area_length` say where in the bytes given the area of allocation descriptors, or the embedded file, stands.
+// `area_at` and `area_length` say where the area of allocation descriptors, or the embedded file, is in the bytes
+// given.
 pub struct FileEntry {
     pub tag: DescriptorTag,
     pub icb_tag: IcbTag,
@@ -55,7 +56,7 @@ pub enum EntryRead {
     Refused(Refusal),
 }
 
-// The fields from 64 on, where the two forms part. The attributes start at `prefix`.
+// The fields from 64 on, where the two forms differ. The attributes start at `prefix`.
 struct EntryTail {
     prefix: usize,
     logical_blocks_recorded: u64,
@@ -88,7 +89,7 @@ fn extended_tail(s: &[u8]) -> EntryTail
     }
 }
 
-// Where the area stands: behind the attributes.
+// Where the area starts: after the attributes.
 fn area_start(d: EntryTail) -> usize
     requires { ⌜ d .prefix ≤ 216 ⌝ }
     ensures { λ r. ⌜ (r ≡ d .prefix + d .attributes) × (r < 0x1_0000_0100) ⌝ }
@@ -96,7 +97,7 @@ fn area_start(d: EntryTail) -> usize
     d.prefix + d.attributes as usize
 }
 
-// Every field at its offset, behind the ICB tag that was read.
+// The entry, with the other fields read at their offsets.
 fn entry_of(s: &[u8], t: DescriptorTag, icb: IcbTag, d: EntryTail) -> FileEntry
     requires { ⌜ d .prefix ≤ 216 ⌝ }
     ensures { λ r. ⌜ r ≡ entryOf (now (s .entry)) t icb d ⌝ }
@@ -137,7 +138,8 @@ fn entry_with(s: &[u8], t: DescriptorTag, icb: IcbTag, d: EntryTail) -> EntryRea
     EntryRead::Read(entry_of(s, t, icb, d))
 }
 
-// The id that the entry at the front of `s` has to have: that of an extended one where it is recorded.
+// The id that the entry at the front of `s` must have: an extended one's if that is recorded, otherwise a plain
+// one's.
 fn entry_id(s: &[u8]) -> u16
     ensures { λ r. ⌜ r ≡ entryId (now (s .entry)) ⌝ }
 {
@@ -147,7 +149,7 @@ fn entry_id(s: &[u8]) -> u16
     PLAIN_ID
 }
 
-// The entry in `s` behind its tag `t`.
+// The entry in `s`, whose tag is `t`.
 fn entry_behind(s: &[u8], t: DescriptorTag) -> EntryRead
     requires { ⌜ 176 ≤ length (now s) ⌝ }
     ensures { λ r. ⌜ r ≡ entryBehind (now (s .entry)) t ⌝ }

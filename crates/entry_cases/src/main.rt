@@ -1,5 +1,5 @@
-// Runs the cases of ICB tags, file entries and file identifiers, a line each: what was asked, and what was answered, field by field in the
-// order of the record.
+// Runs the cases for ICB tags, file entries and file identifiers. Each line has the question and the answer, field by
+// field in the order of the record.
 use disc::moves::copy;
 use entries::file_entries::EntryRead;
 use entries::file_entries::FileEntry;
@@ -21,14 +21,14 @@ use records::allocations::LongAd;
 use records::bytes::le64;
 use tags::DescriptorTag;
 
-// A word where it holds.
+// Prints the word if `holds`.
 fn say_if(holds: bool, word: &[u8]) {
     if holds {
         say(word);
     }
 }
 
-// ---- bytes that are told apart: each is its own offset, modulo 256
+// ---- bytes to be told apart: each is its own offset, modulo 256
 
 fn fill(out: &mut [u8]) {
     let mut i = 0;
@@ -38,7 +38,7 @@ fn fill(out: &mut [u8]) {
     }
 }
 
-// Bytes into out from `at` on.
+// Puts bytes into out from `at` on.
 fn put(text: &[u8], out: &mut [u8], at: usize) {
     if out.len() < at {
         return;
@@ -46,7 +46,7 @@ fn put(text: &[u8], out: &mut [u8], at: usize) {
     copy(text, &mut out[at..]);
 }
 
-// A tag of an id at the front of out, with the right checksum.
+// Puts a tag with this id and the right checksum at the front of out.
 fn put_tag(id: u16, out: &mut [u8]) {
     let t = DescriptorTag {
         id: id,
@@ -157,7 +157,7 @@ fn say_bits(f: FileIdentifierDescriptor) {
 
 // ---- one case each
 
-// The eight bytes at i of nine.
+// The eight bytes at i, in a slice of nine.
 fn eight_at(i: usize) {
     let mut b = [0u8; 9];
     fill(&mut b);
@@ -184,7 +184,7 @@ fn icb_tag(n: usize) {
     say(b"\n");
 }
 
-// What was read as an entry.
+// Prints what was read as an entry.
 fn answer_entry(r: EntryRead) {
     match r {
         EntryRead::Read(e) => say_entry(e),
@@ -273,12 +273,12 @@ fn identifier(id: u16, characteristics: u8, uses: u8, name: &[u8], name_length: 
     answer_identifier(FileIdentifierDescriptor::parse(false, front(&b, n)));
 }
 
-// One with characteristics and no name.
+// An identifier with these characteristics and no name.
 fn characterised(characteristics: u8) {
     identifier(257, characteristics, 0, b"", 0, 64);
 }
 
-// One with a name of n bytes.
+// An identifier with a name of n bytes.
 fn sized(n: u8) {
     identifier(257, 0, 0, b"\x08abcdefg", n, 64);
 }
@@ -323,7 +323,7 @@ fn entry_ids() {
     bad_checksum();
 }
 
-// The kinds of descriptors, and the flags that have none; the other bits aren't looked at.
+// The four kinds of descriptors, and the flags that are none; the other bits aren't looked at.
 fn entry_kinds() {
     entry(261, 5, 1, 0, 0, 176);
     entry(261, 5, 2, 0, 0, 176);
@@ -391,7 +391,7 @@ fn identifier_names() {
     identifier(257, 0, 0, b"\x09a", 2, 64);
 }
 
-// Each bit of the characteristics, and all.
+// Bits of the characteristics, alone and together.
 fn characteristics() {
     characterised(1);
     characterised(2);

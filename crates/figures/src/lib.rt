@@ -14,7 +14,7 @@ use disc::counts::lesser;
 // theirs, and the longest chain.
 pub const PLACE: usize = 80;
 
-// Where they stand in it.
+// Where each figure is in a place.
 pub const FILES: usize = 0;
 
 pub const DIRECTORIES: usize = 2;
@@ -36,10 +36,10 @@ const SUMS: usize = 39;
 
 const MOST: u64 = 0xffff_ffff_ffff_ffff;
 
-// No answer number is over this.
+// The highest answer number.
 const MOST_ANSWER: u64 = 16;
 
-// Two figures with their marks, added.
+// The sum of two figures with their overflow marks.
 fn sum(number: u64, over: u64, more: u64, more_over: u64) -> [u64; 2]
     ensures { λ r. ⌜ r ≡ summed number over more «more_over» ⌝ }
 {
@@ -62,7 +62,7 @@ fn greatest(a: u64, b: u64) -> u64
     if a < b { b } else { a }
 }
 
-// The greater of two figures with their marks.
+// The greater of two figures with their overflow marks.
 fn longer(number: u64, over: u64, more: u64, more_over: u64) -> [u64; 2]
     ensures { λ r. ⌜ r ≡ greater number over more «more_over» ⌝ }
 {
@@ -75,7 +75,7 @@ fn longer(number: u64, over: u64, more: u64, more_over: u64) -> [u64; 2]
     [greatest(number, more), 0]
 }
 
-// Adds a figure to the one that stands at `at`.
+// Adds a figure to the one at `at`.
 fn add_sum(place: &mut [u64], at: usize, more: u64, over: u64)
     requires { ⌜ at + 2 ≤ length (now place) ⌝ }
     ensures { λ _. ⌜ now (place .exit) ≡ sets (now (place .entry)) at (summed (getD (now (place .entry)) at 0) (getD (now (place .entry)) (at + 1) 0) more over) ⌝ }
@@ -85,7 +85,7 @@ fn add_sum(place: &mut [u64], at: usize, more: u64, over: u64)
     place[at + 1] = s[1];
 }
 
-// Leaves the greater of a figure and the one that stands at `at`.
+// Replaces the figure at `at` if another one is greater.
 fn add_longer(place: &mut [u64], at: usize, more: u64, over: u64)
     requires { ⌜ at + 2 ≤ length (now place) ⌝ }
     ensures { λ _. ⌜ now (place .exit) ≡ sets (now (place .entry)) at (greater (getD (now (place .entry)) at 0) (getD (now (place .entry)) (at + 1) 0) more over) ⌝ }
@@ -95,7 +95,7 @@ fn add_longer(place: &mut [u64], at: usize, more: u64, over: u64)
     place[at + 1] = s[1];
 }
 
-// Adds a directory to the figures of a place. A slice of another length is no place, and stays as it came.
+// Adds a directory to the figures of a place. A slice of another length is no place, and stays as it is.
 pub fn add_directory(place: &mut [u64])
     ensures { λ _. ⌜ now (place .exit) ≡ withDirectory (now (place .entry)) ⌝ }
 {
@@ -118,7 +118,8 @@ fn add_sizes(place: &mut [u64], answer: u64, bytes: u64, extents: u64, sectors: 
     add_longer(place, CHAIN, chain, 0);
 }
 
-// Adds a file by its answer number and what reading it comes to; a number over 16, which none is, counts as 16.
+// Adds a file by its answer number and what reading it comes to. No answer number is over 16; one that was would
+// count as 16.
 pub fn add_file(place: &mut [u64], answer: u64, bytes: u64, extents: u64, sectors: u64, chain: u64)
     ensures { λ _. ⌜ now (place .exit) ≡ withFile (min answer 16) bytes extents sectors chain (now (place .entry)) ⌝ }
 {
@@ -129,7 +130,7 @@ pub fn add_file(place: &mut [u64], answer: u64, bytes: u64, extents: u64, sector
     add_sizes(place, under, bytes, extents, sectors, chain);
 }
 
-// The sectors among the figures of a place, held at 2^64 - 1; 0 where there is no such number.
+// The sectors counted in a place, capped at 2^64 - 1; 0 if the slice is too short for them.
 pub fn sectors_in(place: &[u64]) -> u64
     ensures { λ r. ⌜ r ≡ getD (now (place .entry)) 8 0 ⌝ }
 {
@@ -152,7 +153,7 @@ pub fn add_image(place: &mut [u64], answer: u64)
 
 // ---- places added up
 
-// Adds the figures at `from` to those at `to`, a place behind it or further on.
+// Adds the figures of the place at `from` to those of the place at `to`, which comes later.
 fn add_place(places: &mut [u64], to: usize, from: usize)
     requires { ⌜ (from + 80 ≤ to) × (to + 80 ≤ length (now places)) ⌝ }
     ensures { λ _. ⌜ now (places .exit) ≡ sets (now (places .entry)) to (placesAdded sums (take 80 (drop to (now (places .entry)))) (take 80 (drop from (now (places .entry))))) ⌝ }
@@ -169,7 +170,7 @@ fn add_place(places: &mut [u64], to: usize, from: usize)
     add_longer(places, to + CHAIN, chain, over);
 }
 
-// Adds the first n places to the one behind them.
+// Adds the first n places to the one after them.
 fn add_places(places: &mut [u64], n: usize)
     requires { ⌜ 80 * (n + 1) ≤ length (now places) ⌝ }
     ensures { λ _. ⌜ now (places .exit) ≡ take (80 * n) (now (places .entry)) ++ totalOf n (take 80 (drop (80 * n) (now (places .entry)))) (now (places .entry)) ++ drop (80 * (n + 1)) (now (places .entry)) ⌝ }
@@ -181,7 +182,7 @@ fn add_places(places: &mut [u64], n: usize)
     }
 }
 
-// No figures: all zero.
+// Zeroes the figures.
 pub fn clear_figures(place: &mut [u64])
     ensures { λ _. ⌜ now (place .exit) ≡ replicate (length (now (place .entry))) 0 ⌝ }
 {
@@ -192,7 +193,7 @@ pub fn clear_figures(place: &mut [u64])
     }
 }
 
-// Writes the total of the first n places to the one behind them, or answers 15 where there are too few places.
+// Writes the total of the first n places to the one after them, or answers 15 if there are too few places.
 pub fn total(places: &mut [u64], n: usize) -> u64
     ensures { λ r. ⌜ (r ≡ totalAnswer n (now (places .entry))) × (now (places .exit) ≡ totaled n (now (places .entry))) ⌝ }
 {

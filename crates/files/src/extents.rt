@@ -1,4 +1,4 @@
-// A file's extents in passes: measured, with the refusals and the count; then copied, which can't fail.
+// A file's extents in two passes: measured, with the refusals and the count; then copied, which can't fail.
 ghost use mathlib.Core.Path.{_≡_};
 ghost use mathlib.Core.List.{_++_};
 ghost use Prim.Native.Nat.{_-_, _≤_};
@@ -13,7 +13,8 @@ use disc::counts::add_counts;
 use disc::places::Mount;
 use disc::refusals::Refusal;
 
-// What extents come to: their bytes, the sectors asked for, how many extents were begun, and the cursor behind the last of them.
+// What extents come to: their bytes, the sectors asked for, how many extents were begun, and the cursor after the
+// last of them.
 pub(crate) struct Sizes {
     pub size: u64,
     pub count: u64,
@@ -21,7 +22,7 @@ pub(crate) struct Sizes {
     pub behind: ChainCursor,
 }
 
-// Or a refusal and the sectors asked for.
+// The sizes, or a refusal and the sectors asked for.
 pub(crate) enum Measured {
     Sized(Sizes),
     Refused(Refusal, u64),
@@ -75,7 +76,7 @@ pub(crate) fn measure(
     }
 }
 
-// Copies n bytes of the image from `from` on to the front of out. For no byte `from` may lie past the image.
+// Copies n bytes of the image from `from` on to the front of out. If n is 0, `from` may lie past the image.
 pub(crate) fn copy_piece(image: &[u8], from: u64, n: u64, out: &mut [u8])
     requires { ⌜ (n ≤ length (now image) - from) × (n ≤ length (now out)) ⌝ }
     ensures { λ _. ⌜ now (out .exit) ≡ take n (drop from (now (image .entry))) ++ drop n (now (out .entry)) ⌝ }
@@ -88,8 +89,9 @@ pub(crate) fn copy_piece(image: &[u8], from: u64, n: u64, out: &mut [u8])
     disc::moves::copy(&image[at..end], out);
 }
 
-// Writes the bytes of the extents to the front of out, each behind the one before, and `want` of them at most. They were measured with another look
-// at the image, and that look is not relied on: whatever the image holds by now, nothing behind `want` bytes is written.
+// Writes at most `want` bytes of the extents to the front of out, one extent after another. They were measured with
+// an earlier look at the image, which isn't relied on: whatever the image holds by now, nothing after `want` bytes is
+// written.
 pub(crate) fn copy(
     image: &[u8],
     mount: Mount,

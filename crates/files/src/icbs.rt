@@ -1,4 +1,4 @@
-// The entry of a file, found from its ICB: what of it a call needs.
+// A file's entry, found from its ICB: the parts of it that a call needs.
 ghost use mathlib.Core.Path.{_≡_};
 ghost use Prim.Native.Nat.{_+_, _≤_, _<_, _^_};
 ghost use lib.ListN.{length};
@@ -15,7 +15,8 @@ use entries::file_entries::EntryRead;
 use entries::file_entries::FileEntry;
 use records::allocations::LongAd;
 
-// The kind of its descriptors, its information length, and where in the image the area of its descriptors, or the file itself, stands.
+// The kind of its descriptors, its information length, and where its area of descriptors, or the file itself, is in
+// the image.
 pub struct FilePlace {
     pub kind: u8,
     pub information: u64,
@@ -23,7 +24,7 @@ pub struct FilePlace {
     pub size: usize,
 }
 
-// A refusal has the number of sectors asked for beside it.
+// A refusal has the sectors asked for with it.
 pub enum PlaceRead {
     Found(FilePlace),
     Refused(Refusal, u64),
@@ -56,7 +57,8 @@ fn place_from(image: &[u8], check: bool, sector: Sector) -> PlaceRead
     place_in(check, sector_at(image, sector), (2048 * sector.0) as usize)
 }
 
-// The entry that an ICB names: its block is asked for and parsed, if its reference is one of this volume. The ICB's type isn't looked at.
+// The entry that an ICB names. Its block is asked for and parsed if its partition reference is one of this volume.
+// The ICB's type isn't looked at.
 pub(crate) fn locate(image: &[u8], mount: Mount, icb: LongAd) -> PlaceRead
     ensures { λ r. ⌜ r ≡ placeOf (now (image .entry)) mount icb ⌝ }
 {

@@ -1,4 +1,4 @@
-// The next piece of a file: what a cursor's next extent gives, looked for where it stands in the image.
+// The next piece of a file: what the next extent at a cursor gives, found in place in the image.
 ghost use mathlib.Core.Path.{_≡_};
 ghost use Prim.Native.Nat.{_<_, _^_};
 ghost use Rattle.files.specs.inner.Pieces.{sectorsRead, weighedAt};
@@ -15,13 +15,14 @@ use disc::places::Placed;
 use disc::places::Sector;
 use disc::refusals::Refusal;
 
-// What an extent gives: where it stands in the image, the sectors read and the bytes; or a refusal and the sectors asked for.
+// What an extent gives: where it is in the image, the sectors read and the bytes; or a refusal and the sectors asked
+// for.
 pub(crate) enum Piece {
     Held { from: u64, sectors: u64, bytes: u64 },
     Refused(Refusal, u64),
 }
 
-// What a turn of a walk gives.
+// What one turn of the walk along a chain gives.
 pub enum Turn {
     Piece {
         from: u64,
@@ -34,7 +35,8 @@ pub enum Turn {
     End,
 }
 
-// How many sectors of an extent of `size` bytes are read for `want` bytes: the first is read even for none.
+// How many sectors of an extent of `size` bytes are read for `want` bytes. The first, if there is one, is read even
+// if `want` is 0.
 fn sectors_read(size: u32, want: u64) -> u64
     ensures { λ r. ⌜ r ≡ sectorsRead size want ⌝ }
 {
@@ -44,8 +46,8 @@ fn sectors_read(size: u32, want: u64) -> u64
     sectors_for(lesser(size as u64, want) as u32)
 }
 
-// An extent of `size` bytes from a sector on, measured by one division: an image is one slice, so its sectors are all there exactly when the last
-// one is.
+// An extent of `size` bytes from sector `first` on, measured by one division: the image is one slice, so its sectors
+// are all there exactly when the last one is.
 fn weigh_at(image: &[u8], first: Sector, size: u32, want: u64) -> Piece
     requires { ⌜ first .0 < 2 ^ 33 ⌝ }
     ensures { λ r. ⌜ r ≡ weighedAt (now (image .entry)) (first .0) size want ⌝ }
@@ -62,7 +64,7 @@ fn weigh_at(image: &[u8], first: Sector, size: u32, want: u64) -> Piece
     }
 }
 
-// What an extent gives: it is recorded, and stands on this volume.
+// What an extent gives. It must be recorded, and on this volume.
 fn weigh(image: &[u8], mount: Mount, e: AllocExtent, want: u64) -> Piece
     ensures { λ r. ⌜ r ≡ weighedOf (now (image .entry)) mount e want ⌝ }
 {
@@ -77,7 +79,7 @@ fn weigh(image: &[u8], mount: Mount, e: AllocExtent, want: u64) -> Piece
     }
 }
 
-// The next turn of a walk from c on, where `want` bytes are still wanted.
+// The next turn of the walk from c on, with `want` bytes still wanted.
 pub fn next_piece(image: &[u8], mount: Mount, kind: u8, c: ChainCursor, want: u64) -> Turn
     ensures { λ r. ⌜ r ≡ turnAt (now (image .entry)) mount kind c want ⌝ }
 {

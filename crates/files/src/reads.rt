@@ -1,4 +1,4 @@
-// A file read: its entry, its chain, its extents measured, and then copied.
+// Reads a file: its entry and its chain are resolved, its extents measured and then copied.
 ghost use Prim.Native.Nat.{_+_, _≤_};
 ghost use lib.ListN.{length};
 ghost use Rattle.disc.specs.Ran.{ran, after};
@@ -25,7 +25,7 @@ use disc::replies::Reply;
 use disc::replies::refusal;
 use records::allocations::LongAd;
 
-// The bytes that stand in the entry itself.
+// Reads a file that is embedded in its entry.
 fn read_embedded(image: &[u8], p: FilePlace, out: &mut [u8], full: Refusal) -> Reply
     requires { ⌜ p .at + p .size ≤ length (now image) ⌝ }
     ensures { λ r. ⌜ Replied full (embeddedRun (now (image .entry)) p) (now (out .entry)) (now (out .exit)) r ⌝ }
@@ -42,7 +42,7 @@ fn read_embedded(image: &[u8], p: FilePlace, out: &mut [u8], full: Refusal) -> R
     }
 }
 
-// The bytes of the extents of a chain that is whole, behind `n` sectors.
+// Reads the extents of a chain that was followed to its end, after `n` sectors.
 fn read_whole(
     image: &[u8],
     mount: Mount,
@@ -74,7 +74,7 @@ fn read_whole(
     }
 }
 
-// The file's bytes over the front of out, where they fit: else the refusal `full`, after every other.
+// Writes the file's bytes to the front of out. If they don't fit, the refusal is `full`, after every other.
 pub fn read_file(image: &[u8], mount: Mount, icb: LongAd, out: &mut [u8], full: Refusal) -> Reply
     ensures { λ r. ⌜ Replied full (ran (disc (now (image .entry))) (fileBytes mount icb)) (now (out .entry)) (now (out .exit)) r ⌝ }
 {

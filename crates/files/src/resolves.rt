@@ -1,4 +1,4 @@
-// A file's entry and its chain: what is read before anything is asked of the file.
+// A file's entry and its chain, which are read before anything else of the file.
 ghost use mathlib.Core.Path.{_≡_};
 ghost use Rattle.files.specs.inner.Wholes.{frontOf, Resolves};
 use crate::icbs::FilePlace;
@@ -11,21 +11,21 @@ use disc::places::Mount;
 use disc::refusals::Refusal;
 use records::allocations::LongAd;
 
-// Embedded in its entry; or in the extents of its chain, which was followed to its end, with the number of sectors asked for; or a refusal
-// with that number.
+// The file is embedded in its entry; or in the extents of its chain, which was followed to its end; or refused. The
+// number is the sectors asked for.
 pub enum Resolved {
     Embedded(FilePlace),
     Chained(FilePlace, u64),
     Refused(Refusal, u64),
 }
 
-// The kind of an entry in which the file itself stands.
+// The kind of an entry that holds the file itself.
 const EMBEDDED: u8 = 3;
 
-// No more continuations than these are followed.
+// At most this many continuations are followed.
 pub(crate) const MOST_CONTINUATIONS: u8 = 32;
 
-// The cursor at the front of a file's chain.
+// The cursor at the start of a file's chain.
 pub fn front_of(p: FilePlace) -> ChainCursor
     ensures { λ r. ⌜ r ≡ frontOf p ⌝ }
 {

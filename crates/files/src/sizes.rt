@@ -1,4 +1,4 @@
-// A file measured without a copy: what a read of it would answer, and how long its chain is.
+// Measures a file without copying it: what a read would answer, and how long its chain is.
 ghost use mathlib.Core.Path.{_≡_};
 ghost use Prim.Native.Nat.{_≤_};
 ghost use Rattle.disc.specs.Ran.{ran};
@@ -24,14 +24,15 @@ use disc::replies::Reply;
 use disc::replies::refusal;
 use records::allocations::LongAd;
 
-// The reply of a read with room enough, the extents of the whole chain, and the continuations that were followed.
+// The reply of a read with room enough, the extents of the whole chain, and the continuations followed.
 pub struct FileSizes {
     pub reply: Reply,
     pub extents: u64,
     pub hops: u64,
 }
 
-// A file under way: the reply, the extents that were begun, and the cursor behind them, with how the entry's descriptors are read.
+// A file measured as far as a read goes: the reply, the extents begun, the cursor after them, and how the entry's
+// descriptors are read.
 struct Weighing {
     reply: Reply,
     visits: u64,
@@ -40,7 +41,7 @@ struct Weighing {
     behind: ChainCursor,
 }
 
-// Where no chain is to be counted: the cursor stands at its end.
+// With no chain to count: the cursor is at its end.
 fn uncounted(mount: Mount, reply: Reply) -> Weighing
     ensures { λ r. ⌜ r ≡ uncountedBy mount reply ⌝ }
 {
@@ -57,7 +58,7 @@ fn uncounted(mount: Mount, reply: Reply) -> Weighing
     }
 }
 
-// The extents of a chain that is whole, behind `n` sectors.
+// The extents of a chain that was followed to its end, after `n` sectors.
 fn weigh_whole(image: &[u8], mount: Mount, p: FilePlace, n: u64) -> Weighing
     requires { ⌜ p .size ≤ 2048 ⌝ }
     ensures { λ r. ⌜ WeighsChain (now (image .entry)) mount p n r ⌝ }
@@ -102,7 +103,7 @@ fn weigh_file(image: &[u8], mount: Mount, icb: LongAd) -> Weighing
     }
 }
 
-// What a read of the file would answer, with room enough: no output.
+// What a read of the file would answer with room enough; nothing is written.
 pub fn measure_file(image: &[u8], mount: Mount, icb: LongAd) -> Reply
     ensures { λ r. ⌜ r ≡ measuredOf (ran (disc (now (image .entry))) (fileBytes mount icb)) ⌝ }
 {
@@ -110,8 +111,8 @@ pub fn measure_file(image: &[u8], mount: Mount, icb: LongAd) -> Reply
     w.reply
 }
 
-// The same with the extents of its whole chain and the continuations followed, in one walk behind the one that resolves it. 0 and 0 where the read
-// is refused, and for an embedded file.
+// The same with the extents of its whole chain and the continuations followed, in one walk after the one that
+// resolves it. Both are 0 if the read is refused or the file is embedded.
 pub fn size_file(image: &[u8], mount: Mount, icb: LongAd) -> FileSizes
     ensures { λ r. ⌜ r ≡ sizesOf (disc (now (image .entry))) mount icb ⌝ }
 {

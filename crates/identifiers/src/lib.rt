@@ -17,10 +17,10 @@ use tags::TagRead;
 use tags::heads::read_head;
 use tags::no_tag;
 
-// ECMA-167 4/14.4. The size is that of what stands before the implementation use.
+// ECMA-167 4/14.4.
 const ID: u16 = 257;
 
-// What an identifier has at least: all before its implementation use and its name.
+// The least size of an identifier: all before its implementation use and its name.
 pub const LEAST_SIZE: usize = 38;
 
 // An entry of a directory (id 257). Its name, a d-string of `name_length` bytes, stands at `name_at`; as UTF-8 it has `name_size` bytes.
@@ -38,7 +38,7 @@ pub struct FileIdentifierDescriptor {
     pub total_size: usize,
 }
 
-// An enum can hold no array, so the answer is a number, with zeros where it is a refusal.
+// An enum can hold no array, so this has an answer number, and zeros on a refusal.
 #[repr(C)]
 pub struct IdentifierRead {
     pub answer: u64,
@@ -63,14 +63,14 @@ fn refused_by(why: Refusal) -> IdentifierRead
     }
 }
 
-// Where the name starts, behind the implementation use.
+// Where the name starts: after the implementation use.
 pub fn name_at(s: &[u8]) -> usize
     ensures { λ r. ⌜ (r ≡ nameAt (now (s .entry))) × (r < 65574) ⌝ }
 {
     LEAST_SIZE + le16(s, 36) as usize
 }
 
-// Every field at its offset; the name's `n` bytes stand at `at`, and it has `size` bytes of UTF-8.
+// The fields at their offsets. The name has `n` bytes at `at`, and `size` bytes as UTF-8.
 fn identifier_of(
     s: &[u8],
     t: DescriptorTag,
@@ -93,7 +93,7 @@ fn identifier_of(
     }
 }
 
-// The identifier, unless its name is no d-string.
+// The identifier, unless its name isn't a d-string.
 fn identifier_sized(
     s: &[u8],
     t: DescriptorTag,
@@ -113,7 +113,7 @@ fn identifier_sized(
     }
 }
 
-// The same, unless its name ends past the bytes given. Where it stands and how long it is are fetched here, once.
+// The same, unless its name ends past the bytes given. The name's place and length are fetched here, once.
 fn identifier_named(s: &[u8], t: DescriptorTag) -> IdentifierRead
     ensures { λ r. ⌜ r ≡ identifierRead (identifierNamed (now (s .entry)) t) ⌝ }
 {
@@ -126,7 +126,7 @@ fn identifier_named(s: &[u8], t: DescriptorTag) -> IdentifierRead
     identifier_sized(s, t, at, n, name_size(&s[at..end]))
 }
 
-// The bits of the characteristics (4/14.4.3): of a directory, of a deleted identifier, of the parent's.
+// The bits of the characteristics (4/14.4.3): a directory, deleted, the parent.
 pub fn marks_directory(characteristics: u8) -> bool
     ensures { λ r. ⌜ r ≡ bit 2 characteristics ⌝ }
 {
@@ -145,7 +145,7 @@ pub fn marks_parent(characteristics: u8) -> bool
     characteristics / 8 % 2 == 1
 }
 
-// The first of them as a number.
+// The directory bit as a number.
 pub fn directory_bit(characteristics: u8) -> u8
     ensures { λ r. ⌜ r ≡ characteristics / 2 % 2 ⌝ }
 {
@@ -153,7 +153,7 @@ pub fn directory_bit(characteristics: u8) -> u8
 }
 
 impl FileIdentifierDescriptor {
-    // Where bodies are checked, the bytes at hand are those of `s`: the directory's from the entry on.
+    // If bodies are checked, the bytes at hand are those of `s`: the directory's from the entry on.
     pub fn parse(check: bool, s: &[u8]) -> IdentifierRead
         ensures { λ r. ⌜ r ≡ identifierRead (readIdentifier check (now (s .entry))) ⌝ }
     {

@@ -38,7 +38,8 @@ pub struct Extent {
     pub partition: u32,
 }
 
-// A list under way: the reply of the whole call, the next extent to store, and the cursor at those behind it, with how the entry's descriptors are read.
+// A list under way: the reply of the whole call, the next extent to store, the cursor after it, and how the entry's
+// descriptors are read.
 struct Listing {
     reply: Reply,
     mount: Mount,
@@ -47,7 +48,7 @@ struct Listing {
     behind: ChainCursor,
 }
 
-// The partition that a descriptor names, 65,536 where it names none.
+// The partition that a descriptor names; 65,536 if it names none.
 pub fn reference_number(r: PartitionRef) -> u32
     ensures { λ n. ⌜ n ≡ referenceOf r ⌝ }
 {
@@ -133,7 +134,7 @@ fn further(image: &[u8], l: Listing) -> Listing
     listing_at(image, mount, l.kind, behind, reply)
 }
 
-// The extents of a chain that is whole, after n sectors.
+// The extents of a chain that was followed to its end, after n sectors.
 fn list_whole(
     image: &[u8],
     mount: Mount,
@@ -162,7 +163,7 @@ fn list_whole(
     )
 }
 
-// The listing of a file for so many slots: every refusal is known, and the extents that are left fit.
+// The listing of a file for `room` slots. Every refusal is known, and the extents fit.
 fn plan(image: &[u8], mount: Mount, icb: LongAd, room: usize) -> Listing
     ensures { λ r. ⌜ Planned (now (image .entry)) (ran (disc (now (image .entry))) (fileExtents mount icb)) room r ⌝ }
 {
@@ -189,7 +190,8 @@ fn plan(image: &[u8], mount: Mount, icb: LongAd, room: usize) -> Listing
 
 // ---- the two forms of a row
 
-// Effective length, type, block and partition of every extent of the file's chain, four numbers in a slot; an embedded file has none.
+// Lists the effective length, type, block and partition of each extent of the file's chain, four numbers to a slot.
+// An embedded file has no extents.
 pub fn file_words(image: &[u8], mount: Mount, icb: LongAd, row: &mut [[u32; 4]]) -> Reply
     ensures { λ r. ⌜ Listed wordsOf (ran (disc (now (image .entry))) (fileExtents mount icb)) (now (row .entry)) (now (row .exit)) r ⌝ }
 {
@@ -205,7 +207,8 @@ pub fn file_words(image: &[u8], mount: Mount, icb: LongAd, row: &mut [[u32; 4]])
     l.reply
 }
 
-// The same in a row of records. The borrow checker doesn't cover a lent slice of structs: this one function is proved by a walk of its MIR.
+// The same in a row of records. The borrow checker doesn't cover a lent slice of structs, so this one function is
+// proved by a walk of its MIR.
 pub fn file_rows(image: &[u8], mount: Mount, icb: LongAd, row: &mut [Extent]) -> Reply
     ensures { λ r. ⌜ Listed extentOf (ran (disc (now (image .entry))) (fileExtents mount icb)) (now (row .entry)) (now (row .exit)) r ⌝ }
 {

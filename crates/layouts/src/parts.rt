@@ -13,7 +13,8 @@ use files::resolves::Resolved;
 use files::resolves::resolve;
 use records::allocations::LongAd;
 
-// How many bytes of an embedded file are read, and in `at` their place in the image; zeros for any other file, or where the call is refused.
+// How many bytes of an embedded file are read, and in `at` their place in the image; zeros for any other file and on
+// a refusal.
 pub fn part_at(image: &[u8], mount: Mount, icb: LongAd, at: &mut usize) -> Reply
     ensures { λ r. ⌜ r ≡ partReply (ran (disc (now (image .entry))) (filePart mount icb)) ⌝ }
     ensures { λ _. ⌜ now (at .exit) ≡ partIn (ran (disc (now (image .entry))) (filePart mount icb) .outcome) .at ⌝ }
@@ -37,8 +38,8 @@ pub fn part_at(image: &[u8], mount: Mount, icb: LongAd, at: &mut usize) -> Reply
     }
 }
 
-// Those bytes, as a part of the image; empty for any other file, or where the call is refused. The two lent numbers are set to the
-// answer number and the count of sectors.
+// The same bytes, as a part of the image; empty for any other file and on a refusal. `answer` and `count` are set to
+// the answer number and the count of sectors.
 pub fn file_part<'i>(
     image: &'i [u8],
     mount: Mount,

@@ -38,7 +38,8 @@ enum RunCount {
     Refused(Refusal, u64),
 }
 
-// A list under way: the reply of the whole call, the next run to store, and the cursor at those behind it with the bytes that are still wanted.
+// A list under way: the reply of the whole call, the next run to store, the cursor after it, and the bytes still
+// wanted.
 struct Running {
     reply: Reply,
     mount: Mount,
@@ -49,7 +50,7 @@ struct Running {
     want: u64,
 }
 
-// A listing of one run at most, with none behind it.
+// A listing of at most one run, with none after it.
 fn alone(mount: Mount, at: u64, length: u64, reply: Reply) -> Running
     ensures { λ r. ⌜ r ≡ aloneBy mount at length reply ⌝ }
 {
@@ -68,7 +69,7 @@ fn alone(mount: Mount, at: u64, length: u64, reply: Reply) -> Running
     }
 }
 
-// How many runs `want` bytes from a cursor on are. An extent of no byte is none.
+// How many runs hold the `want` bytes from a cursor on. An extent of no bytes is no run.
 fn count_runs(image: &[u8], mount: Mount, kind: u8, first: ChainCursor, want: u64) -> RunCount
     requires { ⌜ first .left ≤ 2048 ⌝ }
     ensures { λ r. ⌜ countedBy r ≡ sized 0 0 (runsAt (now (image .entry)) mount kind first want) ⌝ }
@@ -100,7 +101,7 @@ fn count_runs(image: &[u8], mount: Mount, kind: u8, first: ChainCursor, want: u6
     }
 }
 
-// The listing of the runs behind the one that a listing has at hand.
+// The listing from the next run on.
 fn further_runs(image: &[u8], l: Running) -> Running
     ensures { λ r. ⌜ RunsLeft (now (image .entry)) (l .mount) (l .kind) (l .behind) (l .want) (l .reply) r ⌝ }
 {
@@ -139,7 +140,7 @@ fn further_runs(image: &[u8], l: Running) -> Running
     }
 }
 
-// The run that an embedded file is.
+// An embedded file is one run, or none if it is empty.
 fn plan_entry(mount: Mount, p: FilePlace, room: usize) -> Running
     ensures { λ r. ⌜ EntryPlanned p room r ⌝ }
 {
@@ -160,7 +161,7 @@ fn plan_entry(mount: Mount, p: FilePlace, room: usize) -> Running
     )
 }
 
-// The runs of a chain that is whole, after n sectors.
+// The runs of a chain that was followed to its end, after n sectors.
 fn plan_chain(image: &[u8], mount: Mount, p: FilePlace, n: u64, room: usize) -> Running
     requires { ⌜ p .size ≤ 2048 ⌝ }
     ensures { λ r. ⌜ RunsPlanned (now (image .entry)) (chainRuns (now (image .entry)) mount p n) room r ⌝ }
@@ -191,7 +192,7 @@ fn plan_chain(image: &[u8], mount: Mount, p: FilePlace, n: u64, room: usize) -> 
     }
 }
 
-// The listing of a file for so many slots: every refusal is known, and the runs that are left fit.
+// The listing of a file for `room` slots. Every refusal is known, and the runs fit.
 fn plan_runs(image: &[u8], mount: Mount, icb: LongAd, room: usize) -> Running
     ensures { λ r. ⌜ RunsPlanned (now (image .entry)) (ran (disc (now (image .entry))) (fileRuns mount icb)) room r ⌝ }
 {
@@ -210,8 +211,8 @@ fn plan_runs(image: &[u8], mount: Mount, icb: LongAd, room: usize) -> Running
     }
 }
 
-// Place and length of each run of the image that a read takes its bytes from, in reading order, cut as the read is cut, a pair to a slot; 7 where
-// there are more runs than slots, after every other refusal.
+// Lists place and length of each run of the image that a read takes its bytes from, in reading order and cut as the
+// read is cut, a pair to a slot. Refused by 7, after every other refusal, if there are more runs than slots.
 pub fn file_runs(image: &[u8], mount: Mount, icb: LongAd, row: &mut [[u64; 2]]) -> Reply
     ensures { λ r. ⌜ RunsListed (ran (disc (now (image .entry))) (fileRuns mount icb)) (now (row .entry)) (now (row .exit)) r ⌝ }
 {

@@ -1,4 +1,4 @@
-// One entry of a directory, at the front of bytes.
+// One entry of a directory, at the front of its bytes.
 ghost use mathlib.Core.Path.{_≡_};
 ghost use mathlib.Core.Bool.{_||_};
 ghost use Prim.Native.Nat.{_+_, _≤_, _<_};
@@ -22,10 +22,10 @@ use names::matching::Fold;
 use names::matching::is_named;
 use records::bytes::byte_at;
 
-// What a record has before its name.
+// The size of a record before its name.
 const HEAD: usize = 21;
 
-// Reads the entry that stands at `at` in a directory's bytes: the cursor of the passes that check.
+// Reads the entry at `at` in a directory's bytes, for the passes that check.
 pub(crate) fn entry_at(check: bool, raw: &[u8], at: usize) -> IdentifierRead
     requires { ⌜ at + 38 ≤ length (now raw) ⌝ }
     ensures { λ r. ⌜ Comes check (now (raw .entry)) at r ⌝ }
@@ -42,7 +42,7 @@ fn is_left_out(marks: u8) -> bool
     deleted | parent
 }
 
-// The same of an entry that was read.
+// The same for an entry that was read.
 pub fn is_skipped(f: FileIdentifierDescriptor) -> bool
     ensures { λ r. ⌜ r ≡ isSkipped f ⌝ }
 {
@@ -60,7 +60,7 @@ pub(crate) fn record_size(f: FileIdentifierDescriptor) -> usize
     HEAD + f.name_size
 }
 
-// The record of the entry at the front of s without its name, of n bytes. The ICB goes over as it is recorded.
+// The record of the entry at the front of s, up to its name of n bytes. The ICB is copied as recorded.
 fn head(directory: u8, s: &[u8], n: usize) -> [u8; 21]
     requires { ⌜ 36 ≤ length (now s) ⌝ }
     ensures { λ r. ⌜ r ≡ headIn directory (now (s .entry)) n ⌝ }
@@ -90,8 +90,9 @@ fn head(directory: u8, s: &[u8], n: usize) -> [u8; 21]
     ]
 }
 
-// Writes the record of the entry at the front of s over the front of out, and returns its length: the name first, whose length is
-// then known, and over the 21 bytes before it the head. A record that has no room, which none has that was measured, is left out.
+// Writes the record of the entry at the front of s to the front of out, and returns its length. The name is written
+// first, since the head before it, of 21 bytes, has its length. A record without room is left out; one that was
+// measured has room.
 fn put_record(marks: u8, s: &[u8], recorded: &[u8], out: &mut [u8]) -> usize
     requires { ⌜ 36 ≤ length (now s) ⌝ }
     ensures { λ r. ⌜ Recorded marks (now (s .entry)) (written (nameOf (now (recorded .entry)))) (now (out .entry)) (now (out .exit)) r ⌝ }
@@ -108,14 +109,15 @@ fn put_record(marks: u8, s: &[u8], recorded: &[u8], out: &mut [u8]) -> usize
     HEAD + n
 }
 
-// How many bytes were written of an entry, and how far behind its start the next one starts.
+// How many bytes were written for an entry, and how far from its start the next one starts.
 pub(crate) struct Put {
     pub wrote: usize,
     pub next: usize,
 }
 
-// Writes the record of the entry at the front of s. Its tag and its name are not checked again, and each of its fields is looked at
-// once. Where the name ends past the bytes, they are not those that were measured, and there is no next entry.
+// Writes the record of the entry at the front of s. Its tag and its name aren't checked again, and each of its fields
+// is looked at once. If the name ends past the bytes, they aren't those that were measured, and there is no next
+// entry.
 pub(crate) fn put_entry(s: &[u8], out: &mut [u8]) -> Put
     requires { ⌜ 38 ≤ length (now s) ⌝ }
     ensures { λ r. ⌜ Puts (now (s .entry)) (now (out .entry)) (now (out .exit)) r ⌝ }
@@ -137,7 +139,7 @@ pub(crate) fn put_entry(s: &[u8], out: &mut [u8]) -> Put
     Put { wrote, next }
 }
 
-// Whether the entry f, read at the front of s, is not skipped, and has the name that is looked for, under a fold.
+// Whether the entry f, read at the front of s, isn't skipped and has the name that is looked for, under a fold.
 pub(crate) fn answers_to(
     fold: Fold,
     s: &[u8],

@@ -1,4 +1,4 @@
-// One entry of a directory, read and put into a listing: for a caller that goes over a directory's bytes an entry at a time.
+// One entry of a directory, read and put into a listing, for a caller that goes over a directory an entry at a time.
 ghost use mathlib.Core.Path.{_≡_};
 ghost use mathlib.Core.Bool.{false};
 ghost use Rattle.identifiers.specs.Identifiers.{readIdentifier, identifierRead};
@@ -10,9 +10,9 @@ use disc::answers::DONE;
 use identifiers::FileIdentifierDescriptor;
 use identifiers::IdentifierRead;
 
-// Reads the entry at the front of s, and writes its record over the front of out; one that has no room is left out. The body isn't checked:
-// the caller has parsed the whole directory before. The record is written by the one loop that writes a listing's, over a directory of this entry
-// alone, so that the compiler has one place in which to put what writes a record.
+// Reads the entry at the front of s and writes its record to the front of out; a record without room is left out. The
+// body isn't checked: the caller has parsed the whole directory before. `put_entries` writes the record, over a
+// directory of this entry alone, so the compiler has one place for the code that writes a record.
 pub fn put_listed(s: &[u8], out: &mut [u8]) -> IdentifierRead
     ensures { λ r. ⌜ r ≡ identifierRead (readIdentifier false (now (s .entry))) ⌝ }
     ensures { λ _. ⌜ now (out .exit) ≡ listedOver (entryRead false (now (s .entry))) (now (out .entry)) ⌝ }

@@ -87,7 +87,8 @@ fn noted(
     found
 }
 
-// The entry of a name in a directory's bytes. One bad entry refuses the directory, so that the walk goes on past the entry.
+// The entry of a name in a directory's bytes. The walk goes on past the entry, since one bad entry refuses the
+// directory.
 pub fn find(check: bool, matching: Matching, raw: &[u8], component: &[u8]) -> Named
     ensures { λ r. ⌜ r ≡ namedOf (findIn check matching (now (component .entry)) (now (raw .entry))) ⌝ }
 {

@@ -19,13 +19,13 @@ use disc::replies::Reply;
 use disc::replies::refusal;
 use identifiers::LEAST_SIZE;
 
-// How many bytes the listing takes, or 0 where the directory is refused.
+// How many bytes the listing takes; 0 if the directory is refused.
 pub struct ListingSize {
     pub answer: u64,
     pub size: usize,
 }
 
-// The size of the listing of a directory's bytes, which are all parsed for it.
+// The size of the listing of a directory's bytes. Every entry is parsed.
 pub fn measure(check: bool, raw: &[u8]) -> ListingSize
     ensures { λ r. ⌜ r ≡ sizeOfListing (entries check (now (raw .entry))) ⌝ }
 {
@@ -49,8 +49,8 @@ pub fn measure(check: bool, raw: &[u8]) -> ListingSize
     }
 }
 
-// Writes the records of the entries over out, each behind the one before. The entries are not checked again, so what is lent is the room
-// that was measured, and nothing behind it can be written, whatever the bytes are by now.
+// Writes the records of the entries to out, one after another. Nothing is checked again: out is the room that was
+// measured, so nothing after it can be written, whatever the bytes are by now.
 pub(crate) fn put_entries(raw: &[u8], out: &mut [u8])
     ensures { λ _. ⌜ ((es : List Entry) → entries false (now (raw .entry)) ≡ answered es → length (records es) ≡ length (now (out .entry)) → now (out .exit) ≡ records es) ⌝ }
 {
@@ -63,7 +63,7 @@ pub(crate) fn put_entries(raw: &[u8], out: &mut [u8])
     }
 }
 
-// The listing of a directory's bytes over the front of out.
+// Writes the listing of a directory's bytes to the front of out.
 pub fn list(check: bool, raw: &[u8], out: &mut [u8]) -> Reply
     ensures { λ r. ⌜ Replied NoRoom (told (listing check (now (raw .entry)))) (now (out .entry)) (now (out .exit)) r ⌝ }
 {

@@ -18,7 +18,7 @@ pub enum Matching {
     Unambiguous,
 }
 
-// The choice that has a number; any other number is the choice that refuses most.
+// The choice with this number. Any other number is the choice that refuses most.
 pub fn matching_of(number: u32) -> Matching
     ensures { λ r. ⌜ r ≡ matchingOf number ⌝ }
 {
@@ -31,7 +31,7 @@ pub fn matching_of(number: u32) -> Matching
     Matching::Unambiguous
 }
 
-// What is made of the bytes of a name and of a component before they are compared.
+// How the bytes of a name and of a component are folded before they are compared.
 pub(crate) fn fold_for(matching: Matching) -> Fold
     ensures { λ r. ⌜ r ≡ foldFor matching ⌝ }
 {

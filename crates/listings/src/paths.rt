@@ -4,7 +4,7 @@ ghost use Prim.Native.Nat.{_+_};
 ghost use lib.ListN.{length, drop};
 ghost use Rattle.listings.specs.Paths.{front, slashes};
 
-// Behind the slashes that stand at `at`.
+// The place after the slashes at `at`.
 pub fn component_from(path: &[u8], at: usize) -> usize
     ensures { λ r. ⌜ r ≡ at + slashes (drop at (now (path .entry))) ⌝ }
 {

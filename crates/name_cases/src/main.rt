@@ -1,5 +1,5 @@
-// Runs the cases of names, a line each: d-strings and d-string fields as UTF-8, outputs with too little room, and matching. A line has
-// what was asked, its bytes in hex, and what was answered: a name's size and bytes.
+// Runs the cases for names: d-strings and d-string fields as UTF-8, outputs with too little room, and matching. Each
+// line has what was asked, its bytes in hex, and the answer: a name's size and bytes.
 ghost use Prim.Native.Nat.{_≤_};
 ghost use lib.ListN.{length};
 use names::dstrings::NameSize;
@@ -20,7 +20,7 @@ fn asked(what: &[u8], b: &[u8]) {
     say_bytes(b);
 }
 
-// What was answered for a name, and the name, which stands at the front of b.
+// Prints the answer for a name, and the name, which is at the front of b.
 fn say_name(size: NameSize, b: &[u8]) {
     match size {
         NameSize::Size(n) => {
@@ -58,7 +58,7 @@ fn field(f: &[u8]) {
     say_name(field_size(f), &out);
 }
 
-// The same for a field of 32 bytes that is full of the letter A under id 8, and whose last byte says `length`.
+// The same for a field of 32 bytes with id 8, full of the letter A, and with `length` as its last byte.
 fn full_field(length: u8) {
     let mut f = [0x41u8; 32];
     f[0] = 8;
@@ -66,7 +66,7 @@ fn full_field(length: u8) {
     field(&f);
 }
 
-// A name put into the first `room` bytes of out, of which all are shown.
+// Puts a name into the first `room` bytes of out, and prints all of out.
 fn put_front(s: &[u8], room: usize, out: &mut [u8])
     requires { ⌜ room ≤ length (now out) ⌝ }
 {
@@ -75,7 +75,7 @@ fn put_front(s: &[u8], room: usize, out: &mut [u8])
     say_bytes(out);
 }
 
-// The same of eight bytes EE: what has no room is left out, and what is behind stays.
+// The same with eight bytes EE: what has no room is left out, and the bytes after it stay.
 fn into(room: usize, s: &[u8])
     requires { ⌜ room ≤ 8 ⌝ }
 {
@@ -85,7 +85,7 @@ fn into(room: usize, s: &[u8])
     say(b"\n");
 }
 
-// Whether the name of a d-string, which is shown, and another match.
+// Whether the name of a d-string, which is printed, matches another.
 fn same(s: &[u8], b: &[u8]) {
     let mut out = [0u8; 64];
     let n = put_name(s, &mut out);
@@ -101,7 +101,7 @@ fn named(s: &[u8], component: &[u8]) {
     say_match(is_named(Fold::Lower, s, component));
 }
 
-// Whether it does byte for byte.
+// The same byte for byte.
 fn written(s: &[u8], component: &[u8]) {
     asked(b"written", s);
     asked(b",", component);
@@ -134,7 +134,7 @@ fn refused_ids() {
     name(b"\xfdA");
 }
 
-// The ids of deleted names: alone, and with an even, an odd and any body behind them.
+// The ids of deleted names, alone and followed by bodies of even and odd length.
 fn deleted_ids() {
     name(b"\xfeA");
     name(b"\xffA");
@@ -145,7 +145,7 @@ fn deleted_ids() {
     name(b"\xff\xd8\x00");
 }
 
-// Even and odd numbers of bytes behind id 16.
+// Even and odd numbers of bytes after id 16.
 fn counts() {
     name(b"\x10");
     name(b"\x10\x00");
@@ -154,7 +154,7 @@ fn counts() {
     name(b"\x10\x00\x00\x00A\x00");
 }
 
-// Code points on both sides of each size.
+// Code points on both sides of each size in UTF-8.
 fn points() {
     name(b"\x08\x7f");
     name(b"\x08\x80");

@@ -21,7 +21,7 @@ pub enum NameSize {
     Refused(Refusal),
 }
 
-// How the body of a d-string is to be read: not at all, in units of a number of bytes, or not a d-string.
+// The form of a d-string: empty, in units of this many bytes, or bad.
 pub(crate) enum Form {
     Empty,
     Units(usize),
@@ -35,7 +35,7 @@ fn is_nameless(id: u8) -> bool
     (id == 0) | (id == 254) | (id == 255)
 }
 
-// How the body of the d-string s is to be read: its first byte, the compression id, says.
+// The form of the d-string s, by its first byte, the compression id.
 pub(crate) fn form_of(s: &[u8]) -> Form
     ensures { λ r. ⌜ Formed (now (s .entry)) r ⌝ }
 {
@@ -50,7 +50,7 @@ pub(crate) fn form_of(s: &[u8]) -> Form
         return Form::Units(1);
     }
     if id == 16 {
-        // The id with an odd number of bytes behind it.
+        // The id, followed by an odd number of bytes.
         if s.len() % 2 == 0 {
             return Form::Bad;
         }
@@ -77,7 +77,7 @@ fn text_size(s: &[u8], step: usize) -> usize
     n
 }
 
-// Writes the UTF-8 of the units of s from its second byte on over the front of out, and returns how many bytes it has.
+// Writes the UTF-8 of the units of s from its second byte on to the front of out, and returns how many bytes it has.
 fn put_text(s: &[u8], step: usize, out: &mut [u8]) -> usize
     requires { ⌜ Body (now s) step ⌝ }
     ensures { λ r. ⌜ Wrote (textOf step (drop 1 (now (s .entry)))) (now (out .entry)) (now (out .exit)) r ⌝ }
@@ -106,8 +106,8 @@ pub fn name_size(s: &[u8]) -> NameSize
     }
 }
 
-// Writes the name of the d-string s over the front of out, and returns how many bytes it has, with those that found no room. A
-// d-string that is refused writes nothing.
+// Writes the name of the d-string s to the front of out, as far as there is room, and returns how many bytes the
+// whole name has. A d-string that is refused writes nothing.
 pub fn put_name(s: &[u8], out: &mut [u8]) -> usize
     ensures { λ r. ⌜ Wrote (written (nameOf (now (s .entry)))) (now (out .entry)) (now (out .exit)) r ⌝ }
 {
@@ -118,8 +118,9 @@ pub fn put_name(s: &[u8], out: &mut [u8]) -> usize
     }
 }
 
-// Writes the name of the d-string s over the front of out: measured first, so that one that is refused or has no room writes nothing.
-// No more is lent than was measured, so that a d-string that changes meanwhile is not written behind the answered length.
+// Writes the name of the d-string s to the front of out. It is measured first, so one that is refused or has no room
+// writes nothing. No more is lent than was measured, so a d-string that changes meanwhile isn't written past the
+// answered length.
 pub fn write_name(s: &[u8], out: &mut [u8]) -> Reply
     ensures { λ r. ⌜ Replied NoRoom (told (nameOf (now (s .entry)))) (now (out .entry)) (now (out .exit)) r ⌝ }
 {

@@ -1,4 +1,5 @@
-// A d-string field: a d-string in a place of fixed size, whose last byte says how long the d-string is (ECMA-167 1/7.2.12).
+// A d-string field: a d-string in a field of fixed size, whose last byte is the d-string's length (ECMA-167
+// 1/7.2.12).
 use crate::dstrings::NameSize;
 use crate::dstrings::name_size;
 use crate::dstrings::write_name;
@@ -44,7 +45,7 @@ pub fn field_size(f: &[u8]) -> NameSize
     }
 }
 
-// Writes the name in the field f over the front of out; one that is refused or has no room writes nothing.
+// Writes the name in the field f to the front of out; one that is refused or has no room writes nothing.
 pub fn write_field(f: &[u8], out: &mut [u8]) -> Reply
     ensures { λ r. ⌜ Replied NoRoom (told (nameOfField (now (f .entry)))) (now (out .entry)) (now (out .exit)) r ⌝ }
 {

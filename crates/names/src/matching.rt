@@ -1,4 +1,5 @@
-// A recorded name compared with a component of a path, under a fold: straight from the d-string, one code point at a time.
+// Compares a recorded name with a component of a path under a fold: straight from the d-string, one code point at a
+// time.
 use crate::dstrings::Form;
 use crate::dstrings::form_of;
 use crate::units::surrogate;
@@ -14,13 +15,13 @@ ghost use Rattle.names.specs.Names.{encode, lower, foldOf, sameName, isN
 ghost use Rattle.names.specs.inner.Units.{Body, At, textOf, unitBytes};
 ghost use Rattle.names.specs.inner.Matching.{Matched, Plain, Comparing};
 
-// Whether what was compared is the same, and how far into the component that came.
+// Whether all that was compared is the same, and how far into the component that is.
 pub(crate) struct NamePlace {
     same: bool,
     at: usize,
 }
 
-// What is made of a byte before it is compared.
+// How a byte is folded before it is compared.
 pub enum Fold {
     // A to Z as a to z: ASCII case is ignored.
     Lower,
@@ -40,7 +41,7 @@ fn lower(b: u8) -> u8
     b
 }
 
-// Most bytes that match are equal as they are, so that the fold is looked at where two differ.
+// Most bytes that match are equal as they are, so the fold is looked at only where two differ.
 fn same_byte(fold: Fold, a: u8, b: u8) -> bool
     ensures { λ r. ⌜ r ≡ eqb (foldOf fold a) (foldOf fold b) ⌝ }
 {
@@ -113,8 +114,8 @@ fn is_plain(fold: Fold, u: u16, b: u8) -> bool
     same_byte(fold, u as u8, b)
 }
 
-// How many units at the front of s are ASCII and match the component t. Most names are told apart here, where a unit is a byte and no code
-// point is made. What a unit that is no match says is left to `is_rest`.
+// How many units at the front of s are ASCII and match the component t. Most names are told apart here, where a unit
+// is a byte and no code point is made. A unit that doesn't match is left to `is_rest`.
 fn front(fold: Fold, s: &[u8], step: usize, t: &[u8]) -> usize
     requires { ⌜ Body (now s) step ⌝ }
     ensures { λ r. ⌜ Comparing (foldOf fold) step (now (s .entry)) (now (t .entry)) 1 0 (r * step + 1) r ⌝ }
@@ -131,8 +132,8 @@ fn front(fold: Fold, s: &[u8], step: usize, t: &[u8]) -> usize
     at
 }
 
-// Whether the UTF-8 of the units of s, but for the first n, matches the component t but for its first n bytes. Ends at the first unit that
-// differs.
+// Whether the UTF-8 of s after its first n units matches the component t after its first n bytes. Ends at the first
+// unit that differs.
 fn is_rest(fold: Fold, s: &[u8], step: usize, n: usize, t: &[u8]) -> bool
     requires { ⌜ At step (now s) (n * step + 1) ⌝ }
     ensures { λ r. ⌜ r ≡ sameName (foldOf fold) (textOf step (drop (n * step + 1) (now (s .entry)))) (drop n (now (t .entry))) ⌝ }
@@ -154,7 +155,7 @@ fn is_rest(fold: Fold, s: &[u8], step: usize, n: usize, t: &[u8]) -> bool
     t.len() <= at
 }
 
-// Whether the d-string s names a component of a path, where both are compared under a fold.
+// Whether the d-string s names a component of a path, both compared under a fold.
 pub fn is_named(fold: Fold, s: &[u8], component: &[u8]) -> bool
     ensures { λ r. ⌜ r ≡ isNamed (foldOf fold) (now (s .entry)) (now (component .entry)) ⌝ }
 {

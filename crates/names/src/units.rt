@@ -31,7 +31,8 @@ pub(crate) fn surrogate(u: u16) -> bool
     u < 0xe000
 }
 
-// How many bytes of UTF-8 the unit u, which is not 0, takes: none where it is a surrogate. ASCII comes first, since most names have nothing else.
+// How many bytes of UTF-8 the unit u, which isn't 0, takes: none if it is a surrogate. ASCII comes first, since most
+// names have nothing else.
 pub(crate) fn unit_size(u: u16) -> usize
     ensures { λ r. ⌜ r ≡ length (unitBytes u) ⌝ }
 {
@@ -47,7 +48,7 @@ pub(crate) fn unit_size(u: u16) -> usize
     3
 }
 
-// Stores one byte; past the end nothing changes, so that a caller needs no room.
+// Stores one byte; past the end nothing changes, so a caller needs no room.
 fn store(out: &mut [u8], at: usize, b: u8)
     ensures { λ _. ⌜ now (out .exit) ≡ set (now (out .entry)) at b ⌝ }
 {

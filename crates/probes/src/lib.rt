@@ -39,7 +39,7 @@ fn on(began: bool, named: bool) -> Seen
     }
 }
 
-// What one sector tells, with what the ones before it told.
+// What is known after one more sector.
 fn step(s: Structure, began: bool, named: bool) -> Seen
     ensures { λ r. ⌜ r ≡ stepOf s began named ⌝ }
 {
@@ -52,7 +52,7 @@ fn step(s: Structure, began: bool, named: bool) -> Seen
     }
 }
 
-// Whether the image has a volume recognition sequence: at most 8 sectors from 16 on.
+// Whether the image has a volume recognition sequence, in at most 8 sectors from 16 on.
 pub fn probe(image: &[u8]) -> bool
     ensures { λ r. ⌜ r ≡ probed (now (image .entry)) ⌝ }
 {

@@ -10,7 +10,7 @@ pub fn wide(b: u8) -> u64
     b as u64
 }
 
-// The bytes from a to e, or none where they aren't there.
+// The bytes from a to e; none if they aren't all there.
 pub fn part(s: &[u8], a: usize, e: usize) -> &[u8]
     ensures { λ r. ⌜ now r ≡ partOf (now (s .entry)) a e ⌝ }
 {
@@ -23,7 +23,7 @@ pub fn part(s: &[u8], a: usize, e: usize) -> &[u8]
     &s[a..e]
 }
 
-// The first n bytes, or all where there are fewer.
+// The first n bytes, or all if there are fewer.
 pub fn front(s: &[u8], n: usize) -> &[u8]
     ensures { λ r. ⌜ now r ≡ take n (now (s .entry)) ⌝ }
 {
@@ -33,7 +33,7 @@ pub fn front(s: &[u8], n: usize) -> &[u8]
     &s[0..n]
 }
 
-// A byte that a call leaves alone is still A5.
+// Fills out with A5: a byte that a call leaves alone is still A5.
 pub fn fill(out: &mut [u8])
     ensures { λ _. ⌜ now (out .exit) ≡ replicate (length (now (out .entry))) 0xa5 ⌝ }
 {
@@ -44,7 +44,7 @@ pub fn fill(out: &mut [u8])
     }
 }
 
-// A sum that tells where each byte stands.
+// A sum that depends on where each byte is.
 pub fn sum(b: &[u8]) -> u64
     ensures { λ r. ⌜ r ≡ summed 0 (now (b .entry)) ⌝ }
 {

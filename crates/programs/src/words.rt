@@ -1,5 +1,6 @@
-// What the programs print. What a piece of text comes to on standard output nobody can say here (the toolchain's `write_all` doesn't), so each
-// function answers for what it made of its argument: how many bytes of text, or how many digits the number behind it has.
+// What the programs print. No contract here can say what reaches standard output, since that of the toolchain's
+// `write_all` doesn't. So each function returns what it made of its argument: how many bytes a text has, or how many
+// digits a number.
 ghost use mathlib.Core.Path.{_≡_};
 ghost use lib.ListN.{length};
 ghost use Rattle.io.specs.Digits.{Fewest};
@@ -34,7 +35,7 @@ pub fn say_decimal(n: u64) -> usize
     k
 }
 
-// A word, and a number right behind it.
+// A word directly followed by a number.
 pub fn say_named(word: &[u8], n: u64) -> usize
     ensures { λ r. ⌜ Fewest 10 1 n r ⌝ }
 {
@@ -48,7 +49,7 @@ pub fn number(n: u64) -> usize
     say_named(b" ", n)
 }
 
-// The narrower ones, so that a caller casts nothing.
+// For narrower numbers, so that a caller needs no cast.
 pub fn number8(n: u8) -> usize
     ensures { λ r. ⌜ Fewest 10 1 n r ⌝ }
 {
@@ -78,7 +79,7 @@ pub fn say_byte(b: u8) -> usize
     k
 }
 
-// All of them, and how many they are.
+// Prints all bytes; returns how many there are.
 pub fn say_bytes(s: &[u8]) -> usize
     ensures { λ r. ⌜ r ≡ length (now (s .entry)) ⌝ }
 {
@@ -115,7 +116,7 @@ pub fn say_partition(p: PartitionRef) -> usize
     }
 }
 
-// A call's name with a space behind it, and what every call answers: the digits are the count's.
+// A call's name, which ends in a space, and what every call answers. The digits returned are the count's.
 pub fn say_answer(call: &[u8], answer: u64, count: u64) -> usize
     ensures { λ r. ⌜ Fewest 10 1 count r ⌝ }
 {
@@ -123,7 +124,7 @@ pub fn say_answer(call: &[u8], answer: u64, count: u64) -> usize
     say_named(b" count ", count)
 }
 
-// A byte that is no printable character is \ and two hex digits.
+// A backslash, or a byte that isn't printable, becomes \ and two hex digits.
 fn say_character(b: u8) {
     if (b < 0x20) | (b > 0x7e) | (b == b'\\') {
         say(b"\\");
@@ -134,7 +135,7 @@ fn say_character(b: u8) {
     say(&one);
 }
 
-// A word, and a text behind it: how many bytes the text has.
+// A word followed by a text; returns how many bytes the text has.
 pub fn say_text(name: &[u8], text: &[u8]) -> usize
     ensures { λ r. ⌜ r ≡ length (now (text .entry)) ⌝ }
 {

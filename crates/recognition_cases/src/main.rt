@@ -1,4 +1,4 @@
-// Runs the cases of one sector of the recognition sequence, a line each: its first bytes, and what it is.
+// Runs the cases for one sector of the recognition sequence. Each line has its first bytes and what it is.
 use descriptors::recognition::Structure;
 use descriptors::recognition::structure_of;
 use programs::words::say;
@@ -36,7 +36,7 @@ fn known() {
     sector(b"\x00BEA01");
 }
 
-// Another type, a letter changed in each place, and too few bytes.
+// Another type, changed letters, another identifier, and too few bytes.
 fn unknown() {
     sector(b"\x01BEA01\x01");
     sector(b"\x01CD001\x01");

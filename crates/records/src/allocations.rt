@@ -179,7 +179,7 @@ pub struct LongAd {
     pub implementation_use: [u8; 6],
 }
 
-// An enum can hold no array, so the answer is a number, with zeros where it is a refusal.
+// An enum can hold no array, so this has an answer number, and zeros on a refusal.
 #[repr(C)]
 pub struct LongRead {
     pub answer: u64,

@@ -1,4 +1,4 @@
-// Little-endian numbers in bytes. A byte past the end reads as 0, so that nothing is asked of a caller.
+// Little-endian numbers in bytes. A byte past the end reads as 0, so nothing is required of a caller.
 ghost use mathlib.Core.Path.{_≡_};
 ghost use Prim.Native.Nat.{_+_, _*_};
 ghost use Rattle.records.specs.Bytes.{byte, u16at, u32at, u64at};

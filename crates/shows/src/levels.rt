@@ -1,4 +1,4 @@
-// The lister of a directory and the handler of an entry, which call each other with the levels left falling.
+// `list_level` and `handle_entry` call each other, with fewer levels left each time.
 ghost use mathlib.Core.Path.{_≡_};
 ghost use Prim.Native.Nat.{_+_, _-_, _≤_};
 ghost use lib.ListN.{length, take};
@@ -18,8 +18,9 @@ use identifiers::LEAST_SIZE;
 use listings::listing::measure;
 use records::allocations::LongAd;
 
-// A place in a show: the answer, and of the tree before it the sectors and the bytes of its records, both held at 2^64 - 1. A place is where
-// the next record stands in the output, if it has room there: lent no output, the recursion measures. `most` is how many sectors the show may ask for.
+// A place in a show: the answer; the sectors and the record bytes of the tree before it, both capped at 2^64 - 1; and
+// how many sectors the show may ask for. The next record goes at `size` in the output, if it has room there: lent no
+// output, the recursion measures.
 pub(crate) struct ShowPlace {
     pub answer: u64,
     pub count: u64,
@@ -45,8 +46,9 @@ struct OpenedLevel {
     length: usize,
 }
 
-// Reads the directory at icb over the front of the work space, and parses all its entries, so that a bad one refuses the show before any
-// of them has its turn. The read counts its sectors before it is known whether the show may ask for them: where it may not, what was read is of no account.
+// Reads the directory at icb to the front of the work space and parses all its entries, so that a bad one refuses the
+// show before any of them has its turn. Whether the show may ask for its sectors is known only once they are counted;
+// if not, what was read is ignored.
 fn open_level(image: &[u8], mount: Mount, icb: LongAd, p: ShowPlace, work: &mut [u8]) -> OpenedLevel
     ensures { λ o. ⌜ Opens (disc (now (image .entry))) mount icb p (now (work .entry)) (now (work .exit)) o ⌝ }
 {
@@ -84,8 +86,9 @@ fn open_level(image: &[u8], mount: Mount, icb: LongAd, p: ShowPlace, work: &mut 
     }
 }
 
-// Lists the directory at icb, whose entries have this level, and what stands under it. The bytes of the directories above it stand before
-// what is lent of the work space. What is left there is of no use to the caller. Where a place is lent the entries are tallied in it.
+// Lists the directory at icb, whose entries have this level, and what is under it. The directories above it are in
+// the work space before the part that is lent, which isn't cleared. If a place is lent, the entries are tallied in
+// it.
 pub(crate) fn list_level(
     image: &[u8],
     mount: Mount,
@@ -122,14 +125,14 @@ pub(crate) fn list_level(
     q
 }
 
-// The place behind an entry and what stands under it, and where the next entry of its directory starts.
+// The place after an entry and what is under it, and where the next entry of its directory starts.
 struct EntryTurn {
     place: ShowPlace,
     next: usize,
 }
 
-// The turn of the entry at `at` in the directory whose bytes are the first n of the work space: its record, and before the next entry what
-// stands under it, read behind those bytes.
+// The turn of the entry at `at` in the directory whose bytes are the first n of the work space: its record, then what
+// is under it, which is read into the work space after those bytes.
 fn handle_entry(
     image: &[u8],
     mount: Mount,

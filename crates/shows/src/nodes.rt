@@ -1,4 +1,4 @@
-// One entry of a directory in a show: what the tree takes from it, and its record put into its place.
+// One entry of a directory in a show: what the tree takes from it, and its record.
 ghost use mathlib.Core.Path.{_≡_};
 ghost use Prim.Native.Nat.{_≤_};
 ghost use lib.ListN.{length};
@@ -12,11 +12,11 @@ use listings::directory_entries::is_skipped;
 use listings::entry_records::put_listed;
 use records::allocations::LongAd;
 
-// What a record has before its name: that of a listing, and the level.
+// The size of a record before its name: a listing's 21 bytes, and the level.
 const HEAD: u64 = 22;
 
-// What the tree takes from an entry: whether it is skipped, whether a directory stands behind its ICB, the size of its record, and how far
-// behind its start the next entry starts.
+// What the tree takes from an entry: whether it is skipped, whether it is a directory, the size of its record, and
+// how far from its start the next entry starts.
 pub(crate) struct EntrySeen {
     pub answer: u64,
     pub skipped: bool,
@@ -41,8 +41,8 @@ fn seen(r: IdentifierRead) -> EntrySeen
     }
 }
 
-// Reads the entry at the front of s, and writes its record over the front of out where it has room: the listing's record a byte behind the
-// front, and over its mark the mark with the level.
+// Reads the entry at the front of s and writes its record to the front of out if it has room: the listing's record a
+// byte further on, and over its mark the mark with the level.
 fn put_marked(level: u8, s: &[u8], out: &mut [u8]) -> EntrySeen
     requires { ⌜ 1 ≤ length (now out) ⌝ }
     ensures { λ e. ⌜ Marked level (now (s .entry)) (now (out .entry)) (now (out .exit)) e ⌝ }
@@ -62,7 +62,7 @@ fn put_marked(level: u8, s: &[u8], out: &mut [u8]) -> EntrySeen
     e
 }
 
-// The same in its place, behind `from` bytes of out.
+// The same, after the first `from` bytes of out.
 pub(crate) fn put_node(level: u8, from: u64, s: &[u8], out: &mut [u8]) -> EntrySeen
     ensures { λ e. ⌜ Noted level from (now (s .entry)) (now (out .entry)) (now (out .exit)) e ⌝ }
 {

@@ -10,8 +10,8 @@ use figures::sectors_in;
 use files::sizes::size_file;
 use records::allocations::LongAd;
 
-// The file at icb, which is found, and what reading it comes to. Once the reads have asked for more than `most` sectors none is made any more: the image is then
-// over its budget, whatever the others come to.
+// Adds the file at icb, and what reading it comes to. Once the reads have asked for more than `most` sectors, no more
+// are made: the image is over its budget, whatever the others come to.
 fn tally_file(image: &[u8], mount: Mount, icb: LongAd, most: u64, tally: &mut [u64])
     ensures { λ _. ⌜ now (tally .exit) ≡ filePlaced (disc (now (image .entry))) mount most icb (now (tally .entry)) ⌝ }
 {
@@ -23,7 +23,7 @@ fn tally_file(image: &[u8], mount: Mount, icb: LongAd, most: u64, tally: &mut [u
     add_file(tally, r.answer, r.length, s.extents, r.count, s.hops);
 }
 
-// An entry: a directory, or the file at its ICB. Lent no place, nothing is tallied.
+// Adds an entry: a directory, or the file at its ICB. If no place is lent, nothing is tallied.
 pub(crate) fn tally_entry(
     image: &[u8],
     mount: Mount,

@@ -30,7 +30,8 @@ use records::allocations::LongAd;
 // The most levels that can be asked for.
 pub const MOST_LEVELS: u32 = 16;
 
-// Goes over the tree from the directory at root once: what is written, and what is tallied, goes by what is lent.
+// Goes over the tree once, from the directory at root. It writes if it is lent output, and tallies if it is lent a
+// place.
 fn walk(
     image: &[u8],
     mount: Mount,
@@ -53,8 +54,8 @@ fn walk(
     list_level(image, mount, root, 1, levels, start, work, out, tally)
 }
 
-// Goes over the tree twice, which costs no count: lent no output it sees every refusal and measures; lent what was measured it writes, and
-// nothing behind that can be written, whatever the image holds by then.
+// Goes over the tree twice, and counts sectors once. Lent no output, it meets every refusal and measures; lent what
+// was measured, it writes, and nothing after that can be written, whatever the image holds by then.
 fn show_within(
     image: &[u8],
     mount: Mount,
@@ -102,7 +103,7 @@ fn show_within(
     }
 }
 
-// The show, with what was read last left in the work space.
+// The show, without clearing the work space.
 fn show_tree(
     image: &[u8],
     mount: Mount,
@@ -123,9 +124,9 @@ fn show_tree(
     show_within(image, mount, root, levels as u8, most, out, work)
 }
 
-// The tree from the directory at root, over the front of out: a listing's record with a level for each entry that a path of at most `levels`
-// components leads to, each before what stands under it. It is refused by 16 in the place of asking for more than `most` sectors; UNLIMITED is no budget. The
-// work space is all zero on return.
+// Writes the tree from the directory at root to the front of out: for each entry that a path of at most `levels`
+// components leads to, a listing's record with its level, before those of what is under it. Refused by 16 instead of
+// asking for more than `most` sectors; UNLIMITED is no budget. The work space is all zero on return.
 pub fn show(
     image: &[u8],
     mount: Mount,
@@ -143,7 +144,7 @@ pub fn show(
     reply
 }
 
-// The figures of the whole tree from the directory at root, with what was read last left in the work space.
+// The figures of the whole tree from the directory at root, without clearing the work space.
 fn tally_within(
     image: &[u8],
     mount: Mount,
@@ -181,9 +182,10 @@ fn tally_within(
     DONE
 }
 
-// The figures of the whole tree from the directory at root, at 16 levels, in a place. The tree, and then the reads of its files, are lent `most` sectors together;
-// the answer is that of the tree, or 16 where the reads want more than the tree left, and under any number but 0 there are no figures. A slice that is no place is 15,
-// and stays as it came. The work space is all zero on return.
+// Puts the figures of the whole tree from the directory at root, at 16 levels, into a place. The tree and then the
+// reads of its files are lent `most` sectors together. The answer is that of the tree, or 16 if the reads want more
+// than the tree left; unless it is 0 there are no figures. A slice that is no place is 15, and stays as it is. The
+// work space is all zero on return.
 pub fn tally_tree(
     image: &[u8],
     mount: Mount,

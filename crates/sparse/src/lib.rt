@@ -10,7 +10,7 @@ use disc::moves::copy;
 use disc::moves::least;
 use records::bytes::le32;
 
-// Where the run at i ends, which has a head of 8 bytes; 0 where it isn't whole.
+// Where the run at i, with its head of 8 bytes, ends; 0 if it isn't whole.
 fn run_end(packed: &[u8], i: usize) -> usize
     ensures { λ r. ⌜ r ≡ runEnd (now (packed .entry)) i ⌝ }
 {

@@ -1,8 +1,9 @@
-// Surveys the shelves in data/shelves, which tools/survey_images.py writes, and totals the rows that stand there: for each shelf its name, and for each query
-// what is asked, the answer, how many numbers behind the places are still as they came, and for each place those of its figures that aren't 0, by their place
-// among them, with a mark that isn't 0 behind a `!`; `zero` says that the work space came back all zero. Row and work space come full of A5.
+// Surveys the shelves in data/shelves, which tools/survey_images.py writes, and totals the rows stored there. Each
+// shelf prints its name. Each query prints what is asked, the answer, how many numbers after the places are as they
+// came, and for each place the figures that aren't 0: the index, the figure, and after a `!` a mark that isn't 0.
+// `zero`: the work space came back all zero. Row and work space are lent full of A5.
 //
-// What is expected is computed by tools/survey_model.py, from the shelves and the rules.
+// tools/survey_model.py computes what is expected, from the shelves and the rules.
 ghost use mathlib.Core.Path.{_≡_};
 ghost use Prim.Native.Nat.{_<_, _≤_};
 ghost use lib.ListN.{length};
@@ -26,10 +27,10 @@ use sparse::expand;
 use surveys::survey;
 use volumes::choices::chosen;
 
-// What a number of a row is that the call leaves alone.
+// A number of a row that the call leaves alone.
 const FREE: u64 = 0xa5a5_a5a5_a5a5_a5a5;
 
-// The bytes of a query in front of the numbers that it gives.
+// The size of a query before its numbers.
 const HEAD: usize = 28;
 
 // Room for a shelf of five volumes.
@@ -49,7 +50,7 @@ fn fill_row(row: &mut [u64]) {
     }
 }
 
-// The numbers of a query over the front of a row, as far as both go.
+// Puts the numbers of a query at the front of a row, as far as both go.
 fn take_numbers(numbers: &[u8], row: &mut [u64]) {
     let n = least(numbers.len() / 8, row.len());
     let mut i = 0;
@@ -67,7 +68,7 @@ fn say_numbers(row: &[u64]) {
     }
 }
 
-// 1 for a number that is as it came.
+// 1 if a number is as it came.
 fn is_free(n: u64) -> u64
     ensures { λ r. ⌜ r ≤ 1 ⌝ }
 {
@@ -122,7 +123,7 @@ fn say_places(row: &[u64]) {
     }
 }
 
-// How many numbers of a row stand in its first n places, or in all that it has.
+// How many numbers the first n places of a row have, or all its places if they are fewer.
 fn in_places(numbers: usize, n: usize) -> usize
     ensures { λ r. ⌜ r ≤ numbers ⌝ }
 {
@@ -131,7 +132,7 @@ fn in_places(numbers: usize, n: usize) -> usize
 
 // ---- the queries
 
-// A budget of sectors, where there is one.
+// A budget of sectors, if there is one.
 fn say_most(most: u64) {
     if most != UNLIMITED {
         say_named(b" most ", most);
@@ -196,8 +197,8 @@ fn survey_of(shelf: &[u8], q: &[u8], numbers: &[u8], row: &mut [u64], work: &mut
     ask_survey(shelf, &lengths[0..n], le32(q, 4), le64(q, 16), row, work);
 }
 
-// What is asked, how images are opened, how many numbers the row has, the work space's size (32 bits each), how many sectors an image is lent (64 bits), how many
-// numbers follow (32 bits), and those (64 bits each).
+// A query: what is asked, how images are opened, how many numbers the row has, the work space's size (32 bits each),
+// how many sectors an image is lent (64 bits), how many numbers follow (32 bits), and these (64 bits each).
 fn query(shelf: &[u8], q: &[u8], row: &mut [u64], work: &mut [u8]) {
     let n = least(le32(q, 8) as usize, row.len());
     let space = least(le32(q, 12) as usize, work.len());
@@ -210,7 +211,7 @@ fn query(shelf: &[u8], q: &[u8], row: &mut [u64], work: &mut [u8]) {
     survey_of(shelf, q, numbers, &mut row[0..n], &mut work[0..space]);
 }
 
-// Each query in turn: a head, with how many numbers follow in its last four bytes, and those.
+// Each query in turn: a head, whose last four bytes say how many numbers follow, and these.
 fn queries(shelf: &[u8], all: &[u8], row: &mut [u64], work: &mut [u8]) {
     let mut i = 0;
     while i < all.len() {
@@ -227,7 +228,7 @@ fn ask_all(shelf: &[u8], all: &[u8], work: &mut [u8]) {
     queries(shelf, all, &mut row, work);
 }
 
-// The shelf at i and its queries; where the next one stands.
+// Runs the shelf at i with its queries; returns where the next shelf is.
 fn run(all: &[u8], i: usize, shelf: &mut [u8], work: &mut [u8]) -> usize
     requires { ⌜ i < length (now all) ⌝ }
     ensures { λ r. ⌜ i < r ⌝ }

@@ -36,7 +36,7 @@ use volumes::openings::Opened;
 use volumes::openings::open_volume;
 use volumes::openings::refused;
 
-// Opens an image by its choices, or by a number of none.
+// Opens an image by its choices; refused by 4 if the number stands for none.
 fn open_by(image: &[u8], how: Choice) -> Opened
     ensures { λ r. ⌜ r ≡ openedOf (ran (disc (now (image .entry))) (openingBy how)) ⌝ }
 {
@@ -46,7 +46,7 @@ fn open_by(image: &[u8], how: Choice) -> Opened
     }
 }
 
-// The same, lent so many sectors.
+// The same, with a budget of `most` sectors.
 fn open_within(image: &[u8], how: Choice, most: u64) -> Opened
     ensures { λ r. ⌜ r ≡ openedOf (ran (disc (now (image .entry))) (budgeted most (openingBy how))) ⌝ }
 {
@@ -57,8 +57,8 @@ fn open_within(image: &[u8], how: Choice, most: u64) -> Opened
     opened
 }
 
-// The figures of an image in a place: one that is refused, or wants more than `most` sectors for its opening, its tree and the reads of its files, counts under its
-// number and has no other figure.
+// Puts the figures of an image into a place. One that is refused, or wants more than `most` sectors for its opening,
+// its tree and the reads of its files, counts under its number and has no other figure.
 fn survey_image(image: &[u8], how: Choice, most: u64, place: &mut [u64], work: &mut [u8])
     requires { ⌜ length (now place) ≡ 80 ⌝ }
     ensures { λ _. ⌜ Holds (ofImage how most (length (now (work .entry))) (now (image .entry))) (now (place .exit)) ⌝ }
@@ -77,7 +77,7 @@ fn survey_image(image: &[u8], how: Choice, most: u64, place: &mut [u64], work: &
     add_image(place, answer);
 }
 
-// Whether the lengths, added up as true numbers, don't pass so many bytes.
+// Whether the lengths add up to at most `bytes`, without overflow.
 fn within(lengths: &[u64], bytes: u64) -> bool
     ensures { λ r. ⌜ r ≡ leb (sum (now (lengths .entry))) bytes ⌝ }
 {
@@ -94,7 +94,8 @@ fn within(lengths: &[u64], bytes: u64) -> bool
     true
 }
 
-// The figures of each image in its place. The lengths are looked at a second time here, and that they fit is not relied on: an image ends where the shelf does.
+// Puts the figures of each image into its place. The lengths are read a second time here, and that they fit isn't
+// relied on: an image ends where the shelf does.
 fn survey_each(
     shelf: &[u8],
     lengths: &[u64],
@@ -123,7 +124,7 @@ fn survey_each(
     }
 }
 
-// The survey, with what was read last left in the work space.
+// The survey, without clearing the work space.
 fn survey_all(
     shelf: &[u8],
     lengths: &[u64],
@@ -144,9 +145,10 @@ fn survey_all(
     total(figures, lengths.len())
 }
 
-// Figures over images that stand one behind another in `shelf`, from its front, as `lengths` says: for each in turn a place of PLACE numbers, and one for all of
-// them together. Each image is lent `most` sectors, for its opening, its tree and the reads of its files together; UNLIMITED is no budget. The work space is that of a
-// show at 16 levels, and is all zero on return.
+// Figures over the images in `shelf`, which follow one another from its front as `lengths` says: a place of PLACE
+// numbers for each, and one for all of them together. Each image is lent `most` sectors for its opening, its tree and
+// the reads of its files together; UNLIMITED is no budget. The work space is that of a show at 16 levels, and is all
+// zero on return.
 pub fn survey(
     shelf: &[u8],
     lengths: &[u64],

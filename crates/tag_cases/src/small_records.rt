@@ -92,7 +92,7 @@ fn show_ext(r: ExtRead) {
     end_line();
 }
 
-// Twenty bytes, all unlike; the raw lengths in front have type 2.
+// Twenty-four bytes, all different; the raw length in front has type 2.
 fn some_bytes() -> [u8; 24] {
     [
         0x11,
@@ -188,7 +188,7 @@ fn bad_header() {
     show_header(AllocationExtentDescriptor::parse(false, &bytes));
 }
 
-// A header of 24 bytes, one byte short, under other ids, and with a bad checksum.
+// A header of 24 bytes, one byte short, with other ids, and with a bad checksum.
 pub(crate) fn headers() {
     let good = header_with(258).encode();
     show_header(AllocationExtentDescriptor::parse(false, &good));

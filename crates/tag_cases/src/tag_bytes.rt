@@ -28,7 +28,7 @@ fn answer(r: TagRead) {
     }
 }
 
-// A tag with every field in use, but for its id as in case 1 of the worked table.
+// A tag with these fields; version and location are those of case 1 of the worked table.
 fn tag_with(id: u16, serial_number: u16, crc: u16, crc_length: u16) -> DescriptorTag {
     DescriptorTag {
         id,
@@ -82,7 +82,7 @@ pub(crate) fn lengths() {
     }
 }
 
-// Case 1 with another reserved byte and another checksum: each check fails alone.
+// Case 1 with this reserved byte and this checksum. Each of the two checks fails alone once.
 fn checked(reserved: u8, checksum: u8) {
     let mut bytes = case_1();
     bytes[4] = checksum;
@@ -169,8 +169,8 @@ fn placed(id: u16, sector: u64, block: u32) {
     end_line();
 }
 
-// The sector's number is equal, the block's, both, neither; then numbers that are equal in their low 16 bits, and a sector's in its low 32: it passes
-// 2^32, and a location does not.
+// The sector's number is equal, the block's, both, neither; then numbers that are equal in their low 16 bits, and a
+// sector's in its low 32: it can pass 2^32, and a location can't.
 fn places_of(id: u16) {
     placed(id, 256, 7);
     placed(id, 7, 256);
@@ -181,7 +181,7 @@ fn places_of(id: u16) {
     placed(id, 4294967552, 7);
 }
 
-// The ids at all ends.
+// The ids at the ends of the ranges.
 pub(crate) fn places() {
     places_of(0);
     places_of(1);

@@ -1,4 +1,5 @@
-// The gate that every descriptor goes through: enough bytes, a good tag, where bodies are checked a right one, and the descriptor's id.
+// The gate that every descriptor goes through: enough bytes, a good tag, a right body if bodies are checked, and the
+// descriptor's id.
 ghost use mathlib.Core.Path.{_≡_};
 ghost use mathlib.Core.Bool.{true};
 ghost use Rattle.disc.specs.Choice.{pick};
@@ -9,8 +10,8 @@ use crate::DescriptorTag;
 use crate::TagRead;
 use disc::refusals::Refusal;
 
-// Whether a good tag stands at the front of `s` over a body that isn't right. Each callee is lent the bytes anew, so that the compiler hands `s` over in
-// registers, and its caller needs no place for it in memory.
+// Whether `s` starts with a good tag whose body isn't right. Each callee is lent the bytes anew, so that the compiler
+// passes `s` in registers and its caller needs no memory for it.
 fn is_ruined(s: &[u8]) -> bool
     ensures { λ r. ⌜ withBody true (now (s .entry)) (readTag (now (s .entry))) ≡ pick r (Refused BadCrc) (readTag (now (s .entry))) ⌝ }
 {
@@ -20,7 +21,7 @@ fn is_ruined(s: &[u8]) -> bool
     }
 }
 
-// A tag that was read, unless it has another id than the descriptor's.
+// A tag that was read, unless its id isn't the descriptor's.
 fn with_id(id: u16, r: TagRead) -> TagRead
     ensures { λ h. ⌜ h ≡ withId id r ⌝ }
 {
@@ -35,11 +36,12 @@ fn with_id(id: u16, r: TagRead) -> TagRead
     }
 }
 
-// The tag of the descriptor at the front of `s`, which has this id and at least this many bytes.
+// The tag of the descriptor at the front of `s`, which must have this id and at least this many bytes.
 //
-// `is_ruined` stands here twice, for the ids of the volume structure and for those of a partition: called from one place alone the compiler would put it,
-// with the CRC and its table, into this function, and that would be too large to be put into each reader. So it stays apart, and a reader that checks no
-// body calls nothing here. (The compiler makes one call of the two.)
+// `is_ruined` is called in two places, for the ids of the volume structure and for those of a partition. From one
+// place alone, the compiler would inline it here, with the CRC and its table, and this function would be too large to
+// inline into each reader. So it stays apart, and a reader that checks no body calls nothing here. (The compiler
+// makes one call of the two.)
 pub fn read_head(check: bool, s: &[u8], id: u16, size: usize) -> TagRead
     ensures { λ h. ⌜ h ≡ readHead check (now (s .entry)) id size ⌝ }
 {

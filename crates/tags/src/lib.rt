@@ -47,7 +47,7 @@ fn is_of_volume(id: u16) -> bool
     (1 <= id) & (id <= 9)
 }
 
-// Whether an id is that of a descriptor recorded in a partition, which goes by its block there.
+// Whether an id is that of a descriptor recorded in a partition, whose location is a block there.
 fn is_of_partition(id: u16) -> bool
     ensures { λ r. ⌜ r ≡ ofPartition id ⌝ }
 {
@@ -123,7 +123,7 @@ fn tag_of(s: &[u8]) -> DescriptorTag
     }
 }
 
-// The bytes of a tag, each fetched once: what is checked is what is decoded, also where the lent bytes change meanwhile.
+// The bytes of a tag, each fetched once: what is checked is what is decoded, even if the lent bytes change meanwhile.
 fn fetch(s: &[u8]) -> [u8; 16]
     requires { ⌜ 16 ≤ length (now s) ⌝ }
     ensures { λ r. ⌜ r ≡ sixteen (now (s .entry)) ⌝ }
@@ -195,7 +195,8 @@ impl DescriptorTag {
         tag_bytes(self, sum)
     }
 
-    // The place check: the sector and the block are those that hold the descriptor's first byte, and the id says which of them is compared.
+    // The place check. The sector and the block are those that hold the descriptor's first byte; the id says which of
+    // them is compared.
     pub fn is_in_place(self, sector: Sector, block: Block) -> bool
         ensures { λ r. ⌜ r ≡ inPlace self (sector .0) (block .0) ⌝ }
     {
@@ -205,8 +206,8 @@ impl DescriptorTag {
         self.location as u64 == sector.0
     }
 
-    // The body check: whether the bytes at hand, of which this tag stands at the front, hold as many behind it as its CRC length says, and
-    // these have its CRC.
+    // The body check: whether the bytes at hand, which start with this tag, have as many after it as its CRC length
+    // says, and these have its CRC.
     pub fn has_right_body(self, s: &[u8]) -> bool
         ensures { λ r. ⌜ r ≡ bodyRight (now (s .entry)) self ⌝ }
     {
@@ -218,7 +219,7 @@ impl DescriptorTag {
     }
 }
 
-// Of the header of an allocation extent, ECMA-167 4/14.5.
+// The header of an allocation extent, ECMA-167 4/14.5.
 const AED_ID: u16 = 258;
 
 const AED_SIZE: usize = 24;

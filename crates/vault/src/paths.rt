@@ -1,4 +1,4 @@
-// A path's components, one at a time: for a caller that walks a path itself.
+// A path's components, one at a time, for a caller that walks a path itself.
 ghost use mathlib.Core.Path.{_≡_};
 ghost use Rattle.vault.specs.Calls.{nextComponent};
 use listings::paths::component_end;
@@ -13,7 +13,7 @@ pub struct Component {
     pub length: usize,
 }
 
-// The first component that stands at `at` or behind it. The next one is looked for from its end on.
+// The first component at `at` or after it. Look for the next one from its end on.
 pub fn next_component(path: &[u8], at: usize) -> Component
     ensures { λ r. ⌜ r ≡ nextComponent (now (path .entry)) at ⌝ }
 {

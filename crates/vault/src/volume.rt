@@ -47,7 +47,7 @@ impl Volume {
         directories::lookups::lookup(image, mount, root, path, matching, work)
     }
 
-    // The component at which a lookup is refused by 3, as a part of the path; empty if it isn't.
+    // The component at which a lookup is refused by 3, as a part of the path; otherwise empty.
     pub fn failed<'i, 'p>(
         self,
         image: &'i [u8],
@@ -82,7 +82,7 @@ impl Volume {
         directories::lookups::failed_at(image, mount, root, path, matching, work, at)
     }
 
-    // The listing of the directory at icb, over the front of out.
+    // Writes the listing of the directory at icb to the front of out.
     pub fn list(self, image: &[u8], icb: LongAd, out: &mut [u8], work: &mut [u8]) -> Reply
         ensures { λ r. ⌜ record { reply = r; out = now (out .exit); work = now (work .exit) } ≡ leaves (lists (self .0) icb (now (out .entry)) (now (work .entry))) (now (image .entry)) ⌝ }
     {
@@ -90,9 +90,10 @@ impl Volume {
         list_directory(image, mount, icb, out, work)
     }
 
-    // The volume's whole tree, over the front of out: a listing's record with its level for each entry that a path of at most `levels` components
-    // leads to, each before what stands under it. The work space holds the directories on the way down, one behind the other. It is refused by 16 in the place of
-    // asking for more than `most` sectors; `disc::counts::UNLIMITED` is no budget.
+    // Writes the volume's whole tree to the front of out: for each entry that a path of at most `levels` components
+    // leads to, a listing's record with its level, before those of what is under it. The work space holds the
+    // directories on the way down, one after another. Refused by 16 instead of asking for more than `most` sectors;
+    // `disc::counts::UNLIMITED` is no budget.
     pub fn show(
         self,
         image: &[u8],
@@ -109,7 +110,7 @@ impl Volume {
         shows::whole::show(image, mount, root, levels, most, out, work)
     }
 
-    // The bytes of the file at icb, over the front of out.
+    // Writes the bytes of the file at icb to the front of out.
     pub fn read(self, image: &[u8], icb: LongAd, out: &mut [u8]) -> Reply
         ensures { λ r. ⌜ record { reply = r; out = now (out .exit) } ≡ leaves (reads (self .0) icb (now (out .entry))) (now (image .entry)) ⌝ }
     {
@@ -117,7 +118,8 @@ impl Volume {
         read_file(image, mount, icb, out, Refusal::NoRoom)
     }
 
-    // How many bytes a read of the file at icb answers where there is room: its refusals and its count, and no output.
+    // How many bytes a read of the file at icb answers if there is room, with its refusals and its count. Nothing is
+    // written.
     pub fn measure(self, image: &[u8], icb: LongAd) -> Reply
         ensures { λ r. ⌜ r ≡ leaves (measures (self .0) icb) (now (image .entry)) ⌝ }
     {
@@ -125,7 +127,7 @@ impl Volume {
         measure_file(image, mount, icb)
     }
 
-    // The bytes of an embedded file without a copy; an empty part for any other file, or where the call is refused.
+    // The bytes of an embedded file without a copy; empty for any other file and on a refusal.
     pub fn part<'i>(
         self,
         image: &'i [u8],
@@ -147,7 +149,8 @@ impl Volume {
         layouts::parts::part_at(image, mount, icb, at)
     }
 
-    // Effective length, type, block and partition of every extent of the file at icb, four numbers to a slot; an embedded file has none.
+    // Lists the effective length, type, block and partition of each extent of the file at icb, four numbers to a
+    // slot. An embedded file has no extents.
     pub fn extent_words(self, image: &[u8], icb: LongAd, row: &mut [[u32; 4]]) -> Reply
         ensures { λ r. ⌜ record { reply = r; row = now (row .exit) } ≡ leaves (extents wordsOf (self .0) icb (now (row .entry))) (now (image .entry)) ⌝ }
     {
@@ -162,8 +165,9 @@ impl Volume {
         file_rows(image, self.0.mount, icb, row)
     }
 
-    // Place and length of each run of the image that a read of the file at icb takes its bytes from, in reading order, a pair to a slot; cut as the read
-    // is cut, so that their bytes joined are what it answers. An empty file has none.
+    // Lists place and length of each run of the image that a read of the file at icb takes its bytes from, in reading
+    // order, a pair to a slot. They are cut as the read is cut: their bytes joined are what it answers. An empty file
+    // has none.
     pub fn runs(self, image: &[u8], icb: LongAd, row: &mut [[u64; 2]]) -> Reply
         ensures { λ r. ⌜ record { reply = r; row = now (row .exit) } ≡ leaves (runs (self .0) icb (now (row .entry))) (now (image .entry)) ⌝ }
     {
@@ -171,7 +175,7 @@ impl Volume {
         file_runs(image, mount, icb, row)
     }
 
-    // The bytes of the file that a path names: a lookup, then a read, counts added.
+    // Writes the bytes of the file that a path names to the front of out: a lookup, then a read, counts added.
     pub fn read_path(
         self,
         image: &[u8],
@@ -188,8 +192,9 @@ impl Volume {
         directories::lookups::read_path(image, mount, root, path, matching, out, work)
     }
 
-    // The bytes of many files, one behind another, each named by a path of a list: a zero byte stands between each two. `lengths` and `answers` say of
-    // each in turn how many bytes it has and its answer; one that is refused takes no room, and the rest go on.
+    // Writes the bytes of many files to the front of out, one after another, by a list of paths separated by zero
+    // bytes. `lengths` and `answers` get the length and the answer of each in turn. One that is refused takes no
+    // room, and the rest go on.
     pub fn read_all(
         self,
         image: &[u8],
@@ -218,7 +223,7 @@ impl Volume {
         )
     }
 
-    // The listing of a directory whose bytes are at hand, over the front of out.
+    // Writes the listing of a directory whose bytes are at hand to the front of out.
     pub fn list_bytes(self, bytes: &[u8], out: &mut [u8]) -> Reply
         ensures { λ r. ⌜ record { reply = r; out = now (out .exit) } ≡ listsBytes (self .0) (now (bytes .entry)) (now (out .entry)) ⌝ }
     {
@@ -226,7 +231,7 @@ impl Volume {
         listings::listing::list(mount.is_checked(), bytes, out)
     }
 
-    // The entry that a component names among them, by a choice of matching.
+    // The entry that a component names in a directory whose bytes are at hand, by a choice of matching.
     pub fn find_in(self, bytes: &[u8], component: &[u8], matching: Matching) -> Named
         ensures { λ r. ⌜ r ≡ findsIn (self .0) (now (bytes .entry)) (now (component .entry)) matching ⌝ }
     {
@@ -235,7 +240,7 @@ impl Volume {
     }
 }
 
-// Opens an image and writes the name in its label, as UTF-8, over the front of out.
+// Opens an image and writes the name in its label, as UTF-8, to the front of out.
 pub fn label(image: &[u8], how: How, out: &mut [u8]) -> Reply
     ensures { λ r. ⌜ record { reply = r; out = now (out .exit) } ≡ leaves (labels how (now (out .entry))) (now (image .entry)) ⌝ }
 {

@@ -1,9 +1,10 @@
-// Writes the vaults of data/cases, which tools/writer_cases.py writes: for each its title, what the sector total is answered with, what the writing is, and
-// `sum`, that of the whole lent slice. Of a vault that was written also the sums of its parts, and what opening, listing and reading each file give, with
-// no choice on opening and with all three. Slice, output and work space come full of A5; `zero` says that the work space came back all zero. Byte k of
-// the staging area is 7 k + k / 2,048. Last a vault is written and compared with data/written.
+// Writes the discs of data/cases, which tools/writer_cases.py writes. Each prints its title, the answer for its
+// sector total, the answer for the writing, and `sum`, over the whole lent slice. A disc that was written also prints
+// the sums of its parts, and what opening, listing and reading each file give, with no choice on opening and with all
+// three. Slice, output and work space are lent full of A5; `zero`: the work space came back all zero. Byte k of the
+// staging area is 7 k + k / 2,048, modulo 256. Last, a disc is written and compared with data/written.
 //
-// What is expected is computed by tools/writer_model.py, from the cases, docs/LAYOUT.md and the rules.
+// tools/writer_model.py computes what is expected, from the cases, docs/LAYOUT.md and the rules.
 ghost use Prim.Native.Nat.{_<_, _≤_};
 ghost use lib.ListN.{length};
 use disc::moves::least;
@@ -75,7 +76,7 @@ fn read(v: VolumeRecord, image: &[u8], name: &[u8], out: &mut [u8], work: &mut [
     say_left(b"read ", reply, out, work);
 }
 
-// Where the name ends that starts at `at`.
+// Where the name that starts at `at` ends.
 fn name_end(names: &[u8], at: usize) -> usize
     requires { ⌜ at < length (now names) ⌝ }
     ensures { λ r. ⌜ (at ≤ r) × (r ≤ length (now (names .entry))) ⌝ }
@@ -123,7 +124,7 @@ fn say_reply(call: &[u8], reply: WriteReply) {
     say_named(b" sectors ", reply.sectors);
 }
 
-// Sectors 0 to 279, the directory, the entries, the files with the last anchor, and what is behind the image.
+// Sectors 0 to 279, the directory, the entries, the files with the last anchor, and what is after the image.
 fn say_parts(image: &[u8], end: usize) {
     say_named(b"front ", sum(part(image, 0, 573440)));
     say_named(b" directory ", sum(part(image, 573440, 589824)));
@@ -133,7 +134,7 @@ fn say_parts(image: &[u8], end: usize) {
     end_line();
 }
 
-// The bytes of so many sectors, or of as many as there can be.
+// The bytes of this many sectors, at most `most`.
 fn bytes_of(sectors: u64, most: usize) -> usize {
     least((sectors % 1048576) as usize * 2048, most)
 }
@@ -172,7 +173,7 @@ fn one(
 
 // ---- the file of cases
 
-// The lengths, as many as there are places; how many.
+// Stores the lengths in the row, as many as it has places; returns how many.
 fn put_row(all: &[u8], row: &mut [u64]) -> usize
     ensures { λ r. ⌜ r ≤ length (now (row .entry)) ⌝ }
 {
@@ -185,7 +186,7 @@ fn put_row(all: &[u8], row: &mut [u64]) -> usize
     n
 }
 
-// The lengths, the bytes of the staging area and those of the slice.
+// Runs a case with its lengths, and with the sizes of its staging area and its slice.
 fn with_row(
     names: &[u8],
     sizes: &[u8],
@@ -209,7 +210,7 @@ fn with_row(
     );
 }
 
-// The case at i; where the next one stands.
+// Runs the case at i; returns where the next one is.
 fn run(
     all: &[u8],
     i: usize,
@@ -247,7 +248,7 @@ fn run_all(all: &[u8], staging: &[u8], image: &mut [u8], out: &mut [u8], work: &
     }
 }
 
-// ---- the stored vault
+// ---- the stored disc
 
 fn is_same(a: &[u8], b: &[u8]) -> bool {
     if a.len() != b.len() {
