@@ -48,7 +48,7 @@ class Tree:
         self.words, self.options = OTHERS | ANY, {one for one in OTHERS if one.startswith("-")}
         for path, text in self.sources.items():
             self.words.update(re.split(r"[/.]", path))
-            if "/stdout" not in path and path != THIS:
+            if path != THIS:
                 self.take(text)
         self.rules = set(re.findall(r"^\*\*(\d+\.\d+)\*\*", self.documents.get(RULES, ""), re.M))
 
