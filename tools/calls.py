@@ -102,7 +102,7 @@ FAULTS = (
     ("vault_survey: how and most", SURVEYS, r"chosen\(how\), most, figures", "chosen(most as u32), how as u64, figures"),
     ("a budget that is one more", "shows/src/levels.rt", r"if p\.most < count", "if p.most < count && p.most + 1 != count"),
     ("a count at 16 that is the call's", "shows/src/levels.rt", r"stopped\(Refusal::OverBudget\.number\(\), p\.most\)", "stopped(Refusal::OverBudget.number(), count)"),
-    ("reads that take nothing of the budget", "shows/src/whole.rt", r"if left_of\(most, shown\.count\) < sectors_in\(tally\)", "if left_of(most, visited.count) < 0"),
+    ("reads that take nothing of the budget", "shows/src/whole.rt", r"if left_of\(most, visited\.count\) < sectors_in\(tally\)", "if left_of(most, visited.count) < 0"),
     ("an opening that takes nothing of it", "surveys/src/lib.rt", r"let left = left_of\(most, opened\.count\)", "let left = left_of(most, 0)"),
     turned("vault_survey_total", r"figures: &mut \[u64\]", "images: usize", SURVEYS),
     ("bytes in the place of extents", "figures/src/lib.rt", r"BYTES: usize = 4(.*)EXTENTS: usize = 6", r"BYTES: usize = 6\1EXTENTS: usize = 4"),
