@@ -141,7 +141,7 @@ def commands(text):
             shell = one.strip() in ("```sh", "```console", "```shell", "```bash") and not shell
         elif shell and (one.startswith("$ ") or not text.splitlines()[number - 2].endswith("\\")):
             yield number, one.removeprefix("$ ")
-        elif re.match(r"    (\$ |\./|vault |tools/|target/|cargo |rt |cc |cd |\.ci/)", one):
+        elif re.match(r"\s*\$ |    (\./|vault |tools/|target/|cargo |rt |cc |cd |\.ci/)", one):
             yield number, one.strip().removeprefix("$ ")
 
 
