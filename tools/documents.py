@@ -48,8 +48,8 @@ class Tree:
         self.words, self.options = OTHERS | ANY, {one for one in OTHERS if one.startswith("-")}
         for path, text in self.sources.items():
             self.words.update(re.split(r"[/.]", path))
-            if path != THIS:
-                self.take(text)
+            # Not the names that this tool plants.
+            self.take(text.partition("\nFAULTS = ")[0] if path == THIS else text)
         self.rules = set(re.findall(r"^\*\*(\d+\.\d+)\*\*", self.documents.get(RULES, ""), re.M))
 
     def text(self, path):
