@@ -2,15 +2,15 @@
 
 use std::io::Write;
 use std::process::ExitCode;
-use strandlodge::{Matching, Result, Vault};
+use strandlodge::{Disc, Matching, Result};
 
 /// The cue's bytes. `?` takes a refusal of the disc, and what the system says of the file.
 fn cue(image: &str, path: &str) -> Result<Vec<u8>> {
-    let vault = Vault::open(std::fs::read(image)?)?;
-    if let Some(component) = vault.failed_as(path, Matching::AsWritten)? {
-        eprintln!("there is nothing named {component:?} on {}", vault.label()?);
+    let disc = Disc::open(std::fs::read(image)?)?;
+    if let Some(component) = disc.failed_as(path, Matching::AsWritten)? {
+        eprintln!("there is nothing named {component:?} on {}", disc.label()?);
     }
-    vault.read_path_as(path, Matching::AsWritten)
+    disc.read_path_as(path, Matching::AsWritten)
 }
 
 fn main() -> ExitCode {

@@ -99,9 +99,9 @@ pub enum Refusal {
     /// alone.
     BadCrc,
     /// 11: a directory is found at the last level that was asked for, or that number is 0 or over 16. Given by
-    /// [`Vault::show`](crate::Vault::show) alone.
+    /// [`Disc::show`](crate::Disc::show) alone.
     TooDeep,
-    /// 12: there are more paths in a list than places for their answers could be lent. Given by [`Vault::read_all`](crate::Vault::read_all)
+    /// 12: there are more paths in a list than places for their answers could be lent. Given by [`Disc::read_all`](crate::Disc::read_all)
     /// alone, for the list; no path of it is answered with it.
     TooMany,
     /// 13: a name of a vault that is to be written isn't 1 to 127 bytes from 21 to 7E without the slash, or two are equal with ASCII case ignored. Given
@@ -113,7 +113,7 @@ pub enum Refusal {
     /// 15: the lengths of a shelf's images pass its bytes, or there is no memory for the figures of each. Given by [`survey`](crate::survey()) and its like
     /// alone, for the shelf; no image of it is counted under it.
     BadShelf,
-    /// 16: the call would ask for more sectors than it was lent. Given by [`Vault::show`](crate::Vault::show), and by [`survey`](crate::survey()) and its like
+    /// 16: the call would ask for more sectors than it was lent. Given by [`Disc::show`](crate::Disc::show), and by [`survey`](crate::survey()) and its like
     /// for an image; no file is counted under it.
     OverBudget,
     /// A number that this crate's table doesn't have.
@@ -214,7 +214,7 @@ impl Refused {
         self.why.number()
     }
 
-    /// Whether the call may be answered otherwise once more of the image is there: [`Refusal::may_pass`]. [`Vault::missing_sector`](crate::Vault)
+    /// Whether the call may be answered otherwise once more of the image is there: [`Refusal::may_pass`]. [`Disc::missing_sector`](crate::Disc)
     /// says which sector it waits for.
     pub fn may_pass(&self) -> bool {
         self.why.may_pass()

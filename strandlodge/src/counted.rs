@@ -42,15 +42,15 @@ fn kept<T, U>(answer: Answer<T>, full: Refusal, make: impl FnOnce(T) -> Option<U
     Ok(Answer { value, sectors })
 }
 
-/// A [`Vault`](crate::Vault) over a borrowed image whose calls say how many sectors they asked for. It has the same calls, and each gives an [`Answer`]:
-/// [`Vault::counted`](crate::Vault::counted) gives it of a vault. It is small and holds nothing but a borrow: copy it, share it between threads.
+/// A [`Disc`](crate::Disc) over a borrowed image whose calls say how many sectors they asked for. It has the same calls, and each gives an [`Answer`]:
+/// [`Disc::counted`](crate::Disc::counted) gives it of a vault. It is small and holds nothing but a borrow: copy it, share it between threads.
 ///
 /// ```
 /// # fn main() -> std::result::Result<(), Box<dyn std::error::Error>> {
 /// let image = strandlodge::write(&[("9", b"cue 9")])?;
-/// let vault = strandlodge::Counted::open(&image)?;
-/// let look = vault.read_path("9")?;
-/// println!("{} sectors to open it, {} to read {} bytes", vault.sectors, look.sectors, look.len());
+/// let disc = strandlodge::Counted::open(&image)?;
+/// let look = disc.read_path("9")?;
+/// println!("{} sectors to open it, {} to read {} bytes", disc.sectors, look.sectors, look.len());
 /// # Ok(())
 /// # }
 /// ```
@@ -307,8 +307,8 @@ impl<'a> Counted<'a> {
     /// ```no_run
     /// # fn main() -> std::result::Result<(), Box<dyn std::error::Error>> {
     /// let image = std::fs::read("show.img")?;
-    /// let vault = strandlodge::Counted::open(&image)?;
-    /// for one in vault.show(16, 1_000_000)? {
+    /// let disc = strandlodge::Counted::open(&image)?;
+    /// for one in disc.show(16, 1_000_000)? {
     ///     println!("{}{}", one.path, if one.entry.is_directory { "/" } else { "" });
     /// }
     /// # Ok(())
@@ -382,9 +382,9 @@ impl<'a> Counted<'a> {
     /// ```no_run
     /// # fn main() -> std::result::Result<(), Box<dyn std::error::Error>> {
     /// let image = std::fs::read("show.img")?;
-    /// let vault = strandlodge::Counted::open(&image)?;
+    /// let disc = strandlodge::Counted::open(&image)?;
     /// let cues = ["SHOW/9", "SHOW/10.1A", "SHOW/11"];
-    /// for (cue, look) in cues.iter().zip(vault.read_all(&cues)?) {
+    /// for (cue, look) in cues.iter().zip(disc.read_all(&cues)?) {
     ///     match look {
     ///         Ok(bytes) => println!("{cue}: {} bytes", bytes.len()),
     ///         Err(why) => println!("{cue}: {why}"),

@@ -125,16 +125,16 @@ impl fmt::Display for Place {
 /// what the number means, and then the place.
 ///
 /// ```
-/// use strandlodge::{Asked, How, Matching, Vault, diagnose};
+/// use strandlodge::{Asked, How, Matching, Disc, diagnose};
 ///
 /// # fn main() -> Result<(), Box<dyn std::error::Error>> {
 /// let image = strandlodge::write(&[("9", b"cue 9")])?;
-/// let vault = Vault::open(&image)?;
-/// let refused = vault.lookup("10").unwrap_err();
-/// let why = vault.diagnose(Asked::Lookup(b"10", Matching::CaseIgnored), &refused);
+/// let disc = Disc::open(&image)?;
+/// let refused = disc.lookup("10").unwrap_err();
+/// let why = disc.diagnose(Asked::Lookup(b"10", Matching::CaseIgnored), &refused);
 /// println!("{why}: {:?}", why.place.map(|place| place.sector));
 ///
-/// let refused = Vault::open(&image[..9000]).unwrap_err();
+/// let refused = Disc::open(&image[..9000]).unwrap_err();
 /// println!("{}", diagnose(&image[..9000], How::default(), &refused)); // sector 256 isn't there
 /// # Ok(())
 /// # }
@@ -188,7 +188,7 @@ pub(crate) fn is_of_the_disc(why: Refusal) -> bool {
     !matches!(why, NoRoom | NoWork | NoSlot | TooMany | BadShelf | OverBudget | Unknown(_))
 }
 
-/// Where an opening was refused, and why: of [`Vault::open_as`](crate::Vault::open_as) and [`read_volume_label_as`](crate::read_volume_label_as) with
+/// Where an opening was refused, and why: of [`Disc::open_as`](crate::Disc::open_as) and [`read_volume_label_as`](crate::read_volume_label_as) with
 /// these choices.
 pub fn diagnose(image: &[u8], how: How, refused: &Refused) -> Diagnosis {
     opening(&mut Source::new(Copied::new(image)), how, *refused)

@@ -3,12 +3,12 @@
 use crate::answer::{Answer, Refused};
 use crate::counted_drive::{CountedDrive, Uncopied, Unopened};
 use crate::diagnosis::Diagnosis;
+use crate::disc::plain;
 use crate::error::Result;
 use crate::matching::Matching;
 use crate::paths::{PathText, component};
 use crate::records::{DirEntry, LongAd};
 use crate::source::Missed;
-use crate::vault::plain;
 use std::fmt;
 use std::io::{Read, Seek, Write};
 
@@ -125,7 +125,7 @@ impl<R: Read + Seek> Drive<R> {
         self.inner.diagnose(refused)
     }
 
-    /// Opens the volume of a disc, as [`Vault::open`](crate::Vault::open) does.
+    /// Opens the volume of a disc, as [`Disc::open`](crate::Disc::open) does.
     ///
     /// ```no_run
     /// # fn main() -> Result<(), Box<dyn std::error::Error>> {
@@ -143,7 +143,7 @@ impl<R: Read + Seek> Drive<R> {
         Ok(Drive { inner, sectors })
     }
 
-    /// The ICB that a path names, as [`Vault::lookup`](crate::Vault::lookup) finds it.
+    /// The ICB that a path names, as [`Disc::lookup`](crate::Disc::lookup) finds it.
     ///
     /// ```no_run
     /// # fn main() -> Result<(), Box<dyn std::error::Error>> {

@@ -146,7 +146,7 @@ pub struct FileEntry {
     /// The file itself, where it is embedded.
     pub embedded_data: Vec<u8>,
     pub ad_type: AdType,
-    /// Where the descriptors go on, if they do: it isn't followed here. [`Vault::extents`](crate::Vault::extents) gives those of the whole chain.
+    /// Where the descriptors go on, if they do: it isn't followed here. [`Disc::extents`](crate::Disc::extents) gives those of the whole chain.
     pub continuation: Option<AdContinuation>,
 }
 

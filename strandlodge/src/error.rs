@@ -1,4 +1,4 @@
-//! Why a call of `Vault` or `Drive` gave nothing: a refusal with its cause, or an error of the system.
+//! Why a call of `Disc` or `Drive` gave nothing: a refusal with its cause, or an error of the system.
 
 use crate::answer::{Refusal, Refused};
 use crate::cause::Cause;
@@ -7,22 +7,22 @@ use crate::diagnosis::Diagnosis;
 use std::ops::Deref;
 use std::{error, fmt, io};
 
-/// What a call of [`Vault`](crate::Vault) or [`Drive`](crate::Drive) gives, and what a function gives that makes such calls.
+/// What a call of [`Disc`](crate::Disc) or [`Drive`](crate::Drive) gives, and what a function gives that makes such calls.
 pub type Result<T> = std::result::Result<T, Error>;
 
 /// Why there is no answer: a refusal, or an error of the system, so that `?` takes both, as it does with the original's error.
 ///
 /// It stands for its [`Refused`]: `error.why`, `error.sectors` and `error.number()` are those of the refusal, and a `&Error` goes where a `&Refused` is wanted.
 /// An error of the system is [`Refusal::Io`] with no sector asked for. `Display` gives the cause, where it is known, as `diagnose` has it, and else what
-/// the number means. The calls of [`Vault`](crate::Vault) say their cause by themselves. To say it those of [`Drive`](crate::Drive) would have to ask the
+/// the number means. The calls of [`Disc`](crate::Disc) say their cause by themselves. To say it those of [`Drive`](crate::Drive) would have to ask the
 /// reader again, which [`Drive::diagnose`](crate::Drive::diagnose) does.
 ///
 /// ```
-/// use strandlodge::{Result, Vault};
+/// use strandlodge::{Result, Disc};
 ///
 /// fn load(image: &str, cue: &str) -> Result<Vec<u8>> {
-///     let vault = Vault::open(std::fs::read(image)?)?;
-///     vault.read_path(cue)
+///     let disc = Disc::open(std::fs::read(image)?)?;
+///     disc.read_path(cue)
 /// }
 ///
 /// let error = load("no such file", "SHOW/9").unwrap_err();

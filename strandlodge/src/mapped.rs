@@ -18,15 +18,15 @@ unsafe extern "C" {
     fn munmap(at: *mut c_void, length: usize) -> c_int;
 }
 
-/// A file or a device, mapped to be read: an image that a [`Vault`](crate::Vault) can own.
+/// A file or a device, mapped to be read: an image that a [`Disc`](crate::Disc) can own.
 ///
 /// ```no_run
-/// use strandlodge::{Mapped, Vault};
+/// use strandlodge::{Mapped, Disc};
 ///
 /// # fn main() -> Result<(), Box<dyn std::error::Error>> {
-/// // SAFETY: nobody writes to this file, or cuts it short, while the vault is there.
-/// let vault = Vault::open(unsafe { Mapped::open("show.img")? })?;
-/// println!("{}", vault.label()?);
+/// // SAFETY: nobody writes to this file, or cuts it short, while the disc is there.
+/// let disc = Disc::open(unsafe { Mapped::open("show.img")? })?;
+/// println!("{}", disc.label()?);
 /// # Ok(())
 /// # }
 /// ```

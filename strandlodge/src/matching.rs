@@ -2,18 +2,18 @@
 
 use strandlodge_sys::vault;
 
-/// Which entry of a directory a component of a path gives: the choice that [`Vault::lookup_as`](crate::Vault::lookup_as) takes. It is for
+/// Which entry of a directory a component of a path gives: the choice that [`Disc::lookup_as`](crate::Disc::lookup_as) takes. It is for
 /// every component of the path, and entries that are deleted or the parent are never among those that match.
 ///
 /// ```no_run
-/// use strandlodge::{Matching, Vault};
+/// use strandlodge::{Matching, Disc};
 ///
 /// # fn main() -> std::result::Result<(), Box<dyn std::error::Error>> {
 /// let image = std::fs::read("show.img")?; // with the cues 10.1A and 10.1a, in this order
-/// let vault = Vault::open(&image)?;
-/// let first = vault.read_path("SHOW/10.1a")?; // 10.1A
-/// let cue = vault.read_path_as("SHOW/10.1a", Matching::AsWritten)?; // 10.1a
-/// let refused = vault.read_path_as("SHOW/10.1a", Matching::Unambiguous); // by 9
+/// let disc = Disc::open(&image)?;
+/// let first = disc.read_path("SHOW/10.1a")?; // 10.1A
+/// let cue = disc.read_path_as("SHOW/10.1a", Matching::AsWritten)?; // 10.1a
+/// let refused = disc.read_path_as("SHOW/10.1a", Matching::Unambiguous); // by 9
 /// # Ok(())
 /// # }
 /// ```

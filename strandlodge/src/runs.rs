@@ -4,10 +4,10 @@ use crate::answer::Answered;
 use crate::calls;
 use crate::counted::{Counted, FIRST_SLOTS, MOST_SLOTS};
 use crate::diagnosis::Asked;
+use crate::disc::Disc;
 use crate::error::Result;
 use crate::records::LongAd;
 use crate::room::{Room, retry};
-use crate::vault::Vault;
 use std::fmt;
 use std::iter::FusedIterator;
 use strandlodge_sys::vault as face;
@@ -21,7 +21,7 @@ pub struct Run {
     pub length: u64,
 }
 
-/// A file's bytes as parts of the image, in reading order: joined they are what `read_file` gives, which is proved. [`Vault::runs`] gives them.
+/// A file's bytes as parts of the image, in reading order: joined they are what `read_file` gives, which is proved. [`Disc::runs`] gives them.
 ///
 /// It is an iterator of the parts, each with a byte at least. Two may follow each other in the image, overlap or be the same. What it says of itself is of
 /// the runs that are still to come. Beside the borrow of the image it holds 16 bytes for each run.
@@ -56,8 +56,8 @@ impl<'a> Runs<'a> {
     /// ```
     /// # fn main() -> Result<(), Box<dyn std::error::Error>> {
     /// let image = strandlodge::write(&[("9", b"cue 9")])?;
-    /// let vault = strandlodge::Vault::open(&image)?;
-    /// for run in vault.runs(vault.lookup("9")?)?.places() {
+    /// let disc = strandlodge::Disc::open(&image)?;
+    /// for run in disc.runs(disc.lookup("9")?)?.places() {
     ///     println!("{} bytes from byte {} of the image on", run.length, run.at);
     /// }
     /// # Ok(())
@@ -72,8 +72,8 @@ impl<'a> Runs<'a> {
     /// ```
     /// # fn main() -> Result<(), Box<dyn std::error::Error>> {
     /// let image = strandlodge::write(&[("9", b"cue 9, blackout")])?;
-    /// let vault = strandlodge::Vault::open(&image)?;
-    /// let part: Vec<&[u8]> = vault.runs(vault.lookup("9")?)?.range(7, 5).collect();
+    /// let disc = strandlodge::Disc::open(&image)?;
+    /// let part: Vec<&[u8]> = disc.runs(disc.lookup("9")?)?.range(7, 5).collect();
     /// assert_eq!(part.concat(), b"black");
     /// # Ok(())
     /// # }
@@ -146,13 +146,13 @@ fn part<'a>(image: &'a [u8], run: &face::Run) -> &'a [u8] {
 }
 
 impl<'a> Counted<'a> {
-    /// A file's bytes, or a directory's own, as parts of the image: [`Vault::runs`]. Refusals and count are those of [`Counted::read_file`].
+    /// A file's bytes, or a directory's own, as parts of the image: [`Disc::runs`]. Refusals and count are those of [`Counted::read_file`].
     ///
     /// ```no_run
     /// # fn main() -> std::result::Result<(), Box<dyn std::error::Error>> {
     /// let image = std::fs::read("show.img")?;
-    /// let vault = strandlodge::Counted::open(&image)?;
-    /// let runs = vault.runs(vault.lookup("SHOW/FILM")?)?;
+    /// let disc = strandlodge::Counted::open(&image)?;
+    /// let runs = disc.runs(disc.lookup("SHOW/FILM")?)?;
     /// println!("{} bytes, which take {} sectors", runs.len(), runs.sectors);
     /// # Ok(())
     /// # }
@@ -171,8 +171,8 @@ impl<'a> Counted<'a> {
     }
 }
 
-impl<B: AsRef<[u8]>> Vault<B> {
-    /// A file's bytes, or a directory's own, as parts of the image, in reading order: what [`Vault::read_file`] gives, without a copy. It is refused as that
+impl<B: AsRef<[u8]>> Disc<B> {
+    /// A file's bytes, or a directory's own, as parts of the image, in reading order: what [`Disc::read_file`] gives, without a copy. It is refused as that
     /// is, before there is a first part, but for want of memory: a run takes 16 bytes, however long it is, and a file that doesn't fit in memory, or has
     /// more bytes than its image since its extents overlap, has its runs all the same. 7 is given where there is no memory for the runs themselves, of which
     /// the rules allow 4,194,560.
@@ -181,9 +181,9 @@ impl<B: AsRef<[u8]>> Vault<B> {
     /// # fn main() -> Result<(), Box<dyn std::error::Error>> {
     /// # use std::io::Write;
     /// # let image = strandlodge::write(&[("FILM", b"a long one")])?;
-    /// # let vault = strandlodge::Vault::open(&image)?;
+    /// # let disc = strandlodge::Disc::open(&image)?;
     /// # let mut file = Vec::new();
-    /// let runs = vault.runs(vault.lookup("FILM")?)?;
+    /// let runs = disc.runs(disc.lookup("FILM")?)?;
     /// println!("{} bytes", runs.len());
     /// for part in runs {
     ///     file.write_all(part)?; // straight from the image

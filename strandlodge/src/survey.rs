@@ -44,7 +44,7 @@ impl fmt::Display for Figure {
     }
 }
 
-/// The figures of an image or of a shelf. Files and directories are those that [`Vault::show`](crate::Vault::show) at 16 levels lists, each once for each
+/// The figures of an image or of a shelf. Files and directories are those that [`Disc::show`](crate::Disc::show) at 16 levels lists, each once for each
 /// path; the root isn't counted.
 #[derive(Debug, Clone, Copy, PartialEq, Eq, Hash, Default)]
 pub struct Figures {
@@ -54,7 +54,7 @@ pub struct Figures {
     pub directories: Figure,
     /// What the files that can be read have, added up.
     pub bytes: Figure,
-    /// Their extents, as [`Vault::extents`](crate::Vault::extents) lists them.
+    /// Their extents, as [`Disc::extents`](crate::Disc::extents) lists them.
     pub extents: Figure,
     /// The sectors that reading each file asks for, also those that are refused; not those of opening, of the tree and of the extent lists.
     pub sectors: Figure,
@@ -187,7 +187,7 @@ pub fn survey(images: &[impl AsRef<[u8]>], how: How, most: u64) -> Result<Survey
 /// The directories on the way down a tree stand in a work space together, and a tree that doesn't fit is refused by 6. Here that begins with 64 KiB and is
 /// doubled, to 256 MiB at most; [`survey_shelf`] takes one of any length.
 ///
-/// A directory is gone through once for each path to it, as by [`Vault::show`](crate::Vault::show): of a disc that was made to do harm these may be more than
+/// A directory is gone through once for each path to it, as by [`Disc::show`](crate::Disc::show): of a disc that was made to do harm these may be more than
 /// can be counted. So the image is lent `most` sectors, for its opening, its tree and the reads of its files together, and is refused by 16 where it wants more;
 /// [`UNLIMITED`](crate::UNLIMITED) is no budget. A survey that is made again with more work space has `most` sectors again.
 ///

@@ -14,10 +14,10 @@
 //! ```
 
 use crate::answer::{Refusal, Refused, Result};
+pub use crate::disc::{probe_vrs, read_volume_label};
 pub use crate::entries::{AdContinuation, AdType, FileEntry, FileIdentifierDescriptor, IcbTag};
 use crate::parsing;
 pub use crate::records::{AllocExtent, DirEntry, LbAddr, LongAd};
-pub use crate::vault::{probe_vrs, read_volume_label};
 use strandlodge_sys::records as face;
 
 pub use crate::counted::SECTOR_SIZE;

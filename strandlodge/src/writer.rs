@@ -13,8 +13,8 @@ use crate::counted::SECTOR_SIZE;
 /// ```no_run
 /// # fn main() -> std::result::Result<(), Box<dyn std::error::Error>> {
 /// let image = strandlodge::write(&[("9", &b"cue 9"[..]), ("10.1A", b"cue 10.1A")])?;
-/// let vault = strandlodge::Vault::open(&image)?;
-/// assert_eq!(vault.read_path("10.1A")?, b"cue 10.1A");
+/// let disc = strandlodge::Disc::open(&image)?;
+/// assert_eq!(disc.read_path("10.1A")?, b"cue 10.1A");
 /// # Ok(())
 /// # }
 /// ```

@@ -4,7 +4,7 @@
 mod common;
 
 use common::command::{Folder, Said};
-use common::{Disc, SECTOR, continuation, continued, crc, mend, named, reclosed, seal, sealed, short_ad, show};
+use common::{SECTOR, TestDisc, continuation, continued, crc, mend, named, reclosed, seal, sealed, short_ad, show};
 use std::ops::Range;
 
 /// The sample show's partition, and its root.
@@ -125,8 +125,8 @@ const FILLERS: usize = 52;
 
 /// The sample show with another root, whose bytes stand in three extents that end inside blocks. Of its identifiers `b` begins in one
 /// extent, with four bytes of its tag, and goes on in the next; `c` begins in the second block of an extent, and `d` at the front of one.
-fn laid() -> (Disc, Laid) {
-    let mut disc = Disc::new();
+fn laid() -> (TestDisc, Laid) {
+    let mut disc = TestDisc::new();
     let data = disc.lay(&[7; 16]);
     let area = continuation(&short_ad(16, data));
     let header = disc.lay(&area);
@@ -318,7 +318,7 @@ fn what_cannot_be_read_is_said() {
     let place = "the last sector asked for was 292, for a file entry: it has tag 261 (file entry)";
     assert_eq!((said.status, said.out), (67, format!("/SHOW, from byte {} on: {malformed}; {place}\n", last - 176)));
     // An ICB outside the image, and one of length 0.
-    let mut disc = Disc::new();
+    let mut disc = TestDisc::new();
     let mut none = named("not", 0, false);
     none[20..24].fill(0);
     let folder = disc.entry(3, &[named("far", 99_999, false), sealed(none)].concat(), 88);
@@ -347,7 +347,7 @@ fn continued_by(kind: u8, length: u32, block: u32, partition: u16) -> Vec<u8> {
 #[test]
 fn continuations_of_every_kind_are_checked() {
     for (kind, partition) in [(0, 0), (1, 5), (2, 5), (1, 6), (2, 6)] {
-        let mut disc = Disc::new();
+        let mut disc = TestDisc::new();
         let header = disc.lay(&continuation(&[]));
         let file = disc.entry(kind, &continued_by(kind, 24, header, partition), 0);
         let root = disc.entry(3, &named("file", file, false), 44);
@@ -370,7 +370,7 @@ fn continuations_of_every_kind_are_checked() {
 /// A chain that goes on to itself is refused at its 33rd continuation, and has one header all the same.
 #[test]
 fn a_chain_that_cannot_be_followed_is_said() {
-    let mut disc = Disc::new();
+    let mut disc = TestDisc::new();
     let header = disc.lay(&continuation(&continued(32, 0)));
     let own = continued(32, header);
     let from = at(header) + 24;
@@ -398,7 +398,7 @@ fn a_chain_that_cannot_be_followed_is_said() {
 /// Directories that hold each other and themselves, by names that are walked once; and one block that is a file's and a directory's.
 #[test]
 fn directories_that_hold_each_other_end() {
-    let mut disc = Disc::new();
+    let mut disc = TestDisc::new();
     let first = disc.0.len() / SECTOR - START;
     let (one, two) = (first as u32, first as u32 + 1);
     let of_one = [named("self", one, true), named("two", two, true), named("root", ROOT, true), named("file", two, false)].concat();
@@ -425,7 +425,7 @@ fn directories_that_hold_each_other_end() {
 /// A thousand directories, each in the one before: the front of a long path is left out.
 #[test]
 fn a_deep_disc_is_walked_to_its_end() {
-    let mut disc = Disc::new();
+    let mut disc = TestDisc::new();
     let first = (disc.0.len() / SECTOR - START) as u32;
     for i in 0..1000 {
         let block = disc.entry(3, &named("d", first + i + 1, true), 40);

@@ -4,7 +4,7 @@ mod common;
 
 use common::asked::images;
 use common::command::{Folder, Said, left_out, tool};
-use common::{Disc, SECTOR, VOLUME_BODY, harm, identifier, named, noise, reclosed, seal, show};
+use common::{SECTOR, TestDisc, VOLUME_BODY, harm, identifier, named, noise, reclosed, seal, show};
 use std::ffi::OsStr;
 use std::os::unix::ffi::OsStrExt;
 use std::process::{Command, Stdio};
@@ -225,7 +225,7 @@ fn a_disc_that_was_made_to_do_harm_holds_no_command() {
 /// Directories of overlapping extents, each many times as long as the disc: a few of them are more than a limit.
 #[test]
 fn directories_that_overlap_hold_no_command() {
-    let (folder, mut disc) = (Folder::new(), Disc::new());
+    let (folder, mut disc) = (Folder::new(), TestDisc::new());
     std::fs::create_dir(folder.at("to")).unwrap();
     // An identifier that has a block to itself, by its bytes for other uses.
     let (head, name, other) = (identifier(b"", 5, false), b"\x08cue", SECTOR - 42);
@@ -256,7 +256,7 @@ fn directories_that_overlap_hold_no_command() {
 #[test]
 fn a_directory_that_holds_itself() {
     let folder = Folder::new();
-    let mut disc = Disc::new();
+    let mut disc = TestDisc::new();
     let root = disc.directory(&[named("a", 3, true), named("cue\u{1b}", 5, false)]);
     disc.root(root);
     folder.write("one.img", &disc.0);
@@ -281,7 +281,7 @@ fn a_directory_that_holds_itself() {
 #[test]
 fn a_tree_names_what_it_cannot_read() {
     let folder = Folder::new();
-    let mut disc = Disc::new();
+    let mut disc = TestDisc::new();
     let below = disc.directory(&[named("x", 5, false), named("gone", 900_000, true), named("z", 5, false)]);
     let root = disc.directory(&[named("a", 5, false), named("d", below, true), named("b", 5, false)]);
     disc.root(root);
@@ -321,7 +321,7 @@ fn a_tree_names_what_it_cannot_read() {
 fn a_file_by_its_place_is_not_listed() {
     let folder = with_show();
     folder.write("empty.img", &{
-        let mut disc = Disc::new();
+        let mut disc = TestDisc::new();
         let (file, directory) = (disc.file(b""), disc.entry(3, b"", 0));
         let root = disc.directory(&[named("file", file, false), named("directory", directory, true)]);
         disc.root(root);
@@ -378,7 +378,7 @@ fn a_refusal_is_a_document() {
 
 #[test]
 fn numbers_are_said_as_they_are_counted() {
-    let (folder, mut disc) = (Folder::new(), Disc::new());
+    let (folder, mut disc) = (Folder::new(), TestDisc::new());
     let (one, short) = (disc.file(b"1"), disc.entry(3, b"1", 1));
     let root = disc.directory(&[named("one", one, false), named("short", short, false)]);
     disc.root(root);
@@ -639,7 +639,7 @@ fn a_pipe_is_no_image() {
     answers(&piped(&["--copy", "label", "/dev/stdin"], &show()), "SHOW 1\n");
     answers(&piped(&["cat", "/dev/stdin", "SHOW/11", "--copy"], &show()), BLACKOUT);
     assert_eq!(piped(&["--copy", "survey", "/dev/stdin"], &show()).status, 0);
-    let (big, mut disc) = (noise(5_000_000), Disc::new());
+    let (big, mut disc) = (noise(5_000_000), TestDisc::new());
     let file = disc.file(&big);
     let root = disc.directory(&[named("big", file, false)]);
     disc.root(root);
@@ -815,7 +815,7 @@ fn many_files_need_a_folder() {
 
 /// A disc with a file of 40 MB, `big`, in a folder of its own.
 fn with_big() -> (Folder, Vec<u8>) {
-    let (folder, bytes, mut disc) = (Folder::new(), noise(40_000_000), Disc::new());
+    let (folder, bytes, mut disc) = (Folder::new(), noise(40_000_000), TestDisc::new());
     let block = disc.file(&bytes);
     let listing = disc.directory(&[named("big", block, false)]);
     disc.root(listing);
@@ -910,7 +910,7 @@ fn a_terminal_sees_a_bar() {
 
 #[test]
 fn a_terminal_is_not_tricked_by_names() {
-    let mut disc = Disc::new();
+    let mut disc = TestDisc::new();
     // 16 bits to a letter: an escape, a mark that turns text round, one of no width, a line feed, a backslash.
     let tricks: Vec<u8> = "a\u{1b}[2J\u{202e}\u{200b}\n\\".encode_utf16().flat_map(u16::to_be_bytes).collect();
     let listing = disc.directory(&[identifier(&[b"\x10", &tricks[..]].concat(), 7, false), identifier(b"\x08b\x9bc", 3, true)]);

@@ -4,7 +4,7 @@ mod common;
 
 use common::asked::images;
 use common::command::{Folder, Said};
-use common::{Disc, SECTOR, named, noise, short_ad};
+use common::{SECTOR, TestDisc, named, noise, short_ad};
 use std::fs::{File, OpenOptions};
 use std::io::Write;
 use std::path::Path;
@@ -66,7 +66,7 @@ fn a_read_passes_from_1_to_its_answer_once_and_names_what_it_waits_for() {
 /// A disc whose file `cue` stands behind all else, its second extent in front of the first, with some sectors behind it; the file's bytes, and
 /// the number of sectors that they need.
 fn disc() -> (Vec<u8>, Vec<u8>, usize) {
-    let mut disc = Disc::new();
+    let mut disc = TestDisc::new();
     let (bytes, free) = (noise(9000), disc.lay(b""));
     let entry = disc.entry(0, &[short_ad(5000, free + 5), short_ad(4000, free + 3)].concat(), 9000);
     let bad = named("bad", free + 4, false);

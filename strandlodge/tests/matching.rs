@@ -4,7 +4,7 @@
 mod common;
 
 use common::command::{Folder, Said};
-use common::{DELETED, Disc, PARENT, identifier, marked, named, show};
+use common::{DELETED, PARENT, TestDisc, identifier, marked, named, show};
 use strandlodge::Matching::{self, AsWritten, CaseIgnored, Unambiguous};
 use strandlodge::{Answer, Counted, Refusal, Refused};
 
@@ -13,8 +13,8 @@ const LOWER: &str = "cue 10.1a\nfront wash 20, the look before the interval\n";
 const ALL: [Matching; 3] = [CaseIgnored, AsWritten, Unambiguous];
 
 /// A disc whose root has these names, each with a file that holds its number, or what `mark` makes of its entry.
-fn disc_of(names: &[&str], mark: impl Fn(usize, Vec<u8>) -> Vec<u8>) -> Disc {
-    let mut disc = Disc::new();
+fn disc_of(names: &[&str], mark: impl Fn(usize, Vec<u8>) -> Vec<u8>) -> TestDisc {
+    let mut disc = TestDisc::new();
     let mut entries = Vec::new();
     for (i, name) in names.iter().enumerate() {
         let block = disc.file(format!("{i}").as_bytes());
@@ -25,12 +25,12 @@ fn disc_of(names: &[&str], mark: impl Fn(usize, Vec<u8>) -> Vec<u8>) -> Disc {
     disc
 }
 
-fn plain(names: &[&str]) -> Disc {
+fn plain(names: &[&str]) -> TestDisc {
     disc_of(names, |_, entry| entry)
 }
 
 /// What each choice reads along a path: the bytes, or the number of the refusal.
-fn reads(disc: &Disc, path: &str) -> [Result<String, u64>; 3] {
+fn reads(disc: &TestDisc, path: &str) -> [Result<String, u64>; 3] {
     let vault = Counted::open(&disc.0).unwrap();
     ALL.map(|matching| {
         let read = vault.read_path_as(path, matching).map_err(|refused| refused.number());
@@ -39,7 +39,7 @@ fn reads(disc: &Disc, path: &str) -> [Result<String, u64>; 3] {
 }
 
 /// The entries by their numbers, for the three choices.
-fn gives(disc: &Disc, path: &str, expected: [Result<usize, u64>; 3]) {
+fn gives(disc: &TestDisc, path: &str, expected: [Result<usize, u64>; 3]) {
     assert_eq!(reads(disc, path), expected.map(|entry| entry.map(|i| i.to_string())), "{path}");
 }
 
@@ -107,7 +107,7 @@ fn names_that_are_equal() {
     // One name in both widths, and one in which a surrogate is dropped.
     let wide = |units: &[u16]| [&[16][..], &units.iter().flat_map(|unit| unit.to_be_bytes()).collect::<Vec<u8>>()].concat();
     for recorded in [wide(&[0x41, 0x42]), wide(&[0x41, 0xd800, 0x42])] {
-        let mut disc = Disc::new();
+        let mut disc = TestDisc::new();
         let blocks = [0, 1].map(|i| disc.file(format!("{i}").as_bytes()));
         let root = disc.directory(&[identifier(&recorded, blocks[0], false), named("AB", blocks[1], false)]);
         disc.root(root);
@@ -117,7 +117,7 @@ fn names_that_are_equal() {
 
 #[test]
 fn case_is_that_of_ascii() {
-    let mut disc = Disc::new();
+    let mut disc = TestDisc::new();
     let blocks = [0, 1].map(|i| disc.file(format!("{i}").as_bytes()));
     let root = disc.directory(&[identifier(b"\x08\xc9", blocks[0], false), identifier(b"\x08\xe9", blocks[1], false)]);
     disc.root(root);
@@ -139,8 +139,8 @@ fn what_is_not_listed_does_not_match() {
 }
 
 /// Two folders of the same letters, each with the cues `first` and `second` of its own, and a third by itself.
-fn folders() -> Disc {
-    let mut disc = Disc::new();
+fn folders() -> TestDisc {
+    let mut disc = TestDisc::new();
     let mut entries = Vec::new();
     for (i, name) in ["Act", "ACT", "other"].iter().enumerate() {
         let blocks = [0, 1].map(|j| disc.file(format!("{}", 2 * i + j).as_bytes()));
@@ -178,7 +178,7 @@ fn a_directory_is_read_first() {
 }
 
 /// A folder with the image of a disc.
-fn with(disc: &Disc) -> Folder {
+fn with(disc: &TestDisc) -> Folder {
     let folder = Folder::new();
     folder.write("a.img", &disc.0);
     folder

@@ -326,9 +326,15 @@ fn options_are_told_of() {
 /// A tree in which all is built: the script, and a command that only says that it ran.
 fn built() -> Folder {
     let folder = Folder::new();
-    for name in
-        ["crates", "target/staticlib", "target/unproved", "strandlodge/src", "target/command/proved", "target/command/unproved", "strandlodge-sys/src"]
-    {
+    for name in [
+        "crates",
+        "target/staticlib",
+        "target/unproved",
+        "strandlodge/src",
+        "target/command/proved",
+        "target/command/unproved",
+        "strandlodge-sys/src",
+    ] {
         fs::create_dir_all(folder.at(name)).unwrap();
     }
     for name in [
@@ -382,7 +388,13 @@ fn what_is_built_is_not_built_again() {
     let run = alone(&folder, &["ls", "a b"]);
     assert_eq!((run.status, run.out.as_str(), run.error.as_str()), (0, "proved ran ls a b\n", ""));
     assert_eq!(alone(&folder, &["--build"]).out, "");
-    for newer in ["strandlodge/src/a.rs", "strandlodge/Cargo.toml", "strandlodge/build.rs", "strandlodge-sys/src/a.rs", "target/staticlib/libvault_c.a"] {
+    for newer in [
+        "strandlodge/src/a.rs",
+        "strandlodge/Cargo.toml",
+        "strandlodge/build.rs",
+        "strandlodge-sys/src/a.rs",
+        "target/staticlib/libvault_c.a",
+    ] {
         age(&folder, newer, "now + 20 seconds");
         let run = alone(&folder, &["ls"]);
         assert!(run.status == 69 && run.error.contains("cargo is missing"), "{newer} {run:?}");

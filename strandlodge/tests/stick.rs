@@ -3,7 +3,7 @@
 mod common;
 
 use common::command::{Folder, Said, left_out, tool};
-use common::{Disc, identifier, named, show};
+use common::{TestDisc, identifier, named, show};
 use std::fs;
 use std::os::unix::fs::MetadataExt;
 use std::process::Command;
@@ -11,7 +11,7 @@ use std::sync::{Mutex, MutexGuard};
 
 /// A disc whose root has a file of each of these names, with its place among them as its bytes.
 fn disc_of(names: &[&str]) -> Vec<u8> {
-    let mut disc = Disc::new();
+    let mut disc = TestDisc::new();
     let files: Vec<u32> = (0..names.len()).map(|i| disc.file(i.to_string().as_bytes())).collect();
     let wide = |name: &str| -> Vec<u8> { std::iter::once(16).chain(name.encode_utf16().flat_map(u16::to_be_bytes)).collect() };
     let entries: Vec<Vec<u8>> = names.iter().zip(files).map(|(name, block)| identifier(&wide(name), block, false)).collect();
@@ -97,7 +97,7 @@ fn twins_are_both_kept_on_a_stick() {
 #[test]
 fn folders_that_differ_in_case_are_two_on_a_stick() {
     let Some(stick) = Stick::new("folders on a stick") else { return };
-    let (folder, mut disc) = (&stick.folder, Disc::new());
+    let (folder, mut disc) = (&stick.folder, TestDisc::new());
     let (one, two) = (disc.file(b"one"), disc.file(b"two"));
     let (upper, lower) = (disc.directory(&[named("cue", one, false)]), disc.directory(&[named("cue", two, false)]));
     let root = disc.directory(&[named("ACT", upper, true), named("act", lower, true)]);
@@ -144,7 +144,7 @@ fn portable_names_can_be_copied_anywhere() {
 /// More files than wait at once, over old ones: each is replaced, and nothing is left behind.
 #[test]
 fn many_old_files_are_replaced() {
-    let (folder, mut disc) = (with_show(), Disc::new());
+    let (folder, mut disc) = (with_show(), TestDisc::new());
     let cue = disc.file(b"a look");
     let entries: Vec<Vec<u8>> = (0..2300).map(|i| named(&i.to_string(), cue, false)).collect();
     let root = disc.directory(&entries);
@@ -184,11 +184,11 @@ fn sums_are_taken_by_sha256sum() {
 
 #[test]
 fn two_nights_are_compared() {
-    let (folder, mut disc) = (with_show(), Disc::new());
+    let (folder, mut disc) = (with_show(), TestDisc::new());
     let looks: Vec<u32> = [&b"nine"[..], b"ten", b"eleven"].map(|look| disc.file(look)).to_vec();
     let inner = disc.directory(&[named("x", looks[0], false)]);
-    let make = |disc: &Disc, entries: &[Vec<u8>]| {
-        let mut disc = Disc(disc.0.clone());
+    let make = |disc: &TestDisc, entries: &[Vec<u8>]| {
+        let mut disc = TestDisc(disc.0.clone());
         let root = disc.directory(entries);
         disc.root(root);
         disc.0

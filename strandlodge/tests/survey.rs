@@ -5,7 +5,7 @@ mod common;
 
 use common::asked::images;
 use common::command::{Folder, Said, left_out, tool};
-use common::{Disc, SECTOR, harm, named, show};
+use common::{SECTOR, TestDisc, harm, named, show};
 use std::process::Command;
 use strandlodge::udf::{AllocationExtentDescriptor, FileEntry};
 use strandlodge::{Counted, Figure, Figures, How, LbAddr, LongAd, Refusal, Refused, Show, Survey};
@@ -285,7 +285,7 @@ fn no_images_have_no_figures() {
 /// The show with folder SHOW large, so that its work space has to grow, and below it a folder as large.
 #[test]
 fn the_work_space_grows() {
-    let mut disc = Disc::new();
+    let mut disc = TestDisc::new();
     let file = disc.file(b"cue");
     let names = |front: &str| (0..5000).map(|n| named(&format!("{front}{n:05}"), file, false)).collect::<Vec<_>>();
     let below = disc.directory(&names("b"));

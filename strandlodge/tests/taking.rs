@@ -3,7 +3,7 @@
 mod common;
 
 use common::command::{Folder, Said, left_out, tool};
-use common::{Disc, SECTOR, identifier, named, noise, sealed, short_ad, show};
+use common::{SECTOR, TestDisc, identifier, named, noise, sealed, short_ad, show};
 use std::fs::{self, File};
 use std::os::unix::fs::{MetadataExt, PermissionsExt, symlink};
 use std::process::{Command, Stdio};
@@ -33,8 +33,8 @@ fn wide(name: &str) -> Vec<u8> {
 }
 
 /// A disc whose root has a file of each of these names, with its place among them as its bytes.
-fn disc_of(names: &[&str]) -> Disc {
-    let mut disc = Disc::new();
+fn disc_of(names: &[&str]) -> TestDisc {
+    let mut disc = TestDisc::new();
     let files: Vec<u32> = (0..names.len()).map(|i| disc.file(i.to_string().as_bytes())).collect();
     let entries: Vec<Vec<u8>> = names.iter().zip(files).map(|(name, block)| identifier(&wide(name), block, false)).collect();
     let root = disc.directory(&entries);
@@ -179,7 +179,7 @@ fn standard_output_is_written_and_not_replaced() {
 /// A file that grows too long ends the command by a signal, and what was written goes with it.
 #[test]
 fn a_signal_leaves_nothing() {
-    let (folder, mut disc) = (Folder::new(), Disc::new());
+    let (folder, mut disc) = (Folder::new(), TestDisc::new());
     let block = disc.file(&noise(4_000_000));
     let root = disc.directory(&[named("big", block, false)]);
     disc.root(root);
@@ -285,7 +285,7 @@ fn no_link_leads_out_of_the_folder() {
 /// Directories that hold each other, and themselves: each is taken once.
 #[test]
 fn directories_that_hold_each_other_end() {
-    let (folder, mut disc) = (with_folder(), Disc::new());
+    let (folder, mut disc) = (with_folder(), TestDisc::new());
     let cue = disc.file(b"a look");
     // The root is block 3, whatever it is made of.
     let other = disc.directory(&[named("up", 3, true), named("cue", cue, false)]);
@@ -307,7 +307,7 @@ fn directories_that_hold_each_other_end() {
 
 #[test]
 fn what_cannot_be_had_keeps_nothing_back() {
-    let (folder, mut disc) = (with_folder(), Disc::new());
+    let (folder, mut disc) = (with_folder(), TestDisc::new());
     let cue = disc.file(b"a look");
     let lost = disc.entry(0, &common::short_ad(10, 1 << 20), 10);
     let root = disc.directory(&[named("gone", 900_000, true), named("lost", lost, false), named("cue", cue, false)]);
@@ -338,7 +338,7 @@ fn what_cannot_be_had_keeps_nothing_back() {
 /// Long paths to many entries: more than is kept in memory.
 #[test]
 fn paths_of_many_bytes_are_refused_before_anything_is_written() {
-    let (folder, mut disc) = (with_folder(), Disc::new());
+    let (folder, mut disc) = (with_folder(), TestDisc::new());
     let cue = disc.file(b"a look");
     let entries: Vec<Vec<u8>> = (0..40_000).map(|i| named(&format!("{i}"), cue, false)).collect();
     let mut below = disc.directory(&entries);
@@ -368,7 +368,7 @@ fn a_terminal_sees_how_much_is_taken() {
     let Some(script) = tool("script") else {
         return left_out("progress on a terminal", "script");
     };
-    let (folder, mut disc) = (Folder::new(), Disc::new());
+    let (folder, mut disc) = (Folder::new(), TestDisc::new());
     let files: Vec<u32> = (0..4).map(|_| disc.file(&noise(10_000_000))).collect();
     let entries: Vec<Vec<u8>> = files.iter().enumerate().map(|(i, block)| named(&i.to_string(), *block, false)).collect();
     let root = disc.directory(&entries);
@@ -557,7 +557,7 @@ fn names_that_become_one_are_told_apart() {
     let wide = ["é".repeat(125), "é".repeat(126)];
     let names = ["a/b", "a%2Fb", "a%2Fb~2", "..", ".%2E", "", "unnamed", &wide[0], &wide[1], &long[0], &long[1]];
     let recorded = |name: &str| -> Vec<u8> { std::iter::once(8).chain(name.chars().map(|c| c as u8)).collect() };
-    let (folder, mut disc) = (with_folder(), Disc::new());
+    let (folder, mut disc) = (with_folder(), TestDisc::new());
     let files: Vec<u32> = (0..names.len()).map(|i| disc.file(i.to_string().as_bytes())).collect();
     let entries: Vec<Vec<u8>> = names.iter().zip(files).map(|(name, block)| identifier(&recorded(name), block, false)).collect();
     let root = disc.directory(&entries);
@@ -584,7 +584,7 @@ fn hostile() -> (Vec<u8>, usize) {
     let units = [0, 0x22, 0x5c, 0x7f, 0x85, 0x2028, 0x202e, 0xd7ff, 0xd800, 0xdbff, 0xdc00, 0xdfff, 0xe000, 0xfeff, 0xfffe, 0xffff];
     recorded.extend(units.map(|unit: u16| [&[16, 0, b'a'][..], &unit.to_be_bytes(), &[0, b'b']].concat()));
     recorded.extend([vec![], vec![8], vec![16], vec![254, 1], vec![255, 1]]);
-    let mut disc = Disc::new();
+    let mut disc = TestDisc::new();
     let files: Vec<u32> = recorded.iter().map(|name| disc.file(name)).collect();
     let entry = |(name, block): (&Vec<u8>, &u32)| identifier(name, *block, false);
     let inner = disc.directory(&recorded.iter().zip(&files).map(entry).collect::<Vec<_>>());
@@ -634,7 +634,7 @@ fn documents_are_json_whatever_the_names_are() {
 /// Sizes by an entry, by a read, and in extents: of a file whose extents end early, of one that can't be read, and of one that is embedded.
 #[test]
 fn files_have_their_sizes() {
-    let (folder, mut disc) = (Folder::new(), Disc::new());
+    let (folder, mut disc) = (Folder::new(), TestDisc::new());
     let bytes = disc.lay(&[7; 3000]);
     let short = disc.entry(0, &[short_ad(2048, bytes), short_ad(100, bytes + 1)].concat(), 5000);
     let gone = disc.entry(0, &short_ad(2048, 1_000_000), 2048);

@@ -5,7 +5,7 @@
 
 use crate::bar::Count;
 use crate::commands::line;
-use crate::disc::Disc;
+use crate::disc::OpenDisc;
 use crate::failure::{Failure, STOPPED, UNREAD};
 use crate::image::Image;
 use crate::json::{Json, Rows};
@@ -38,7 +38,7 @@ struct Entry {
 
 /// An image that is compared.
 struct Side<'a, 'l> {
-    disc: Disc<'l, Counted<'a>>,
+    disc: OpenDisc<'l, Counted<'a>>,
     most: u64,
     /// The bytes of its paths, and how many entries it has.
     bytes: usize,
@@ -108,7 +108,7 @@ fn places(entries: &[Entry]) -> HashMap<&str, VecDeque<usize>> {
 
 impl<'a, 'l> Side<'a, 'l> {
     fn open(image: &'a [u8], name: &'l str, taken: Taken, log: &'l mut Log) -> Result<Side<'a, 'l>, Failure> {
-        let disc = Disc::open(image, taken.how, name, Rule::default(), log)?;
+        let disc = OpenDisc::open(image, taken.how, name, Rule::default(), log)?;
         Ok(Side { most: taken.limit.of(disc.bytes), disc, bytes: 0, entries: 0, unread: 0 })
     }
 
@@ -278,7 +278,7 @@ mod tests {
         let mut other = bytes.clone();
         other[8999] ^= 1;
         let image = strandlodge::write(&[("a", &bytes[..]), ("b", &bytes), ("c", &other), ("d", &bytes[1..]), ("e", b"")]).unwrap();
-        let vault = strandlodge::Vault::open(&image).unwrap();
+        let vault = strandlodge::Disc::open(&image).unwrap();
         let runs = |name: &str| vault.runs(vault.lookup(name).unwrap()).unwrap();
         assert!(is_same(runs("a"), runs("b")) && is_same(runs("e"), runs("e")));
         assert!(!is_same(runs("a"), runs("c")) && !is_same(runs("a"), runs("d")) && !is_same(runs("e"), runs("a")));

@@ -205,7 +205,7 @@ impl Write for Front {
 }
 
 /// An opened disc with the name that it goes by in messages, and how names on it are matched. Every call is counted.
-pub struct Disc<'l, V> {
+pub struct OpenDisc<'l, V> {
     pub volume: V,
     pub log: &'l mut Log,
     pub name: &'l str,
@@ -224,10 +224,10 @@ pub struct Found {
     pub is_directory: bool,
 }
 
-impl<'a, 'l> Disc<'l, Counted<'a>> {
+impl<'a, 'l> OpenDisc<'l, Counted<'a>> {
     pub fn open(image: &'a [u8], how: How, name: &'l str, matching: Rule, log: &'l mut Log) -> Result<Self, Failure> {
         let volume = log.count("open", Counted::open_as(image, how)).map_err(|refused| maps::refused(image, how, name, refused))?;
-        Ok(Disc { volume, log, name, matching, bytes: image.len() as u64, checked: None })
+        Ok(OpenDisc { volume, log, name, matching, bytes: image.len() as u64, checked: None })
     }
 
     /// The same, for who takes a file: a descriptor with a wrong body on the way to it is said, though it is taken as it stands. What is looked at for that
@@ -257,7 +257,7 @@ impl<'a, 'l> Disc<'l, Counted<'a>> {
     }
 }
 
-impl<V: Volume> Disc<'_, V> {
+impl<V: Volume> OpenDisc<'_, V> {
     /// Notes the count of a call on what a path gave, and gives its value.
     pub fn count<T>(&mut self, path: &[u8], asked: Asked, call: &'static str, answer: strandlodge::Answered<T>) -> Result<T, Failure> {
         self.log.count(call, answer).map_err(|refused| self.refused(path, asked, refused))

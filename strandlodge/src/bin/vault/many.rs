@@ -2,7 +2,7 @@
 
 use crate::bar::Bar;
 use crate::commands::line;
-use crate::disc::Disc;
+use crate::disc::OpenDisc;
 use crate::drive::Drawn;
 use crate::failure::{Failure, NO_OUTPUT, UNREAD, USAGE};
 use crate::file::apart;
@@ -35,14 +35,14 @@ pub struct Missed {
 
 impl Missed {
     /// Tells of one. That a file can't be written is the worse status.
-    pub fn tell<V>(&mut self, failure: Failure, disc: &mut Disc<V>) {
+    pub fn tell<V>(&mut self, failure: Failure, disc: &mut OpenDisc<V>) {
         self.files += 1;
         self.status = self.status.max(if failure.status == NO_OUTPUT { NO_OUTPUT } else { UNREAD });
         disc.log.remarks.extend(failure.says);
     }
 
     /// Looks at where one went, and tells of it where its own name was taken.
-    pub fn see<V>(&mut self, disc: &mut Disc<V>, path: &str, to: &Path, at: &Path, is_twin: bool) {
+    pub fn see<V>(&mut self, disc: &mut OpenDisc<V>, path: &str, to: &Path, at: &Path, is_twin: bool) {
         if !is_twin && at.file_name() == to.file_name() {
             return;
         }
@@ -80,7 +80,7 @@ impl Lines {
     }
 
     /// Has all written to the disk; then those that wait take their names.
-    pub fn end<V>(&mut self, store: &mut Store, missed: &mut Missed, disc: &mut Disc<V>, out: &mut impl Write) -> Result<(), Failure> {
+    pub fn end<V>(&mut self, store: &mut Store, missed: &mut Missed, disc: &mut OpenDisc<V>, out: &mut impl Write) -> Result<(), Failure> {
         if self.held.is_empty() && self.written.is_empty() {
             return Ok(());
         }
@@ -107,7 +107,7 @@ impl Lines {
 
 /// Writes each file that a path gives to its own name, as the disc has it, in a folder, and prints a line for it. What can't be had is told of, and
 /// the rest goes on.
-pub fn get(disc: &mut Disc<Counted>, paths: &[Vec<u8>], folder: &Path, image: &OsStr, out: &mut impl Write) -> Result<(), Failure> {
+pub fn get(disc: &mut OpenDisc<Counted>, paths: &[Vec<u8>], folder: &Path, image: &OsStr, out: &mut impl Write) -> Result<(), Failure> {
     let (mut wanted, mut missed) = (Vec::new(), Missed::default());
     for path in paths {
         match find(disc, path, folder, image, &wanted) {
@@ -134,7 +134,7 @@ pub fn get(disc: &mut Disc<Counted>, paths: &[Vec<u8>], folder: &Path, image: &O
 }
 
 /// What a path gives, and where it goes: to a name that is neither the image's nor another path's.
-fn find<'p>(disc: &mut Disc<Counted>, path: &'p [u8], folder: &Path, image: &OsStr, others: &[Sought]) -> Result<Sought<'p>, Failure> {
+fn find<'p>(disc: &mut OpenDisc<Counted>, path: &'p [u8], folder: &Path, image: &OsStr, others: &[Sought]) -> Result<Sought<'p>, Failure> {
     let found = disc.find_file(&Wanted::Path(path.to_vec()))?;
     let name = found.entry.map(|entry| entry.name).unwrap_or_default();
     let to = folder.join(name);
@@ -147,7 +147,7 @@ fn find<'p>(disc: &mut Disc<Counted>, path: &'p [u8], folder: &Path, image: &OsS
 }
 
 /// Writes one file.
-fn put(disc: &mut Disc<Counted>, file: &Sought, store: &mut Store) -> Result<Put, Failure> {
+fn put(disc: &mut OpenDisc<Counted>, file: &Sought, store: &mut Store) -> Result<Put, Failure> {
     let runs = runs::find(disc, file.path, file.icb, Span::default())?;
     let (length, mut bar) = (runs.len(), Bar::new(runs.len()));
     store.file(&file.to, |to| {

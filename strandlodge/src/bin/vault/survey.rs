@@ -5,7 +5,7 @@
 
 use crate::bar::Line;
 use crate::commands::line;
-use crate::disc::Disc;
+use crate::disc::OpenDisc;
 use crate::failure::{Failure, NO_IMAGE, UNREAD, WRONG};
 use crate::image::Image;
 use crate::json::Json;
@@ -145,7 +145,7 @@ fn surveyed(name: &OsStr, taken: Taken) -> Surveyed {
 /// Why an image wasn't surveyed: its opening is gone over again, and then its tree.
 fn why_not(image: &[u8], how: How, name: &str, why: Refusal) -> Failure {
     let refused = Refused { why, sectors: 0 };
-    match Disc::open(image, how, name, Rule::default(), &mut Log::default()) {
+    match OpenDisc::open(image, how, name, Rule::default(), &mut Log::default()) {
         Ok(disc) => Failure::diagnosed(name, &disc.volume.diagnose(Asked::Show(LEVELS), &refused)),
         Err(failure) => failure,
     }

@@ -2,7 +2,7 @@
 
 use crate::args::Question;
 use crate::commands::{self, Manner};
-use crate::disc::Disc;
+use crate::disc::OpenDisc;
 use crate::failure::{Failure, NO_IMAGE, NO_OUTPUT};
 use crate::log::Log;
 use crate::make;
@@ -103,7 +103,7 @@ const NEW: &str = "new.img";
 /// Two cues taken off the show, and a vault made of them; in memory, as everything here.
 fn made(image: &[u8], out: &mut impl Write) -> Result<(), Failure> {
     let mut log = Log::default();
-    let disc = Disc::open(image, How::default(), NAME, Rule::Safe, &mut log)?;
+    let disc = OpenDisc::open(image, How::default(), NAME, Rule::Safe, &mut log)?;
     let paths = STAGED.map(|name| format!("SHOW/{name}"));
     let cues = disc.volume.read_all(&paths).map_err(|refused| Failure::refused(NAME, refused))?;
     let cues = cues.value.into_iter().collect::<Result<Vec<_>, _>>().map_err(|why| Failure::refused(NAME, why))?;
@@ -140,7 +140,7 @@ fn step(image: &[u8], question: Question, matching: Rule, typed: &str, out: &mut
 /// The last line of each of the two cues, read by the ICB of its entry.
 fn looks(image: &[u8], out: &mut impl Write) -> Result<(), Failure> {
     let mut log = Log::default();
-    let mut disc = Disc::open(image, How::default(), NAME, Rule::Safe, &mut log)?;
+    let mut disc = OpenDisc::open(image, How::default(), NAME, Rule::Safe, &mut log)?;
     let directory = disc.find_path(DIRECTORY)?.icb;
     for entry in disc.list(DIRECTORY, directory)?.iter().filter(|entry| entry.name.eq_ignore_ascii_case("10.1a")) {
         let cue = disc.read(DIRECTORY, entry.icb)?;

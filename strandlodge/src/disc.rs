@@ -76,35 +76,35 @@ pub(crate) fn plain<T>(answered: Answered<T>) -> Result<T> {
 /// An opened volume with its image, which it owns, as a `Vec<u8>`, a `Box<[u8]>` or a map, or borrows, as a `&[u8]`, a `&Vec<u8>` or an `Arc<[u8]>`.
 ///
 /// Its calls take `&self` and keep nothing: it can be shared between threads, and copied where the image is a borrow. What they give are plain values, as
-/// in the original; [`Vault::counted`] has the same calls with the sectors that each asked for.
+/// in the original; [`Disc::counted`] has the same calls with the sectors that each asked for.
 ///
 /// ```
-/// use strandlodge::{LongAd, Vault};
+/// use strandlodge::{LongAd, Disc};
 ///
 /// # fn main() -> Result<(), Box<dyn std::error::Error>> {
 /// let image = strandlodge::write(&[("9", &b"cue 9"[..]), ("10.1A", b"cue 10.1A")])?;
-/// let vault = Vault::open(&image)?; // or Vault::open(image)?, which owns it
-/// let icb: LongAd = vault.lookup("10.1A")?;
-/// let look: Vec<u8> = vault.read_file(icb)?;
+/// let disc = Disc::open(&image)?; // or Disc::open(image)?, which owns it
+/// let icb: LongAd = disc.lookup("10.1A")?;
+/// let look: Vec<u8> = disc.read_file(icb)?;
 /// assert_eq!(look, b"cue 10.1A");
-/// for entry in &vault.read_directory(vault.root_directory_icb())? {
+/// for entry in &disc.read_directory(disc.root_directory_icb())? {
 ///     println!("{}", entry.name);
 /// }
 /// # Ok(())
 /// # }
 /// ```
 #[derive(Clone, Copy)]
-pub struct Vault<B> {
+pub struct Disc<B> {
     image: B,
     volume: Volume,
     how: How,
     sectors: u64,
 }
 
-impl<B: AsRef<[u8]>> fmt::Debug for Vault<B> {
+impl<B: AsRef<[u8]>> fmt::Debug for Disc<B> {
     /// Without the image, which may have many gigabytes.
     fn fmt(&self, f: &mut fmt::Formatter<'_>) -> fmt::Result {
-        f.debug_struct("Vault")
+        f.debug_struct("Disc")
             .field("partition_start_sector", &self.partition_start_sector())
             .field("partition_number", &self.partition_number())
             .field("root_directory_icb", &self.root_directory_icb())
@@ -112,12 +112,12 @@ impl<B: AsRef<[u8]>> fmt::Debug for Vault<B> {
     }
 }
 
-impl<B: AsRef<[u8]>> Vault<B> {
-    /// Opens the volume of an image. Where it is refused the image goes, and [`Vault::open`] of a borrow keeps it.
+impl<B: AsRef<[u8]>> Disc<B> {
+    /// Opens the volume of an image. Where it is refused the image goes, and [`Disc::open`] of a borrow keeps it.
     ///
     /// ```no_run
     /// # fn main() -> Result<(), Box<dyn std::error::Error>> {
-    /// let vault = strandlodge::Vault::open(std::fs::read("show.img")?)?;
+    /// let disc = strandlodge::Disc::open(std::fs::read("show.img")?)?;
     /// # Ok(())
     /// # }
     /// ```
@@ -126,8 +126,8 @@ impl<B: AsRef<[u8]>> Vault<B> {
     ///
     /// Refused by 1 where a sector isn't there, 2 where a descriptor isn't what it must be, 3 where one is missing, 4 where the volume has
     /// a form that isn't read, and, with bodies checked, 10 where one is wrong.
-    pub fn open(image: B) -> Result<Vault<B>> {
-        Vault::open_as(image, How::default())
+    pub fn open(image: B) -> Result<Disc<B>> {
+        Disc::open_as(image, How::default())
     }
 
     /// The same, as it is chosen: which of several descriptors of one kind counts, whether the bodies of descriptors are checked, here and in
@@ -135,8 +135,8 @@ impl<B: AsRef<[u8]>> Vault<B> {
     ///
     /// ```no_run
     /// # fn main() -> Result<(), Box<dyn std::error::Error>> {
-    /// use strandlodge::{How, Vault};
-    /// let vault = Vault::open_as(std::fs::read("show.img")?, How { checked: true, ..How::default() })?;
+    /// use strandlodge::{How, Disc};
+    /// let disc = Disc::open_as(std::fs::read("show.img")?, How { checked: true, ..How::default() })?;
     /// # Ok(())
     /// # }
     /// ```
@@ -145,10 +145,10 @@ impl<B: AsRef<[u8]>> Vault<B> {
     ///
     /// Refused by 1 where a sector isn't there, 2 where a descriptor isn't what it must be, 3 where one is missing, 4 where the volume has
     /// a form that isn't read, and, with bodies checked, 10 where one is wrong.
-    pub fn open_as(image: B, how: How) -> Result<Vault<B>> {
+    pub fn open_as(image: B, how: How) -> Result<Disc<B>> {
         let Answer { value, sectors } = Counted::open_as(image.as_ref(), how).map_err(|refused| unopened(image.as_ref(), how, refused))?;
         let volume = value.volume();
-        Ok(Vault { image, volume, how, sectors })
+        Ok(Disc { image, volume, how, sectors })
     }
 
     /// The same calls, with the sectors that each asks for.
@@ -156,8 +156,8 @@ impl<B: AsRef<[u8]>> Vault<B> {
     /// ```
     /// # fn main() -> Result<(), Box<dyn std::error::Error>> {
     /// # let image = strandlodge::write(&[("9", b"cue 9")])?;
-    /// let vault = strandlodge::Vault::open(image)?;
-    /// let look = vault.counted().read_path("9")?;
+    /// let disc = strandlodge::Disc::open(image)?;
+    /// let look = disc.counted().read_path("9")?;
     /// println!("{} bytes, {} sectors", look.value.len(), look.sectors);
     /// # Ok(())
     /// # }
@@ -186,7 +186,7 @@ impl<B: AsRef<[u8]>> Vault<B> {
     /// ```
     /// # fn main() -> Result<(), Box<dyn std::error::Error>> {
     /// # let image = strandlodge::write(&[("9", b"cue 9")])?;
-    /// let image: Vec<u8> = strandlodge::Vault::open(image)?.into_inner();
+    /// let image: Vec<u8> = strandlodge::Disc::open(image)?.into_inner();
     /// # Ok(())
     /// # }
     /// ```
@@ -226,14 +226,14 @@ impl<B: AsRef<[u8]>> Vault<B> {
         self.counted().icb_sector(icb)
     }
 
-    /// The first sector of an extent that [`Vault::extents`] gives of the file that an ICB names: one that names no partition stands in that of
+    /// The first sector of an extent that [`Disc::extents`] gives of the file that an ICB names: one that names no partition stands in that of
     /// the file's entry. The extent's bytes are the first of that sector and of those behind it. None where a read that comes to this extent is
     /// refused by 4; what an extent's type says isn't looked at.
     pub fn extent_sector(&self, icb: impl Into<LongAd>, extent: &AllocExtent) -> Option<u64> {
         self.counted().extent_sector(icb, extent)
     }
 
-    /// The sector for want of which [`Vault::read_file`] or [`Vault::read_directory`] of this ICB was refused by 1: the first of the file's sectors,
+    /// The sector for want of which [`Disc::read_file`] or [`Disc::read_directory`] of this ICB was refused by 1: the first of the file's sectors,
     /// in the order in which they are read, that isn't there. None where the refusal isn't by 1, and where the sector is one of the chain that
     /// stands behind the file's entry: no call gives its place.
     pub fn missing_sector(&self, icb: impl Into<LongAd>, refused: &Refused) -> Option<u64> {
@@ -244,7 +244,7 @@ impl<B: AsRef<[u8]>> Vault<B> {
     ///
     /// ```no_run
     /// # fn main() -> Result<(), Box<dyn std::error::Error>> {
-    /// # let disc = strandlodge::Vault::open(std::fs::read("show.img")?)?;
+    /// # let disc = strandlodge::Disc::open(std::fs::read("show.img")?)?;
     /// let icb = disc.lookup("SHOW/9")?;
     /// if let Err(refused) = disc.read_file(icb) {
     ///     println!("{}", disc.diagnose(strandlodge::Asked::ReadFile(icb), &refused));
@@ -265,7 +265,7 @@ impl<B: AsRef<[u8]>> Vault<B> {
     ///
     /// ```no_run
     /// # fn main() -> Result<(), Box<dyn std::error::Error>> {
-    /// println!("{}", strandlodge::Vault::open(std::fs::read("show.img")?)?.label()?);
+    /// println!("{}", strandlodge::Disc::open(std::fs::read("show.img")?)?.label()?);
     /// # Ok(())
     /// # }
     /// ```
@@ -280,11 +280,11 @@ impl<B: AsRef<[u8]>> Vault<B> {
     /// The ICB that a path names. Components stand between slashes and empty ones are dropped; of a directory's entries the first is
     /// taken that is equal with ASCII case ignored. The empty path names the root.
     ///
-    /// What it gives may have another name than was asked for: [`Vault::lookup_as`] is for cues whose names differ in case alone.
+    /// What it gives may have another name than was asked for: [`Disc::lookup_as`] is for cues whose names differ in case alone.
     ///
     /// ```no_run
     /// # fn main() -> Result<(), Box<dyn std::error::Error>> {
-    /// # let disc = strandlodge::Vault::open(std::fs::read("show.img")?)?;
+    /// # let disc = strandlodge::Disc::open(std::fs::read("show.img")?)?;
     /// let icb: strandlodge::LongAd = disc.lookup("SHOW/10.1A")?;
     /// # Ok(())
     /// # }
@@ -301,7 +301,7 @@ impl<B: AsRef<[u8]>> Vault<B> {
     ///
     /// ```no_run
     /// # fn main() -> Result<(), Box<dyn std::error::Error>> {
-    /// # let disc = strandlodge::Vault::open(std::fs::read("show.img")?)?;
+    /// # let disc = strandlodge::Disc::open(std::fs::read("show.img")?)?;
     /// let icb = disc.lookup_as("SHOW/10.1a", strandlodge::Matching::AsWritten)?;
     /// # Ok(())
     /// # }
@@ -316,12 +316,12 @@ impl<B: AsRef<[u8]>> Vault<B> {
         self.told(Asked::Lookup(path, matching), self.counted().lookup_as(path, matching))
     }
 
-    /// The component at which [`Vault::lookup`] finds nothing, as a part of the path, text of text and bytes of bytes; none where the path is
+    /// The component at which [`Disc::lookup`] finds nothing, as a part of the path, text of text and bytes of bytes; none where the path is
     /// there.
     ///
     /// ```no_run
     /// # fn main() -> Result<(), Box<dyn std::error::Error>> {
-    /// # let disc = strandlodge::Vault::open(std::fs::read("show.img")?)?;
+    /// # let disc = strandlodge::Disc::open(std::fs::read("show.img")?)?;
     /// assert_eq!(disc.failed("SHOW/12")?, Some("12"));
     /// # Ok(())
     /// # }
@@ -334,12 +334,12 @@ impl<B: AsRef<[u8]>> Vault<B> {
         self.failed_as(path, Matching::CaseIgnored)
     }
 
-    /// The same for [`Vault::lookup_as`]. A component that is ambiguous isn't one at which nothing is found: the call is then refused as the
+    /// The same for [`Disc::lookup_as`]. A component that is ambiguous isn't one at which nothing is found: the call is then refused as the
     /// lookup is.
     ///
     /// ```no_run
     /// # fn main() -> Result<(), Box<dyn std::error::Error>> {
-    /// # let disc = strandlodge::Vault::open(std::fs::read("show.img")?)?;
+    /// # let disc = strandlodge::Disc::open(std::fs::read("show.img")?)?;
     /// assert_eq!(disc.failed_as("show/9", strandlodge::Matching::AsWritten)?, Some("show"));
     /// # Ok(())
     /// # }
@@ -358,7 +358,7 @@ impl<B: AsRef<[u8]>> Vault<B> {
     ///
     /// ```no_run
     /// # fn main() -> Result<(), Box<dyn std::error::Error>> {
-    /// # let disc = strandlodge::Vault::open(std::fs::read("show.img")?)?;
+    /// # let disc = strandlodge::Disc::open(std::fs::read("show.img")?)?;
     /// for entry in &disc.read_directory(disc.root_directory_icb())? {
     ///     println!("{}{}", entry.name, if entry.is_directory { "/" } else { "" });
     /// }
@@ -386,7 +386,7 @@ impl<B: AsRef<[u8]>> Vault<B> {
     ///
     /// ```no_run
     /// # fn main() -> Result<(), Box<dyn std::error::Error>> {
-    /// # let disc = strandlodge::Vault::open(std::fs::read("show.img")?)?;
+    /// # let disc = strandlodge::Disc::open(std::fs::read("show.img")?)?;
     /// for one in disc.show(16, 1_000_000)? {
     ///     println!("{}{}", one.path, if one.entry.is_directory { "/" } else { "" });
     /// }
@@ -406,7 +406,7 @@ impl<B: AsRef<[u8]>> Vault<B> {
     ///
     /// ```no_run
     /// # fn main() -> Result<(), Box<dyn std::error::Error>> {
-    /// # let disc = strandlodge::Vault::open(std::fs::read("show.img")?)?;
+    /// # let disc = strandlodge::Disc::open(std::fs::read("show.img")?)?;
     /// let look: Vec<u8> = disc.read_file(disc.lookup("SHOW/9")?)?;
     /// # Ok(())
     /// # }
@@ -421,12 +421,12 @@ impl<B: AsRef<[u8]>> Vault<B> {
         self.told(Asked::ReadFile(icb), self.counted().read_file(icb))
     }
 
-    /// How many bytes [`Vault::read_file`] gives: what its extents have, as far as its entry says that it goes. It is refused as the read is, but
+    /// How many bytes [`Disc::read_file`] gives: what its extents have, as far as its entry says that it goes. It is refused as the read is, but
     /// for want of memory.
     ///
     /// ```
     /// # fn main() -> Result<(), Box<dyn std::error::Error>> {
-    /// let disc = strandlodge::Vault::open(strandlodge::write(&[("9", b"cue 9")])?)?;
+    /// let disc = strandlodge::Disc::open(strandlodge::write(&[("9", b"cue 9")])?)?;
     /// assert_eq!(disc.measure(disc.lookup("9")?)?, 5);
     /// # Ok(())
     /// # }
@@ -443,7 +443,7 @@ impl<B: AsRef<[u8]>> Vault<B> {
     /// Looks a path up and reads what it names.
     ///
     /// ```no_run
-    /// fn load(disc: &strandlodge::Vault<Vec<u8>>, cue: &str) -> strandlodge::Result<Vec<u8>> {
+    /// fn load(disc: &strandlodge::Disc<Vec<u8>>, cue: &str) -> strandlodge::Result<Vec<u8>> {
     ///     Ok(disc.read_path(cue)?)
     /// }
     /// ```
@@ -459,7 +459,7 @@ impl<B: AsRef<[u8]>> Vault<B> {
     ///
     /// ```no_run
     /// # fn main() -> Result<(), Box<dyn std::error::Error>> {
-    /// # let disc = strandlodge::Vault::open(std::fs::read("show.img")?)?;
+    /// # let disc = strandlodge::Disc::open(std::fs::read("show.img")?)?;
     /// let look = disc.read_path_as("SHOW/10.1a", strandlodge::Matching::AsWritten)?;
     /// # Ok(())
     /// # }
@@ -473,12 +473,12 @@ impl<B: AsRef<[u8]>> Vault<B> {
         self.told(Asked::ReadPath(path, matching), self.counted().read_path_as(path, matching))
     }
 
-    /// Reads what each of many paths names: for each, in their order, its bytes or why there are none, as [`Vault::read_path`] gives them. One that
+    /// Reads what each of many paths names: for each, in their order, its bytes or why there are none, as [`Disc::read_path`] gives them. One that
     /// is refused keeps none of the others back. The call itself is refused, by 12, only where there is no memory for the list.
     ///
     /// ```no_run
     /// # fn main() -> Result<(), Box<dyn std::error::Error>> {
-    /// # let disc = strandlodge::Vault::open(std::fs::read("show.img")?)?;
+    /// # let disc = strandlodge::Disc::open(std::fs::read("show.img")?)?;
     /// let cues = ["SHOW/9", "SHOW/10.1A", "SHOW/11"];
     /// for (cue, look) in cues.iter().zip(disc.read_all(&cues)?) {
     ///     match look {
@@ -501,7 +501,7 @@ impl<B: AsRef<[u8]>> Vault<B> {
     ///
     /// ```no_run
     /// # fn main() -> Result<(), Box<dyn std::error::Error>> {
-    /// # let disc = strandlodge::Vault::open(std::fs::read("show.img")?)?;
+    /// # let disc = strandlodge::Disc::open(std::fs::read("show.img")?)?;
     /// let looks = disc.read_all_as(&["SHOW/10.1A", "SHOW/10.1a"], strandlodge::Matching::AsWritten)?;
     /// # Ok(())
     /// # }
@@ -518,7 +518,7 @@ impl<B: AsRef<[u8]>> Vault<B> {
     ///
     /// ```no_run
     /// # fn main() -> Result<(), Box<dyn std::error::Error>> {
-    /// # let disc = strandlodge::Vault::open(std::fs::read("show.img")?)?;
+    /// # let disc = strandlodge::Disc::open(std::fs::read("show.img")?)?;
     /// let icb = disc.lookup("SHOW/9")?;
     /// for extent in disc.extents(icb)? {
     ///     println!("{} bytes from sector {:?} on", extent.length, disc.extent_sector(icb, &extent));
@@ -539,7 +539,7 @@ impl<B: AsRef<[u8]>> Vault<B> {
     ///
     /// ```no_run
     /// # fn main() -> Result<(), Box<dyn std::error::Error>> {
-    /// # let disc = strandlodge::Vault::open(std::fs::read("show.img")?)?;
+    /// # let disc = strandlodge::Disc::open(std::fs::read("show.img")?)?;
     /// let bytes: &[u8] = disc.part(disc.root_directory_icb())?;
     /// # Ok(())
     /// # }
