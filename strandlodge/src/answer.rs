@@ -173,26 +173,26 @@ impl Refusal {
 impl fmt::Display for Refusal {
     fn fmt(&self, f: &mut fmt::Formatter<'_>) -> fmt::Result {
         f.write_str(match self {
-            Refusal::Io => "a sector that was asked for isn't wholly inside the image: it is cut short, or isn't the image of a disc",
-            Refusal::Malformed => "a descriptor, a name or a length on the disc is not what it must be: it is damaged, or isn't UDF",
-            Refusal::NotBluray => "there is no volume, or nothing of that name",
-            Refusal::Unsupported => {
-                "the disc has a form that isn't read: another block size or partition, other maps, a compressed or an unrecorded extent"
-            }
-            Refusal::NoRoom => "the answer has more bytes than there is memory for",
-            Refusal::NoWork => "a directory, with those above it in a show, has more bytes than there is memory for",
-            Refusal::NoSlot => "the file has more extents, or runs, than there is memory for",
-            Refusal::Ambiguous => "two or more entries of a directory match one name of the path",
-            Refusal::BadCrc => "a descriptor's body isn't the one that its tag has the CRC of: it is scratched, or was written so",
-            Refusal::TooDeep => "a directory is found at the last level that was asked for, or that number isn't 1 to 16",
-            Refusal::TooMany => "there are more paths than there is memory for their answers",
+            Refusal::Io => "a sector is missing: the image is cut short, or is not a disc image",
+            Refusal::Malformed => "a descriptor, name or length is invalid: the disc is damaged, or is not UDF",
+            Refusal::NotBluray => "no volume, or no such path",
+            Refusal::Unsupported => "not supported: the block size, a partition, the partition maps, or a compressed or unrecorded extent",
+            Refusal::NoRoom => "not enough memory for the result",
+            Refusal::NoWork => "not enough memory for a directory (in a show: together with those above it)",
+            Refusal::NoSlot => "not enough memory for the file's extents or runs",
+            Refusal::Ambiguous => "two or more entries match one name of the path",
+            Refusal::BadCrc => "a descriptor fails its CRC check: the disc is scratched, or was written that way",
+            Refusal::TooDeep => "a directory is at the last level, or the number of levels is not 1 to 16",
+            Refusal::TooMany => "not enough memory for the results of all paths",
             Refusal::BadName => {
-                "a name of a vault is 1 to 127 bytes from 21 to 7E without the slash, and no two are equal with ASCII case ignored"
+                "a name on an image must have 1 to 127 bytes from 21 to 7E without the slash, and no two may be equal ignoring ASCII case"
             }
-            Refusal::BadFiles => "a vault has up to 64 files of up to 1,073,739,776 bytes each, and as many bytes are staged as they have",
-            Refusal::BadShelf => "the lengths of the images pass the bytes of the shelf, or there is no memory for their figures",
-            Refusal::OverBudget => "more sectors would be asked for than were lent",
-            Refusal::Unknown(number) => return write!(f, "the archive answered with {number}, a number that isn't known here"),
+            Refusal::BadFiles => {
+                "an image holds up to 64 files of up to 1,073,739,776 bytes each, and the staging area must hold all their bytes"
+            }
+            Refusal::BadShelf => "the images are longer than the shelf, or there is not enough memory for their figures",
+            Refusal::OverBudget => "more sectors would be needed than the budget allows",
+            Refusal::Unknown(number) => return write!(f, "the archive gave the unknown answer {number}"),
         })
     }
 }

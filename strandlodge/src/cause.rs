@@ -92,31 +92,31 @@ pub enum Cause {
 impl fmt::Display for Cause {
     fn fmt(&self, f: &mut fmt::Formatter<'_>) -> fmt::Result {
         match self {
-            Cause::BlockSize(size) => write!(f, "the disc has blocks of {size} bytes, and blocks of 2048 are read"),
-            Cause::AnchorAt(sector) => write!(f, "there is no anchor in sector 256, and one in sector {sector}, where it isn't looked for"),
+            Cause::BlockSize(size) => write!(f, "the disc has blocks of {size} bytes; only 2048 is supported"),
+            Cause::AnchorAt(sector) => write!(f, "there is no anchor in sector 256; the one in sector {sector} is not used"),
             Cause::NoDescriptor(kind) => write!(f, "the volume has no {kind} descriptor"),
             Cause::Reference { reference, partition } => {
-                write!(f, "partition reference {reference} isn't the number of the volume's partition, which is {partition}")
+                write!(f, "partition reference {reference} is not the number of the volume's partition, which is {partition}")
             }
             Cause::NoMap { reference, maps } => {
-                write!(f, "partition reference {reference} leads to no partition map, of which there are {maps}")
+                write!(f, "partition reference {reference} leads to no partition map; there are {maps}")
             }
-            Cause::ManyMaps(maps) => write!(f, "the volume has {maps} partition maps, and up to {} are read", MapTable::MOST),
+            Cause::ManyMaps(maps) => write!(f, "the volume has {maps} partition maps; up to {} are supported", MapTable::MOST),
             Cause::MapKind { map, kind, identifier } => {
                 let name = if identifier.is_empty() { String::new() } else { format!(" ({})", identifier.escape_debug()) };
-                write!(f, "partition map {map} is of type {kind}{name}, and type 1 is read")
+                write!(f, "partition map {map} is of type {kind}{name}; only type 1 is supported")
             }
-            Cause::NoPartition { map, number } => write!(f, "partition map {map} is of partition {number}, which has no descriptor"),
+            Cause::NoPartition { map, number } => write!(f, "partition map {map} is for partition {number}, which has no descriptor"),
             Cause::Compressed { block, recorded, information } => {
-                write!(f, "an extent is compressed: {recorded} bytes are recorded from block {block} on, and stand for {information}")
+                write!(f, "an extent is compressed: the {recorded} bytes from block {block} on stand for {information}")
             }
             Cause::NotRecorded { extent_type, length } => {
-                write!(f, "an extent of {length} bytes isn't recorded (type {extent_type}): the file has a hole")
+                write!(f, "an extent of {length} bytes is not recorded (type {extent_type}): the file has a hole")
             }
             Cause::LongContinuation(length) => {
-                write!(f, "a continuation of the file's descriptors has {length} bytes, and up to {LONGEST} are read")
+                write!(f, "a continuation of the file's descriptors has {length} bytes; up to {LONGEST} are supported")
             }
-            Cause::EmptyIcb => f.write_str("its ICB has a length of 0, and names nothing"),
+            Cause::EmptyIcb => f.write_str("its ICB has length 0 and names nothing"),
         }
     }
 }

@@ -505,7 +505,7 @@ impl fmt::Display for Uncopied {
     fn fmt(&self, f: &mut fmt::Formatter<'_>) -> fmt::Result {
         match self {
             Uncopied::Refused { refused, .. } => refused.fmt(f),
-            Uncopied::Output(error) => write!(f, "the bytes can't be written: {error}"),
+            Uncopied::Output(error) => write!(f, "can't write the bytes: {error}"),
         }
     }
 }

@@ -152,8 +152,8 @@ impl Seek for Copied<'_> {
 impl fmt::Display for Missed {
     fn fmt(&self, f: &mut fmt::Formatter<'_>) -> fmt::Result {
         match self.error.kind() {
-            io::ErrorKind::UnexpectedEof => write!(f, "sector {} isn't there: the disc or image ends before it", self.sector),
-            _ => write!(f, "sector {} can't be read: {}", self.sector, self.error),
+            io::ErrorKind::UnexpectedEof => write!(f, "sector {} is missing: the disc or image ends before it", self.sector),
+            _ => write!(f, "can't read sector {}: {}", self.sector, self.error),
         }
     }
 }

@@ -267,7 +267,7 @@ fn a_check_may_stop_at_a_wrong_body() {
     let folder = Folder::new();
     folder.write("a.img", &planted);
     let said = folder.vault(&["check", "--checked", "a.img"]);
-    let unread = "/b: can't be read: a descriptor's body isn't the one that its tag has the CRC of: it is scratched, or was written so (refusal 10); \
+    let unread = "/b: can't be read: a descriptor fails its CRC check: the disc is scratched, or was written that way (refusal 10); \
                   the last sector asked for was 307, for a file entry: it has tag 261 (file entry)\n";
     assert_eq!((said.status, said.out), (65, one.ruined_in(&planted) + unread));
     assert_eq!(said.error, sentence(all.len() - 2, 0, 1, 1));
@@ -293,8 +293,7 @@ fn a_block_outside_the_partition_is_none() {
 /// What can't be read is said, and the rest is checked all the same.
 #[test]
 fn what_cannot_be_read_is_said() {
-    let malformed =
-        "can't be read: a descriptor, a name or a length on the disc is not what it must be: it is damaged, or isn't UDF (refusal 2)";
+    let malformed = "can't be read: a descriptor, name or length is invalid: the disc is damaged, or is not UDF (refusal 2)";
     // The entry of cue 9, in block 5: its tag's checksum.
     let mut image = show();
     image[at(5) + 4] ^= 1;
@@ -328,7 +327,7 @@ fn what_cannot_be_read_is_said() {
     }
     let said = check(&disc.0);
     assert!(said.status == 67 && said.out.starts_with("/far: can't be read: a sector that was asked for"), "{said:?}");
-    assert_eq!(said.out.lines().nth(1), Some("/not: can't be read: its ICB has a length of 0, and names nothing (refusal 2)"));
+    assert_eq!(said.out.lines().nth(1), Some("/not: can't be read: its ICB has length 0 and names nothing (refusal 2)"));
 }
 
 /// A descriptor of type 3, of this kind: 0 short_ad, 1 long_ad, 2 ext_ad.
@@ -357,7 +356,7 @@ fn continuations_of_every_kind_are_checked() {
         }
         let said = check(&disc.0);
         if partition == 6 {
-            let why = "/file: can't be read: partition reference 6 isn't the number of the volume's partition, which is 5 (refusal 4); ";
+            let why = "/file: can't be read: partition reference 6 is not the number of the volume's partition, which is 5 (refusal 4); ";
             assert!(said.status == 67 && said.out.starts_with(why) && said.out.lines().count() == 1, "{kind} {said:?}");
             continue;
         }

@@ -216,7 +216,7 @@ fn a_disc_of_another_block_size_is_called_by_it() {
         folder.write("a.img", &image);
         for words in [&["ls", "a.img"][..], &["label", "a.img"], &["ls", "--drive", "a.img"], &["check", "a.img"], &["info", "a.img"]] {
             let said = folder.vault(words);
-            let says = format!("vault: a.img: the disc has blocks of {size} bytes, and blocks of 2048 are read (refusal ");
+            let says = format!("vault: a.img: the disc has blocks of {size} bytes; only 2048 is supported (refusal ");
             assert!(said.error.starts_with(&says) && !said.error.contains("damaged"), "{words:?} {said:?}");
             assert_eq!(said.status, why.refused.number() as i32);
         }
@@ -390,7 +390,7 @@ fn what_has_no_place_has_none() {
     assert_eq!((why.refused.why, why.place.map(|place| place.sector)), (Refusal::TooDeep, Some(291)));
     let over = vault.show(2, 1).unwrap_err();
     let why = vault.diagnose(Asked::Show(2), &over);
-    assert_eq!((why.to_string().as_str(), why.place, why.cause), ("more sectors would be asked for than were lent", None, None));
+    assert_eq!((why.to_string().as_str(), why.place, why.cause), ("more sectors would be needed than the budget allows", None, None));
     assert_eq!(vault.diagnose(Asked::Show(17), &vault.show(17, UNLIMITED).unwrap_err()).place, None);
 }
 

@@ -431,11 +431,11 @@ fn the_command_says_which_sector_is_missing() {
     folder.write("cut.img", &image[..300 * SECTOR]);
     let said = folder.vault(&["ls", "none.img", "--drive", "--sectors"]);
     let missing =
-        "vault: sectors asked for: open 1\nvault: none.img: sector 256 isn't there: the disc or image ends before it (refusal 1)\n";
+        "vault: sectors asked for: open 1\nvault: none.img: sector 256 is missing: the disc or image ends before it (refusal 1)\n";
     assert_eq!((said.status, said.error.as_str()), (1, missing));
     // The cue's entry is block 11, and its bytes would stand in the next.
     let said = folder.vault(&["get", "cut.img", "SHOW/11", "cue", "--drive"]);
-    let missing = "vault: cut.img: \"SHOW/11\": sector 300 isn't there: the disc or image ends before it (refusal 1)\n";
+    let missing = "vault: cut.img: \"SHOW/11\": sector 300 is missing: the disc or image ends before it (refusal 1)\n";
     assert_eq!((said.status, said.out.as_str(), said.error.as_str()), (1, "", missing));
     assert_eq!(folder.names(), ["cut.img", "none.img", "show.img"]);
 }
@@ -469,6 +469,6 @@ fn a_pipe_is_no_drive() {
     let Some(sh) = tool("sh") else { return left_out("a_pipe_is_no_drive", "sh") };
     let words = ["-c", "\"$0\" ls /dev/stdin --drive < show.img; cat show.img | \"$0\" ls /dev/stdin --drive", env!("CARGO_BIN_EXE_vault")];
     let said = Said::of(Command::new(sh).args(words).current_dir(folder.at("")).output().unwrap());
-    let error = "vault: /dev/stdin: this is a pipe or the like, and no file or device: --copy reads it into memory\n";
+    let error = "vault: /dev/stdin: not a file or device (a pipe?): use --copy to read it into memory\n";
     assert_eq!((said.status, said.out.as_str(), said.error.as_str()), (66, "SHOW/\n", error));
 }

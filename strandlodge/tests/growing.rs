@@ -173,7 +173,7 @@ fn the_time_that_is_waited_has_an_end() {
     waits((needed - 2) * SECTOR + 2047, "0", &format!("sector {}", needed - 2));
     // The anchor, the file set descriptor, and the root's entry.
     waits(0, "0", "sector 256");
-    waits(290 * SECTOR, "0", "one that is asked for");
+    waits(290 * SECTOR, "0", "a sector that is needed");
     waits(291 * SECTOR, "0", "sector 291");
     assert_eq!(folder.names(), ["disc.img"]);
 }
@@ -184,10 +184,10 @@ fn an_image_that_shrinks_or_goes_is_told_of() {
     let (folder, (image, _, needed)) = (Folder::new(), disc());
     let words = ["cat", "disc.img", "cue", "--wait", "600"];
     let refused = |said: Said, says: &str| assert!(said.status == 66 && said.error.contains(says), "{said:?}");
-    refused(folder.vault(&words), "there is no such file");
+    refused(folder.vault(&words), "no such file");
     // Whenever the command begins to wait, what comes next is a length that is less.
     let lost: [(&dyn Fn(usize), &str); 2] = [
-        (&|_| drop(std::fs::remove_file(folder.at("disc.img"))), "disc.img: there is no such file"),
+        (&|_| drop(std::fs::remove_file(folder.at("disc.img"))), "disc.img: no such file"),
         (&|n| File::options().write(true).open(folder.at("disc.img")).unwrap().set_len(n as u64).unwrap(), "the image shrank from"),
     ];
     for (lose, says) in lost {

@@ -264,7 +264,7 @@ fn every_command_that_opens_goes_through_the_maps() {
         // Without, the file set isn't in the partition.
         let plain = folder.vault(words);
         assert_eq!(plain.status, 4, "{words:?}");
-        assert!(plain.error.contains("(refusal 4); its partition is found through its maps, with --maps; the last sector"), "{plain:?}");
+        assert!(plain.error.contains("(refusal 4); --maps opens it, through its partition maps; the last sector"), "{plain:?}");
     };
     says(&["label", "a.img"], "SHOW 1\n");
     says(&["ls", "a.img"], "near\nfar\nFOLDER/\nlost\n");
@@ -302,8 +302,7 @@ fn the_maps_of_a_volume_are_shown() {
     assert!(said.out.ends_with("map      1, type 2 (*UDF Virtual Partition), 64 bytes: a form that isn't read\n"), "{said:?}");
     // No way out is said where the maps are none either.
     for said in [said, folder.vault(&["ls", "a.img"])] {
-        let why =
-            "partition map 1 is of type 2 (*UDF Virtual Partition), and type 1 is read (refusal 4); the last sector asked for was 36,";
+        let why = "partition map 1 is of type 2 (*UDF Virtual Partition); only type 1 is supported (refusal 4); the last sector asked for was 36,";
         assert!(said.status == 4 && said.error.contains(why) && !said.error.contains("--maps"), "{said:?}");
     }
 }
@@ -334,7 +333,7 @@ fn a_reference_that_no_map_has_is_the_cause() {
 #[test]
 fn check_walks_through_the_maps() {
     let disc = two();
-    let lost = "/lost: can't be read: partition reference 2 leads to no partition map, of which there are 2 (refusal 4)\n";
+    let lost = "/lost: can't be read: partition reference 2 leads to no partition map; there are 2 (refusal 4)\n";
     let sentence = |misplaced: u32, ruined: u32| {
         format!("vault: a.img: descriptors: 20, not in place: {misplaced}, with a wrong body: {ruined}; places that can't be read: 1\n")
     };

@@ -275,7 +275,7 @@ fn the_examples_in_rust_run() {
     let run = ran(&cue, &["show.img", "SHOW/10.1a"]);
     assert!(run.status == 0 && run.out.starts_with("cue 10.1a\n") && run.error.is_empty(), "{run:?}");
     let run = ran(&cue, &["show.img", "SHOW/12"]);
-    let says = "there is nothing named \"12\" on SHOW 1\nthere is no volume, or nothing of that name (3)\n";
+    let says = "there is nothing named \"12\" on SHOW 1\nno volume, or no such path (3)\n";
     assert_eq!((run.status, run.error.as_str()), (1, says));
     let run = ran(&cue, &["none.img", "9"]);
     assert!(run.status == 1 && run.error.ends_with("(os error 2) (1)\n"), "{run:?}");
@@ -409,7 +409,7 @@ fn what_is_built_is_not_built_again() {
 #[test]
 fn archives_of_the_one_kind_are_not_taken_for_the_other() {
     let folder = built();
-    assert_eq!(alone(&folder, &["--prove"]).out, "vault: the command stands on archives whose proofs were checked on this machine\n");
+    assert_eq!(alone(&folder, &["--prove"]).out, "vault: the command uses archives whose proofs were checked on this machine\n");
     let needs_rt = |words: &[&str]| {
         let run = alone(&folder, words);
         assert!(run.status == 69 && run.error.contains("rt is missing"), "{run:?}");

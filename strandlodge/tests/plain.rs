@@ -256,7 +256,7 @@ fn one_error_is_of_refusals_and_of_files() {
     assert_eq!((missing.refused(), missing.io().unwrap().kind()), (Refused { why: Refusal::Io, sectors: 0 }, std::io::ErrorKind::NotFound));
     assert_eq!(missing.to_string(), missing.io().unwrap().to_string());
     // What the reader said, and what a number means.
-    assert_eq!(error("cut.img", "9").to_string(), "sector 256 isn't there: the disc or image ends before it");
+    assert_eq!(error("cut.img", "9").to_string(), "sector 256 is missing: the disc or image ends before it");
     assert_eq!((error("cut.img", "9").number(), error("cut.img", "9").sectors), (1, 1));
     assert_eq!(error("none.img", "9").to_string(), Refusal::Malformed.to_string());
     assert_eq!(error("show.img", "SHOW/12").to_string(), Refusal::NotBluray.to_string());

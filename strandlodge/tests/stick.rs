@@ -125,7 +125,7 @@ fn a_stick_takes_every_name() {
     let said = folder.vault(&["get", "-r", "a.img", "-o", "to"]);
     assert!(said.status == 74 && said.out.contains("a\\u{2f}b: 1 byte, to to/a%2Fb\n"), "{said:?}");
     let refused = said.error.lines().find(|line| line.contains("a:b")).unwrap();
-    assert!(refused.ends_with("; get -r --portable writes names that every file system takes"), "{refused}");
+    assert!(refused.ends_with("; try get -r --portable, which writes names that every file system accepts"), "{refused}");
 }
 
 /// Where case is told apart, portable names differ by more.
@@ -137,7 +137,7 @@ fn portable_names_can_be_copied_anywhere() {
     assert!(fs::read_to_string(folder.at("to/SHOW/10.1a~2")).unwrap().starts_with("cue 10.1a\n"));
     for words in [&["get", "--portable", "show.img", "SHOW/9", "x"][..], &["get", "--sums", "s", "show.img", "-o", "to", "SHOW/9"]] {
         let said = folder.vault(words);
-        assert!(said.status == 64 && said.error.contains("--portable and --sums are for get -r"), "{said:?}");
+        assert!(said.status == 64 && said.error.contains("--portable and --sums work only with get -r"), "{said:?}");
     }
 }
 

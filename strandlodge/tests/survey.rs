@@ -368,7 +368,7 @@ fn the_command_goes_on_behind_a_disc_that_was_made_to_do_harm() {
     let line = |name: &str| format!("       4           1              154        4          8     0       - {name}");
     let limit = 500_000 + 4 * disc.len() / SECTOR;
     let stopped = |limit: usize| {
-        let cure = "The disc may be made to do harm: --limit N sets another limit, --no-limit none.";
+        let cure = "The disc may be malicious. Use --limit N for another limit, or --no-limit for none.";
         format!("harm.img: stopped after {limit} sectors, the limit (refusal 16). {cure}")
     };
     let total = "       8           2              308        8         16     0       - total";
@@ -423,7 +423,7 @@ fn the_command_surveys_a_shelf() {
     let total = "       8           2              281        7         15     0     2:1 total";
     assert!(said.status == 67 && lines.len() == 3 && lines[0].ends_with("     0     2:1 ruined.img") && lines[2] == total, "{said:?}");
     let last = "vault: survey: images: 3, not surveyed: 1; files: 8, of which can be read: 7\n";
-    assert_eq!(said.error, format!("vault: none.img: there is no such file\n{last}"));
+    assert_eq!(said.error, format!("vault: none.img: no such file\n{last}"));
     assert_eq!(folder.vault(&["survey", "ruined.img"]).status, 67);
 }
 
@@ -522,7 +522,7 @@ fn a_row_that_is_not_whole_is_refused() {
     ] {
         folder.write("rows", rows.as_bytes());
         let said = folder.vault(&["survey", "--total", "rows"]);
-        let error = format!("vault: rows: line {line} is no whole row of `vault survey --rows`\n");
+        let error = format!("vault: rows: line {line} is not a complete row of `vault survey --rows`\n");
         assert_eq!((said.status, said.out.as_str(), said.error), (65, "", error));
     }
     assert_eq!(folder.vault(&["survey", "--total", "none"]).status, 66);

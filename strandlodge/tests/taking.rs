@@ -172,7 +172,7 @@ fn standard_output_is_written_and_not_replaced() {
     let before = fs::metadata(folder.at("error")).unwrap().ino();
     let status = folder.command(&["get", "show.img", "SHOW/11", "/dev/stderr"]).stderr(error).status().unwrap();
     assert_eq!((status.code(), fs::metadata(folder.at("error")).unwrap().ino()), (Some(74), before));
-    assert!(fs::read_to_string(folder.at("error")).unwrap().contains("this is no ordinary file"));
+    assert!(fs::read_to_string(folder.at("error")).unwrap().contains("not a regular file"));
     assert_eq!(folder.vault(&["make", "/dev/stdout", "show.img"]).status, 74);
 }
 
@@ -271,14 +271,14 @@ fn no_link_leads_out_of_the_folder() {
     symlink("../elsewhere", folder.at("to/SHOW")).unwrap();
     let said = folder.vault(&["get", "-r", "show.img", "-o", "to"]);
     assert_eq!(said.status, 74, "{said:?}");
-    assert!(said.error.contains("to/SHOW: this is there, and is no folder"), "{said:?}");
+    assert!(said.error.contains("to/SHOW: this exists and is not a folder"), "{said:?}");
     assert!(below(&folder, "elsewhere").is_empty(), "{:?}", below(&folder, "elsewhere"));
     fs::remove_file(folder.at("to/SHOW")).unwrap();
     fs::create_dir(folder.at("to/SHOW")).unwrap();
     symlink("../../file", folder.at("to/SHOW/9")).unwrap();
     let said = folder.vault(&["get", "-r", "show.img", "-o", "to"]);
     assert_eq!((said.status, said.out.lines().count()), (74, 3), "{said:?}");
-    assert!(said.error.contains("to/SHOW/9: this is a link, which isn't followed here"), "{said:?}");
+    assert!(said.error.contains("to/SHOW/9: this is a link, and links are not followed here"), "{said:?}");
     assert_eq!(fs::read(folder.at("file")).unwrap(), b"as it was");
 }
 
@@ -325,14 +325,14 @@ fn what_cannot_be_had_keeps_nothing_back() {
     for limit in ["1", "7", "8", "16"] {
         for drive in [&[][..], &["--drive"]] {
             let said = many.vault(&[&["get", "-r", "show.img", "-o", "to", "--limit", limit], drive].concat());
-            refuses(&said, 68, &format!("stopped after {limit} sectors, the limit; nothing is written. The disc may be made to do harm"));
+            refuses(&said, 68, &format!("stopped after {limit} sectors, the limit; nothing was written. The disc may be made to do harm"));
             assert!(below(&many, "to").is_empty(), "{said:?}");
         }
     }
     for limit in [&["--limit", "17"][..], &["--no-limit"], &["--limit", "17", "--drive"]] {
         assert_eq!(many.vault(&[&["get", "-r", "show.img", "-o", "to"], limit].concat()).status, 0);
     }
-    refuses(&many.vault(&["get", "-r", "show.img", "-o", "none"]), 74, "the folder can't be written to");
+    refuses(&many.vault(&["get", "-r", "show.img", "-o", "none"]), 74, "can't write to this folder");
 }
 
 /// Long paths to many entries: more than is kept in memory.
@@ -347,7 +347,7 @@ fn paths_of_many_bytes_are_refused_before_anything_is_written() {
     }
     disc.root(below);
     folder.write("a.img", &disc.0);
-    refuses(&folder.vault(&["get", "-r", "a.img", "-o", "to"]), 68, "take a folder at a time; nothing is written");
+    refuses(&folder.vault(&["get", "-r", "a.img", "-o", "to"]), 68, "take a folder at a time; nothing was written");
     assert_eq!(fs::read_dir(folder.at("to")).unwrap().count(), 0);
 }
 
@@ -359,7 +359,7 @@ fn one_file_is_not_written_twice() {
     folder.write("to/10.1A", b"");
     let said = folder.vault(&["get", "--as-written", "show.img", "-o", "to", "SHOW/10.1A", "SHOW/10.1a"]);
     assert_eq!((said.status, said.out.as_str()), (67, "SHOW/10.1A: 57 bytes, to to/10.1A\n"), "{said:?}");
-    assert!(said.error.contains("to/10.1a: this is the same file as one that was written before"), "{said:?}");
+    assert!(said.error.contains("to/10.1a: this is the same file as one already written"), "{said:?}");
     assert!(fs::read_to_string(folder.at("to/10.1A")).unwrap().starts_with("cue 10.1A\n"));
 }
 
@@ -496,7 +496,7 @@ fn each_command_has_its_help() {
             "{said:?}"
         );
     }
-    refuses(&folder.vault(&["lable", "--help"]), 64, "there is no command lable");
+    refuses(&folder.vault(&["lable", "--help"]), 64, "unknown command lable");
     let said = folder.vault(&["--version"]);
     let first = format!("vault {} (include/vault.h {})", env!("CARGO_PKG_VERSION"), strandlodge_sys::vault::VERSION);
     let lines: Vec<&str> = said.out.lines().collect();
@@ -528,7 +528,7 @@ fn what_was_planted_is_neither_followed_nor_written() {
     folder.write("to/SHOW", b"a file");
     symlink("to", folder.at("link")).unwrap();
     let said = folder.vault(&["get", "-r", "show.img", "-o", "link"]);
-    assert!(said.status == 74 && said.error.contains("link/SHOW: this is there, and is no folder"), "{said:?}");
+    assert!(said.status == 74 && said.error.contains("link/SHOW: this exists and is not a folder"), "{said:?}");
     fs::remove_file(folder.at("to/SHOW")).unwrap();
     assert_eq!(folder.vault(&["get", "-r", "show.img", "-o", "link"]).status, 0);
     assert_eq!(below(&folder, "to"), ["SHOW/", "SHOW/10.1A", "SHOW/10.1a", "SHOW/11", "SHOW/9"]);

@@ -233,7 +233,7 @@ fn mkudffs_in_forms_that_are_not_read() {
         let (folder, label, root) = mkudffs(&tool, &["-b", "2048", "-m", media, "-r", revision]);
         assert_eq!((label, root), (4, 4), "{media} {revision}");
         let said = folder.vault(&["ls", "disc.img"]);
-        assert!(said.error.contains("partition map 1 is of type 2 (*UDF Virtual Partition), and type 1 is read"), "{said:?}");
+        assert!(said.error.contains("partition map 1 is of type 2 (*UDF Virtual Partition); only type 1 is supported"), "{said:?}");
     }
     for block in ["512", "1024", "4096"] {
         let (folder, label, root) = mkudffs(&tool, &["-b", block]);

@@ -91,7 +91,7 @@ fn held<W: Write>([one, other]: &mut [Side; 2], mut found: Found<W>) -> Result<b
     drop(count);
     let (any, unread) = (found.end()?, one.unread + other.unread);
     if unread > 0 {
-        let says = format!("{unread} files and folders couldn't be compared");
+        let says = format!("{unread} files and folders could not be compared");
         return Err(Failure::new(UNREAD, format!("{} and {}: {says}", one.disc.name, other.disc.name)));
     }
     Ok(any)
@@ -157,7 +157,7 @@ impl<'a, 'l> Side<'a, 'l> {
     }
 
     fn again(&mut self, entry: &Entry) {
-        let says = "is a directory that another entry names too: what stands in it isn't compared again";
+        let says = "is a directory that another entry also names: its contents are not compared again";
         self.tell(Some(format!("{}: {} {says}", self.disc.name, quoted(&entry.path))));
     }
 
@@ -166,7 +166,7 @@ impl<'a, 'l> Side<'a, 'l> {
         self.entries += 1;
         self.bytes = self.bytes.saturating_add(entry.path.len() + entry.text.len());
         if self.bytes > MOST_BYTES {
-            let why = format!("the paths of all entries have more than {MOST_BYTES} bytes");
+            let why = format!("all paths together have more than {MOST_BYTES} bytes");
             return Err(Failure::new(STOPPED, format!("{}: {why}", self.disc.name)));
         }
         self.see()

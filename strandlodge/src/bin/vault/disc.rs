@@ -18,7 +18,7 @@ use strandlodge::{
 };
 
 /// What is said of a descriptor that was taken all the same.
-const RUINED: &str = "has a wrong body, and is taken as it stands (--checked refuses it, and `vault check` lists all such descriptors)";
+const RUINED: &str = "fails its CRC check and was used anyway (--checked refuses it; `vault check` lists all such descriptors)";
 
 /// The file type of a directory's entry (ECMA-167 4/14.6.6).
 const DIRECTORY: u8 = 4;
@@ -284,7 +284,7 @@ impl<V: Volume> OpenDisc<'_, V> {
             Asked::Show(_) => false,
         });
         if let Some(says) = failure.says.as_mut().filter(|_| is_there) {
-            *says += "; the disc was closed again, and by its descriptors of the highest number this is there, with --highest";
+            *says += "; the disc was closed again later: --highest finds it";
         }
         failure
     }
@@ -335,7 +335,7 @@ impl<V: Volume> OpenDisc<'_, V> {
     pub fn find_listed(&mut self, wanted: &Wanted) -> Result<Found, Failure> {
         let found = self.find(wanted)?;
         if matches!(wanted, Wanted::Icb(_)) && !found.is_directory && self.volume.entry(found.icb).is_some() {
-            let says = "is a file, whose name isn't known here: `vault stat` shows it, and `vault cat` gives its bytes";
+            let says = "is a file, and an ICB has no name to list: use `vault stat` or `vault cat`";
             return Err(Failure::new(USAGE, format!("{}: {} {says}", self.name, quoted(&wanted.text()))));
         }
         Ok(found)
@@ -357,7 +357,7 @@ impl<V: Volume> OpenDisc<'_, V> {
         };
         let entry = last.taken(self.matching).filter(|entry| entry.icb == icb && names(path).count() == steps.len());
         let Some(entry) = entry.cloned() else {
-            let says = format!("{}: {} changed while it was looked at: use --copy", self.name, quoted(path));
+            let says = format!("{}: {} changed while it was being read: use --copy", self.name, quoted(path));
             return Err(Failure::new(NO_IMAGE, says));
         };
         self.log.remarks.extend(steps.iter().filter_map(|step| step.remark(self.matching)));
@@ -383,7 +383,7 @@ impl<V: Volume> OpenDisc<'_, V> {
     pub fn find_file(&mut self, wanted: &Wanted) -> Result<Found, Failure> {
         let found = self.find(wanted)?;
         if found.is_directory {
-            let says = "is a directory: `vault ls` lists it, and `vault get -r` takes all of it";
+            let says = "is a directory: list it with `vault ls`, or copy all of it with `vault get -r`";
             return Err(Failure::new(USAGE, format!("{}: {} {says}", self.name, quoted(&wanted.text()))));
         }
         Ok(found)

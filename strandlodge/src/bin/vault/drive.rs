@@ -48,7 +48,7 @@ pub fn ask(question: &Question, manner: Manner, name: &OsStr, out: &mut impl Wri
         }
         Question::GetTree { tree, folder } => folder::get(&mut disc, tree, Path::new(folder), name, out),
         Question::GetAll { .. } | Question::Probe | Question::Check { .. } | Question::Info => {
-            Err(Failure::usage("--drive isn't for this command"))
+            Err(Failure::usage("--drive doesn't work with this command"))
         }
     }
 }

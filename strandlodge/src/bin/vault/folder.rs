@@ -132,7 +132,7 @@ fn plan<V: Volume>(disc: &mut OpenDisc<V>, tree: &Tree, folder: &Path) -> Result
 impl Plan {
     /// Fails where too much was asked for, or will be.
     fn see<V: Volume>(&self, disc: &OpenDisc<V>) -> Result<(), Failure> {
-        limit::see(disc.name, self.most, disc.log.total().saturating_add(self.reads), "; nothing is written")
+        limit::see(disc.name, self.most, disc.log.total().saturating_add(self.reads), "; nothing was written")
     }
 
     /// Notes an entry, and what stands below it.
@@ -181,7 +181,7 @@ impl Plan {
         let Spot { path, text, to, is_twin } = spot;
         self.bytes = self.bytes.saturating_add(path.len() + text.len() + to.as_os_str().len());
         if self.bytes > MOST_BYTES {
-            let why = format!("the paths of all entries have more than {MOST_BYTES} bytes: take a folder at a time; nothing is written");
+            let why = format!("all paths together have more than {MOST_BYTES} bytes: copy one folder at a time; nothing was written");
             return Err(Failure::new(STOPPED, format!("{}: {why}", disc.name)));
         }
         // A directory that is named again asks for nothing, and is told of.
@@ -189,13 +189,13 @@ impl Plan {
         self.see(disc)?;
         let about = |says: &str| format!("{}: {} {says}", disc.name, quoted(&path));
         if to.as_os_str().len() > DEEPEST {
-            let says = about("stands too deep to be written");
+            let says = about("is too deep to be written");
             self.missed.tell(Failure::new(NO_OUTPUT, says), disc);
             return Ok(());
         }
         let is_new = |sector| self.taken.insert(sector);
         if entry.is_directory && !disc.volume.icb_sector(entry.icb).is_none_or(is_new) {
-            let says = about("is a directory that another entry named before: it isn't taken again");
+            let says = about("is a directory that an earlier entry also names: it is not copied again");
             self.missed.tell(Failure::new(UNREAD, says), disc);
             return Ok(());
         }
@@ -274,7 +274,7 @@ fn tried<V: Volume>(
 /// Writes one file.
 fn put<V: Volume>(disc: &mut OpenDisc<V>, item: &Item, store: &mut Store, bar: &mut Bar) -> Result<Put, Failure> {
     store.file(&item.to, |file| {
-        let unwritten = |error| Failure::file(NO_OUTPUT, item.to.as_os_str(), format!("the file can't be written: {error}"));
+        let unwritten = |error| Failure::file(NO_OUTPUT, item.to.as_os_str(), format!("can't write this file: {error}"));
         copy(disc, &item.path, item.icb, &mut Drawn { to: file, bar }, unwritten)
     })
 }

@@ -48,8 +48,8 @@ impl Missed {
         }
         self.twins += 1;
         self.status = NO_OUTPUT;
-        let why = "its own name is another's here, as where case isn't told apart";
-        disc.log.remarks.push(format!("{}: \"{path}\" is written to {}, since {why}", disc.name, shown(at.as_os_str().as_bytes())));
+        let why = "its own name is taken there (does the file system ignore case?)";
+        disc.log.remarks.push(format!("{}: \"{path}\" is written to {}: {why}", disc.name, shown(at.as_os_str().as_bytes())));
     }
 
     /// How a command ends that had so many to write.
@@ -140,7 +140,7 @@ fn find<'p>(disc: &mut OpenDisc<Counted>, path: &'p [u8], folder: &Path, image: 
     let to = folder.join(name);
     apart(image, to.as_os_str())?;
     if let Some(other) = others.iter().find(|other| other.to == to) {
-        let says = format!("{} would be written over {}, to {}", quoted(path), quoted(other.path), shown(to.as_os_str().as_bytes()));
+        let says = format!("{} and {} would both be written to {}", quoted(path), quoted(other.path), shown(to.as_os_str().as_bytes()));
         return Err(Failure::new(USAGE, format!("{}: {says}", disc.name)));
     }
     Ok(Sought { path, icb: found.icb, to })
@@ -151,7 +151,7 @@ fn put(disc: &mut OpenDisc<Counted>, file: &Sought, store: &mut Store) -> Result
     let runs = runs::find(disc, file.path, file.icb, Span::default())?;
     let (length, mut bar) = (runs.len(), Bar::new(runs.len()));
     store.file(&file.to, |to| {
-        let unwritten = |error| Failure::file(NO_OUTPUT, file.to.as_os_str(), format!("the file can't be written: {error}"));
+        let unwritten = |error| Failure::file(NO_OUTPUT, file.to.as_os_str(), format!("can't write this file: {error}"));
         runs::write(runs, &mut Drawn { to, bar: &mut bar }).map_err(|error| runs::lost(error, unwritten))?;
         Ok(length)
     })

@@ -61,13 +61,10 @@ pub fn refused(image: &[u8], how: How, name: &str, refused: Refused) -> Failure 
     let mut failure = Failure::with_number(refused, format!("{name}: {}", diagnosis.what()));
     let mapped = || Counted::open_as(image, How { maps: true, ..how }).is_ok();
     if refused.why == Refusal::Unsupported && !how.maps && mapped() {
-        failure.says.iter_mut().for_each(|says| *says += "; its partition is found through its maps, with --maps");
+        failure.says.iter_mut().for_each(|says| *says += "; --maps opens it, through its partition maps");
     }
     if !how.highest && Counted::open_as(image, How { highest: true, ..how }).is_ok() {
-        failure
-            .says
-            .iter_mut()
-            .for_each(|says| *says += "; it was closed again, and opens by its descriptors of the highest number, with --highest");
+        failure.says.iter_mut().for_each(|says| *says += "; it was closed again later: --highest opens it");
     }
     failure.at(&diagnosis)
 }

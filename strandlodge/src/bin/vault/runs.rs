@@ -58,7 +58,7 @@ pub fn counted<V: Volume, T>(disc: &mut OpenDisc<V>, path: &[u8], icb: LongAd, a
 
 /// Why a file isn't read. Here memory is no reason for 5: the file has more bytes than its image.
 pub fn refused<V: Volume>(disc: &mut OpenDisc<V>, path: &[u8], icb: LongAd, refused: Refused) -> Failure {
-    let says = "the file has more bytes than its image, since its extents overlap; cat and get of one file take N of them with --bytes N";
+    let says = "the file is longer than its image, because its extents overlap; to read N bytes of it, use cat or get with --bytes N";
     match refused.why {
         Refusal::NoRoom => Failure::with_number(refused, format!("{}: {}: {says}", disc.name, quoted(path))),
         _ => disc.refused(path, Asked::ReadFile(icb), refused),
@@ -85,7 +85,7 @@ pub fn print(runs: Runs, out: &mut impl Write) -> Result<(), Failure> {
 /// A write that failed: for want of the image, or else as is said.
 pub fn lost(error: io::Error, unwritten: impl FnOnce(io::Error) -> Failure) -> Failure {
     if error.raw_os_error() == Some(FAULT) {
-        return Failure::new(NO_IMAGE, "the image can't be read any more: the drive gave no data, or the file was cut short");
+        return Failure::new(NO_IMAGE, "can't read the image any more: the drive returned no data, or the file was cut short");
     }
     unwritten(error)
 }
@@ -170,7 +170,7 @@ mod tests {
         let runs = vault.runs(vault.lookup("9").unwrap()).unwrap();
         file.set_len(runs.places().next().unwrap().at + 50_000).unwrap();
         let failure = put(runs, &Target::at(to.as_os_str()).unwrap()).unwrap_err();
-        assert_eq!((failure.status, failure.says.unwrap().contains("the image can't be read any more")), (NO_IMAGE, true));
+        assert_eq!((failure.status, failure.says.unwrap().contains("can't read the image any more")), (NO_IMAGE, true));
         assert_eq!(fs::read_dir(&folder).unwrap().count(), 1);
         fs::remove_dir_all(&folder).unwrap();
     }

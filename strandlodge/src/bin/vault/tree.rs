@@ -218,7 +218,7 @@ fn end<V: Volume>(disc: &mut OpenDisc<V>, seen: &Seen, bounds: Bounds) -> Result
     }
     disc.log.remarks.extend(deep.err().and_then(|failure| failure.says));
     let many = counted(seen.unlisted, "directory", "directories");
-    Err(Failure::new(seen.status, format!("{}: {many} can't be listed, and the rest is shown", disc.name)))
+    Err(Failure::new(seen.status, format!("{}: {many} can't be listed; the rest is shown", disc.name)))
 }
 
 fn counted(n: u64, one: &str, more: &str) -> String {
@@ -304,7 +304,7 @@ fn too_deep(name: &str, seen: &Seen, bounds: Bounds) -> Result<(), Failure> {
     let many = if seen.deep == 1 { "1 directory at level".to_string() } else { format!("{} directories at level", seen.deep) };
     let first = if seen.deep == 1 { quoted(&seen.first) } else { format!("{} the first", quoted(&seen.first)) };
     let cure = if bounds.levels < Bounds::MOST_LEVELS { format!("; --levels {} shows more", bounds.levels + 1) } else { String::new() };
-    let says = format!("{name}: {many} {}, the last, not looked into: {first}", bounds.levels);
+    let says = format!("{name}: {many} {}, the last level, not shown: {first}", bounds.levels);
     let mut failure = Failure::with_number(Refusal::TooDeep, says);
     failure.says = failure.says.map(|says| says + &cure);
     Err(failure)
