@@ -1,4 +1,4 @@
-//! Writes a vault of some files and reads it back: `cargo run --example stage IMAGE FILE..`. An IMAGE that is there is left as it is.
+//! Writes an image of some files and reads it back: `cargo run --example stage IMAGE FILE..`. An existing IMAGE is left as it is.
 
 use std::fs::File;
 use std::io::Write;
@@ -13,7 +13,7 @@ fn stage(image: &str, files: &[String]) -> Result<()> {
     }
     let bytes = strandlodge::write(&staged)?;
     File::create_new(image)?.write_all(&bytes)?;
-    // What was written is read, with the bodies of its descriptors checked.
+    // Read back what was written, checking the CRCs of its descriptors.
     let disc = Disc::open_as(std::fs::read(image)?, How { checked: true, ..How::default() })?;
     for (name, bytes) in &staged {
         let same = disc.read_path_as(name, Matching::AsWritten)? == *bytes;

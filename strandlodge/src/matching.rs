@@ -1,9 +1,9 @@
-//! When a component of a path is the name of an entry.
+//! How a component of a path is matched with the names of entries.
 
 use strandlodge_sys::vault;
 
-/// Which entry of a directory a component of a path gives: the choice that [`Disc::lookup_as`](crate::Disc::lookup_as) takes. It is for
-/// every component of the path, and entries that are deleted or the parent are never among those that match.
+/// How each component of a path is matched with the entries of a directory; for
+/// [`Disc::lookup_as`](crate::Disc::lookup_as) and the like. Deleted entries and the parent never match.
 ///
 /// ```no_run
 /// use strandlodge::{Matching, Disc};
@@ -19,19 +19,19 @@ use strandlodge_sys::vault;
 /// ```
 #[derive(Debug, Clone, Copy, PartialEq, Eq, Hash, Default)]
 pub enum Matching {
-    /// The first entry that is equal with ASCII case ignored, as in the original. It may have another name than was asked for, and stand in
-    /// front of the one that has it.
+    /// The first entry that is equal with ASCII case ignored, as in the original. It may have another name than you
+    /// asked for, and come before the entry that has that name.
     #[default]
     CaseIgnored,
-    /// The first entry whose name, as UTF-8, is the component byte for byte.
+    /// The first entry whose name, as UTF-8, equals the component byte for byte.
     AsWritten,
-    /// The only entry that is equal with ASCII case ignored. Where two or more are, two of exactly the same name among them, the lookup is
-    /// refused by 9, [`Refusal::Ambiguous`](crate::Refusal::Ambiguous).
+    /// The only entry that is equal with ASCII case ignored. If there are two or more, even with exactly the same name,
+    /// the lookup is refused with 9, [`Refusal::Ambiguous`](crate::Refusal::Ambiguous).
     Unambiguous,
 }
 
 impl Matching {
-    /// The number by which it crosses the interface.
+    /// As a number for the interface.
     pub(crate) fn number(self) -> u32 {
         match self {
             Matching::CaseIgnored => vault::CASE_IGNORED,

@@ -326,7 +326,7 @@ fn what_cannot_be_read_is_said() {
         locate(&mut disc.0, at, location);
     }
     let said = check(&disc.0);
-    assert!(said.status == 67 && said.out.starts_with("/far: can't be read: a sector that was asked for"), "{said:?}");
+    assert!(said.status == 67 && said.out.starts_with("/far: can't be read: a sector is missing"), "{said:?}");
     assert_eq!(said.out.lines().nth(1), Some("/not: can't be read: its ICB has length 0 and names nothing (refusal 2)"));
 }
 

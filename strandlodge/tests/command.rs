@@ -148,7 +148,7 @@ fn the_sample_as_a_tree() {
     // The last level has a directory: it is drawn, and that it isn't looked into is said.
     let said = folder.vault(&["tree", "show.img", "--levels", "1"]);
     assert_eq!((said.status, said.out.as_str()), (11, "/\n└── SHOW/\n1 directory, 0 files\n"));
-    let says = "show.img: 1 directory at level 1, the last level, not shown: \"SHOW\" (refusal 11); --levels 2 shows more";
+    let says = "show.img: 1 directory at level 1, the last level, not looked into: \"SHOW\" (refusal 11); --levels 2 shows more";
     assert_eq!(said.error, format!("vault: {says}\n"));
     assert_eq!(folder.vault(&["tree", "show.img", "NONE"]).status, 3);
 }
@@ -191,7 +191,7 @@ fn a_check_stops_at_its_limit() {
         let said = folder.vault(&["check", "show.img", "--limit", limit]);
         assert_eq!((said.status, said.out.as_str()), (68, ""), "{said:?}");
         let (front, cure) =
-            (format!("vault: show.img: stopped after {limit} sectors, the limit; so far: descriptors: "), ". The disc may be made");
+            (format!("vault: show.img: stopped after {limit} sectors, the limit; so far: descriptors: "), ". The disc may be malicious");
         assert!(said.error.starts_with(&front) && said.error.contains(cure), "{said:?}");
     }
     let said = folder.vault(&["check", "show.img", "--limit", "15", "--json"]);
@@ -263,7 +263,7 @@ fn a_directory_that_holds_itself() {
     let said = folder.vault(&["ls", "-R", "one.img"]);
     assert_eq!((said.status, said.out.lines().count()), (11, 32));
     assert!(said.out.starts_with("a/\na/a/\n") && said.out.contains("a/a/cue\\u{1b}\na/cue\\u{1b}\ncue\\u{1b}\n"), "{said:?}");
-    let last = format!("vault: one.img: 1 directory at level 16, the last level, not shown: \"{}a\" (refusal 11)\n", "a/".repeat(15));
+    let last = format!("vault: one.img: 1 directory at level 16, the last level, not looked into: \"{}a\" (refusal 11)\n", "a/".repeat(15));
     assert_eq!(said.error, last);
 
     let root = disc.directory(&[named("a", 3, true), named("b", 3, true)]);
@@ -274,7 +274,7 @@ fn a_directory_that_holds_itself() {
     assert!(said.status == 68 && (300..600).contains(&said.out.lines().count()), "{said:?}");
     let said = folder.vault(&["tree", "two.img"]);
     assert_eq!((said.status, said.out.lines().count()), (11, (1 << 17) - 2 + 2));
-    assert!(said.error.contains("65536 directories at level 16, the last, not looked into"), "{}", said.error);
+    assert!(said.error.contains("65536 directories at level 16, the last level, not looked into"), "{}", said.error);
 }
 
 /// A directory that can't be read is named, and what stands behind it is shown; the status is that of its refusal.
@@ -291,7 +291,7 @@ fn a_tree_names_what_it_cannot_read() {
     assert_eq!((said.status, said.out.as_str()), (1, drawn));
     let place = "(refusal 1); the last sector asked for was 900288, for a file entry: it isn't there";
     let lines: Vec<&str> = said.error.lines().collect();
-    assert!(lines[0].starts_with("vault: a.img: \"d/gone\": a sector that was asked for") && lines[0].ends_with(place), "{said:?}");
+    assert!(lines[0].starts_with("vault: a.img: \"d/gone\": a sector is missing") && lines[0].ends_with(place), "{said:?}");
     assert_eq!(lines[1..], ["vault: a.img: 1 directory can't be listed; the rest is shown"]);
     for drive in [&[][..], &["--drive"]] {
         let said = folder.vault(&[&["ls", "-R", "a.img"], drive].concat());
@@ -311,7 +311,7 @@ fn a_tree_names_what_it_cannot_read() {
     let said = folder.vault(&["tree", "a.img", "--levels", "2"]);
     assert_eq!((said.status, said.out.lines().count(), said.error.lines().count()), (2, 16, 10), "{said:?}");
     assert!(
-        said.error.contains("the last level, not shown: \"d/gone\"") && said.error.contains("10 directories can't be listed"),
+        said.error.contains("the last level, not looked into: \"d/gone\"") && said.error.contains("10 directories can't be listed"),
         "{said:?}"
     );
 }
@@ -501,7 +501,7 @@ fn every_command_that_opens_can_check_bodies() {
             };
             let is_said = on_the_way && !matches!(words, ["label", _] | ["stat", _]);
             assert_eq!(
-                plain.error.lines().filter(|line| line.contains("has a wrong body")).count(),
+                plain.error.lines().filter(|line| line.contains("fails its CRC check")).count(),
                 usize::from(is_said),
                 "{words:?} {plain:?}"
             );
@@ -509,7 +509,7 @@ fn every_command_that_opens_can_check_bodies() {
                 assert_eq!((checked.status, checked.out, checked.error.as_str()), (0, shown.out, ""), "{words:?} {sector}");
                 continue;
             }
-            let says = ["a descriptor's body isn't the one", "(refusal 10); `vault check` says which", "without --checked"];
+            let says = ["a descriptor fails its CRC check", "(refusal 10); `vault check` lists", "without --checked"];
             assert_eq!((checked.status, checked.error.lines().count()), (10, 1), "{words:?} {checked:?}");
             assert!(says.iter().all(|part| checked.error.contains(part)), "{words:?} {checked:?}");
         }
@@ -598,10 +598,10 @@ fn bad_images_are_refused_by_every_command() {
     let bad = [
         ("none", 66, "no such file"),
         ("folder", 66, "this is a directory"),
-        ("empty", 1, "isn't wholly inside the image"),
-        ("short", 1, "isn't wholly inside the image"),
-        ("cut", 1, "isn't wholly inside the image"),
-        ("random", 2, "is not what it must be"),
+        ("empty", 1, "a sector is missing"),
+        ("short", 1, "a sector is missing"),
+        ("cut", 1, "a sector is missing"),
+        ("random", 2, "is invalid"),
     ];
     for (image, status, phrase) in bad {
         refuses(&folder, &["label", image], status, phrase);
@@ -630,11 +630,7 @@ fn a_pipe_is_no_image() {
         Said::of(child.wait_with_output().unwrap())
     };
     let said = piped(&["label", "/dev/stdin"], b"");
-    assert_eq!(
-        (said.status, said.error.contains("this is a pipe or the like") && said.error.contains("--copy reads it")),
-        (66, true),
-        "{said:?}"
-    );
+    assert_eq!((said.status, said.error.contains("a pipe?") && said.error.contains("use --copy")), (66, true), "{said:?}");
     // Read into memory it is one.
     answers(&piped(&["--copy", "label", "/dev/stdin"], &show()), "SHOW 1\n");
     answers(&piped(&["cat", "/dev/stdin", "SHOW/11", "--copy"], &show()), BLACKOUT);
@@ -673,7 +669,7 @@ fn wrong_usage_is_said() {
     refuses(&folder, &["cat", "show.img"], 64, "cat needs PATH");
     refuses(&folder, &["get", "show.img", "SHOW/9"], 64, "get needs FILE");
     refuses(&folder, &["get", "show.img", "-o", "."], 64, "get needs PATH");
-    refuses(&folder, &["get", "show.img", "SHOW/9", "-o"], 64, "-o needs TO");
+    refuses(&folder, &["get", "show.img", "SHOW/9", "-o"], 64, "-o needs a folder");
     refuses(&folder, &["get", "show.img", "SHOW/9", "SHOW/11", "cue"], 64, "cue follows");
     refuses(&folder, &["cat", "show.img", "SHOW/9", "-o", "."], 64, "-o works only with get");
     refuses(&folder, &["stat"], 64, "stat needs IMAGE");
@@ -681,14 +677,14 @@ fn wrong_usage_is_said() {
     refuses(&folder, &["ls", "show.img", "SHOW", "more"], 64, "more follows");
     refuses(&folder, &["-l", "show.img"], 64, "-l works only with ls");
     refuses(&folder, &["-q", "show.img"], 64, "unknown option -q");
-    refuses(&folder, &["--as-written", "--unambiguous", "ls", "show.img"], 64, "are choices, of which one can be taken");
+    refuses(&folder, &["--as-written", "--unambiguous", "ls", "show.img"], 64, "use only one of");
     refuses(&folder, &["ls", "show.img", "--levels=2"], 64, "--levels works only with tree and ls -R (see `vault ls --help`)");
-    refuses(&folder, &["make", "-V", "NAME", "show.img"], 64, "-V is the version of vault, and no option of make");
+    refuses(&folder, &["make", "-V", "NAME", "show.img"], 64, "-V prints the version of vault; it is not an option of make");
     assert_eq!(folder.vault(&["help", "ls"]).out, folder.vault(&["ls", "--help"]).out);
     assert_eq!(folder.vault(&["help"]).out, folder.vault(&["--help"]).out);
     assert_eq!(folder.vault(&["ls", "-Rl", "show.img", "--levels=2"]).out, folder.vault(&["ls", "-R", "-l", "show.img"]).out);
-    refuses(&folder, &["--as-written", "label", "show.img"], 64, "are for a PATH");
-    refuses(&folder, &["--unambiguous"], 64, "are for a PATH");
+    refuses(&folder, &["--as-written", "label", "show.img"], 64, "work only with ls");
+    refuses(&folder, &["--unambiguous"], 64, "work only with ls");
     refuses(&folder, &["\u{1b}[2J"], 64, "\\u{1b}[2J");
 }
 
@@ -766,10 +762,7 @@ fn many_files_go_on_past_a_refused_one() {
     folder.write("bad.img", &image);
     let said = folder.vault(&["get", "bad.img", "-o", "to", "SHOW/11", "SHOW/10.1A", "--as-written"]);
     assert_eq!((said.status, said.out.as_str()), (67, "SHOW/10.1A: 57 bytes, to to/10.1A\n"));
-    assert!(
-        said.error.starts_with("vault: bad.img: \"SHOW/11\": a sector that was asked for isn't") && said.error.contains("(refusal 1)"),
-        "{said:?}"
-    );
+    assert!(said.error.starts_with("vault: bad.img: \"SHOW/11\": a sector is missing") && said.error.contains("(refusal 1)"), "{said:?}");
     assert_eq!(std::fs::read_to_string(folder.at("to/11")).unwrap(), BLACKOUT);
     // A ruined body.
     folder.write("bad.img", &scratched(293, 40));
@@ -779,7 +772,7 @@ fn many_files_go_on_past_a_refused_one() {
     assert_eq!(folder.vault(&["get", "show.img", "-o", "to", "x", "y"]).status, 67);
     refuses(&folder, &["get", "none", "-o", "to", "SHOW/9"], 66, "no such file");
     folder.write("random", &noise(1 << 20));
-    refuses(&folder, &["get", "random", "-o", "to", "SHOW/9"], 2, "is not what it must be");
+    refuses(&folder, &["get", "random", "-o", "to", "SHOW/9"], 2, "is invalid");
 }
 
 /// A file has the name that the disc has, is written once, and isn't the image.
@@ -788,8 +781,8 @@ fn many_files_have_their_own_names() {
     let folder = with_folder();
     let said = folder.vault(&["get", "--as-original", "show.img", "-o", "to", "show/10.1a", "SHOW/10.1A"]);
     assert_eq!((said.status, said.out.as_str()), (67, "show/10.1a: 57 bytes, to to/10.1A\n"));
-    assert!(said.error.contains("\"10.1a\" under \"show\" gives \"10.1A\" in block 7, the first of 2"), "{said:?}");
-    assert!(said.error.contains("\"SHOW/10.1A\" would be written over \"show/10.1a\", to to/10.1A"), "{said:?}");
+    assert!(said.error.contains("\"10.1a\" under \"show\" matched \"10.1A\" in block 7, the first of 2"), "{said:?}");
+    assert!(said.error.contains("\"SHOW/10.1A\" and \"show/10.1a\" would both be written to to/10.1A"), "{said:?}");
     assert_eq!(taken(&folder), ["10.1A"]);
     let said = folder.vault(&["get", "--unambiguous", "show.img", "-o", "to", "SHOW/10.1a", "SHOW/9"]);
     assert_eq!((said.status, said.error.contains("is ambiguous, 2 entries match")), (67, true), "{said:?}");
@@ -808,7 +801,7 @@ fn many_files_have_their_own_names() {
 fn many_files_need_a_folder() {
     let folder = with_folder();
     refuses(&folder, &["get", "show.img", "-o", "none", "SHOW/9"], 74, "can't write to this folder");
-    refuses(&folder, &["get", "show.img", "-o", "show.img", "SHOW/9"], 74, "this is no folder");
+    refuses(&folder, &["get", "show.img", "-o", "show.img", "SHOW/9"], 74, "not a folder");
     // One that can't be written: the others are.
     std::fs::create_dir(folder.at("to/9")).unwrap();
     let said = folder.vault(&["get", "show.img", "-o", "to", "SHOW/9", "SHOW/12", "SHOW/11"]);
@@ -929,5 +922,5 @@ fn a_terminal_is_not_tricked_by_names() {
     let said = folder.vault(&["stat", "--raw", "tricks.img", "A\u{1b}[2J\u{202e}\u{200b}\n\\"]);
     assert_eq!((said.status, said.error.lines().count()), (0, 1));
     assert!(said.out.contains("path     A\\u{1b}[2J") && said.out.contains("entry    a\\u{1b}[2J"), "{said:?}");
-    assert!(said.error.starts_with("vault: \"A\\u{1b}[2J\\u{202e}\\u{200b}\\u{a}\\\\\" under the root gives \"a\\u{1b}[2J"), "{said:?}");
+    assert!(said.error.starts_with("vault: \"A\\u{1b}[2J\\u{202e}\\u{200b}\\u{a}\\\\\" under the root matched \"a\\u{1b}[2J"), "{said:?}");
 }

@@ -252,7 +252,7 @@ fn a_reader_that_fails_at_each_place() {
                 assert_eq!((unopened.refused.why, unopened.refused.sectors), (Refusal::Io, place as u64 + 1));
                 let missed = unopened.missed.as_ref().unwrap();
                 assert_eq!((missed.sector, missed.error.to_string().as_str()), (sector, "a scratch"));
-                assert_eq!(unopened.to_string(), format!("sector {sector} can't be read: a scratch"));
+                assert_eq!(unopened.to_string(), format!("can't read sector {sector}: a scratch"));
                 continue;
             }
         };

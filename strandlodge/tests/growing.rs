@@ -160,7 +160,7 @@ fn the_time_that_is_waited_has_an_end() {
         folder.write("disc.img", &image[..length]);
         let began = Instant::now();
         let said = folder.vault(&["get", "disc.img", "cue", "file", "--wait", seconds]);
-        let says = format!(": it isn't there; waited for {seconds} s: {} sectors are there, and {missing} isn't yet\n", length / SECTOR);
+        let says = format!(": it isn't there; waited {seconds} s: {} sectors are there; {missing} is not there yet\n", length / SECTOR);
         assert!(
             said.status == 1 && said.error.ends_with(&says) && said.error.contains("(refusal 1); the last sector asked for was "),
             "{said:?}"

@@ -311,7 +311,7 @@ fn the_maps_of_a_volume_are_shown() {
 fn a_partition_whose_number_is_not_its_reference() {
     let folder = written(&one().0);
     let plain = folder.vault(&["cat", "a.img", "cue"]);
-    assert!(plain.status == 4 && plain.error.contains("with --maps"), "{plain:?}");
+    assert!(plain.status == 4 && plain.error.contains("; --maps opens it"), "{plain:?}");
     assert_eq!(folder.vault(&["cat", "--maps", "a.img", "cue"]).out, "a look");
     assert_eq!(folder.vault(&["check", "--maps", "a.img"]).out, "10 descriptors, each in place and with a right body\n");
 }

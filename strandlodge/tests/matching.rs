@@ -205,7 +205,7 @@ fn the_wrong_look_is_not_given_without_a_word() {
     let folder = with_show();
     for (path, name) in [("SHOW/10.1A", "10.1A"), ("SHOW/10.1a", "10.1a")] {
         let line =
-            format!("\"{name}\" under \"SHOW\" gives \"10.1A\" in block 7, the first of 2 that match, and not \"10.1a\" in block 9 {BOTH}");
+            format!("\"{name}\" under \"SHOW\" matched \"10.1A\" in block 7, the first of 2 that match, not \"10.1a\" in block 9 {BOTH}");
         remarks(&folder.vault(&["cat", "--as-original", "a.img", path]), UPPER, &[&line]);
         remarks(&folder.vault(&["ls", "--as-original", "a.img", path]), "10.1A\n", &[&line]);
         remarks(&folder.vault(&["get", "--as-original", "a.img", path, "cue"]), "", &[&line]);
@@ -246,12 +246,12 @@ fn the_command_s_own_rule_is_made_of_the_choices() {
 #[test]
 fn each_name_of_a_path_has_the_rule_by_itself() {
     let folder = with(&folders());
-    let second = |above: &str| format!("\"Second\" under \"{above}\" gives \"second\", which differs in case {SAFE}");
+    let second = |above: &str| format!("\"Second\" under \"{above}\" matched \"second\", which differs in case {SAFE}");
     for drive in [&[][..], &["--drive"]] {
         let vault = |words: &[&str]| folder.vault(&[words, drive].concat());
         remarks(&vault(&["cat", "a.img", "ACT/Second"]), "3", &[&second("ACT")]);
         remarks(&vault(&["cat", "a.img", "//Act//Second/"]), "1", &[&second("//Act")]);
-        let other = format!("\"OTHER\" under the root gives \"other\", which differs in case {SAFE}");
+        let other = format!("\"OTHER\" under the root matched \"other\", which differs in case {SAFE}");
         remarks(&vault(&["cat", "a.img", "OTHER/Second"]), "5", &[&other, &second("OTHER")]);
         let acts = "\"act\" under the root is ambiguous, 2 entries match: \"Act\" in block 21, \"ACT\" in block 27";
         refuses(&folder, &[&["cat", "a.img", "act/second"], drive].concat(), 9, acts);
@@ -325,14 +325,14 @@ fn wrong_bodies_are_not_a_line_each() {
 #[test]
 fn a_name_in_another_case_is_remarked() {
     let folder = with(&plain(&["9", "10.1a"]));
-    let line = format!("\"10.1A\" under the root gives \"10.1a\", which differs in case {CASE}");
+    let line = format!("\"10.1A\" under the root matched \"10.1a\", which differs in case {CASE}");
     remarks(&folder.vault(&["cat", "--as-original", "a.img", "10.1A"]), "1", &[&line]);
     remarks(&folder.vault(&["cat", "--unambiguous", "a.img", "/10.1A"]), "1", &[&line]);
     remarks(&folder.vault(&["cat", "a.img", "10.1A"]), "1", &[&line.replace(CASE, SAFE)]);
     remarks(&folder.vault(&["cat", "a.img", "10.1a"]), "1", &[]);
     remarks(&folder.vault(&["cat", "--unambiguous", "a.img", "10.1a"]), "1", &[]);
     let folder = with_show();
-    let line = format!("\"show\" under the root gives \"SHOW\", which differs in case {SAFE}");
+    let line = format!("\"show\" under the root matched \"SHOW\", which differs in case {SAFE}");
     remarks(&folder.vault(&["cat", "a.img", "show/9"]), "cue 9\nhouse lights to half\n", &[&line]);
     remarks(&folder.vault(&["ls", "a.img", "/show/"]), "9\n10.1A\n10.1a\n11\n", &[&line]);
     remarks(&folder.vault(&["ls", "a.img"]), "SHOW/\n", &[]);
@@ -341,8 +341,8 @@ fn a_name_in_another_case_is_remarked() {
 #[test]
 fn each_name_of_a_path_has_its_line() {
     let folder = with(&folders());
-    let act = format!("\"act\" under the root gives \"Act\" in block 21, the first of 2 that match, and not \"ACT\" in block 27 {BOTH}");
-    let second = format!("\"Second\" under \"act\" gives \"second\", which differs in case {CASE}");
+    let act = format!("\"act\" under the root matched \"Act\" in block 21, the first of 2 that match, not \"ACT\" in block 27 {BOTH}");
+    let second = format!("\"Second\" under \"act\" matched \"second\", which differs in case {CASE}");
     remarks(&folder.vault(&["cat", "--as-original", "a.img", "act/Second"]), "1", &[&act, &second]);
     remarks(&folder.vault(&["cat", "--as-original", "a.img", "act//second"]), "1", &[&act]);
     remarks(&folder.vault(&["ls", "--as-original", "a.img", "act"]), "first\nsecond\n", &[&act]);
@@ -372,7 +372,7 @@ fn every_command_with_a_path_remarks() {
             assert!(lines.iter().all(|line| line.contains("--as-written") && line.contains("--unambiguous")), "{words:?} {said:?}");
             // By the command's own rule it is one line: the cue has the very name.
             let said = folder.vault(&[words, drive].concat());
-            let line = format!("vault: \"show\" under the root gives \"SHOW\", which differs in case {SAFE}\n");
+            let line = format!("vault: \"show\" under the root matched \"SHOW\", which differs in case {SAFE}\n");
             assert_eq!((said.status, said.error), (0, line), "{words:?}");
         }
     }
@@ -385,7 +385,7 @@ fn every_command_with_a_path_remarks() {
 #[test]
 fn a_second_entry_of_the_very_name_is_remarked() {
     let folder = with(&plain(&["x", "x", "y"]));
-    let line = "\"x\" under the root gives \"x\" in block 17, the first of 2 that match, and not \"x\" in block 19 \
+    let line = "\"x\" under the root matched \"x\" in block 17, the first of 2 that match, not \"x\" in block 19 \
                 (--icb tells them apart, --as-written doesn't, --unambiguous refuses)";
     remarks(&folder.vault(&["cat", "a.img", "x"]), "0", &[line]);
     remarks(&folder.vault(&["cat", "--as-written", "a.img", "x"]), "0", &[line]);

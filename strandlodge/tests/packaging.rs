@@ -230,7 +230,7 @@ fn the_examples_in_c_give_files_of_any_length() {
     folder.write("long.img", &strandlodge::write(&[("LONG", &long)]).unwrap());
     folder.write("cut.img", &show()[..9000]);
     let none = ["show.img", "SHOW/12", "No volume, or no such path\n", "3"];
-    let not_there = ["cut.img", "SHOW/9", "A sector asked for isn't wholly inside the image\n", "1"];
+    let not_there = ["cut.img", "SHOW/9", "A sector that was asked for is not completely inside the image\n", "1"];
     let below = ["show.img", "SHOW/9/deeper", "No volume, or no such path\n", "3"];
     for name in ["example", "window", "lookup"] {
         compiled(&folder, name);

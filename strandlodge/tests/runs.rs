@@ -267,8 +267,8 @@ fn a_part_of_a_file_that_is_cut_short_is_refused() {
 #[test]
 fn a_file_of_more_bytes_than_its_image_is_written_in_part() {
     let shelf = Shelf::new(&overlapping());
-    let sentence = "vault: disc.img: \"FILM\": the file has more bytes than its image, since its extents overlap; \
-                    cat and get of one file take N of them with --bytes N (refusal 5)\n";
+    let sentence = "vault: disc.img: \"FILM\": the file is longer than its image, because its extents overlap; \
+                    to read N bytes of it, use cat or get with --bytes N (refusal 5)\n";
     for words in ["cat disc.img FILM", "get disc.img FILM film", "cat disc.img FILM --from 400000000"] {
         let said = shelf.says(words);
         assert_eq!((said.status, said.error.as_str(), said.bytes.len()), (5, sentence, 0), "{words}");

@@ -79,7 +79,7 @@ fn twins_are_both_kept_on_a_stick() {
         let said = folder.vault(&["get", "-r", "show.img", "-o", "to"]);
         assert_eq!((said.status, said.out.lines().count()), (74, 4), "{said:?}");
         assert!(said.out.contains("SHOW/10.1a: 54 bytes, to to/SHOW/10.1a~2\n"), "{said:?}");
-        assert!(said.error.contains("\"SHOW/10.1a\" is written to to/SHOW/10.1a~2, since its own name is another's here"), "{said:?}");
+        assert!(said.error.contains("\"SHOW/10.1a\" is written to to/SHOW/10.1a~2: its own name is taken there"), "{said:?}");
         assert!(said.error.ends_with("1 of 5 files and folders not under their own names\n"), "{said:?}");
         assert_eq!(fs::read_dir(folder.at("to/SHOW")).unwrap().count(), 4, "{again}");
         assert!(read("10.1A").starts_with("cue 10.1A\n") && read("10.1a~2").starts_with("cue 10.1a\n"));
@@ -178,7 +178,7 @@ fn sums_are_taken_by_sha256sum() {
     assert!(said.status == 74 && said.error.contains("--sums needs sha256sum") && !folder.at("to/SHOW").exists(), "{said:?}");
     // Not over a file of the disc, nor over the image.
     let said = folder.vault(&["get", "-r", "show.img", "-o", "to", "--sums", "to/SHOW/9"]);
-    assert!(said.status == 74 && said.error.contains("a file of the disc was written here"), "{said:?}");
+    assert!(said.status == 74 && said.error.contains("a file from the disc was written here"), "{said:?}");
     assert_eq!(folder.vault(&["get", "-r", "show.img", "-o", "to", "--sums", "show.img"]).status, 64);
 }
 

@@ -413,10 +413,7 @@ fn the_command_surveys_a_shelf() {
     let said = folder.vault(&["survey", "show.img", "cut.img"]);
     assert_eq!((said.status, said.out.as_str()), (67, format!("{line}{}", line.replace("show.img", "total")).as_str()), "{said:?}");
     let errors: Vec<&str> = said.error.lines().collect();
-    assert!(
-        errors[0].starts_with("vault: cut.img: a sector that was asked for isn't") && errors[0].contains("(refusal 1); the last sector"),
-        "{said:?}"
-    );
+    assert!(errors[0].starts_with("vault: cut.img: a sector is missing") && errors[0].contains("(refusal 1); the last sector"), "{said:?}");
     assert_eq!(errors[1..], ["vault: survey: images: 2, not surveyed: 1; files: 4, of which can be read: 4"]);
     let said = folder.vault(&["survey", "ruined.img", "none.img", "show.img", "--copy"]);
     let lines: Vec<&str> = said.out.lines().collect();

@@ -79,8 +79,8 @@ fn what_ls_prints_is_taken_back() {
     }
     assert_eq!(folder.vault(&["ls", "-0", "a.img"]).out, TRICKS.map(|name| format!("{name}\0")).concat());
     assert_eq!(folder.vault(&["ls", "-R", "-0", "a.img"]).out, TRICKS.map(|name| format!("{name}\0")).concat());
-    refuses(&folder.vault(&["cat", "a.img", "back\\slash"]), 64, "--raw takes PATH as it is");
-    refuses(&folder.vault(&["cat", "a.img", "\\n"]), 64, "begins \\\\, \\u{..} or \\x..");
+    refuses(&folder.vault(&["cat", "a.img", "back\\slash"]), 64, "--raw takes PATH literally");
+    refuses(&folder.vault(&["cat", "a.img", "\\n"]), 64, "starts \\\\, \\u{..} or \\x..");
 }
 
 #[test]
@@ -97,7 +97,7 @@ fn what_no_path_leads_to_is_had_by_its_place() {
         assert_eq!(fs::read_to_string(folder.at("file")).unwrap(), i.to_string());
         assert!(folder.vault(&["stat", "a.img", "--icb", icb]).out.contains("kind     file\n"));
     }
-    refuses(&folder.vault(&["cat", "a.img", "with\\u{2f}slash"]), 64, "ls -i shows its place, for --icb");
+    refuses(&folder.vault(&["cat", "a.img", "with\\u{2f}slash"]), 64, "use --icb with its place, from ls -i");
     assert_eq!(folder.vault(&["cat", "a.img", "with/slash"]).status, 3);
 }
 
@@ -150,7 +150,7 @@ fn a_link_is_followed_or_refused() {
     answers(&folder.vault(&["get", "show.img", "SHOW/11", "link"]), "");
     assert_eq!(fs::read_to_string(folder.at("old")).unwrap(), BLACKOUT);
     assert!(folder.at("link").is_symlink());
-    refuses(&folder.vault(&["get", "show.img", "SHOW/11", "lost"]), 74, "this is a link that leads to nothing");
+    refuses(&folder.vault(&["get", "show.img", "SHOW/11", "lost"]), 74, "this is a broken link");
     assert_eq!(folder.names(), ["link", "lost", "old", "show.img"]);
 }
 
@@ -300,7 +300,7 @@ fn directories_that_hold_each_other_end() {
         let said = folder.vault(&[&["get", "-r", "a.img", "-o", "to"], drive].concat());
         assert_eq!((said.status, below(&folder, "to")), (67, ["a/", "a/cue", "cue"].map(String::from).to_vec()), "{said:?}");
         for path in ["self", "again", "b", "a/up"] {
-            assert!(said.error.contains(&format!("\"{path}\" is a directory that another entry named before")), "{said:?}");
+            assert!(said.error.contains(&format!("\"{path}\" is a directory that an earlier entry also names")), "{said:?}");
         }
     }
 }
@@ -325,7 +325,7 @@ fn what_cannot_be_had_keeps_nothing_back() {
     for limit in ["1", "7", "8", "16"] {
         for drive in [&[][..], &["--drive"]] {
             let said = many.vault(&[&["get", "-r", "show.img", "-o", "to", "--limit", limit], drive].concat());
-            refuses(&said, 68, &format!("stopped after {limit} sectors, the limit; nothing was written. The disc may be made to do harm"));
+            refuses(&said, 68, &format!("stopped after {limit} sectors, the limit; nothing was written. The disc may be malicious"));
             assert!(below(&many, "to").is_empty(), "{said:?}");
         }
     }
@@ -347,7 +347,7 @@ fn paths_of_many_bytes_are_refused_before_anything_is_written() {
     }
     disc.root(below);
     folder.write("a.img", &disc.0);
-    refuses(&folder.vault(&["get", "-r", "a.img", "-o", "to"]), 68, "take a folder at a time; nothing was written");
+    refuses(&folder.vault(&["get", "-r", "a.img", "-o", "to"]), 68, "copy one folder at a time; nothing was written");
     assert_eq!(fs::read_dir(folder.at("to")).unwrap().count(), 0);
 }
 
@@ -515,7 +515,7 @@ fn what_was_planted_is_neither_followed_nor_written() {
     for drive in [&[][..], &["--drive"]] {
         let said = folder.vault(&[&["get", "-r", "show.img", "-o", "to"], drive].concat());
         assert_eq!((said.status, said.out.as_str()), (74, ""), "{said:?}");
-        for (name, why) in [("9", "no ordinary file"), ("10.1A", "isn't followed"), ("10.1a", "isn't followed"), ("11", "no ordinary file")]
+        for (name, why) in [("9", "not a regular file"), ("10.1A", "not followed"), ("10.1a", "not followed"), ("11", "not a regular file")]
         {
             assert!(said.error.lines().any(|line| line.contains(&format!("to/SHOW/{name}: ")) && line.contains(why)), "{name} {said:?}");
         }
@@ -659,5 +659,5 @@ fn files_have_their_sizes() {
     let said = folder.vault(&["stat", "a.img", "short"]);
     assert!(said.out.contains("\nlength   5000 bytes, as its entry says\nread     2148 bytes\nstorage  extents: 2\n"), "{said:?}");
     let said = folder.vault(&["stat", "a.img", "gone"]);
-    assert!(said.status == 0 && said.out.contains("\nread     none: a sector that was asked for isn't"), "{said:?}");
+    assert!(said.status == 0 && said.out.contains("\nread     none: a sector is missing"), "{said:?}");
 }

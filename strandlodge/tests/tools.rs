@@ -114,7 +114,7 @@ fn genisoimage() {
     // By its number the partition isn't found any more, and by its map it is.
     folder.write("other.iso", &renumbered(std::fs::read(folder.at("disc.iso")).unwrap()));
     let lost = folder.vault(&["ls", "other.iso"]);
-    assert!(lost.status == 4 && lost.error.contains("found through its maps, with --maps; "), "{lost:?}");
+    assert!(lost.status == 4 && lost.error.contains("; --maps opens it, through its partition maps; "), "{lost:?}");
     assert_eq!(folder.vault(&["ls", "--maps", "other.iso", "wide"]).out, folder.vault(&["ls", "disc.iso", "wide"]).out);
     assert_eq!(all_right(&folder, &["check", "--maps", "--checked", "other.iso"]), all_right(&folder, &["check", "disc.iso"]));
     assert!(folder.vault(&["cat", "--maps", "other.iso", "of 3000000"]).bytes == noise(3_000_000));
@@ -240,7 +240,7 @@ fn mkudffs_in_forms_that_are_not_read() {
         assert_eq!((label, root), (2, 2), "{block}");
         for words in [&["ls", "disc.img"][..], &["ls", "disc.img", "--drive"]] {
             let said = folder.vault(words);
-            assert!(said.error.starts_with(&format!("vault: disc.img: the disc has blocks of {block} bytes, and ")), "{said:?}");
+            assert!(said.error.starts_with(&format!("vault: disc.img: the disc has blocks of {block} bytes; only ")), "{said:?}");
         }
     }
 }

@@ -152,18 +152,18 @@ fn a_refused_vault_leaves_nothing_behind() {
     let all: Vec<String> = (0..65).map(|i| i.to_string()).collect();
     let all: Vec<&str> = all.iter().map(String::as_str).collect();
     // Which name or file, which rule, and the twin.
-    let equal = "on a vault no two names are equal with ASCII case ignored, and a has this one (refusal 13)";
-    refuses(&["v.img", "a", "a b"], 13, "a b: the name has the byte 20, and on a vault those from 21 to 7E without the slash (refusal 13)");
+    let equal = "a has the same name, ignoring ASCII case: names on an image must differ (refusal 13)";
+    refuses(&["v.img", "a", "a b"], 13, "a b: the name contains the byte 20: an image takes 21 to 7E without the slash (refusal 13)");
     refuses(&["v.img", "0", "a", "A"], 13, &format!("vault: A: {equal}"));
     refuses(&["v.img", "a", "other/a"], 13, &format!("vault: other/a: {equal}"));
-    refuses(&["v.img", &"n".repeat(128)], 13, "n: the name has 128 bytes, and on a vault up to 127 (refusal 13)");
+    refuses(&["v.img", &"n".repeat(128)], 13, "n: the name has 128 bytes: an image takes up to 127 (refusal 13)");
     refuses(&["v.img", ".."], 13, "..: this path does not end in a file name (refusal 13)");
-    refuses(&[&["v.img"], &all[..]].concat(), 14, "v.img: these are 65 files, and a vault has up to 64 (refusal 14)");
+    refuses(&[&["v.img"], &all[..]].concat(), 14, "v.img: 65 files are too many: an image holds up to 64 (refusal 14)");
     refuses(&[&["v.img", "a b"], &all[..]].concat(), 13, "a b: ");
-    let long = "long: the file has 1073739777 bytes, and on a vault up to 1073739776 (refusal 14)";
+    let long = "long: the file has 1073739777 bytes: an image takes up to 1073739776 (refusal 14)";
     refuses(&["v.img", "a", "long"], 14, long);
     refuses(&["v.img", "a", "none"], 66, "none: can't open this file");
-    refuses(&["v.img", "a", "folder"], 66, "folder: this is no ordinary file");
+    refuses(&["v.img", "a", "folder"], 66, "folder: not a regular file");
     refuses(&["v.img", "./v.img"], 64, "this is the image itself: choose another file");
     refuses(&["folder", "a"], 74, "this is a directory");
     refuses(&["no/v.img", "a"], 74, "can't write this file");

@@ -23,12 +23,12 @@ vault: look into a UDF disc. IMAGE is a file or a drive, and is only read.
   vault sample FILE            write a sample show; vault alone gives a tour
   --as-written, --unambiguous, --as-original   how the names in PATH match
   --icb BLOCK[:REF]      use this ICB in place of PATH; ls -i shows it
-  --checked, --highest, --maps   how to open the disc (default: as the original)
+  --checked, --highest, --maps   how the disc is opened; else as the original
   --copy, --drive   read to memory first, or sector by sector (default: map it)
   --json, --sectors, --limit N   print JSON; report sectors; limit sectors
 For one command, run vault help COMMAND. For the version, run vault --version.
-Status: 0 done, 1 to 16 refused with that number, 64 wrong usage, 65 something
-wrong, or a no, 66 no image, 67 not all read, 68 limit, 70 unknown, 74 no output.
+Status: 0 done, 1 to 16 refused with that number, 64 wrong usage, 65 a fault or
+a no, 66 no image, 67 not all read, 68 limit, 70 unknown, 74 no output.
 ";
 
 /// On paths; for each command that takes one.
@@ -58,8 +58,8 @@ const COMMANDS: [(&str, &str, [bool; 3]); 14] = [
     ("label", "vault label IMAGE\nPrints the volume's name.\n", [false, true, true]),
     (
         "info",
-        "vault info IMAGE\nPrints the volume's names, its UDF revision, partitions, maps and the descriptors\n\
-         in effect; and free space, files and directories where these are recorded.\n  --json     print JSON\n",
+        "vault info IMAGE\nPrints the volume's names, its UDF revision, partitions, maps, descriptors in\n\
+         effect; and free space, files and directories where these are recorded.\n  --json     print JSON\n",
         [false, true, false],
     ),
     (
@@ -89,8 +89,8 @@ const COMMANDS: [(&str, &str, [bool; 3]); 14] = [
     ("get", GET, [true, true, true]),
     (
         "stat",
-        "vault stat IMAGE [PATH]\nPrints the ICB of PATH, its kind, its length by its entry, the bytes that a read\n\
-         gives, and its extents. Without PATH: the volume's descriptors and maps.\n  --json     print JSON\n",
+        "vault stat IMAGE [PATH]\nPrints the ICB of PATH, its kind, its length by its entry, the bytes that a\n\
+         read gives, and its extents. Without PATH: the volume's descriptors and maps.\n  --json     print JSON\n",
         [true, true, true],
     ),
     (
@@ -116,9 +116,9 @@ const COMMANDS: [(&str, &str, [bool; 3]); 14] = [
          can't be surveyed.\n\
          \x20 --rows     print a row of numbers for each image, for --total\n\
          \x20 --total    the arguments are files of such rows: add them up\n\
-         \x20 --limit N  ask for at most N sectors of each image (default 500000, plus 4 for\n\
-         \x20            each that it has). One that needs more is refused (16); the rest\n\
-         \x20            goes on\n  --no-limit no limit\n  --json     print JSON\n",
+         \x20 --limit N  ask for at most N sectors of each image (default 500000, plus 4\n\
+         \x20            for each that it has). One that needs more is refused (16), and\n\
+         \x20            the rest goes on\n  --no-limit no limit\n  --json     print JSON\n",
         [false, true, false],
     ),
     (
@@ -138,8 +138,8 @@ const COMMANDS: [(&str, &str, [bool; 3]); 14] = [
     ),
     (
         "sample",
-        "vault sample FILE\nWrites the image of a sample show, the one of the tour. It is a complete disc of\n\
-         UDF 1.02, which other readers can read too.\n\
+        "vault sample FILE\nWrites the image of a sample show, the one of the tour. It is a complete UDF\n\
+         1.02 disc, which other readers can read too.\n\
          \x20 --force    replace FILE if it exists; otherwise it is left as it is\n",
         [false, false, false],
     ),

@@ -1,4 +1,4 @@
-//! `make`: a vault of some files.
+//! `make`: an image of some files.
 
 use crate::bar::Word;
 use crate::commands::line;
@@ -13,22 +13,22 @@ use std::os::unix::ffi::OsStrExt;
 use std::path::Path;
 use strandlodge::{Refusal, SECTOR_SIZE, write_staged, write_total};
 
-/// Said of an image that is there: it may be a file that was to go on the vault.
+/// Said of an IMAGE that exists: it may be a file that was meant to go into the image.
 const FIRST: &str = "; the first argument, IMAGE, is the file to write";
 
-/// What a vault has at most: files, bytes of a name, and bytes of a file (docs/LAYOUT.md).
+/// What an image has at most: files, bytes of a name, and bytes of a file (docs/LAYOUT.md).
 const MOST_FILES: usize = 64;
 const LONGEST: usize = 127;
 const MOST_BYTES: u64 = 1_073_739_776;
 
-/// A file that goes on the vault, with the bytes that it had when it was opened.
+/// A file for the image, with the bytes that it had when it was opened.
 struct Source<'a> {
     path: &'a OsStr,
     file: File,
     length: u64,
 }
 
-/// The name that a file has on the vault: the last part of its path.
+/// The name that a file gets in the image: the last part of its path.
 fn name(path: &OsStr) -> &[u8] {
     Path::new(path).file_name().unwrap_or_default().as_bytes()
 }
@@ -51,7 +51,7 @@ fn source<'a>(image: &OsStr, path: &'a OsString) -> Result<Source<'a>, Failure> 
     Ok(Source { path, file, length: about.len() })
 }
 
-/// Writes a vault of these files to `image`, which is made, or replaced where that is forced, and prints how many sectors it has.
+/// Writes an image of these files to `image`, which is created, or replaced if that is forced, and prints how many sectors it has.
 pub fn make(image: &OsStr, files: &[OsString], force: bool, out: &mut impl Write) -> Result<(), Failure> {
     let target = Target::fresh(image, force, FIRST)?;
     let names: Vec<&[u8]> = files.iter().map(|file| name(file)).collect();
@@ -75,7 +75,7 @@ pub fn make(image: &OsStr, files: &[OsString], force: bool, out: &mut impl Write
     line(out, &made(image, files.len(), sectors))
 }
 
-/// What is said of a vault that was written.
+/// What is said of an image that was written.
 pub fn made(image: &OsStr, files: usize, sectors: u64) -> String {
     format!("{}: {files} file{}, {sectors} sectors", shown(image.as_bytes()), if files == 1 { "" } else { "s" })
 }
@@ -89,7 +89,7 @@ fn breaks(about: &OsStr, why: Refusal, rule: String) -> Failure {
     Failure::with_number(why, format!("{}: {rule}", shown(about.as_bytes())))
 }
 
-/// Why a vault isn't written, with the first file whose name is bad, or that of one before it.
+/// Why an image is not written, with the first file whose name is bad, or that of one before it.
 fn misnamed(image: &OsStr, files: &[OsString], names: &[&[u8]], why: Refusal) -> Failure {
     if why == Refusal::BadFiles {
         return breaks(image, why, format!("{} files are too many: an image holds up to {MOST_FILES}", files.len()));

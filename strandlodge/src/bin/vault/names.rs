@@ -131,10 +131,10 @@ mod tests {
         for typed in
             ["\\", "a\\b", "\\n", "\\x", "\\x4", "\\xg0", "\\x+1", "\\u", "\\u{}", "\\u{41", "\\u{110000}", "\\u{d800}", "\\u{0000041}"]
         {
-            assert!(read(typed.as_bytes()).unwrap_err().contains("--raw takes PATH as it is"), "{typed}");
+            assert!(read(typed.as_bytes()).unwrap_err().contains("--raw takes PATH literally"), "{typed}");
         }
         for typed in ["a\\u{2f}b", "a\\x2fb"] {
-            assert!(read(typed.as_bytes()).unwrap_err().contains("for --icb"), "{typed}");
+            assert!(read(typed.as_bytes()).unwrap_err().contains("use --icb"), "{typed}");
         }
     }
 }

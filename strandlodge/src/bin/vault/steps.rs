@@ -217,11 +217,11 @@ mod tests {
     #[test]
     fn another_case_is_remarked() {
         for rule in [FIRST, ONLY] {
-            let says = "\"10.1A\" under \"SHOW\" gives \"10.1a\", in another case \
+            let says = "\"10.1A\" under \"SHOW\" matched \"10.1a\", which differs in case \
                         (--as-written accepts only the exact name, --unambiguous refuses if several match)";
             assert_eq!(step("10.1A", &["9", "10.1a"]).remark(rule).as_deref(), Some(says));
         }
-        let says = "\"10.1A\" under \"SHOW\" gives \"10.1a\", in another case (--as-written accepts only the exact name)";
+        let says = "\"10.1A\" under \"SHOW\" matched \"10.1a\", which differs in case (--as-written accepts only the exact name)";
         assert_eq!(step("10.1A", &["9", "10.1a"]).remark(Rule::Safe).as_deref(), Some(says));
         assert_eq!(step("10.1A", &["9", "10.1a"]).remark(WRITTEN), None);
     }
@@ -231,11 +231,11 @@ mod tests {
         let cure = "(--as-written accepts only the exact name, --unambiguous refuses)";
         for (name, entries) in [("a", ["A", "a"]), ("A", ["A", "a"])] {
             let says =
-                format!("\"{name}\" under \"SHOW\" gives \"A\" in block 1, the first of 2 that match, and not \"a\" in block 2 {cure}");
+                format!("\"{name}\" under \"SHOW\" matched \"A\" in block 1, the first of 2 that match, not \"a\" in block 2 {cure}");
             assert_eq!(step(name, &entries).remark(FIRST), Some(says));
         }
         let cure = "(--icb tells them apart, --as-written doesn't, --unambiguous refuses)";
-        let says = format!("\"a\" under \"SHOW\" gives \"a\" in block 2, the first of 2 that match, and not \"a\" in block 3 {cure}");
+        let says = format!("\"a\" under \"SHOW\" matched \"a\" in block 2, the first of 2 that match, not \"a\" in block 3 {cure}");
         assert_eq!(step("a", &["b", "a", "a"]).remark(FIRST).as_ref(), Some(&says));
         for rule in [WRITTEN, Rule::Safe] {
             assert_eq!(step("a", &["A", "a", "a"]).remark(rule).as_ref(), Some(&says));

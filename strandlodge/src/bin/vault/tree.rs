@@ -302,9 +302,9 @@ fn too_deep(name: &str, seen: &Seen, bounds: Bounds) -> Result<(), Failure> {
         return Ok(());
     }
     let many = if seen.deep == 1 { "1 directory at level".to_string() } else { format!("{} directories at level", seen.deep) };
-    let first = if seen.deep == 1 { quoted(&seen.first) } else { format!("{} the first", quoted(&seen.first)) };
+    let first = if seen.deep == 1 { format!(": {}", quoted(&seen.first)) } else { format!("; the first is {}", quoted(&seen.first)) };
     let cure = if bounds.levels < Bounds::MOST_LEVELS { format!("; --levels {} shows more", bounds.levels + 1) } else { String::new() };
-    let says = format!("{name}: {many} {}, the last level, not shown: {first}", bounds.levels);
+    let says = format!("{name}: {many} {}, the last level, not looked into{first}", bounds.levels);
     let mut failure = Failure::with_number(Refusal::TooDeep, says);
     failure.says = failure.says.map(|says| says + &cure);
     Err(failure)
