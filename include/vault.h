@@ -537,8 +537,9 @@ typedef struct {
  *
  * Each image has its own budget of `most` sectors. Its opening, its tree and the reads of its files, in their order,
  * each have what those before have left, by their counts. An image that needs more counts under VAULT_OVER_BUDGET,
- * and the next one follows. What is looked up besides the reads, extents and chains, is not counted. On a sound disc
- * each sector is asked for once, and the sectors of a file once for each path to it. VAULT_UNLIMITED is no budget. */
+ * and the next one follows. Extents and chains are looked up besides the reads, and that is not counted. On a sound
+ * disc each sector is asked for once, and the sectors of a file once for each path to it. VAULT_UNLIMITED is no
+ * budget. */
 uint64_t vault_survey(const uint8_t *shelf, size_t shelf_length, const uint64_t *lengths, size_t lengths_places,
                       uint32_t how, uint64_t most, uint64_t *figures, size_t figures_places, uint8_t *work,
                       size_t work_length);

@@ -299,7 +299,7 @@ fn the_maps_of_a_volume_are_shown() {
     virtual_map.resize(70, 0);
     let folder = written(&TestDisc::new(2, &virtual_map, (0, 1)).0);
     let said = folder.vault(&["stat", "a.img", "--maps"]);
-    assert!(said.out.ends_with("map      1, type 2 (*UDF Virtual Partition), 64 bytes: a form that isn't read\n"), "{said:?}");
+    assert!(said.out.ends_with("map      1, type 2 (*UDF Virtual Partition), 64 bytes: not supported\n"), "{said:?}");
     // No way out is said where the maps are none either.
     for said in [said, folder.vault(&["ls", "a.img"])] {
         let why = "partition map 1 is of type 2 (*UDF Virtual Partition); only type 1 is supported (refusal 4); the last sector asked for was 36,";

@@ -161,7 +161,7 @@ fn mkudffs(tool: &Path, words: &[&str]) -> (Folder, i32, i32) {
     }
     // A map of type 2 isn't read, whether or not the disc is without maps.
     let (maps, plain) = (folder.vault(&["ls", "--maps", "disc.img"]), folder.vault(&["stat", "disc.img"]));
-    let other = plain.out.lines().any(|line| line.starts_with("map ") && line.ends_with("a form that isn't read"));
+    let other = plain.out.lines().any(|line| line.starts_with("map ") && line.ends_with("not supported"));
     assert_eq!(maps.status, if other { 4 } else { root.status }, "{words:?} {plain:?}");
     (folder, label.status, root.status)
 }
@@ -218,7 +218,7 @@ fn mkudffs_for_rewritable_discs() {
     for (media, revision) in [("cdrw", "2.01"), ("dvdrw", "2.01")] {
         let (folder, label, root) = mkudffs(&tool, &["-b", "2048", "-m", media, "-r", revision]);
         assert_eq!((label, root), (0, 0), "{media} {revision}");
-        assert!(folder.vault(&["stat", "disc.img"]).out.contains("type 2 (*UDF Sparable Partition), 64 bytes: a form that isn't read\n"));
+        assert!(folder.vault(&["stat", "disc.img"]).out.contains("type 2 (*UDF Sparable Partition), 64 bytes: not supported\n"));
         assert_eq!(folder.vault(&["ls", "disc.img", "--maps"]).status, 4);
     }
 }

@@ -55,7 +55,7 @@ pub struct Figures {
 //
 // Each image has its own budget of `most` sectors. Its opening, its tree and the reads of its files, in their order,
 // each have what those before have left, by their counts. An image that needs more counts under VAULT_OVER_BUDGET, and
-// the next one follows. What is looked up besides the reads, extents and chains, is not counted. On a sound disc each
+// the next one follows. Extents and chains are looked up besides the reads, and that is not counted. On a sound disc each
 // sector is asked for once, and the sectors of a file once for each path to it. VAULT_UNLIMITED is no budget.
 #[no_mangle]
 pub extern "C" fn vault_survey(

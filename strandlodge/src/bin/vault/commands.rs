@@ -205,7 +205,7 @@ pub fn descriptor_json(one: &VolumeDescriptor) -> Json {
 pub fn say_found(found: &Found, path: &[u8], out: &mut impl Write) -> io::Result<()> {
     let icb = found.icb;
     writeln!(out, "path     {}", shown(path))?;
-    let none = if path.starts_with(b"--icb") { "not known, it was asked for by its place" } else { "none, this is the root" };
+    let none = if path.starts_with(b"--icb") { "not known, it was given by its ICB" } else { "none, this is the root" };
     writeln!(out, "entry    {}", found.entry.as_ref().map_or(none.to_string(), listed))?;
     writeln!(out, "kind     {}", if found.is_directory { "directory" } else { "file" })?;
     let place = icb.location;

@@ -27,8 +27,8 @@ vault: look into a UDF disc. IMAGE is a file or a drive, and is only read.
   --copy, --drive   read to memory first, or sector by sector (default: map it)
   --json, --sectors, --limit N   print JSON; report sectors; limit sectors
 For one command, run vault help COMMAND. For the version, run vault --version.
-Status: 0 done, 1 to 16 refused with that number, 64 wrong usage, 65 a fault or
-a no, 66 no image, 67 not all read, 68 limit, 70 unknown, 74 no output.
+Status: 0 done, 1 to 16 refused with that number, 64 usage, 65 fault found or
+probe says no, 66 no image, 67 not all read, 68 limit, 70 unknown, 74 output.
 ";
 
 /// On paths; for each command that takes one.
@@ -83,7 +83,7 @@ const COMMANDS: [(&str, &str, [bool; 3]); 14] = [
         "cat",
         "vault cat IMAGE PATH\nWrites a file's bytes to standard output.\n\
          \x20 --from N, --bytes N  start at byte N, the first is 0; write at most N bytes\n\
-         \x20 --wait N   wait up to N seconds for an image that is being copied to its end\n",
+         \x20 --wait N   wait up to N seconds while the image is copied, front to back\n",
         [true, true, true],
     ),
     ("get", GET, [true, true, true]),
