@@ -61,7 +61,7 @@ fn failed(answer: Answered<Option<&[u8]>>, path: &[u8]) -> Said {
 
 // ---- lent memory
 
-/// An empty vector with room for exactly so many, all of it written once.
+/// An empty vector with room for exactly this many, all of it written once.
 fn lent<T: Copy>(n: u32, came: T) -> Vec<T> {
     let mut lent = Vec::with_capacity(n as usize);
     lent.resize(n as usize, came);
@@ -77,7 +77,7 @@ fn whole<T: Copy>(mut lent: Vec<T>) -> Vec<T> {
     lent
 }
 
-/// Whether what stands behind the content is as it came.
+/// Whether the memory after the content is unchanged.
 fn is_kept<T: Copy + PartialEq>(content: Vec<T>, came: T) -> bool {
     let front = content.len();
     whole(content)[front..].iter().all(|one| *one == came)
@@ -180,7 +180,7 @@ fn hold_runs(volume: Volume, image: &[u8], icb: LongAd) {
 
 // ---- `Counted`
 
-/// A listing's record behind its mark, of what was read from one.
+/// A listing's record after its mark, from an entry that was read from one.
 fn record(entry: &DirEntry) -> Vec<u8> {
     let (icb, n) = (recorded(&entry.icb.to_c()), entry.name.len() as u16);
     [&[u8::from(entry.is_directory)], &icb[..], &n.to_le_bytes(), entry.name.as_bytes()].concat()

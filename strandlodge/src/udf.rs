@@ -113,7 +113,7 @@ impl DescriptorTag {
         parsing::tag_bytes(self.to_c())
     }
 
-    /// Whether its location is where it is: `sector` for a volume's descriptor; `block`, within its partition, for any
+    /// Whether its location matches where it is: `sector` for a volume's descriptor; `block`, within its partition, for any
     /// other.
     pub fn is_in_place(&self, sector: u64, block: u32) -> bool {
         parsing::is_in_place(self.to_c(), sector, block)
@@ -325,7 +325,7 @@ descriptors! {
     "The file set descriptor (4/14.1), with the root." FileSetDescriptor, file_set {
         root_directory_icb: LongAd = place,
     }
-    "The header of a continuation (4/14.5): the descriptors stand behind it." AllocationExtentDescriptor, aed {
+    "The header of a continuation (4/14.5); its descriptors follow it." AllocationExtentDescriptor, aed {
         previous_allocation_extent_location: u32 = same,
         length_of_allocation_descriptors: u32 = same,
     }

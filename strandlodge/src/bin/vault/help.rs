@@ -151,7 +151,7 @@ vault get IMAGE PATH FILE          copy a file to FILE, whole or not at all
 vault get IMAGE -o TO PATH..       copy each file to its own name in folder TO
 vault get -r IMAGE -o TO [PATH..]  copy all below each PATH, or the whole disc
   --from N, --bytes N, --wait N  for one file: as in cat
-  --limit N, --no-limit  for -r: at most N sectors (500000, plus 4 for each)
+  --limit N, --no-limit  for -r: at most N sectors (500000 plus 4 per sector)
   --sums FILE  for -r: write sums for sha256sum -c
   --portable   for -r: write names that every file system accepts
 A replaced FILE keeps its mode; -r follows no links; /dev/stdout is written to.
