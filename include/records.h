@@ -1,18 +1,17 @@
-/* records.h: The raw records of a UDF disc (ECMA-167, OSTA UDF), parsed and encoded, for C.
+/* records.h: Parses and encodes the raw records of a UDF disc (ECMA-167, OSTA UDF), for C.
  *
  * Link target/staticlib/librecords_c.a, which `rt staticlib records_c` makes from the proved sources. Each call has
- * the contract of the call of the crate below that it passes on.
+ * the contract of the call that it passes on, of a crate below.
  *
  * Nothing here allocates, keeps or frees memory. Lent pieces must not overlap. A piece of length 0 may have a null
- * pointer, and none has more than PTRDIFF_MAX bytes.
+ * pointer. No piece has more than PTRDIFF_MAX bytes.
  *
- * A record is parsed at the front of `bytes`, and what stands behind it isn't looked at. Every call that parses or
- * decodes answers with a number. A call that is refused has zeros in every value, and leaves `out` as it came.
- * Fields have the names of ECMA-167's fields, and stand as they are recorded unless something else is said here. If
- * `bytes` change during a call, the answer may be that of no bytes; the call stays inside the memory that it was
- * lent, and writes nothing behind the answered length.
+ * A record is parsed at the front of `bytes`; what follows it is ignored. Every call that parses or decodes returns
+ * an answer. If it is refused, all its values are zero and `out` is unchanged. Fields have the names of ECMA-167 and
+ * are as recorded, unless this header says otherwise. If `bytes` change during a call, the result may match no state
+ * of `bytes`; the call stays inside the memory that it was lent, and writes nothing past the length that it returns.
  *
- * The numbers are those of vault.h. Given are: RECORDS_DONE, RECORDS_MALFORMED, RECORDS_NO_ROOM.
+ * The numbers are those of vault.h. Used here: RECORDS_DONE, RECORDS_MALFORMED, RECORDS_NO_ROOM.
  *
  * Made by tools/faces.py from the comments and declarations of crates/records_c. */
 #ifndef RECORDS_H
@@ -26,16 +25,16 @@
 extern "C" {
 #endif
 
-/* What a call answers: that it is done, or why it is refused. */
+/* The answer of a call: done, or why it is refused. */
 typedef enum records_answer {
     RECORDS_DONE = 0, /* Done. */
-    RECORDS_MALFORMED = 2, /* Too few bytes, or a descriptor, a tag, a name or a length that is not what it must be. */
-    RECORDS_NO_ROOM = 5, /* The answer has more bytes than `out` holds. */
+    RECORDS_MALFORMED = 2, /* Too few bytes, or an invalid descriptor, tag, name or length. */
+    RECORDS_NO_ROOM = 5, /* The result has more bytes than `out`. */
 } records_answer;
 
 /* ---- Allocation descriptors: extent_ad, short_ad, lb_addr, long_ad and ext_ad.
  *
- * A raw length is 30 bits of length below 2 bits of type. Encoding keeps so many bits of either, and 30 of an
+ * A raw length has 30 bits of length below 2 bits of type. Encoding keeps that many bits of each, and 30 bits of an
  * ext_ad's recorded length. */
 
 typedef struct {
@@ -55,10 +54,10 @@ typedef struct {
     uint16_t partition_ref; /* The partition. */
 } records_lb_addr;
 
-/* Where something stands, and on which partition: the ICB of a file or a directory is one. */
+/* The place of something on the disc, such as the ICB of a file or a directory. */
 typedef struct {
-    uint32_t length; /* In bytes, below 2^30 where it was read. */
-    uint8_t extent_type; /* 0 to 3 where it was read: 0 is recorded. */
+    uint32_t length; /* In bytes; below 2^30 if it was read from a disc. */
+    uint8_t extent_type; /* 0 to 3 if it was read from a disc; 0 is recorded. */
     records_lb_addr location; /* The first block. */
     uint8_t implementation_use[6]; /* As recorded. */
 } records_long_ad;
@@ -66,7 +65,7 @@ typedef struct {
 typedef struct {
     uint32_t length;
     uint8_t extent_type;
-    uint32_t recorded_length; /* 30 bits of what is recorded. */
+    uint32_t recorded_length; /* 30 bits of the recorded number. */
     uint32_t information_length;
     records_lb_addr location;
     uint8_t implementation_use[2];
@@ -130,29 +129,30 @@ records_ext_ad_bytes records_encode_ext_ad(records_ext_ad value);
 
 /* ---- Names: d-strings and d-string fields as UTF-8.
  *
- * The name of a d-string, which is the whole of `bytes`, or of a d-string field, whose last byte says how long its
- * d-string is. It is written to the front of `out`, as UTF-8 with no zero behind it; `length` is the name's. */
+ * Decodes the name of a d-string, which is the whole of `bytes`, or of a d-string field, whose last byte gives the
+ * length of its d-string. The name goes to the front of `out` as UTF-8, with no terminating zero; `length` is its
+ * length. */
 
-/* The answer number, and how many bytes were written: 0 where it is a refusal. */
+/* The answer, and how many bytes were written; 0 if it is a refusal. */
 typedef struct {
     uint64_t answer;
     uint64_t length;
 } records_written;
 
-/* Writes the name of the d-string over the front of out. */
+/* Writes the name of the d-string to the front of `out`. */
 records_written records_decode_dstring(const uint8_t *bytes, size_t bytes_length, uint8_t *out, size_t out_length);
 
-/* Writes the name in the d-string field over the front of out. */
+/* Writes the name in the d-string field to the front of `out`. */
 records_written records_decode_dstring_field(const uint8_t *bytes, size_t bytes_length, uint8_t *out,
                                              size_t out_length);
 
 /* ---- The descriptor tag, its CRC, and the header of an allocation extent.
  *
- * A tag is refused unless its id is 1 to 9 or 256 to 266, its reserved byte 0 and its checksum right; the CRC is
- * checked by records_tag_body alone. Encoding takes any id, and makes the checksum. A header is a tag with id 258
+ * A tag is refused unless its id is 1 to 9 or 256 to 266, its reserved byte is 0 and its checksum is right. Only
+ * records_tag_body checks the CRC. Encoding takes any id and computes the checksum. A header is a tag with id 258
  * and two numbers. */
 
-/* The id is a number, which reading keeps within the listed ones. */
+/* The id is a number. Parsing accepts only the ids above. */
 typedef struct {
     uint16_t id;
     uint16_t descriptor_version;
@@ -190,16 +190,16 @@ records_tag_answer records_parse_tag(const uint8_t *bytes, size_t bytes_length);
 records_tag_bytes records_encode_tag(records_tag value);
 
 /* The place check: whether the tag's location is the number that it must be. `sector` and `block` are those that
- * hold the descriptor's first byte, counted from the disc's start and from its partition's. Ids 256 to 266 go by the
- * block, and every other id by the sector. */
+ * hold the descriptor's first byte, counted from the start of the disc and of its partition. Ids 256 to 266 go by
+ * the block, all others by the sector. */
 bool records_tag_in_place(records_tag tag, uint64_t sector, uint32_t block);
 
-/* The CRC of `bytes`, which a tag has of its descriptor's body: x^16 + x^12 + x^5 + 1, starting at 0, the highest
- * bit of a byte first. */
+/* The CRC of `bytes`, as a tag holds it for its descriptor's body: x^16 + x^12 + x^5 + 1, starting at 0, highest bit
+ * of a byte first. */
 uint16_t records_crc(const uint8_t *bytes, size_t bytes_length);
 
-/* The body check: `bytes` are those at hand from the descriptor on, with its tag in the first 16. Whether they hold
- * as many behind these as the tag's CRC length says, and these have the tag's CRC. A CRC length of 0 has the CRC 0. */
+/* The body check: whether `bytes`, which start with the descriptor's tag in the first 16, hold as many bytes after
+ * it as the tag's CRC length says, and these have the tag's CRC. A CRC length of 0 has the CRC 0. */
 bool records_tag_body(records_tag tag, const uint8_t *bytes, size_t bytes_length);
 
 records_aed_answer records_parse_aed(const uint8_t *bytes, size_t bytes_length);
@@ -217,9 +217,9 @@ typedef struct {
     uint16_t flags;
 } records_icb_tag;
 
-/* A file entry (id 261) or an extended one (266). The area of allocation descriptors, or the embedded file, stands
- * in `bytes` from `area_at` on; it lies within them, and isn't looked at here. The object size, an enum in the
- * entry, crosses as a bool and a number. */
+/* A file entry (id 261) or an extended one (266). The area of allocation descriptors, or the embedded file, is in
+ * `bytes` from `area_at` on. It is inside `bytes`, and is not looked at here. The object size, an enum in the entry,
+ * is passed as a bool and a number. */
 typedef struct {
     records_tag tag;
     records_icb_tag icb_tag;
@@ -232,17 +232,17 @@ typedef struct {
     uint32_t record_length;
     uint64_t information_length;
     uint64_t logical_blocks_recorded;
-    bool has_object_size; /* An extended entry has one. */
-    uint64_t object_size; /* 0 where there is none. */
+    bool has_object_size; /* Whether there is one: an extended entry has it. */
+    uint64_t object_size; /* 0 if there is none. */
     uint32_t length_of_extended_attributes;
     uint32_t length_of_allocation_descriptors;
-    uint8_t kind; /* Of the area: 0 short_ad, 1 long_ad, 2 ext_ad, 3 the file itself. */
+    uint8_t kind; /* The kind of the area: 0 short_ad, 1 long_ad, 2 ext_ad, 3 the file itself. */
     size_t area_at;
     size_t area_length;
 } records_file_entry;
 
-/* An entry of a directory (id 257). Its name, a d-string of `name_length` bytes, stands at `name_at`; as UTF-8 it
- * has `name_size` bytes. The next entry starts `total_size` bytes on. */
+/* An entry of a directory (id 257). Its name, a d-string of `name_length` bytes, is at `name_at`; as UTF-8 it has
+ * `name_size` bytes. The next entry starts `total_size` bytes further. */
 typedef struct {
     records_tag tag;
     uint16_t file_version_number;
@@ -275,8 +275,8 @@ records_file_identifier_answer records_parse_file_identifier(const uint8_t *byte
 
 /* ---- Volume structure: the anchor, the descriptors of a volume descriptor sequence, and the file set descriptor.
  *
- * Each begins with a tag that has its id (2, 1, 5, 6, 256). The identifiers are d-string fields as they are
- * recorded; one that can't be decoded is refused. */
+ * Each begins with a tag that has its id (2, 1, 5, 6, 256). Identifiers are d-string fields as recorded; one that
+ * can't be decoded is refused. */
 
 typedef struct {
     records_tag tag;
@@ -284,7 +284,7 @@ typedef struct {
     records_extent_ad reserve_volume_descriptor_sequence;
 } records_anchor;
 
-/* The volume identifier is the label's field as recorded. */
+/* The volume identifier is the label field as recorded. */
 typedef struct {
     records_tag tag;
     uint32_t volume_descriptor_sequence_number;
@@ -302,7 +302,7 @@ typedef struct {
     uint32_t partition_length;
 } records_partition;
 
-/* The identifier is the label's field as recorded. */
+/* The identifier is the label field as recorded. */
 typedef struct {
     records_tag tag;
     uint32_t volume_descriptor_sequence_number;
@@ -311,7 +311,7 @@ typedef struct {
     records_long_ad file_set_descriptor_location;
     uint32_t map_table_length; /* In bytes. */
     uint32_t number_of_partition_maps;
-    /* The first 24 bytes of the map table, as recorded; zeros past the bytes that were given. */
+    /* The first 24 bytes of the map table, as recorded; zeros past the end of the given bytes. */
     uint8_t partition_maps[24];
 } records_logical_volume;
 

@@ -36,7 +36,7 @@ _vault() {
         compopt -o filenames 2>/dev/null
         COMPREPLY=($(compgen -f -- "$word"))
     else
-        # What stands on the disc under the folder that is typed so far, where its names need no quoting.
+        # The entries on the disc under the folder typed so far, if their names need no quoting.
         local folder= IFS=$'\n'
         [[ $word == */* ]] && folder=${word%/*}/
         compopt -o nospace 2>/dev/null

@@ -1,16 +1,19 @@
 //! Finds the archives of the proved crates and links them.
 //!
-//! They are libvault_c.a, libdrives_c.a, libsurveys_c.a and librecords_c.a in the folder `VAULT_ARCHIVE`, and where that isn't set, in the repository: in
-//! target/staticlib, where proved ones alone are, or else in target/unproved, where ./vault compiles them with no proof checked. There none may be older than a
-//! source. The last is linked where it is there: who calls nothing of include/records.h needs none. They are x86-64 code for Linux, and on another target nothing
-//! is linked: there the declarations are of use to nobody, and the rest of the crate is. A dependent's build script is told the folder (`DEP_STRANDLODGE_FOLDER`)
-//! and of its archives' proofs whether they were checked (`DEP_STRANDLODGE_PROOFS`): `checked`, `unchecked`, or `unknown` of another folder.
+//! They are libvault_c.a, libdrives_c.a, libsurveys_c.a and librecords_c.a. The folder is `VAULT_ARCHIVE` if that is set. Otherwise it is target/staticlib of the
+//! repository, which holds only proved archives, or target/unproved, where ./vault compiles them with no proof checked; there no archive may be older than a source.
+//!
+//! librecords_c.a is linked only if it exists: you need it only to call include/records.h. The archives are x86-64 code for Linux. On any other target nothing is
+//! linked: the declarations are of no use there, but the rest of the crate is.
+//!
+//! A dependent's build script gets the folder (`DEP_STRANDLODGE_FOLDER`) and whether the proofs of its archives were checked (`DEP_STRANDLODGE_PROOFS`): `checked`,
+//! `unchecked`, or `unknown` for a folder from `VAULT_ARCHIVE`.
 
 use std::path::{Path, PathBuf};
 use std::time::SystemTime;
 use std::{env, fs};
 
-/// The crates whose archives are linked, and whether there is no way without.
+/// The crates whose archives are linked, and whether each is required.
 const CRATES: [(&str, bool); 4] = [("vault_c", true), ("drives_c", true), ("surveys_c", true), ("records_c", false)];
 
 fn main() {
@@ -31,7 +34,7 @@ fn main() {
             println!("cargo::rustc-link-lib=static={name}");
         } else if needed {
             println!(
-                "cargo::error={} is missing, or older than a source: ./vault --build makes it, and ./vault --prove a proved one",
+                "cargo::error={} is missing, or older than a source: run ./vault --build, or ./vault --prove for a proved one",
                 archive.display()
             );
         }
@@ -42,7 +45,7 @@ fn archive(folder: &Path, name: &str) -> PathBuf {
     folder.join(format!("lib{name}.a"))
 }
 
-/// The archives of the repository, whose root is the folder above this crate: proved ones, or else others.
+/// The archives of the repository, whose root is the folder above this crate: the proved ones if there are any.
 fn beside() -> (PathBuf, &'static str) {
     let root = PathBuf::from(env::var_os("CARGO_MANIFEST_DIR").unwrap_or_default()).join("..");
     println!("cargo::rerun-if-changed={}", root.join("crates").display());
@@ -53,12 +56,12 @@ fn beside() -> (PathBuf, &'static str) {
     match (is_fresh(&proved, newest), is_fresh(&unproved, newest)) {
         (true, _) => (proved, "checked"),
         (false, true) => (unproved, "unchecked"),
-        // Where there is no archive, this is said of a folder without any.
+        // Without archives, main reports them as missing from this folder.
         (false, false) => (root.join("target/none"), "unknown"),
     }
 }
 
-/// Whether the archives that are needed are in a folder, and none there is older than this.
+/// Whether a folder has the required archives, none older than this.
 fn is_fresh(folder: &Path, newest: Option<SystemTime>) -> bool {
     CRATES.iter().all(|(name, needed)| changed(&archive(folder, name)).map_or(!needed, |made| Some(made) >= newest))
 }

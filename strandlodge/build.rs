@@ -1,5 +1,5 @@
-//! Sees to it that the archive of `records_c` is there, which `strandlodge-sys` links where it is: without it nothing of this crate could be linked. The command
-//! is told whether the archives' proofs were checked (`VAULT_PROOFS`).
+//! Checks that the archive of `records_c` exists: `strandlodge-sys` links it only if it does, and this crate can't be linked without it. It also tells the
+//! command whether the archives' proofs were checked (`VAULT_PROOFS`).
 
 use std::env;
 use std::path::PathBuf;
@@ -12,6 +12,9 @@ fn main() {
     println!("cargo::rerun-if-changed={}", archive.display());
     let target = |what: &str| env::var(format!("CARGO_CFG_TARGET_{what}")).unwrap_or_default();
     if (target("ARCH").as_str(), target("OS").as_str()) == ("x86_64", "linux") && !archive.exists() {
-        println!("cargo::error={} is missing: make it with `rt staticlib records_c` in the repository's root", archive.display());
+        println!(
+            "cargo::error={} is missing: run `./vault --build` in the root of the repository, or `rt staticlib records_c` there",
+            archive.display()
+        );
     }
 }

@@ -195,17 +195,17 @@ static void records_by_hand(void) {
     }
 }
 
-/* What is said of an answer begins so; a number that isn't in the table is said to be none of it. */
+/* The text of each answer begins like this; a number that isn't in the table has a text of its own. */
 static void texts(void) {
-    static const char *const fronts[17] = {"Done", "A sector", "Too few", "No volume", "A form", "The answer", "A directory has", "There are more extents",
-                                           NULL, "A component", "A descriptor", "A directory is found", "There are more paths", "A name", "The files",
+    static const char *const fronts[17] = {"Done", "A sector", "Too few", "No volume", "Not supported", "The result", "A directory has", "There are more extents",
+                                           NULL, "A component", "A descriptor", "A directory is at", "There are more paths", "A name", "The files",
                                            "The lengths", "The call would ask"};
     for (uint64_t n = 0; n < 20; n++) {
-        const char *front = n < 17 && fronts[n] ? fronts[n] : "A number that isn't known";
+        const char *front = n < 17 && fronts[n] ? fronts[n] : "An unknown number";
         const char *text = vault_answer_text(n);
         EXPECT(strlen(text) >= strlen(front) && !memcmp(text, front, strlen(front)));
     }
-    EXPECT(!memcmp(vault_answer_text(UINT64_MAX), "A number that isn't known", 26) && strlen(vault_answer_text(VAULT_DONE)) == 4);
+    EXPECT(!memcmp(vault_answer_text(UINT64_MAX), "An unknown number", 18) && strlen(vault_answer_text(VAULT_DONE)) == 4);
 }
 
 /* A record of each cue: 44 45 0, the ICB, the name's length, the name. */

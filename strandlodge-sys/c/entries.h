@@ -1,18 +1,18 @@
-/* An entry of a listing. Its name stands in the listing itself, and has no zero behind it. */
+/* An entry of a listing. Its name points into the listing itself, and is not terminated by a zero. */
 typedef struct {
     const uint8_t *name; /* UTF-8. */
     size_t name_length;
-    vault_long_ad icb; /* What it stands for. */
-    uint8_t level; /* Of a show, how many names its path has; 0 of a listing. */
+    vault_long_ad icb; /* The ICB of the file or directory. */
+    uint8_t level; /* In a show, the number of names in its path; 0 in a listing. */
     bool directory;
 } vault_entry;
 
-/* Takes the record at `*at` off a listing (`levels` false: vault_list, vault_list_bytes) or a show (true: vault_show)
- * of `length` bytes, and moves `*at` behind it; begin with 0. False where none stands there whole, and then `*at` and
- * `*entry` are as they came. It stays within the `length` bytes, whatever they are.
+/* Takes the record at `*at` from a listing (`levels` false: vault_list, vault_list_bytes) or a show (true: vault_show)
+ * of `length` bytes, and moves `*at` past it; start with 0. Returns false if there is no complete record, and then
+ * leaves `*at` and `*entry` unchanged. It stays within the `length` bytes, whatever they are.
  *
- * A walk that lists what a record names goes round for ever on a directory that holds itself, or one above it: bound its
- * depth, or remember the blocks of the directories that it has listed. vault_show bounds it at 16. */
+ * A walk that lists every directory it finds never ends if a directory contains itself or one above it: limit its depth,
+ * or remember the blocks of the directories that it has listed. vault_show limits the depth to 16. */
 static inline bool vault_next_record(const uint8_t *listing, size_t length, bool levels, size_t *at,
                                      vault_entry *entry) {
     size_t head = levels ? 22 : 21; /* The mark, the level, the kind, the ICB and the name's length. */

@@ -1,27 +1,28 @@
-//! The stored queries of the program `asker`: images that are kept sparse, and what is asked of each, read from a file and written to one.
-//! docs/COMPARING.md has the form of the file. It is read strictly: one that is cut, or that has a number which means nothing, is refused.
+//! The stored queries of the program `asker`: sparse images and the queries on each, read from a file and written to
+//! one. docs/COMPARING.md describes the format. It is read strictly: a file that is cut short, or contains an invalid
+//! number, is refused.
 
 use crate::icbs::{long_ad, recorded};
 use crate::sparse;
 use crate::vault::{LbAddr, LongAd, Mount, UNLIMITED, Volume};
 use std::fmt;
 
-/// The files, in the order in which the program goes through them.
+/// The files, in the order in which the program reads them.
 pub const FILES: [&str; 12] =
     ["volumes", "files", "directories", "matchings", "checks", "maps", "growing", "stacks", "trees", "replayed", "combinations", "budgets"];
 
 /// The longest image, in bytes.
 pub const LONGEST: usize = 2 << 20;
-/// The most bytes that are lent for the output, and for the work space.
+/// The most bytes lent for the output, and for the work space.
 pub const MOST_BYTES: u32 = 65_536;
-/// The most places that are lent in a row.
+/// The most places lent in a row.
 pub const MOST_PLACES: u32 = 1024;
-/// The image is cut at every sector, and each call is made on every cut.
+/// For a length: cut the image at every sector, and make each call on every cut.
 pub const WATCHED: u32 = u32::MAX;
-/// Below it a volume's number is a choice of opening, and from it on the place of a volume made by hand.
+/// A volume's number below this is a choice of opening; from this on, it is the index of a volume made by hand.
 pub const BY_HAND: u32 = 8;
 
-/// The calls, by their numbers.
+/// The calls, by number.
 #[allow(missing_docs)] // each is the call of its name
 #[derive(Debug, Clone, Copy, PartialEq, Eq, PartialOrd, Ord)]
 pub enum Call {
@@ -46,52 +47,53 @@ pub enum Call {
 use Call::*;
 
 impl Call {
-    /// Every call, in the order of the numbers.
+    /// Every call, in order of number.
     pub const ALL: [Call; 16] =
         [Probe, Open, Label, Lookup, Failed, List, Read, Part, Extents, ReadPath, ReadAll, Show, Measure, Runs, FailedAt, PartAt];
 
-    /// The word that its line begins with.
+    /// The word at the start of its line.
     pub fn name(self) -> &'static str {
         const NAMES: &str = "probe open label lookup failed list read part extents read_path read_all show measure runs failed_at part_at";
         NAMES.split(' ').nth(self as usize).unwrap_or_default()
     }
 
-    /// Its bit among those of a query.
+    /// Its bit in a query.
     pub fn bit(self) -> u32 {
         1 << self as u32
     }
 }
 
-/// What is asked of an image.
+/// A query on an image.
 #[derive(Debug, Clone, PartialEq, Eq)]
 pub struct Query {
-    /// The bits of the calls that are made.
+    /// The bits of the calls to make.
     pub calls: u32,
-    /// How the whole image is opened (1 checked, 2 maps, 4 highest, added), or [`BY_HAND`] and the place of a volume made by hand.
+    /// How the whole image is opened (the sum of 1 checked, 2 maps, 4 highest), or [`BY_HAND`] plus the index of a
+    /// volume made by hand.
     pub volume: u32,
     /// How many bytes of the image are there, or [`WATCHED`].
     pub there: u32,
-    /// How names are matched: any number.
+    /// How names are matched; any number.
     pub matching: u32,
     /// The levels of a show.
     pub levels: u32,
-    /// The bytes of output that are lent.
+    /// The number of bytes lent for the output.
     pub room: u32,
-    /// The bytes of work space that are lent.
+    /// The number of bytes lent for the work space.
     pub work: u32,
-    /// The places that are lent for extents, for runs, and for the lengths of a list.
+    /// The number of places lent for extents, for runs, and for the lengths of a list.
     pub slots: u32,
-    /// The places that are lent for the answers of a list.
+    /// The number of places lent for the answers of a list.
     pub answers: u32,
     /// An ICB as recorded.
     pub icb: [u8; 16],
-    /// How many sectors a show is lent; [`UNLIMITED`] is no budget.
+    /// The budget of sectors of a show; [`UNLIMITED`] is no budget.
     pub most: u64,
-    /// A path, or for a list the paths.
+    /// A path; for a list, the paths.
     pub text: Vec<u8>,
 }
 
-/// No call: every number is 0, and there is no budget.
+/// A query without calls: every number is 0, and there is no budget.
 impl Default for Query {
     fn default() -> Query {
         let (icb, most, text) = ([0; 16], UNLIMITED, Vec::new());
@@ -100,7 +102,7 @@ impl Default for Query {
 }
 
 impl Query {
-    /// The calls that are made, in the order of their numbers.
+    /// The calls to make, in order of number.
     pub fn calls(&self) -> impl Iterator<Item = Call> {
         Call::ALL.into_iter().filter(|call| self.has(*call))
     }
@@ -111,20 +113,20 @@ impl Query {
     }
 }
 
-/// An image, and what is asked of it.
+/// An image and the queries on it.
 #[derive(Debug, Clone, PartialEq, Eq)]
 pub struct Image {
     /// Its name, in ASCII.
     pub name: String,
     /// The whole image.
     pub bytes: Vec<u8>,
-    /// The volumes made by hand. Their labels are zeros.
+    /// The volumes made by hand. Their labels are all zero.
     pub by_hand: Vec<Volume>,
-    /// What is asked, in turn.
+    /// The queries, in order.
     pub queries: Vec<Query>,
 }
 
-/// The record that a refused opening leaves.
+/// The volume of a refused opening.
 pub const NO_VOLUME: Volume = Volume {
     mount: Mount { start: 0, partition: 0, checked: 0, maps: 0, volumes: [0; 4], numbers: [0; 4], starts: [0; 4] },
     root: LongAd { length: 0, extent_type: 0, location: LbAddr { block: 0, partition_ref: 0 }, implementation_use: [0; 6] },
@@ -133,10 +135,10 @@ pub const NO_VOLUME: Volume = Volume {
 
 // ---- reading
 
-/// Why a file is refused: what is wrong with it, and the byte at which that stands.
+/// Why a file is refused: what is wrong, and at which byte.
 #[derive(Debug, Clone, Copy, PartialEq, Eq)]
 pub struct Wrong {
-    /// The first byte of what is cut, or of the number that means nothing.
+    /// The first byte of what is cut short, or of the invalid number.
     pub at: usize,
     /// What is wrong there.
     pub what: &'static str,
@@ -148,10 +150,10 @@ impl fmt::Display for Wrong {
     }
 }
 
-/// What is read, or why it is refused.
+/// What was read, or why it is refused.
 pub type Result<T> = std::result::Result<T, Wrong>;
 
-/// The bytes of a file up to the end of what is read, and where it goes on.
+/// The bytes of a file up to the end of what is being read, and the position in it.
 struct Input<'a> {
     bytes: &'a [u8],
     at: usize,
@@ -184,14 +186,14 @@ impl<'a> Input<'a> {
         self.chunk().map(u64::from_le_bytes)
     }
 
-    /// A number that means something where it is within some.
+    /// A number that must be within a range.
     fn within(&mut self, meant: impl Fn(u32) -> bool, what: &'static str) -> Result<u32> {
         let at = self.at;
         let number = self.u32()?;
         if meant(number) { Ok(number) } else { Err(Wrong { at, what }) }
     }
 
-    /// Bytes that are gone through by themselves.
+    /// Bytes that are read by themselves.
     fn part(&mut self, n: usize, cut: &'static str) -> Result<Input<'a>> {
         let at = self.at;
         self.take(n, cut)?;
@@ -207,7 +209,7 @@ impl<'a> Input<'a> {
         Ok(String::from_utf8_lossy(name).into_owned())
     }
 
-    /// A packed image, laid over another, or over zeros.
+    /// A packed image, over another image or over zeros.
     fn image(&mut self, base: &[u8]) -> Result<Vec<u8>> {
         let n = self.u32()?;
         let mut packed = self.part(n as usize, "a packed image ends behind the file")?;
@@ -225,7 +227,7 @@ impl<'a> Input<'a> {
         Ok(Volume { mount, root: long_ad(&self.chunk()?), label: [0; 32] })
     }
 
-    /// A query of an image of so many bytes that has so many volumes made by hand.
+    /// A query on an image of this length, with this many volumes made by hand.
     fn query(&mut self, length: usize, by_hand: usize) -> Result<Query> {
         let calls = self.within(|bits| bits != 0 && bits >> Call::ALL.len() == 0, "no call, or one that isn't there")?;
         let at = self.at;
@@ -243,7 +245,7 @@ impl<'a> Input<'a> {
         Ok(Query { calls, volume, there, matching, levels, room, work, slots, answers, icb, most, text })
     }
 
-    /// An image with what is asked of it. The base is the last image that stood alone.
+    /// An image with its queries. The base is the last image that was stored alone.
     fn record(&mut self, base: &mut Option<Vec<u8>>) -> Result<Image> {
         let (name, at) = (self.name()?, self.at);
         let bytes = match (self.chunk()?, &base) {
@@ -263,7 +265,7 @@ impl<'a> Input<'a> {
     }
 }
 
-/// The images of a file, one after another; behind the first that is refused there is none.
+/// The images of a file, in order; none after the first that is refused.
 pub fn images(file: &[u8]) -> impl Iterator<Item = Result<Image>> {
     let (mut input, mut base) = (Input { bytes: file, at: 0 }, None);
     std::iter::from_fn(move || {
@@ -280,7 +282,7 @@ pub fn images(file: &[u8]) -> impl Iterator<Item = Result<Image>> {
 
 // ---- writing
 
-/// Puts an image behind the others of a file. It stands alone there.
+/// Appends an image to a file. It is stored alone.
 pub fn put(file: &mut Vec<u8>, image: &Image) {
     let packed = sparse::pack(&image.bytes);
     file.extend((image.name.len() as u16).to_le_bytes());
@@ -381,7 +383,7 @@ mod tests {
         assert_eq!(wrong.to_string(), format!("byte {}: the file is cut", file.len()));
     }
 
-    /// A number of the file is put at a place: the file is refused, with that place or the one that is said.
+    /// Puts a number at a place of the file: the file must be refused there, or at the place given.
     #[test]
     fn a_number_that_means_nothing_is_refused() {
         let file = file();

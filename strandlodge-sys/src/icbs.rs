@@ -1,8 +1,8 @@
-//! An ICB in the 16 bytes in which a disc records it.
+//! An ICB in its recorded form of 16 bytes.
 
 use crate::vault::{LbAddr, LongAd};
 
-/// An ICB from its recorded form, whose first number has 30 bits of length below two of type.
+/// An ICB from its recorded form, whose first number has 30 bits of length below 2 bits of type.
 pub fn long_ad(b: &[u8; 16]) -> LongAd {
     let raw = u32::from_le_bytes([b[0], b[1], b[2], b[3]]);
     LongAd {

@@ -1,7 +1,8 @@
-//! Structs of C.
+//! C structs.
 
-/// Declares structs as a header has them: the name in C and here, size and alignment, and in front of each field its offset. The numbers are
-/// asserted; that they are the header's is asserted by strandlodge-sys/c/layouts.c, which is made with them.
+/// Declares structs as in a header: the name in C and here, size and alignment, and the offset before each field. The
+/// numbers are asserted here; strandlodge-sys/c/layouts.c, made together with them, asserts that they are those of the
+/// header.
 macro_rules! structs {
     ($(
         $(#[$about:meta])*
@@ -22,7 +23,7 @@ macro_rules! structs {
     };
 }
 
-/// Asserts what is said of structs.
+/// Asserts the numbers of structs.
 macro_rules! layouts {
     ($($c:ident as $name:ty, $size:literal aligned to $align:literal { $($at:literal $field:ident,)* })*) => {
         $(

@@ -1,11 +1,14 @@
-//! The C interface of the proved archives, declared for Rust: include/vault.h in [`vault`], include/records.h in [`records`]. The headers and
-//! these modules are made from the proved sources by tools/faces.py. A struct has its name in C without the front, `vault_long_ad` as
-//! [`vault::LongAd`]; size, alignment and the offset of each field are asserted when this is compiled.
+//! The C interface of the proved archives, declared for Rust: include/vault.h in [`vault`], include/records.h in
+//! [`records`]. tools/faces.py makes the headers and these modules from the proved sources. A struct has its C name
+//! without the prefix: `vault_long_ad` is [`vault::LongAd`]. Size, alignment and the offset of each field are asserted
+//! at compile time.
 //!
-//! The archives are x86-64 code for Linux, and are linked there alone. Consoles use the crate `strandlodge`, which wraps these calls.
+//! The archives are x86-64 code for Linux, and are linked only there. Most programs use the crate `strandlodge`, which
+//! wraps these calls.
 //!
-//! [`icbs`] reads and writes an ICB as it is recorded. [`sparse`], [`asked`], [`said`] and [`replay`] are for the programs and tests of the repository: its
-//! images are kept sparse, and what is asked of them is stored with what must be said.
+//! [`icbs`] converts an ICB from and to its recorded form. [`sparse`], [`asked`], [`said`] and [`replay`] are for the
+//! programs and tests of the repository: its images are stored sparse, and the queries on them are stored with their
+//! expected results.
 
 #[macro_use]
 mod layout;

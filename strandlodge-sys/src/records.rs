@@ -1,27 +1,26 @@
-//! include/records.h: The raw records of a UDF disc (ECMA-167, OSTA UDF), parsed and encoded, for C.
+//! include/records.h: Parses and encodes the raw records of a UDF disc (ECMA-167, OSTA UDF), for C.
 //!
 //! Link target/staticlib/librecords_c.a, which `rt staticlib records_c` makes from the proved sources. Each call has
-//! the contract of the call of the crate below that it passes on.
+//! the contract of the call that it passes on, of a crate below.
 //!
 //! Nothing here allocates, keeps or frees memory. Lent pieces must not overlap. A piece of length 0 may have a null
-//! pointer, and none has more than PTRDIFF_MAX bytes.
+//! pointer. No piece has more than PTRDIFF_MAX bytes.
 //!
-//! A record is parsed at the front of `bytes`, and what stands behind it isn't looked at. Every call that parses or
-//! decodes answers with a number. A call that is refused has zeros in every value, and leaves `out` as it came. Fields
-//! have the names of ECMA-167's fields, and stand as they are recorded unless something else is said here. If `bytes`
-//! change during a call, the answer may be that of no bytes; the call stays inside the memory that it was lent, and
-//! writes nothing behind the answered length.
+//! A record is parsed at the front of `bytes`; what follows it is ignored. Every call that parses or decodes returns an
+//! answer. If it is refused, all its values are zero and `out` is unchanged. Fields have the names of ECMA-167 and are
+//! as recorded, unless this header says otherwise. If `bytes` change during a call, the result may match no state of
+//! `bytes`; the call stays inside the memory that it was lent, and writes nothing past the length that it returns.
 //!
-//! The numbers are those of vault.h. Given are: RECORDS_DONE, RECORDS_MALFORMED, RECORDS_NO_ROOM.
+//! The numbers are those of vault.h. Used here: RECORDS_DONE, RECORDS_MALFORMED, RECORDS_NO_ROOM.
 //!
 //! Made by tools/faces.py from the comments and declarations of crates/records_c.
 #![allow(missing_docs)]
 
 /// Done.
 pub const DONE: u64 = 0;
-/// Too few bytes, or a descriptor, a tag, a name or a length that is not what it must be.
+/// Too few bytes, or an invalid descriptor, tag, name or length.
 pub const MALFORMED: u64 = 2;
-/// The answer has more bytes than `out` holds.
+/// The result has more bytes than `out`.
 pub const NO_ROOM: u64 = 5;
 
 structs! {
@@ -44,11 +43,11 @@ structs! {
         4 partition_ref: u16,
     }
 
-    /// Where something stands, and on which partition: the ICB of a file or a directory is one.
+    /// The place of something on the disc, such as the ICB of a file or a directory.
     records_long_ad as LongAd, 24 aligned to 4 {
-        /// In bytes, below 2^30 where it was read.
+        /// In bytes; below 2^30 if it was read from a disc.
         0 length: u32,
-        /// 0 to 3 where it was read: 0 is recorded.
+        /// 0 to 3 if it was read from a disc; 0 is recorded.
         4 extent_type: u8,
         /// The first block.
         8 location: LbAddr,
@@ -59,20 +58,20 @@ structs! {
     records_ext_ad as ExtAd, 28 aligned to 4 {
         0 length: u32,
         4 extent_type: u8,
-        /// 30 bits of what is recorded.
+        /// 30 bits of the recorded number.
         8 recorded_length: u32,
         12 information_length: u32,
         16 location: LbAddr,
         24 implementation_use: [u8; 2],
     }
 
-    /// The answer number, and how many bytes were written: 0 where it is a refusal.
+    /// The answer, and how many bytes were written; 0 if it is a refusal.
     records_written as Written, 16 aligned to 8 {
         0 answer: u64,
         8 length: u64,
     }
 
-    /// The id is a number, which reading keeps within the listed ones.
+    /// The id is a number. Parsing accepts only the ids above.
     records_tag as Tag, 16 aligned to 4 {
         0 id: u16,
         2 descriptor_version: u16,
@@ -99,9 +98,9 @@ structs! {
         20 flags: u16,
     }
 
-    /// A file entry (id 261) or an extended one (266). The area of allocation descriptors, or the embedded file, stands
-    /// in `bytes` from `area_at` on; it lies within them, and isn't looked at here. The object size, an enum in the
-    /// entry, crosses as a bool and a number.
+    /// A file entry (id 261) or an extended one (266). The area of allocation descriptors, or the embedded file, is in
+    /// `bytes` from `area_at` on. It is inside `bytes`, and is not looked at here. The object size, an enum in the
+    /// entry, is passed as a bool and a number.
     records_file_entry as FileEntry, 128 aligned to 8 {
         0 tag: Tag,
         16 icb_tag: IcbTag,
@@ -114,20 +113,20 @@ structs! {
         56 record_length: u32,
         64 information_length: u64,
         72 logical_blocks_recorded: u64,
-        /// An extended entry has one.
+        /// Whether there is one: an extended entry has it.
         80 has_object_size: bool,
-        /// 0 where there is none.
+        /// 0 if there is none.
         88 object_size: u64,
         96 length_of_extended_attributes: u32,
         100 length_of_allocation_descriptors: u32,
-        /// Of the area: 0 short_ad, 1 long_ad, 2 ext_ad, 3 the file itself.
+        /// The kind of the area: 0 short_ad, 1 long_ad, 2 ext_ad, 3 the file itself.
         104 kind: u8,
         112 area_at: usize,
         120 area_length: usize,
     }
 
-    /// An entry of a directory (id 257). Its name, a d-string of `name_length` bytes, stands at `name_at`; as UTF-8 it
-    /// has `name_size` bytes. The next entry starts `total_size` bytes on.
+    /// An entry of a directory (id 257). Its name, a d-string of `name_length` bytes, is at `name_at`; as UTF-8 it has
+    /// `name_size` bytes. The next entry starts `total_size` bytes further.
     records_file_identifier as FileIdentifier, 80 aligned to 8 {
         0 tag: Tag,
         16 file_version_number: u16,
@@ -146,7 +145,7 @@ structs! {
         24 reserve_volume_descriptor_sequence: ExtentAd,
     }
 
-    /// The volume identifier is the label's field as recorded.
+    /// The volume identifier is the label field as recorded.
     records_primary_volume as PrimaryVolume, 56 aligned to 4 {
         0 tag: Tag,
         16 volume_descriptor_sequence_number: u32,
@@ -164,7 +163,7 @@ structs! {
         28 partition_length: u32,
     }
 
-    /// The identifier is the label's field as recorded.
+    /// The identifier is the label field as recorded.
     records_logical_volume as LogicalVolume, 208 aligned to 4 {
         0 tag: Tag,
         16 volume_descriptor_sequence_number: u32,
@@ -175,7 +174,7 @@ structs! {
         /// In bytes.
         176 map_table_length: u32,
         180 number_of_partition_maps: u32,
-        /// The first 24 bytes of the map table, as recorded; zeros past the bytes that were given.
+        /// The first 24 bytes of the map table, as recorded; zeros past the end of the given bytes.
         184 partition_maps: [u8; 24],
     }
 
@@ -185,13 +184,13 @@ structs! {
     }
 }
 
-/// What a call that parses answers: `records_X_answer`.
+/// The result of a call that parses: `records_X_answer`.
 #[repr(C)]
 #[derive(Debug, Clone, Copy, PartialEq, Eq)]
 pub struct Answer<T> {
     /// A number of the table.
     pub answer: u64,
-    /// Zeros where the call was refused.
+    /// Zeros if the call was refused.
     pub value: T,
 }
 
@@ -213,11 +212,11 @@ layouts! {
     records_file_set_answer as Answer<FileSet>, 48 aligned to 8 { 0 answer, 8 value, }
 }
 
-/// What a call that encodes gives: `records_X_bytes`.
+/// The result of a call that encodes: `records_X_bytes`.
 #[repr(C)]
 #[derive(Debug, Clone, Copy, PartialEq, Eq)]
 pub struct Encoded<const N: usize> {
-    /// The record as it is recorded.
+    /// The record as recorded.
     pub bytes: [u8; N],
 }
 
@@ -243,27 +242,26 @@ unsafe extern "C" {
     pub fn records_parse_ext_ad(bytes: *const u8, bytes_length: usize) -> Answer<ExtAd>;
     pub fn records_encode_ext_ad(value: ExtAd) -> Encoded<20>;
 
-    /// Writes the name of the d-string over the front of out.
+    /// Writes the name of the d-string to the front of `out`.
     pub fn records_decode_dstring(bytes: *const u8, bytes_length: usize, out: *mut u8, out_length: usize) -> Written;
 
-    /// Writes the name in the d-string field over the front of out.
+    /// Writes the name in the d-string field to the front of `out`.
     pub fn records_decode_dstring_field(bytes: *const u8, bytes_length: usize, out: *mut u8, out_length: usize) -> Written;
 
     pub fn records_parse_tag(bytes: *const u8, bytes_length: usize) -> Answer<Tag>;
     pub fn records_encode_tag(value: Tag) -> Encoded<16>;
 
     /// The place check: whether the tag's location is the number that it must be. `sector` and `block` are those that
-    /// hold the descriptor's first byte, counted from the disc's start and from its partition's. Ids 256 to 266 go by
-    /// the block, and every other id by the sector.
+    /// hold the descriptor's first byte, counted from the start of the disc and of its partition. Ids 256 to 266 go by
+    /// the block, all others by the sector.
     pub fn records_tag_in_place(tag: Tag, sector: u64, block: u32) -> bool;
 
-    /// The CRC of `bytes`, which a tag has of its descriptor's body: x^16 + x^12 + x^5 + 1, starting at 0, the highest
+    /// The CRC of `bytes`, as a tag holds it for its descriptor's body: x^16 + x^12 + x^5 + 1, starting at 0, highest
     /// bit of a byte first.
     pub fn records_crc(bytes: *const u8, bytes_length: usize) -> u16;
 
-    /// The body check: `bytes` are those at hand from the descriptor on, with its tag in the first 16. Whether they
-    /// hold as many behind these as the tag's CRC length says, and these have the tag's CRC. A CRC length of 0 has the
-    /// CRC 0.
+    /// The body check: whether `bytes`, which start with the descriptor's tag in the first 16, hold as many bytes after
+    /// it as the tag's CRC length says, and these have the tag's CRC. A CRC length of 0 has the CRC 0.
     pub fn records_tag_body(tag: Tag, bytes: *const u8, bytes_length: usize) -> bool;
 
     pub fn records_parse_aed(bytes: *const u8, bytes_length: usize) -> Answer<Aed>;

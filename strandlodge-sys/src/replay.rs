@@ -1,4 +1,4 @@
-//! A file of stored queries, gone through beside the lines that are stored of it.
+//! Replays a file of stored queries and compares the results with the stored lines.
 
 use crate::asked::{BY_HAND, Call, Image, NO_VOLUME, Query, WATCHED, images};
 use crate::said::{Said, asking};
@@ -6,40 +6,40 @@ use crate::vault::{NO_ROOM, NO_SLOT, NO_WORK, TOO_MANY, Volume};
 use std::collections::BTreeMap;
 use std::str::Lines;
 
-/// A call that is to be made.
+/// A call to make.
 pub struct Asked<'a> {
-    /// The bytes of the image that are there.
+    /// The available bytes of the image.
     pub image: &'a [u8],
-    /// The volume that it is made on.
+    /// The volume of the call.
     pub volume: Volume,
     /// The call.
     pub call: Call,
-    /// What else is asked.
+    /// The rest of the query.
     pub query: &'a Query,
-    /// What is stored is a refusal for want of memory, of the call or of a path of its list.
+    /// Whether the stored result is a refusal for lack of memory, of the call or of a path of its list.
     pub is_short: bool,
 }
 
-/// What a file came to.
+/// The counts of a file.
 #[derive(Debug, Default, PartialEq, Eq)]
 pub struct Counts {
-    /// How many images it has.
+    /// The number of images.
     pub images: usize,
-    /// How many queries.
+    /// The number of queries.
     pub queries: usize,
-    /// The stored lines that were compared, by their calls and answer numbers.
+    /// The stored lines that were compared, by call and answer.
     pub compared: BTreeMap<(Call, u64), usize>,
-    /// Those that were passed over.
+    /// The stored lines that were skipped.
     pub passed: BTreeMap<Call, usize>,
 }
 
 impl Counts {
-    /// The lines of a call that were compared.
+    /// The number of compared lines of a call.
     pub fn of(&self, call: Call) -> usize {
         self.compared.iter().filter(|((of, _), _)| *of == call).map(|(_, lines)| lines).sum()
     }
 
-    /// Counts those of another file too.
+    /// Adds the counts of another file.
     pub fn add(&mut self, other: &Counts) {
         self.images += other.images;
         self.queries += other.queries;
@@ -56,9 +56,9 @@ pub fn sections(output: &str) -> Vec<(&str, &str)> {
     starts.windows(2).map(section).collect()
 }
 
-/// Goes through a file and its stored lines: each call is made by the asker, and its line must be the one that is stored. What the asker gives
-/// nothing for is passed over. A volume is what its answer to [`Call::Open`] on the whole image has. Says what was compared, or what the first
-/// difference is.
+/// Replays a file and compares it with its stored lines: the asker makes each call, and its line must be the stored
+/// one. If the asker returns nothing, the line is skipped. A volume is the one that the asker returned for
+/// [`Call::Open`] on the whole image. Returns what was compared, or the first difference.
 pub fn replay(file: &[u8], stored: &str, asker: impl FnMut(&Asked) -> Option<Said>) -> Result<Counts, String> {
     let mut replay = Replay { stored: Stored { lines: stored.lines(), next: None, number: 0 }, counts: Counts::default(), asker };
     replay.stored.advance();
@@ -73,11 +73,11 @@ pub fn replay(file: &[u8], stored: &str, asker: impl FnMut(&Asked) -> Option<Sai
     }
 }
 
-/// The stored lines, from the one that is next.
+/// The stored lines, from the next one on.
 struct Stored<'s> {
     lines: Lines<'s>,
     next: Option<&'s str>,
-    /// That of the next line, from 1 on.
+    /// The number of the next line, counted from 1.
     number: usize,
 }
 
@@ -87,7 +87,7 @@ impl Stored<'_> {
         self.number += 1;
     }
 
-    /// The next line must be this one.
+    /// Checks that the next line is this one.
     fn expect(&mut self, line: &str) -> Result<(), String> {
         if self.next != Some(line) {
             return Err(differs(line, self.next));
@@ -126,13 +126,13 @@ impl<A: FnMut(&Asked) -> Option<Said>> Replay<'_, A> {
         Ok(())
     }
 
-    /// The volume that a query's choice gives.
+    /// The volume for a query's choice.
     fn open(&mut self, image: &Image, query: &Query) -> Volume {
         let asked = Asked { image: &image.bytes, volume: NO_VOLUME, call: Call::Open, query, is_short: false };
         (self.asker)(&asked).map_or(NO_VOLUME, |said| said.volume)
     }
 
-    /// A call on what is there, or on every cut.
+    /// Makes a call on what is there, or on every cut.
     fn call(&mut self, image: &Image, volume: Volume, call: Call, query: &Query) -> Result<(), String> {
         let is_watched = query.there == WATCHED;
         let cuts = if is_watched { cuts(image.bytes.len()) } else { vec![query.there as usize] };
@@ -163,17 +163,17 @@ impl<A: FnMut(&Asked) -> Option<Said>> Replay<'_, A> {
     }
 }
 
-/// The lengths to which a watched image is cut: each sector's end, a byte before it and a byte behind it.
+/// The lengths to which a watched image is cut: each end of a sector, one byte less and one byte more.
 fn cuts(length: usize) -> Vec<usize> {
     (1..=length / 2048).flat_map(|sector| [sector * 2048 - 1, sector * 2048, (sector * 2048 + 1).min(length)]).collect()
 }
 
-/// Whether a line is a call's.
+/// Whether a line belongs to a call.
 fn is_of(line: &str, call: Call) -> bool {
     line.split(' ').next() == Some(call.name())
 }
 
-/// Whether a line tells of too little memory.
+/// Whether a line is a refusal for lack of memory.
 fn is_short(line: &str) -> bool {
     let number = |word: Option<&str>| word.and_then(|word| word.parse().ok());
     let of_list = line.split_once(" answers ").into_iter().flat_map(|(_, row)| row.split(' ').map(|word| number(Some(word))));

@@ -1,43 +1,43 @@
-//! What a call said, and its line in the output of the program `asker`.
+//! The result of a call, and its line in the output of the program `asker`.
 
 use crate::asked::{Call, NO_VOLUME, Query};
 use crate::icbs::recorded;
 use crate::vault::{UNLIMITED, Volume};
 
-/// What lent memory comes full of.
+/// The byte that fills lent memory.
 pub const CAME: u8 = 0xa5;
 
-/// What a call said, and how it left the memory that it was lent. A call has zeros, or nothing, in what it doesn't give.
+/// The result of a call, and how it left the memory that it was lent. What a call doesn't return is zero or empty.
 #[derive(Debug, Clone, PartialEq, Eq)]
 pub struct Said {
-    /// The answer number; of the probe 1 for yes.
+    /// The answer; for the probe, 1 for yes.
     pub answer: u64,
-    /// How many sectors were asked for.
+    /// The number of sectors that were asked for.
     pub count: u64,
-    /// How many bytes or slots the answer has.
+    /// The number of bytes or slots of the result.
     pub length: u64,
-    /// Where the component stands in the path, or the part in the image.
+    /// The offset of the component in the path, or of the part in the image.
     pub at: u64,
-    /// What opening gave.
+    /// The volume, from opening.
     pub volume: Volume,
-    /// What the lookup found, as recorded.
+    /// The ICB, from a lookup, as recorded.
     pub icb: [u8; 16],
     /// The written front of the output, the component, or the part.
     pub bytes: Vec<u8>,
     /// The numbers of each written slot.
     pub slots: Vec<Vec<u64>>,
-    /// Both rows of a list, whole.
+    /// The row of lengths of a list, complete.
     pub lengths: Vec<u64>,
-    /// The same of the answers.
+    /// The row of answers of a list, complete.
     pub answers: Vec<u64>,
-    /// What stands behind the front is as it came.
+    /// Whether the memory after the written front is unchanged.
     pub is_kept: bool,
-    /// The work space came back all zero.
+    /// Whether the work space is all zero.
     pub is_zero: bool,
 }
 
 impl Said {
-    /// An answer without a value, that left the memory as it must.
+    /// An answer without a value, which left the memory as it must.
     pub fn of(answer: u64, count: u64) -> Said {
         let (icb, bytes, slots, lengths, answers) = ([0; 16], Vec::new(), Vec::new(), Vec::new(), Vec::new());
         Said { answer, count, length: 0, at: 0, volume: NO_VOLUME, icb, bytes, slots, lengths, answers, is_kept: true, is_zero: true }
@@ -53,7 +53,7 @@ impl Said {
         Said { length: slots.len() as u64, slots, ..self }
     }
 
-    /// The same with what each path of a list has in the two rows that a query lends. The places behind are as they came.
+    /// The same with the results of a list's paths in the two rows that a query lends. The other places are unchanged.
     pub fn with_rows(self, items: &[(u64, u64)], query: &Query) -> Said {
         let row = |of: fn(&(u64, u64)) -> u64, places: u32, came: u64| {
             items.iter().map(of).chain(std::iter::repeat(came)).take(places as usize).collect()
@@ -63,7 +63,7 @@ impl Said {
         Said { lengths, answers, ..self }
     }
 
-    /// The line of a call that said it.
+    /// The line of a call with this result.
     pub fn line(&self, call: Call) -> String {
         let head = format!("{} {} count {}", call.name(), self.answer, self.count);
         let length = format!("{head} length {}", self.length);
@@ -93,18 +93,18 @@ impl Said {
     }
 }
 
-/// A sum that tells where each byte stands.
+/// A checksum that depends on the position of each byte.
 fn sum(bytes: &[u8]) -> u64 {
     bytes.iter().fold(0, |sum, byte| (sum * 31 + u64::from(*byte)) % (1 << 32))
 }
 
-/// Printable bytes as they are, and every other as \ and two digits.
+/// Printable bytes as they are, any other as \ and two digits.
 fn text(bytes: &[u8]) -> String {
     let byte = |b: &u8| if (0x20..0x7f).contains(b) && *b != b'\\' { (*b as char).to_string() } else { format!("\\{b:02x}") };
     bytes.iter().map(byte).collect()
 }
 
-/// Numbers, each behind a space.
+/// Numbers, each preceded by a space.
 fn row(numbers: impl IntoIterator<Item = impl Into<u64>>) -> String {
     numbers.into_iter().map(|n| format!(" {}", n.into())).collect()
 }
@@ -115,8 +115,8 @@ fn volume(Volume { mount, root, label }: &Volume) -> String {
     format!("{says}{rows} root {} label {}", text(&recorded(root)), text(label))
 }
 
-/// The line in front of those of a query's calls, on an image of so many bytes: what is asked, without what is 0 or empty, and without how
-/// much is there where that is all, and without a budget that is none.
+/// The line before those of a query's calls, on an image of this length. It leaves out what is 0 or empty, the length
+/// if it is the whole image, and an unlimited budget.
 pub fn asking(q: &Query, length: usize) -> String {
     let there = if q.there as usize == length { String::new() } else { format!(" there {}", q.there) };
     let set = |word: &str, number: u32| if number == 0 { String::new() } else { format!(" {word} {number}") };

@@ -1,15 +1,15 @@
-//! Images kept sparse (docs/COMPARING.md): image length, number of runs, and of each run its offset, length and bytes, where every other byte
-//! is 0. Numbers have 32 bits, little-endian.
+//! Sparse images (docs/COMPARING.md): the image's length, the number of runs, and for each run its offset, length and
+//! bytes. Every other byte is 0. Numbers have 32 bits, little-endian.
 
-/// Zeros between two bytes that hold something: so many cost more than the head of another run.
+/// This many zeros between two runs cost more than the head of another run.
 const GAP: usize = 16;
 
-/// The image that a packed one stands for; none if it isn't packed so.
+/// Unpacks an image; `None` if it is not packed correctly.
 pub fn expand(packed: &[u8]) -> Option<Vec<u8>> {
     expand_over(packed, Vec::new())
 }
 
-/// The same where every other byte is as in another image, and 0 behind its end.
+/// The same, with every other byte taken from another image, and 0 past its end.
 pub fn expand_over(packed: &[u8], mut image: Vec<u8>) -> Option<Vec<u8>> {
     let (length, rest) = number(packed)?;
     let (runs, mut rest) = number(rest)?;
@@ -29,7 +29,7 @@ fn number(bytes: &[u8]) -> Option<(usize, &[u8])> {
     Some((u32::from_le_bytes(*number) as usize, rest))
 }
 
-/// An image packed.
+/// Packs an image.
 pub fn pack(image: &[u8]) -> Vec<u8> {
     let runs = runs(image);
     let mut packed = Vec::new();
@@ -43,7 +43,7 @@ pub fn pack(image: &[u8]) -> Vec<u8> {
     packed
 }
 
-/// The runs of bytes that hold something.
+/// The runs of bytes that are not zero.
 fn runs(image: &[u8]) -> Vec<(usize, usize)> {
     let mut found: Vec<(usize, usize)> = Vec::new();
     for (s, sector) in image.chunks(2048).enumerate() {

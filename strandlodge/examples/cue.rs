@@ -1,16 +1,16 @@
-//! Reads a cue by its very name from the image of a disc: `cargo run --example cue IMAGE PATH > FILE`.
+//! Reads a cue by its exact name from a disc image: `cargo run --example cue IMAGE PATH > FILE`.
 
 use std::io::Write;
 use std::process::ExitCode;
-use strandlodge::{Matching, Result, Vault};
+use strandlodge::{Disc, Matching, Result};
 
-/// The cue's bytes. `?` takes a refusal of the disc, and what the system says of the file.
+/// The bytes of the cue. `?` works for a refusal and for an error of the system.
 fn cue(image: &str, path: &str) -> Result<Vec<u8>> {
-    let vault = Vault::open(std::fs::read(image)?)?;
-    if let Some(component) = vault.failed_as(path, Matching::AsWritten)? {
-        eprintln!("there is nothing named {component:?} on {}", vault.label()?);
+    let disc = Disc::open(std::fs::read(image)?)?;
+    if let Some(component) = disc.failed_as(path, Matching::AsWritten)? {
+        eprintln!("there is nothing named {component:?} on {}", disc.label()?);
     }
-    vault.read_path_as(path, Matching::AsWritten)
+    disc.read_path_as(path, Matching::AsWritten)
 }
 
 fn main() -> ExitCode {
@@ -20,7 +20,7 @@ fn main() -> ExitCode {
         return ExitCode::from(64);
     };
     let written = cue(image, path).and_then(|bytes| Ok(std::io::stdout().write_all(&bytes)?));
-    // The error says its cause; its number is the one of the table in include/vault.h.
+    // The error prints its cause; its number is from the table in include/vault.h.
     written.map_or_else(
         |error| {
             eprintln!("{error} ({})", error.number());

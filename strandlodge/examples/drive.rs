@@ -1,11 +1,11 @@
-//! Copies each file of a disc's folder as it arrives, with no image in memory: `cargo run --example drive DISC FOLDER TO`. DISC may be a drive, such as
-//! /dev/sr0. A name that would lead out of TO, or that is there already, is left out.
+//! Copies each file of a folder of a disc as it arrives, without an image in memory: `cargo run --example drive DISC FOLDER TO`.
+//! DISC may be a drive, such as /dev/sr0. A name that would lead out of TO, or that exists there, is left out.
 
 use std::fs::File;
 use std::path::{Component, Path};
 use strandlodge::{Drive, Matching, Result};
 
-/// Whether a name stands for one file in a folder.
+/// Whether a name names one file in a folder.
 fn is_plain(name: &str) -> bool {
     let mut parts = Path::new(name).components();
     matches!((parts.next(), parts.next()), (Some(Component::Normal(part)), None) if part == name)
@@ -19,7 +19,7 @@ fn copy(disc: &str, folder: &str, to: &Path) -> Result<()> {
             println!("{:?}: left out", entry.name);
             continue;
         }
-        // By the entry's own place, and not by its name: two entries may have names of the same letters.
+        // Use the ICB of the entry, not its name: the names of two entries may differ only in case.
         let bytes = drive.copy_file(entry.icb, &mut File::create_new(to.join(&entry.name))?)?;
         println!("{:?}: {bytes} bytes", entry.name);
     }

@@ -1,9 +1,9 @@
-//! Writes a vault of some files and reads it back: `cargo run --example stage IMAGE FILE..`. An IMAGE that is there is left as it is.
+//! Writes an image of some files and reads it back: `cargo run --example stage IMAGE FILE..`. An existing IMAGE is left as it is.
 
 use std::fs::File;
 use std::io::Write;
 use std::path::Path;
-use strandlodge::{How, Matching, Result, Vault};
+use strandlodge::{Disc, How, Matching, Result};
 
 fn stage(image: &str, files: &[String]) -> Result<()> {
     let mut staged = Vec::new();
@@ -13,10 +13,10 @@ fn stage(image: &str, files: &[String]) -> Result<()> {
     }
     let bytes = strandlodge::write(&staged)?;
     File::create_new(image)?.write_all(&bytes)?;
-    // What was written is read, with the bodies of its descriptors checked.
-    let vault = Vault::open_as(std::fs::read(image)?, How { checked: true, ..How::default() })?;
+    // Read back what was written, checking the CRCs of its descriptors.
+    let disc = Disc::open_as(std::fs::read(image)?, How { checked: true, ..How::default() })?;
     for (name, bytes) in &staged {
-        let same = vault.read_path_as(name, Matching::AsWritten)? == *bytes;
+        let same = disc.read_path_as(name, Matching::AsWritten)? == *bytes;
         println!("{name}: {} bytes, {}", bytes.len(), if same { "read back" } else { "read back as something else" });
     }
     Ok(())

@@ -1,26 +1,26 @@
-//! What a call gives: an answer with its sector count, or a refusal with its.
+//! The result of a call: an answer or a refusal, each with its sector count.
 
 use std::fmt;
 use std::ops::{Deref, DerefMut};
 use strandlodge_sys::vault;
 
-/// What a call gives that is made of one record, with no image.
+/// The result of a call on one record, without an image.
 pub type Result<T> = std::result::Result<T, Refused>;
 
-/// The same where the sectors are counted: by [`Counted`](crate::Counted) and [`CountedDrive`](crate::CountedDrive).
+/// The result of a call of [`Counted`](crate::Counted) or [`CountedDrive`](crate::CountedDrive), which count sectors.
 pub type Answered<T> = std::result::Result<Answer<T>, Refused>;
 
 /// An answer, and how many sectors of 2,048 bytes were asked for to give it.
 #[derive(Debug, Clone, Copy, PartialEq, Eq)]
 pub struct Answer<T> {
-    /// The answer itself; methods of it can be called on the `Answer`.
+    /// The value itself. You can call its methods on the `Answer`.
     pub value: T,
-    /// The sectors that the call asked for.
+    /// The number of sectors that the call asked for.
     pub sectors: u64,
 }
 
 impl<T> Answer<T> {
-    /// The same count with another value.
+    /// Maps the value and keeps the count.
     pub fn map<U>(self, make: impl FnOnce(T) -> U) -> Answer<U> {
         Answer { value: make(self.value), sectors: self.sectors }
     }
@@ -40,7 +40,7 @@ impl<T> DerefMut for Answer<T> {
     }
 }
 
-/// So that bytes go where bytes are taken, as in `std::fs::write`.
+/// Lets you pass an answer where bytes are expected, as in `std::fs::write`.
 impl<T: AsRef<U>, U: ?Sized> AsRef<U> for Answer<T> {
     fn as_ref(&self) -> &U {
         self.value.as_ref()
@@ -74,49 +74,51 @@ where
     }
 }
 
-/// Why a call was refused: the numbers of the answer table (include/vault.h). The first four are the original's kinds of error.
+/// Why a call was refused: the numbers of the answer table (include/vault.h). The first four are the original's kinds
+/// of error.
 #[derive(Debug, Clone, Copy, PartialEq, Eq, Hash)]
 #[non_exhaustive]
 pub enum Refusal {
-    /// 1: a sector asked for isn't wholly inside the image, or couldn't be had from the reader.
+    /// 1: a sector is not completely inside the image, or the reader could not read it.
     Io,
-    /// 2: a descriptor, a name or a length is not what it must be.
+    /// 2: a descriptor, a name or a length is invalid.
     Malformed,
     /// 3: no volume, or no such path.
     NotBluray,
-    /// 4: a form that isn't read: another block size or partition, other partition maps than up to four of type 1, a compressed or unrecorded
-    /// extent, a continuation of over 1,048,576 bytes.
+    /// 4: not supported: another block size or partition, partition maps other than up to four of type 1, a compressed
+    /// or unrecorded extent, a continuation of more than 1,048,576 bytes.
     Unsupported,
-    /// 5: the answer has more bytes than could be lent.
+    /// 5: there is not enough memory for the result.
     NoRoom,
-    /// 6: a directory has more bytes than could be lent; in a show, more than could be lent behind the directories above it.
+    /// 6: there is not enough memory for a directory; in a show, together with the directories above it.
     NoWork,
-    /// 7: there are more extents, or runs, than slots could be lent.
+    /// 7: there is not enough memory for the extents or runs.
     NoSlot,
-    /// 9: two or more entries of a directory match a component of the path. Given under [`Matching::Unambiguous`](crate::Matching) alone.
+    /// 9: two or more entries of a directory match a component of the path. Only under
+    /// [`Matching::Unambiguous`](crate::Matching).
     Ambiguous,
-    /// 10: a descriptor has a wrong CRC, or a CRC length that passes the bytes at hand. Given where [`How::checked`](crate::How) was chosen
-    /// alone.
+    /// 10: a descriptor has a wrong CRC, or a CRC length that exceeds the available bytes. Only with
+    /// [`How::checked`](crate::How).
     BadCrc,
-    /// 11: a directory is found at the last level that was asked for, or that number is 0 or over 16. Given by
-    /// [`Vault::show`](crate::Vault::show) alone.
+    /// 11: a directory is at the last level that was asked for, or the number of levels is 0 or more than 16. Only from
+    /// [`Disc::show`](crate::Disc::show).
     TooDeep,
-    /// 12: there are more paths in a list than places for their answers could be lent. Given by [`Vault::read_all`](crate::Vault::read_all)
-    /// alone, for the list; no path of it is answered with it.
+    /// 12: there is not enough memory for the results of a list of paths. Only from
+    /// [`Disc::read_all`](crate::Disc::read_all), for the whole list; no single path has it.
     TooMany,
-    /// 13: a name of a vault that is to be written isn't 1 to 127 bytes from 21 to 7E without the slash, or two are equal with ASCII case ignored. Given
-    /// by [`write`](crate::write) and its like alone, as the next is.
+    /// 13: a name of an image to be written is not 1 to 127 bytes from 21 to 7E without the slash, or two names are
+    /// equal with ASCII case ignored. Only from [`write`](crate::write) and the like; so is 14.
     BadName,
-    /// 14: the files of a vault that is to be written are over 64, one has more than 1,073,739,776 bytes, there are other numbers of names and of lengths,
-    /// or the lengths pass the staging area.
+    /// 14: an image to be written has more than 64 files, a file of more than 1,073,739,776 bytes, different numbers of
+    /// names and lengths, or lengths that exceed the staging area.
     BadFiles,
-    /// 15: the lengths of a shelf's images pass its bytes, or there is no memory for the figures of each. Given by [`survey`](crate::survey()) and its like
-    /// alone, for the shelf; no image of it is counted under it.
+    /// 15: the lengths of a shelf's images exceed its bytes, or there is no memory for their figures. Only from
+    /// [`survey`](crate::survey()) and the like, for the shelf; no image counts under it.
     BadShelf,
-    /// 16: the call would ask for more sectors than it was lent. Given by [`Vault::show`](crate::Vault::show), and by [`survey`](crate::survey()) and its like
-    /// for an image; no file is counted under it.
+    /// 16: the call would ask for more sectors than its budget allows. Only from [`Disc::show`](crate::Disc::show), and
+    /// from [`survey`](crate::survey()) and the like for an image; no file counts under it.
     OverBudget,
-    /// A number that this crate's table doesn't have.
+    /// A number that is not in this crate's table.
     Unknown(u64),
 }
 
@@ -140,7 +142,7 @@ const TABLE: [(Refusal, u64); 15] = [
 ];
 
 impl Refusal {
-    /// The number that the call answered with: 1 to 7 or 9 to 16, in the answer table.
+    /// The number in the answer table: 1 to 7 or 9 to 16.
     pub fn number(self) -> u64 {
         match self {
             Refusal::Unknown(number) => number,
@@ -148,14 +150,15 @@ impl Refusal {
         }
     }
 
-    /// Whether the call may be answered otherwise once more of the image is there: 1, a sector that isn't there yet.
+    /// Whether the call may give another result once more of the image is there. Only refusal 1, a missing sector, may.
     ///
-    /// Any other refusal is final, and so is an answer: whatever bytes are added at the image's end, the same call gives the same again, with the
-    /// same count (docs/PROMISES.md). 5, 6, 7 and 12 are so for the memory that was lent, and 16 for the sectors: a file of more bytes than its image, and
-    /// more than 256 MiB, may have room in a longer one.
+    /// Every other refusal is final, and so is every answer: whatever bytes are added at the end of the image, the same
+    /// call gives the same result with the same count (docs/PROMISES.md). Refusals 5, 6, 7 and 12 are final for the
+    /// memory that was lent, and 16 for the sectors: a file longer than its image, and longer than 256 MiB, may get
+    /// enough room in a longer image.
     ///
-    /// It is about bytes that are added behind the last one. An image that is made at its full length first, and filled later, has zeros where
-    /// nothing was copied yet, and these are read as they stand.
+    /// This holds for bytes that are added after the last one. An image that is first created at its full length and
+    /// filled later has zeros where nothing was copied yet, and they are read as they are.
     pub fn may_pass(self) -> bool {
         self == Refusal::Io
     }
@@ -169,30 +172,30 @@ impl Refusal {
     }
 }
 
-/// What it means, in a sentence without its full stop.
+/// The meaning, as a sentence without its full stop.
 impl fmt::Display for Refusal {
     fn fmt(&self, f: &mut fmt::Formatter<'_>) -> fmt::Result {
         f.write_str(match self {
-            Refusal::Io => "a sector that was asked for isn't wholly inside the image: it is cut short, or isn't the image of a disc",
-            Refusal::Malformed => "a descriptor, a name or a length on the disc is not what it must be: it is damaged, or isn't UDF",
-            Refusal::NotBluray => "there is no volume, or nothing of that name",
-            Refusal::Unsupported => {
-                "the disc has a form that isn't read: another block size or partition, other maps, a compressed or an unrecorded extent"
-            }
-            Refusal::NoRoom => "the answer has more bytes than there is memory for",
-            Refusal::NoWork => "a directory, with those above it in a show, has more bytes than there is memory for",
-            Refusal::NoSlot => "the file has more extents, or runs, than there is memory for",
-            Refusal::Ambiguous => "two or more entries of a directory match one name of the path",
-            Refusal::BadCrc => "a descriptor's body isn't the one that its tag has the CRC of: it is scratched, or was written so",
-            Refusal::TooDeep => "a directory is found at the last level that was asked for, or that number isn't 1 to 16",
-            Refusal::TooMany => "there are more paths than there is memory for their answers",
+            Refusal::Io => "a sector is missing: the image is cut short, or is not a disc image",
+            Refusal::Malformed => "a descriptor, name or length is invalid: the disc is damaged, or is not UDF",
+            Refusal::NotBluray => "no volume, or no such path",
+            Refusal::Unsupported => "not supported: the block size, a partition, the partition maps, or a compressed or unrecorded extent",
+            Refusal::NoRoom => "not enough memory for the result",
+            Refusal::NoWork => "not enough memory for a directory (in a show: together with those above it)",
+            Refusal::NoSlot => "not enough memory for the file's extents or runs",
+            Refusal::Ambiguous => "two or more entries match one name of the path",
+            Refusal::BadCrc => "a descriptor fails its CRC check: the disc is scratched, or was written that way",
+            Refusal::TooDeep => "a directory is at the last level, or the number of levels is not 1 to 16",
+            Refusal::TooMany => "not enough memory for the results of all paths",
             Refusal::BadName => {
-                "a name of a vault is 1 to 127 bytes from 21 to 7E without the slash, and no two are equal with ASCII case ignored"
+                "a name on an image must have 1 to 127 bytes from 21 to 7E without the slash, and no two may be equal ignoring ASCII case"
             }
-            Refusal::BadFiles => "a vault has up to 64 files of up to 1,073,739,776 bytes each, and as many bytes are staged as they have",
-            Refusal::BadShelf => "the lengths of the images pass the bytes of the shelf, or there is no memory for their figures",
-            Refusal::OverBudget => "more sectors would be asked for than were lent",
-            Refusal::Unknown(number) => return write!(f, "the archive answered with {number}, a number that isn't known here"),
+            Refusal::BadFiles => {
+                "an image holds up to 64 files of up to 1,073,739,776 bytes each, and the staging area must hold all their bytes"
+            }
+            Refusal::BadShelf => "the images are longer than the shelf, or there is not enough memory for their figures",
+            Refusal::OverBudget => "more sectors would be needed than the budget allows",
+            Refusal::Unknown(number) => return write!(f, "the archive gave the unknown answer {number}"),
         })
     }
 }
@@ -202,20 +205,20 @@ impl std::error::Error for Refusal {}
 /// A refused call.
 #[derive(Debug, Clone, Copy, PartialEq, Eq)]
 pub struct Refused {
-    /// Why it was refused.
+    /// The reason.
     pub why: Refusal,
-    /// The sectors that were asked for, the one that couldn't be had among them.
+    /// The number of sectors that were asked for, including one that could not be read.
     pub sectors: u64,
 }
 
 impl Refused {
-    /// The number that the call answered with: 1 to 7 or 9 to 16, in the answer table.
+    /// The number in the answer table: 1 to 7 or 9 to 16.
     pub fn number(&self) -> u64 {
         self.why.number()
     }
 
-    /// Whether the call may be answered otherwise once more of the image is there: [`Refusal::may_pass`]. [`Vault::missing_sector`](crate::Vault)
-    /// says which sector it waits for.
+    /// Whether the call may give another result once more of the image is there: see [`Refusal::may_pass`].
+    /// [`Disc::missing_sector`](crate::Disc) says which sector it waits for.
     pub fn may_pass(&self) -> bool {
         self.why.may_pass()
     }

@@ -1,21 +1,21 @@
-//! The calls of include/vault.h, wrapped. This, `parsing` with those of include/records.h and `mapped` are the only modules of the library with
-//! `unsafe` in them.
+//! The calls of include/vault.h, wrapped. This module, `parsing` (for include/records.h) and `mapped` are the only ones
+//! in the library that contain `unsafe`.
 //!
-//! Why the calls are sound. The header asks two things of a caller: that the lent pieces don't overlap, and that their pointers aren't
-//! null. A shared slice and the spare room of a vector that is borrowed mutably can't overlap, nor can the rooms of two vectors; the image and
-//! the paths are only read, so that it harms nothing if one is a part of the other. No slice's or vector's pointer is null, also at length
-//! 0. In return it promises, and that is proved, that a call reads and writes within the lengths it is given, keeps no
-//! pointer, and asks nothing of the values: a volume or an ICB may be any. The proofs take the image as standing still, which a `&[u8]`
-//! says of itself; lib.rs has what a map of a file has to see to.
+//! Why the calls are sound: the header requires that the lent pieces don't overlap and that their pointers aren't null.
+//! A shared slice and the spare room of a mutably borrowed vector can't overlap, nor can the rooms of two vectors. The
+//! image and the paths are only read, so one may be a part of the other. The pointer of a slice or vector is never
+//! null, even at length 0. In return it is proved that a call reads and writes only within the lengths it is given,
+//! keeps no pointer, and accepts any values: any volume and any ICB. The proofs assume that the image doesn't change,
+//! which a `&[u8]` promises; lib.rs says what that means for a map of a file.
 //!
-//! The calls take what they are declared to take if the archive is of the version that is declared. Those that need no volume see to that
-//! first, and every volume comes from one of them.
+//! The declarations match the archive only if its version is the declared one. Calls that need no volume check the
+//! version first, and every volume comes from one of them.
 //!
-//! Of a read that goes a sector at a time the output is lent again and again, and may have moved between two steps. Its front, which has what
-//! arrived, moves with it; a step writes behind that, and looks at nothing of it.
+//! A read that goes one sector at a time is lent the output again and again, and the output may have moved between two
+//! steps. Its front, with what has arrived, moves with it. A step writes after that front, and does not read it.
 //!
-//! What is lent for writing isn't initialised: it is handed over as a pointer, and only what the call says it wrote is looked at. (Of an
-//! image that changes meanwhile a call may say that it wrote bytes which it found gone when it came to copy them.)
+//! Memory lent for writing isn't initialised: it is passed as a pointer, and only what the call says it wrote is looked
+//! at. (If the image changes during the call, it may report bytes as written that were gone when it came to copy them.)
 #![allow(unsafe_code)]
 
 use crate::answer::{Answer, Answered, Refusal, Refused};
@@ -25,7 +25,7 @@ use strandlodge_sys::vault::*;
 
 type Lent = *mut u8;
 
-/// The value, where the number says that there is one.
+/// The value, if the answer is 0.
 fn answered<T>(answer: u64, sectors: u64, value: T) -> Answered<T> {
     match Refusal::of(answer) {
         None => Ok(Answer { value, sectors }),
@@ -33,7 +33,7 @@ fn answered<T>(answer: u64, sectors: u64, value: T) -> Answered<T> {
     }
 }
 
-/// Lends the room of `out`, and makes what was written its content.
+/// Lends the spare room of `out`, and makes what was written its content.
 fn filled<T>(out: &mut Vec<T>, call: impl FnOnce(*mut T, usize) -> Reply) -> Answered<()> {
     out.clear();
     let room = out.spare_capacity_mut();
@@ -45,33 +45,34 @@ fn filled<T>(out: &mut Vec<T>, call: impl FnOnce(*mut T, usize) -> Reply) -> Ans
     answered(reply.answer, reply.count, ())
 }
 
-/// The room of `work`, to be lent. What is written there is never looked at.
+/// The spare room of `work`, to be lent. What is written there is never looked at.
 fn space(work: &mut Vec<u8>) -> (Lent, usize) {
     work.clear();
     let room = work.spare_capacity_mut();
     (room.as_mut_ptr().cast(), room.len())
 }
 
-/// The part of `whole` that a reply names; `at` and the reply's length are 0 where there is none.
+/// The part of `whole` that a reply names; `at` and the reply's length are 0 if there is none.
 fn named(whole: &[u8], at: usize, length: u64) -> &[u8] {
     whole.get(at..).and_then(|rest| rest.get(..length as usize)).unwrap_or_default()
 }
 
-/// Stops where an archive of another version was linked: its calls may take something else than they are given.
+/// Panics if an archive of another version was linked: its calls may take other arguments.
 fn see_version() {
     // SAFETY: nothing is lent.
     let version = unsafe { vault_version() };
     assert_eq!(version, VERSION, "the archive that was linked is of another version than this crate");
 }
 
-/// The bytes from `at` on, each looked at once, also where the image is a map that someone writes to; none where they aren't all there.
+/// The bytes from `at` on, each read once, even if the image is a map that someone writes to; `None` if they aren't all
+/// there.
 pub fn peek<const N: usize>(image: &[u8], at: usize) -> Option<[u8; N]> {
     let from = image.get(at..)?.get(..N)?.as_ptr();
     // SAFETY: N bytes stand there.
     Some(std::array::from_fn(|i| unsafe { from.add(i).read_volatile() }))
 }
 
-/// Copies the front of some bytes, as many as there is room for, each looked at once, and gives how many.
+/// Copies as many of the first bytes as there is room for, each read once, and returns their number.
 pub fn copy(from: &[u8], to: &mut [u8]) -> usize {
     let n = from.len().min(to.len());
     for (byte, to) in from[..n].iter().zip(&mut *to) {
@@ -108,7 +109,7 @@ pub fn lookup(volume: Volume, image: &[u8], path: &[u8], matching: Matching, wor
     answered(found.answer, found.count, LongAd::of_c(found.icb))
 }
 
-/// The component at which the lookup is refused by 3, or none where the path is there.
+/// The component at which the lookup is refused with 3; `None` if the path exists.
 pub fn failed<'p>(volume: Volume, image: &[u8], path: &'p [u8], matching: Matching, work: &mut Vec<u8>) -> Answered<Option<&'p [u8]>> {
     let ((work, w), m) = (space(work), matching.number());
     let mut at = 0;
@@ -168,14 +169,15 @@ pub fn read_path(volume: Volume, image: &[u8], path: &[u8], matching: Matching, 
     filled(out, |to, room| unsafe { vault_read_path(volume, image.as_ptr(), image.len(), path.as_ptr(), path.len(), m, to, room, work, w) })
 }
 
-/// The rows of a list of paths: a length and an answer for each.
+/// The rows for a list of paths: a length and an answer for each.
 #[derive(Default)]
 pub struct Rows {
     pub lengths: Vec<u64>,
     pub answers: Vec<u32>,
 }
 
-/// `paths` has a zero byte between each two. What was read stands in `out`, one behind the other, and of each a length and an answer in the rows.
+/// `paths` are separated by zero bytes. The files read go to `out` one after another, and a length and an answer for
+/// each to the rows.
 pub fn read_all(
     volume: Volume,
     image: &[u8],
@@ -206,7 +208,7 @@ pub fn read_all(
     Ok(answer)
 }
 
-/// The places of a row in which the extents of a file wait.
+/// The row in which the extents of a file wait.
 pub type Row = Vec<Extent>;
 
 pub fn opening_start() -> Opening {
@@ -215,19 +217,19 @@ pub fn opening_start() -> Opening {
     unsafe { vault_opening_start() }
 }
 
-/// The sector that is wanted; none where the opening has ended.
+/// The sector wanted; `None` if the opening has ended.
 pub fn opening_wants(opening: &Opening) -> Option<u64> {
     // SAFETY: nothing is lent.
     unsafe { vault_opening_is_wanting(*opening).then(|| vault_opening_wants(*opening)) }
 }
 
-/// No bytes say that the sector can't be had.
+/// An empty `sector` means that it can't be read.
 pub fn opening_step(opening: Opening, sector: &[u8]) -> Opening {
     // SAFETY: the head of this module; nothing is lent for writing.
     unsafe { vault_opening_step(opening, sector.as_ptr(), sector.len()) }
 }
 
-/// What an opening that has ended came to.
+/// The result of an opening that has ended.
 pub fn opening_ended(opening: &Opening) -> Answered<Volume> {
     let opened = opening.opened;
     answered(opened.answer, opened.count, opened.volume)
@@ -238,13 +240,14 @@ pub fn reading_start(volume: Volume, icb: LongAd, row: &mut Row) -> Reading {
     unsafe { vault_reading_start(volume, icb.to_c(), row.as_mut_ptr(), row.len()) }
 }
 
-/// The sector that is wanted; none where the read has ended.
+/// The sector wanted; `None` if the read has ended.
 pub fn reading_wants(reading: &Reading) -> Option<u64> {
     // SAFETY: nothing is lent.
     unsafe { vault_reading_is_wanting(*reading).then(|| vault_reading_wants(*reading)) }
 }
 
-/// No bytes say that the sector can't be had. `out` holds what has arrived, and no more than `most` bytes of its room are lent.
+/// An empty `sector` means that it can't be read. `out` holds what has arrived, and at most `most` bytes of its room
+/// are lent.
 pub fn reading_step(mut reading: Reading, sector: &[u8], row: &mut Row, out: &mut Vec<u8>, most: usize) -> Reading {
     reading.length = out.len();
     let room = out.capacity().min(most);
@@ -255,7 +258,7 @@ pub fn reading_step(mut reading: Reading, sector: &[u8], row: &mut Row, out: &mu
     behind
 }
 
-/// What a read that has ended came to.
+/// The result of a read that has ended.
 pub fn reading_ended(reading: &Reading) -> Answered<()> {
     answered(reading.answer, reading.count, ())
 }
@@ -265,7 +268,8 @@ pub fn list_bytes(volume: Volume, bytes: &[u8], out: &mut Vec<u8>) -> Answered<(
     filled(out, |to, room| unsafe { vault_list_bytes(volume, bytes.as_ptr(), bytes.len(), to, room) })
 }
 
-/// The entry that a component names among a directory's bytes, with whether it is a directory; none where nothing has that name.
+/// The entry that a component names in a directory's bytes, and whether it is a directory; `None` if nothing has that
+/// name.
 pub fn find(volume: Volume, bytes: &[u8], component: &[u8], matching: Matching) -> std::result::Result<Option<(LongAd, bool)>, Refusal> {
     let (from, length, m) = (component.as_ptr(), component.len(), matching.number());
     // SAFETY: the head of this module; nothing is lent for writing.
@@ -276,14 +280,14 @@ pub fn find(volume: Volume, bytes: &[u8], component: &[u8], matching: Matching) 
     }
 }
 
-/// The first component of a path from `at` on, with where it ends; none where there is none.
+/// The first component of a path from `at` on, and where it ends; `None` if there is none.
 pub fn next_component(path: &[u8], at: usize) -> Option<(&[u8], usize)> {
     // SAFETY: the head of this module; nothing is lent for writing.
     let Component { at, length } = unsafe { vault_next_component(path.as_ptr(), path.len(), at) };
     (length > 0).then(|| (named(path, at, length as u64), at + length))
 }
 
-/// `names` has a zero byte behind each.
+/// Each name is followed by a zero byte.
 pub fn write_total(names: &[u8], lengths: &[u64]) -> std::result::Result<u64, Refusal> {
     see_version();
     // SAFETY: the head of this module; nothing is lent for writing.
@@ -291,12 +295,12 @@ pub fn write_total(names: &[u8], lengths: &[u64]) -> std::result::Result<u64, Re
     Refusal::of(reply.answer).map_or(Ok(reply.sectors), Err)
 }
 
-/// The image over the front of what is lent, and its sectors.
+/// Writes the image to the front of what is lent, and returns its sectors.
 pub fn write(names: &[u8], lengths: &[u64], staging: &[u8], image: &mut [u8]) -> std::result::Result<u64, Refusal> {
     write_to(names, lengths, staging, image.as_mut_ptr(), image.len())
 }
 
-/// The image as the content of a vector that has room for it.
+/// Writes the image to a vector that has room for it.
 pub fn write_into(names: &[u8], lengths: &[u64], staging: &[u8], image: &mut Vec<u8>) -> std::result::Result<(), Refusal> {
     image.clear();
     let room = image.spare_capacity_mut();
@@ -314,14 +318,14 @@ fn write_to(names: &[u8], lengths: &[u64], staging: &[u8], image: Lent, room: us
     Refusal::of(reply.answer).map_or(Ok(reply.sectors), Err)
 }
 
-/// The figures of a shelf over the front of `row`, a place for each length and one for all; the answer number. Each image is lent `most` sectors. The work space
-/// is the room of `work`.
+/// Writes the figures of a shelf to the front of `row`, one place for each length and one for all, and returns the
+/// answer. Each image has a budget of `most` sectors. The spare room of `work` is the work space.
 pub fn survey(shelf: &[u8], lengths: &[u64], how: u32, most: u64, row: &mut [u64], work: &mut Vec<u8>) -> u64 {
     let (work, w) = space(work);
     survey_with(shelf, lengths, how, most, row, work, w)
 }
 
-/// The same with work space that is lent.
+/// The same with a lent work space.
 pub fn survey_in(shelf: &[u8], lengths: &[u64], how: u32, most: u64, row: &mut [u64], work: &mut [u8]) -> u64 {
     survey_with(shelf, lengths, how, most, row, work.as_mut_ptr(), work.len())
 }
@@ -333,7 +337,7 @@ fn survey_with(shelf: &[u8], lengths: &[u64], how: u32, most: u64, row: &mut [u6
     unsafe { vault_survey(shelf.as_ptr(), shelf.len(), lengths.as_ptr(), l, how, most, row.as_mut_ptr(), r, work, w) }
 }
 
-/// The total of the first `images` places of a row, in the one behind them; the answer number.
+/// Writes the total of the first `images` places of a row to the place after them, and returns the answer.
 pub fn survey_total(row: &mut [u64], images: usize) -> u64 {
     see_version();
     // SAFETY: the head of this module; the row is a mutable borrow.

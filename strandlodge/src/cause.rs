@@ -1,4 +1,4 @@
-//! Which of its causes a refusal had (docs/RULES.md, parts 5 to 7).
+//! The cause of a refusal (docs/RULES.md, parts 5 to 7).
 
 use crate::answer::Refusal;
 use crate::diagnosis::{Diagnosis, Sought};
@@ -15,113 +15,115 @@ use std::fmt;
 use std::io::{Read, Seek};
 use strandlodge_sys::vault::Mount;
 
-/// The block sizes besides 2,048 in which discs are made.
+/// The other block sizes that discs have.
 const SIZES: [u32; 3] = [512, 1024, 4096];
 
-/// An anchor stands in this block, whatever the block size is; or in the last one, or as many before it.
+/// The anchor is in this block, whatever the block size; or in the last block, or this many blocks before it.
 const ANCHOR: u32 = AVDP_SECTOR as u32;
 
-/// Of a chain (docs/RULES.md, 6.16).
+/// The longest chain (docs/RULES.md, 6.16).
 const MOST_CONTINUATIONS: usize = 32;
 const LONGEST: u32 = 1 << 20;
 
-/// Why a call was refused: for each refusal by 4, and for others where it can be told.
+/// The cause of a refusal: given for every refusal 4, and for others if it is known.
 #[derive(Debug, Clone, PartialEq, Eq, Hash)]
 #[non_exhaustive]
 pub enum Cause {
-    /// The blocks have another size than 2,048 bytes: the logical volume descriptor says so, or the anchor stands where it does for that size.
+    /// The block size is not 2,048 bytes, according to the logical volume descriptor, or because the anchor is where it
+    /// would be for that size.
     BlockSize(u32),
-    /// There is no anchor in sector 256, and one in this: anchors at the end aren't looked for.
+    /// There is no anchor in sector 256, but one in this sector. Only sector 256 is used.
     AnchorAt(u64),
     /// The main sequence has no descriptor of this kind.
     NoDescriptor(Kind),
-    /// A reference to a partition isn't the number of the volume's partition, to which it is compared without [`How::maps`].
+    /// A partition reference is not the number of the volume's partition. (References are compared with it without
+    /// [`How::maps`].)
     Reference {
         /// The reference.
         reference: u16,
         /// The number of the partition.
         partition: u16,
     },
-    /// A reference to a partition leads to none of the maps.
+    /// A partition reference leads to no partition map.
     NoMap {
         /// The reference.
         reference: u16,
-        /// How many maps there are.
+        /// The number of maps.
         maps: u32,
     },
-    /// There are so many partition maps, and up to four are read.
+    /// There are this many partition maps; up to four are supported.
     ManyMaps(u32),
-    /// A partition map is of a form that isn't read.
+    /// A partition map has an unsupported type.
     MapKind {
-        /// Its place among the maps: the reference that leads to it.
+        /// Its index: the reference that leads to it.
         map: usize,
         /// Its type.
         kind: u8,
-        /// The partition type that it is identified by, where it is of type 2.
+        /// Its partition type identifier, if it is of type 2.
         identifier: String,
     },
-    /// A partition map is of a partition that has no descriptor.
+    /// A partition map is for a partition that has no descriptor.
     NoPartition {
-        /// Its place among the maps.
+        /// Its index.
         map: usize,
         /// The number of the partition.
         number: u16,
     },
-    /// An extent is compressed: its recorded length isn't its information length.
+    /// An extent is compressed: its recorded length differs from its information length.
     Compressed {
         /// The first block.
         block: u32,
-        /// The bytes that are recorded, and those that they stand for.
+        /// The number of recorded bytes.
         recorded: u32,
-        /// The bytes that they stand for.
+        /// The number of bytes that they stand for.
         information: u32,
     },
-    /// An extent isn't recorded: type 1 is allocated, and 2 is not.
+    /// An extent is not recorded. Type 1 is allocated, type 2 is not.
     NotRecorded {
         /// The type.
         extent_type: u8,
-        /// Its bytes.
+        /// Its length in bytes.
         length: u32,
     },
-    /// A continuation of a file's descriptors has so many bytes, and up to 1,048,576 are read.
+    /// A continuation of a file's descriptors has this many bytes; up to 1,048,576 are supported.
     LongContinuation(u32),
-    /// An ICB has no length: it names nothing.
+    /// An ICB has length 0 and names nothing.
     EmptyIcb,
 }
 
 impl fmt::Display for Cause {
     fn fmt(&self, f: &mut fmt::Formatter<'_>) -> fmt::Result {
         match self {
-            Cause::BlockSize(size) => write!(f, "the disc has blocks of {size} bytes, and blocks of 2048 are read"),
-            Cause::AnchorAt(sector) => write!(f, "there is no anchor in sector 256, and one in sector {sector}, where it isn't looked for"),
+            Cause::BlockSize(size) => write!(f, "the disc has blocks of {size} bytes; only 2048 is supported"),
+            Cause::AnchorAt(sector) => write!(f, "there is no anchor in sector 256; the one in sector {sector} is not used"),
             Cause::NoDescriptor(kind) => write!(f, "the volume has no {kind} descriptor"),
             Cause::Reference { reference, partition } => {
-                write!(f, "partition reference {reference} isn't the number of the volume's partition, which is {partition}")
+                write!(f, "partition reference {reference} is not the number of the volume's partition, which is {partition}")
             }
             Cause::NoMap { reference, maps } => {
-                write!(f, "partition reference {reference} leads to no partition map, of which there are {maps}")
+                write!(f, "partition reference {reference} leads to no partition map; there are {maps}")
             }
-            Cause::ManyMaps(maps) => write!(f, "the volume has {maps} partition maps, and up to {} are read", MapTable::MOST),
+            Cause::ManyMaps(maps) => write!(f, "the volume has {maps} partition maps; up to {} are supported", MapTable::MOST),
             Cause::MapKind { map, kind, identifier } => {
                 let name = if identifier.is_empty() { String::new() } else { format!(" ({})", identifier.escape_debug()) };
-                write!(f, "partition map {map} is of type {kind}{name}, and type 1 is read")
+                write!(f, "partition map {map} is of type {kind}{name}; only type 1 is supported")
             }
-            Cause::NoPartition { map, number } => write!(f, "partition map {map} is of partition {number}, which has no descriptor"),
+            Cause::NoPartition { map, number } => write!(f, "partition map {map} is for partition {number}, which has no descriptor"),
             Cause::Compressed { block, recorded, information } => {
-                write!(f, "an extent is compressed: {recorded} bytes are recorded from block {block} on, and stand for {information}")
+                write!(f, "an extent is compressed: the {recorded} bytes from block {block} on stand for {information}")
             }
             Cause::NotRecorded { extent_type, length } => {
-                write!(f, "an extent of {length} bytes isn't recorded (type {extent_type}): the file has a hole")
+                write!(f, "an extent of {length} bytes is not recorded (type {extent_type}): the file has a hole")
             }
             Cause::LongContinuation(length) => {
-                write!(f, "a continuation of the file's descriptors has {length} bytes, and up to {LONGEST} are read")
+                write!(f, "a continuation of the file's descriptors has {length} bytes; up to {LONGEST} are supported")
             }
-            Cause::EmptyIcb => f.write_str("its ICB has a length of 0, and names nothing"),
+            Cause::EmptyIcb => f.write_str("its ICB has length 0 and names nothing"),
         }
     }
 }
 
-/// Of an opening.
+/// The cause of a refused opening.
 pub(crate) fn of_opening<R: Read + Seek>(source: &mut Source<R>, sequence: &Sequence, how: How, diagnosis: &Diagnosis) -> Option<Cause> {
     match diagnosis.refused.why {
         Refusal::Io | Refusal::Malformed if diagnosis.place.is_some_and(|place| place.sought == Sought::Anchor) => elsewhere(source),
@@ -131,7 +133,7 @@ pub(crate) fn of_opening<R: Read + Seek>(source: &mut Source<R>, sequence: &Sequ
     }
 }
 
-/// Where an anchor stands that isn't in sector 256: for another block size, or at the end.
+/// An anchor that isn't in sector 256: for another block size, or at the end.
 fn elsewhere<R: Read + Seek>(source: &mut Source<R>) -> Option<Cause> {
     let mut says = |sector: u64, location: u64| {
         let anchor = source.look(sector).and_then(|bytes| AnchorVolumeDescriptorPointer::parse(&bytes).ok());
@@ -151,14 +153,14 @@ fn is_anchor_of(bytes: &[u8], sector: u64) -> bool {
     AnchorVolumeDescriptorPointer::parse(bytes).is_ok_and(|anchor| u64::from(anchor.tag.location) == sector)
 }
 
-/// The first of the three descriptors that isn't there (5.11).
+/// The first of the three descriptors that is missing (5.11).
 fn lacking(sequence: &Sequence, how: How) -> Option<Cause> {
     let there = [sequence.has_primary, !sequence.partitions.is_empty(), sequence.logical(how).is_some()];
     let kinds = [Kind::PrimaryVolume, Kind::Partition, Kind::LogicalVolume];
     kinds.into_iter().zip(there).find(|(_, is_there)| !is_there).map(|(kind, _)| Cause::NoDescriptor(kind))
 }
 
-/// What of a volume isn't read (5.11, 5.28).
+/// What is not supported in a volume (5.11, 5.28).
 fn unread(sequence: &Sequence, how: How) -> Option<Cause> {
     let (logical, table) = (&sequence.logical(how)?.0, sequence.table(how)?);
     let reference = logical.file_set_descriptor_location.location.partition_ref;
@@ -187,7 +189,7 @@ fn unread(sequence: &Sequence, how: How) -> Option<Cause> {
     all.clone().find_map(kind).or_else(|| all.clone().find_map(lost)).or(Some(no_map))
 }
 
-/// Of a call that was refused at the file or the directory that an ICB names.
+/// The cause of a refusal at the file or directory of an ICB.
 pub(crate) fn of_call<R: Read + Seek>(source: &mut Source<R>, mount: Mount, icb: LongAd, why: Refusal) -> Option<Cause> {
     match why {
         Refusal::Unsupported => of_reading(source, mount, icb),
@@ -196,7 +198,7 @@ pub(crate) fn of_call<R: Read + Seek>(source: &mut Source<R>, mount: Mount, icb:
     }
 }
 
-/// Of a read of a file or a directory that was refused by 4: the first thing that isn't read, in the order of a read.
+/// The cause of a read refused with 4: the first thing that is not supported, in the order of the read.
 fn of_reading<R: Read + Seek>(source: &mut Source<R>, mount: Mount, icb: LongAd) -> Option<Cause> {
     let Some(start) = started(mount, icb) else {
         return Some(Cause::NoMap { reference: icb.location.partition_ref, maps: mount.maps });
@@ -222,7 +224,7 @@ fn of_reading<R: Read + Seek>(source: &mut Source<R>, mount: Mount, icb: LongAd)
     None
 }
 
-/// The extents of an area, put behind those before it, and where it goes on; or the compressed one.
+/// Appends the extents of an area and returns where it continues; or the compressed extent.
 fn cut(kind: entries::AdType, area: &[u8], extents: &mut Vec<AllocExtent>) -> Result<Option<entries::AdContinuation>, Cause> {
     for one in entries::Area::new(kind, area) {
         match one {
@@ -241,7 +243,7 @@ fn cut(kind: entries::AdType, area: &[u8], extents: &mut Vec<AllocExtent>) -> Re
     Ok(None)
 }
 
-/// The area of a continuation, where it is there; or what of it isn't read.
+/// The area of a continuation, if it is there; or what is not supported in it.
 fn continued<R: Read + Seek>(
     source: &mut Source<R>,
     mount: Mount,
@@ -266,7 +268,7 @@ fn continued<R: Read + Seek>(
     Ok(header.and_then(area))
 }
 
-/// The sector of a block, or why the volume has none for it.
+/// The sector of a block, or why it has none on this volume.
 fn placed(mount: Mount, place: LbAddr) -> Result<u64, Cause> {
     let reference = place.partition_ref;
     place_of(mount, place).ok_or(match mount.maps {
@@ -275,7 +277,7 @@ fn placed(mount: Mount, place: LbAddr) -> Result<u64, Cause> {
     })
 }
 
-/// The first extent that isn't read (7.3). A read that was refused by 4 has come to it.
+/// The first extent that is not supported (7.3). A read refused with 4 has come to it.
 fn unrecorded(mount: Mount, extents: &[AllocExtent]) -> Option<Cause> {
     extents.iter().find_map(|&AllocExtent { length, extent_type, block, partition_ref }| {
         if extent_type != 0 {

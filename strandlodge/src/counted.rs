@@ -1,4 +1,4 @@
-//! The calls with their counts, over a borrowed image.
+//! The calls with their sector counts, over a borrowed image.
 
 use crate::answer::{Answer, Answered, Refusal, Refused};
 use crate::calls;
@@ -16,41 +16,43 @@ use crate::tree::Show;
 use std::fmt;
 use strandlodge_sys::vault::{Extent, Volume};
 
-/// The bytes of a sector, and of a block.
+/// The number of bytes in a sector, and in a block.
 pub const SECTOR_SIZE: u64 = 2048;
 
-/// The slots that are lent at first for an extent list, or for runs.
+/// The number of slots lent at first for an extent list or for runs.
 pub(crate) const FIRST_SLOTS: usize = 256;
 
-/// No extent list is longer: 32 continuations of at most 2^20 bytes, and an entry of 2,048, with 8 bytes for each descriptor.
+/// The longest extent list: 32 continuations of at most 2^20 bytes and an entry of 2,048, with 8 bytes for each
+/// descriptor.
 pub(crate) const MOST_SLOTS: usize = 32 * ((1 << 20) / 8) + 2048 / 8;
 
 /// A label has at most 30 recorded bytes of one or two bytes of UTF-8 each, or 15 pairs of at most three.
 const LABEL: usize = 64;
 
-/// Opens an image as it is chosen, and gives its label.
+/// Opens an image with choices and returns its label.
 fn label(image: &[u8], how: How) -> Answered<String> {
     let mut out = Room::new(LABEL, LABEL);
     let answer = calls::label(image, how.number(), &mut out.lent)?;
     kept(answer, Refusal::NoRoom, |()| text(&out.lent))
 }
 
-/// The answer's value made into another, for which there may be no memory.
+/// Converts the value of an answer, which may fail for lack of memory.
 fn kept<T, U>(answer: Answer<T>, full: Refusal, make: impl FnOnce(T) -> Option<U>) -> Answered<U> {
     let sectors = answer.sectors;
     let value = make(answer.value).ok_or(Refused { why: full, sectors })?;
     Ok(Answer { value, sectors })
 }
 
-/// A [`Vault`](crate::Vault) over a borrowed image whose calls say how many sectors they asked for. It has the same calls, and each gives an [`Answer`]:
-/// [`Vault::counted`](crate::Vault::counted) gives it of a vault. It is small and holds nothing but a borrow: copy it, share it between threads.
+/// A [`Disc`](crate::Disc) over a borrowed image whose calls also return how many sectors they asked for, as an
+/// [`Answer`]. [`Disc::counted`](crate::Disc::counted) gives you one. It is small and holds only a borrow: you can copy
+/// it and share it between threads.
 ///
 /// ```
 /// # fn main() -> std::result::Result<(), Box<dyn std::error::Error>> {
 /// let image = strandlodge::write(&[("9", b"cue 9")])?;
-/// let vault = strandlodge::Counted::open(&image)?;
-/// let look = vault.read_path("9")?;
-/// println!("{} sectors to open it, {} to read {} bytes", vault.sectors, look.sectors, look.len());
+/// let disc = strandlodge::Counted::open(&image)?;
+/// let look = disc.read_path("9")?;
+/// println!("{} sectors to open it, {} to read {} bytes", disc.sectors, look.sectors, look.len());
 /// # Ok(())
 /// # }
 /// ```
@@ -62,7 +64,7 @@ pub struct Counted<'a> {
 }
 
 impl fmt::Debug for Counted<'_> {
-    /// Without the image, which may have many gigabytes.
+    /// Leaves out the image, which may have many gigabytes.
     fn fmt(&self, f: &mut fmt::Formatter<'_>) -> fmt::Result {
         f.debug_struct("Counted")
             .field("partition_start_sector", &self.partition_start_sector())
@@ -77,19 +79,19 @@ impl<'a> Counted<'a> {
     ///
     /// # Errors
     ///
-    /// Refused by 1 where a sector isn't there, 2 where a descriptor isn't what it must be, 3 where one is missing, 4 where the volume has
-    /// a form that isn't read, and, with bodies checked, 10 where one is wrong.
+    /// Refusal 1 if a sector is missing, 2 if a descriptor is invalid, 3 if a descriptor is missing, 4 if the volume is
+    /// not supported; with [`How::checked`], 10 if a CRC is wrong.
     pub fn open(image: &'a [u8]) -> Answered<Counted<'a>> {
         Counted::open_as(image, How::default())
     }
 
-    /// The same, as it is chosen: which of several descriptors of one kind counts, whether the bodies of descriptors are checked, here and in
-    /// every call on what is opened, and whether partition references go through the volume's maps.
+    /// Opens the volume with choices: which of several descriptors of one kind counts, whether the CRCs of descriptors
+    /// are checked, now and in every later call, and whether partition references go through the volume's maps.
     ///
     /// # Errors
     ///
-    /// Refused by 1 where a sector isn't there, 2 where a descriptor isn't what it must be, 3 where one is missing, 4 where the volume has
-    /// a form that isn't read, and, with bodies checked, 10 where one is wrong.
+    /// Refusal 1 if a sector is missing, 2 if a descriptor is invalid, 3 if a descriptor is missing, 4 if the volume is
+    /// not supported; with [`How::checked`], 10 if a CRC is wrong.
     pub fn open_as(image: &'a [u8], how: How) -> Answered<Counted<'a>> {
         Ok(calls::open(image, how.number())?.map(|volume| Counted { image, volume, how }))
     }
@@ -99,17 +101,17 @@ impl<'a> Counted<'a> {
         self.image
     }
 
-    /// Opens an image as it is chosen, and gives its label.
+    /// Opens an image with choices and returns its label.
     ///
     /// # Errors
     ///
-    /// Refused by 1 where a sector isn't there, 2 where a descriptor isn't what it must be, 3 where one is missing, 4 where the volume has
-    /// a form that isn't read, and, with bodies checked, 10 where one is wrong.
+    /// Refusal 1 if a sector is missing, 2 if a descriptor is invalid, 3 if a descriptor is missing, 4 if the volume is
+    /// not supported; with [`How::checked`], 10 if a CRC is wrong.
     pub fn label_of(image: &[u8], how: How) -> Answered<String> {
         label(image, how)
     }
 
-    /// What was opened, by the record that opening gave.
+    /// From the volume that opening returned.
     pub(crate) fn over(image: &'a [u8], volume: Volume, how: How) -> Counted<'a> {
         Counted { image, volume, how }
     }
@@ -118,12 +120,12 @@ impl<'a> Counted<'a> {
         self.volume
     }
 
-    /// What it was opened with.
+    /// The choices that it was opened with.
     pub fn how(&self) -> How {
         self.how
     }
 
-    /// The sector in which the partition starts; of a volume that was opened through its maps, the file set's.
+    /// The sector where the partition starts; for a volume opened through its maps, the file set's partition.
     pub fn partition_start_sector(&self) -> u64 {
         self.volume.mount.start.into()
     }
@@ -133,27 +135,29 @@ impl<'a> Counted<'a> {
         self.volume.mount.partition
     }
 
-    /// The partition maps through which references are resolved, in their order: one that was opened without [`How::maps`](How) has none. A
-    /// reference is an index into them.
+    /// The partition maps that resolve references, in order; none without [`How::maps`](How). A reference is an index
+    /// into them.
     pub fn maps(&self) -> Vec<PartitionMap> {
         maps(self.volume.mount)
     }
 
-    /// The sector of a block, by the reference that a descriptor on the disc gives with it: through the maps, or without them where the
-    /// reference is the partition's number. None where it is of no partition of this volume, which calls refuse by 4.
+    /// The sector of a block, given the partition reference that a descriptor on the disc has with it: through the
+    /// maps, or without maps if the reference is the partition's number. `None` if it is in no partition of this
+    /// volume; calls refuse that with 4.
     pub fn sector_of(&self, place: LbAddr) -> Option<u64> {
         place_of(self.volume.mount, place)
     }
 
-    /// The sector in which the entry stands that an ICB names. Without maps an ICB's reference isn't looked at.
+    /// The sector of the entry that an ICB names. Without maps, the ICB's partition reference is ignored.
     pub fn icb_sector(&self, icb: impl Into<LongAd>) -> Option<u64> {
         let (icb, mount) = (icb.into(), self.volume.mount);
         Some(started(mount, icb)? + u64::from(icb.location.block))
     }
 
-    /// The first sector of an extent that [`Counted::extents`] gives of the file that an ICB names: one that names no partition stands in that of
-    /// the file's entry. The extent's bytes are the first of that sector and of those behind it. None where a read that comes to this extent is
-    /// refused by 4; what an extent's type says isn't looked at.
+    /// The first sector of an extent, as [`Counted::extents`] gives it for the file of this ICB. An extent that names
+    /// no partition is in that of the file's entry. The extent's bytes begin at the start of that sector and continue
+    /// in the next ones. `None` if a read that comes to this extent is refused with 4. The extent's type is not
+    /// checked.
     pub fn extent_sector(&self, icb: impl Into<LongAd>, extent: &AllocExtent) -> Option<u64> {
         match extent.partition_ref {
             Some(partition_ref) => self.sector_of(LbAddr { block: extent.block, partition_ref }),
@@ -161,12 +165,13 @@ impl<'a> Counted<'a> {
         }
     }
 
-    /// The sector for want of which [`Counted::read_file`] or [`Counted::read_directory`] of this ICB was refused by 1: the first of the file's sectors,
-    /// in the order in which they are read, that isn't there. None where the refusal isn't by 1, and where the sector is one of the chain that
-    /// stands behind the file's entry: no call gives its place.
+    /// The missing sector, if [`Counted::read_file`] or [`Counted::read_directory`] of this ICB was refused with 1: the
+    /// first of the file's sectors, in reading order, that is not there. `None` for any other refusal, and if the
+    /// sector belongs to the chain after the file's entry, whose place no call gives.
     ///
-    /// The count of a refusal by 1 is the place of the missing sector among those that the call asked for. [`Counted::extents`] asks for the
-    /// entry's and the chain's alone, which come first; so the rest of the count is the place among the sectors of the extents in turn.
+    /// The count of a refusal 1 is the position of the missing sector among those that the call asked for.
+    /// [`Counted::extents`] asks only for those of the entry and the chain, which come first; the rest of the count is
+    /// the position among the sectors of the extents.
     pub fn missing_sector(&self, icb: impl Into<LongAd>, refused: &Refused) -> Option<u64> {
         let icb = icb.into();
         if !refused.may_pass() {
@@ -188,7 +193,7 @@ impl<'a> Counted<'a> {
         None
     }
 
-    /// Where a call on this volume was refused, and why: `refused` is what it gave. It goes over the call again.
+    /// Where and why a call on this volume was refused; `refused` is what the call returned. This repeats the call.
     pub fn diagnose(&self, asked: Asked, refused: &Refused) -> Diagnosis {
         if let Asked::ReadFile(icb) = asked
             && let Some(sector) = self.missing_sector(icb, refused)
@@ -204,7 +209,7 @@ impl<'a> Counted<'a> {
         again.diagnose(refused)
     }
 
-    /// The cause that [`Counted::diagnose`] has, without going over a file's bytes again.
+    /// The cause that [`Counted::diagnose`] gives, without reading a file's bytes again.
     pub(crate) fn cause(&self, asked: Asked, refused: &Refused) -> Option<Cause> {
         if !matches!(refused.why, Refusal::Unsupported | Refusal::Malformed) {
             return None;
@@ -225,64 +230,65 @@ impl<'a> Counted<'a> {
         LongAd::of_c(self.volume.root)
     }
 
-    /// The volume's name. The count is that of opening: the call opens the image again.
+    /// The volume's name. The call opens the image again; the count is that of opening.
     ///
     /// # Errors
     ///
-    /// Refused as opening is: the image is opened again.
+    /// The same refusals as opening: the image is opened again.
     pub fn label(&self) -> Answered<String> {
         label(self.image, self.how)
     }
 
-    /// The ICB that a path names. Components stand between slashes and empty ones are dropped; of a directory's entries the first is
-    /// taken that is equal with ASCII case ignored. The empty path names the root.
+    /// The ICB that a path names. Slashes separate the components, and empty components are dropped; the empty path
+    /// names the root. Of a directory's entries, the first that is equal with ASCII case ignored is taken.
     ///
-    /// What it gives may have another name than was asked for: [`Counted::lookup_as`] is for cues whose names differ in case alone.
+    /// The entry may have another name than you asked for. For cues whose names differ only in case, use
+    /// [`Counted::lookup_as`].
     ///
     /// # Errors
     ///
-    /// Refused by 3 where nothing has a name of the path, and as a listing is for each directory on the way.
+    /// Refusal 3 if a name on the path does not exist; and the refusals of a listing for each directory on the way.
     pub fn lookup(&self, path: impl AsRef<[u8]>) -> Answered<LongAd> {
         self.lookup_as(path, Matching::CaseIgnored)
     }
 
-    /// The same, with components matched as is said.
+    /// The same with a choice of matching.
     ///
     /// # Errors
     ///
-    /// Refused by 3 where nothing has a name of the path, by 9 where two or more entries match one that is to be unambiguous, and as a
-    /// listing is for each directory on the way.
+    /// Refusal 3 if a name on the path does not exist, 9 if it is ambiguous; and the refusals of a listing for each
+    /// directory on the way.
     pub fn lookup_as(&self, path: impl AsRef<[u8]>, matching: Matching) -> Answered<LongAd> {
         let path = path.as_ref();
         retry::<u8, _>(&mut Room::none(), &mut work_space(), |_, work| calls::lookup(self.volume, self.image, path, matching, work))
     }
 
-    /// The component at which [`Counted::lookup`] finds nothing, as a part of the path; none where the path is there.
+    /// The component at which [`Counted::lookup`] finds nothing, as a part of the path; `None` if the path exists.
     ///
     /// # Errors
     ///
-    /// Refused as the lookup is, but for 3.
+    /// The refusals of the lookup, except 3.
     pub fn failed<'p>(&self, path: &'p (impl AsRef<[u8]> + ?Sized)) -> Answered<Option<&'p [u8]>> {
         self.failed_as(path, Matching::CaseIgnored)
     }
 
-    /// The same for [`Counted::lookup_as`]. A component that is ambiguous isn't one at which nothing is found: the call is then refused as the
-    /// lookup is.
+    /// The same for [`Counted::lookup_as`]. An ambiguous component is not one at which nothing is found: the call is
+    /// then refused as the lookup is.
     ///
     /// # Errors
     ///
-    /// Refused as the lookup is, but for 3.
+    /// The refusals of the lookup, except 3.
     pub fn failed_as<'p>(&self, path: &'p (impl AsRef<[u8]> + ?Sized), matching: Matching) -> Answered<Option<&'p [u8]>> {
         let path = path.as_ref();
         retry::<u8, _>(&mut Room::none(), &mut work_space(), |_, work| calls::failed(self.volume, self.image, path, matching, work))
     }
 
-    /// The entries of a directory in the disc's order, without those that are deleted and the parent.
+    /// The entries of a directory in the order of the disc, without deleted entries and the parent.
     ///
     /// # Errors
     ///
-    /// Refused by 1 where a sector isn't there, 2 where a descriptor or a name isn't what it must be, 4 where the directory has a form that
-    /// isn't read, and 10 where bodies are checked and one is wrong; by 5 or 6 where there is no memory for it.
+    /// Refusal 1 if a sector is missing, 2 if a descriptor or a name is invalid, 4 if the directory is not supported,
+    /// 10 if CRCs are checked and one is wrong; 5 or 6 if there is not enough memory.
     pub fn read_directory(&self, icb: impl Into<LongAd>) -> Answered<Vec<DirEntry>> {
         let icb = icb.into();
         let bytes = self.measure(icb)?;
@@ -295,20 +301,23 @@ impl<'a> Counted<'a> {
         kept(answer, Refusal::NoRoom, |()| entries(&out))
     }
 
-    /// All that stands on the volume, down to so many levels, 1 to 16: an entry for each path, each before what stands under it, and those of a
-    /// directory in the disc's order, without those that are deleted and the parent.
+    /// Everything on the volume, down to `levels` levels, 1 to 16: one entry for each path. An entry comes before what
+    /// is below it, and the entries of a directory come in the order of the disc, without deleted entries and the
+    /// parent.
     ///
-    /// It is all or nothing. A directory at the last level, even an empty one, is refused by 11, as is any other number of levels; one that holds itself
-    /// is found there. Whatever is refused on the way refuses the show.
+    /// It is all or nothing: any refusal on the way refuses the show. A directory at the last level, even an empty one,
+    /// is refused with 11, and so is any other number of levels. A directory that contains itself reaches the last
+    /// level.
     ///
-    /// A directory is listed once for each path to it, and a few directories may have more paths than could ever be listed. So the call is lent `most` sectors:
-    /// it is refused by 16 in the place of asking for one more, with `most` as its count. [`UNLIMITED`](crate::UNLIMITED) is for a disc that is trusted.
+    /// A directory is listed once for each path to it, and a few directories may have more paths than anyone could ever
+    /// list. So the call has a budget of `most` sectors. Instead of asking for one more, it is refused with 16, and its
+    /// count is `most`. [`UNLIMITED`](crate::UNLIMITED) is for discs that you trust.
     ///
     /// ```no_run
     /// # fn main() -> std::result::Result<(), Box<dyn std::error::Error>> {
     /// let image = std::fs::read("show.img")?;
-    /// let vault = strandlodge::Counted::open(&image)?;
-    /// for one in vault.show(16, 1_000_000)? {
+    /// let disc = strandlodge::Counted::open(&image)?;
+    /// for one in disc.show(16, 1_000_000)? {
     ///     println!("{}{}", one.path, if one.entry.is_directory { "/" } else { "" });
     /// }
     /// # Ok(())
@@ -317,8 +326,8 @@ impl<'a> Counted<'a> {
     ///
     /// # Errors
     ///
-    /// Refused by 11 where a directory stands at the last level, or the levels aren't 1 to 16; by 16 where more sectors would be asked for
-    /// than were lent; and as a listing is for each directory on the way.
+    /// Refusal 11 if a directory is at the last level, or the levels are not 1 to 16; 16 if more sectors are needed
+    /// than the budget allows; and the refusals of a listing for each directory on the way.
     pub fn show(&self, levels: u32, most: u64) -> Answered<Show> {
         let mut out = Room::new(FIRST, MOST_SHOW);
         let answer = retry(&mut out, &mut work_space(), |out, work| calls::show(self.volume, self.image, levels, most, out, work))?;
@@ -326,12 +335,12 @@ impl<'a> Counted<'a> {
         Ok(answer.map(|()| Show::of(out.lent)))
     }
 
-    /// A file's bytes, or a directory's own.
+    /// The bytes of a file, or of a directory itself.
     ///
     /// # Errors
     ///
-    /// Refused by 1 where a sector isn't there, 2 where a descriptor isn't what it must be, 4 where the file has a form that isn't read,
-    /// and 10 where bodies are checked and one is wrong; by 5 where there is no memory for its bytes.
+    /// Refusal 1 if a sector is missing, 2 if a descriptor is invalid, 4 if the file is not supported, 10 if CRCs are
+    /// checked and one is wrong; 5 if there is not enough memory for its bytes.
     pub fn read_file(&self, icb: impl Into<LongAd>) -> Answered<Vec<u8>> {
         let icb = icb.into();
         let bytes = self.measure(icb)?;
@@ -340,29 +349,30 @@ impl<'a> Counted<'a> {
         Ok(calls::read(self.volume, self.image, icb, &mut out)?.map(|()| out))
     }
 
-    /// How many bytes [`Counted::read_file`] gives, with its refusals and its count, but for 5: that one is for want of memory.
+    /// How many bytes [`Counted::read_file`] gives, with its refusals and its count, except 5, which is for lack of
+    /// memory.
     ///
     /// # Errors
     ///
-    /// Refused as the read is, but for want of memory.
+    /// The refusals of the read, except those for lack of memory.
     pub fn measure(&self, icb: impl Into<LongAd>) -> Answered<u64> {
         calls::measure(self.volume, self.image, icb.into())
     }
 
-    /// Looks a path up and reads what it names; the count is that of both.
+    /// Looks a path up and reads what it names. The count covers both.
     ///
     /// # Errors
     ///
-    /// Refused as the lookup is, and then as the read of what it names.
+    /// The refusals of the lookup, then those of the read.
     pub fn read_path(&self, path: impl AsRef<[u8]>) -> Answered<Vec<u8>> {
         self.read_path_as(path, Matching::CaseIgnored)
     }
 
-    /// The same, with components matched as is said.
+    /// The same with a choice of matching.
     ///
     /// # Errors
     ///
-    /// Refused as the lookup is, and then as the read of what it names.
+    /// The refusals of the lookup, then those of the read.
     pub fn read_path_as(&self, path: impl AsRef<[u8]>, matching: Matching) -> Answered<Vec<u8>> {
         let found = self.lookup_as(path, matching)?;
         let both = |sectors: u64| found.sectors.saturating_add(sectors);
@@ -372,19 +382,20 @@ impl<'a> Counted<'a> {
         }
     }
 
-    /// Reads what each of many paths names: for each, in their order, its bytes or why there are none, as [`Counted::read_path`] gives them. One that
-    /// is refused keeps none of the others back. The count is that of all together, each path's sectors once.
+    /// Reads many paths. For each, in order, you get its bytes or its refusal, as [`Counted::read_path`] gives them; a
+    /// path that is refused does not affect the others. The count is the sum, each path's sectors once.
     ///
-    /// Up to 1,024 paths are read by one call of the archive; a file that doesn't fit the room that is left of what is lent to it is read by
-    /// itself. A path with a zero byte in it, which the archive's list can't have, is read by itself too. (No name has that byte, so that such a
-    /// path is refused, by 3 where nothing in front of it is.) The call itself is refused, by 12, only where there is no memory for the list.
+    /// One call of the archive reads up to 1,024 paths. A file that doesn't fit into what is left of the lent room is
+    /// read by itself. So is a path that contains a zero byte, which the archive's list can't hold. (No name contains
+    /// that byte, so such a path is refused: with 3, unless something before it is refused.) The call itself is
+    /// refused, with 12, only if there is no memory for the list.
     ///
     /// ```no_run
     /// # fn main() -> std::result::Result<(), Box<dyn std::error::Error>> {
     /// let image = std::fs::read("show.img")?;
-    /// let vault = strandlodge::Counted::open(&image)?;
+    /// let disc = strandlodge::Counted::open(&image)?;
     /// let cues = ["SHOW/9", "SHOW/10.1A", "SHOW/11"];
-    /// for (cue, look) in cues.iter().zip(vault.read_all(&cues)?) {
+    /// for (cue, look) in cues.iter().zip(disc.read_all(&cues)?) {
     ///     match look {
     ///         Ok(bytes) => println!("{cue}: {} bytes", bytes.len()),
     ///         Err(why) => println!("{cue}: {why}"),
@@ -396,16 +407,16 @@ impl<'a> Counted<'a> {
     ///
     /// # Errors
     ///
-    /// Refused by 12 where there is no memory for the list. What refuses a path is in its item.
+    /// Refusal 12 if there is no memory for the list. The refusal of a path is in its item.
     pub fn read_all(&self, paths: &[impl AsRef<[u8]>]) -> Answered<Vec<Item>> {
         self.read_all_as(paths, Matching::CaseIgnored)
     }
 
-    /// The same, with the components of every path matched as is said.
+    /// The same with a choice of matching for every path.
     ///
     /// # Errors
     ///
-    /// Refused by 12 where there is no memory for the list. What refuses a path is in its item.
+    /// Refusal 12 if there is no memory for the list. The refusal of a path is in its item.
     pub fn read_all_as(&self, paths: &[impl AsRef<[u8]>], matching: Matching) -> Answered<Vec<Item>> {
         let (mut all, mut work) = (Answer { value: Vec::new(), sectors: 0 }, work_space());
         all.value.try_reserve_exact(paths.len()).map_err(|_| too_many())?;
@@ -429,7 +440,7 @@ impl<'a> Counted<'a> {
         Ok(all)
     }
 
-    /// A path of a list that is read by itself, and its sectors.
+    /// Reads a path of a list by itself, and counts its sectors.
     fn alone(&self, path: &[u8], matching: Matching) -> (Item, u64) {
         match self.read_path_as(path, matching) {
             Ok(answer) => (Ok(answer.value), answer.sectors),
@@ -437,11 +448,11 @@ impl<'a> Counted<'a> {
         }
     }
 
-    /// Where a file stands on the disc, its whole chain followed; an embedded file has no extents.
+    /// Where a file is on the disc, following its whole chain. An embedded file has no extents.
     ///
     /// # Errors
     ///
-    /// Refused as the read is before it comes to the file's bytes, and by 7 where there is no memory for the extents.
+    /// The refusals of the read before it comes to the file's bytes; 7 if there is no memory for the extents.
     pub fn extents(&self, icb: impl Into<LongAd>) -> Answered<Vec<AllocExtent>> {
         let icb = icb.into();
         let mut row = Room::new(FIRST_SLOTS, MOST_SLOTS);
@@ -454,11 +465,11 @@ impl<'a> Counted<'a> {
         })
     }
 
-    /// An embedded file's bytes where they stand in the image; none for any other file that can be read.
+    /// The bytes of an embedded file, in the image; empty for any other file that can be read.
     ///
     /// # Errors
     ///
-    /// Refused as the read is before it comes to the file's bytes.
+    /// The refusals of the read before it comes to the file's bytes.
     pub fn part(&self, icb: impl Into<LongAd>) -> Answered<&'a [u8]> {
         calls::part(self.volume, self.image, icb.into())
     }
@@ -469,7 +480,7 @@ fn work_space() -> Room<u8> {
     Room::new(FIRST, MOST_DIRECTORY)
 }
 
-/// A partition of 65,536 is none, and a type is at most 3.
+/// Partition 65,536 means none; a type is at most 3.
 fn extent(slot: &Extent) -> AllocExtent {
     AllocExtent {
         length: slot.length,

@@ -1,8 +1,9 @@
-//! The calls, over a reader: a disc that doesn't fit in memory, a sector at a time.
+//! The calls over a reader, one sector at a time, for a disc that doesn't fit in memory.
 //!
-//! The archive names the sector that it wants, is lent its bytes, and goes on; what it asks for and what it answers are those of the calls on an
-//! image. Here are the reader and the memory. Both the row of extents and the output are made longer between two steps, so that neither is ever
-//! too short while there is memory, and no read has to be begun again: each sector of a call's list is asked of the reader once.
+//! The archive names the sector that it wants, is lent its bytes, and continues. What it asks for and what it answers
+//! are those of the calls on an image. This module adds the reader and the memory. The row of extents and the output
+//! are lengthened between steps, so neither is ever too short while there is memory, and no read has to be repeated:
+//! each sector is asked of the reader once.
 
 use crate::answer::{Answer, Answered, Refusal, Refused};
 use crate::calls::{self, Row};
@@ -21,14 +22,14 @@ use strandlodge_sys::vault::{Extent, Reading, Volume};
 
 const SECTOR: usize = SECTOR_SIZE as usize;
 
-/// The extents of one sector: 2,048 bytes of descriptors of at least 8, and one that had begun before.
+/// The most extents of one sector: 2,048 bytes of descriptors of at least 8 bytes, and one that began before.
 const MOST_EXTENTS: usize = SECTOR / 8 + 1;
 
-/// The bytes that are on their way to a writer.
+/// The size of the buffer for a writer, in bytes.
 const WINDOW: usize = TOGETHER as usize * SECTOR;
 
-/// A [`Drive`](crate::Drive) whose calls say how many sectors they asked the reader for. It has the same calls, and each gives an [`Answer`]:
-/// [`Drive::counted`](crate::Drive::counted) gives it of a drive.
+/// A [`Drive`](crate::Drive) whose calls also return how many sectors they asked the reader for, as an [`Answer`].
+/// [`Drive::counted`](crate::Drive::counted) gives you one.
 ///
 /// ```no_run
 /// use strandlodge::CountedDrive;
@@ -46,17 +47,17 @@ pub struct CountedDrive<R> {
     trail: Trail,
 }
 
-/// Where the last call has been.
+/// The trail of the last call.
 #[derive(Default)]
 struct Trail {
-    /// The last sector that it asked for, and what for.
+    /// The last sector that it asked for, and for what.
     last: Option<(u64, Sought)>,
     /// The last ICB that it read.
     icb: Option<LongAd>,
 }
 
 impl<R> fmt::Debug for CountedDrive<R> {
-    /// Without the reader, which may have nothing to show.
+    /// Leaves out the reader, which may have nothing to show.
     fn fmt(&self, f: &mut fmt::Formatter<'_>) -> fmt::Result {
         f.debug_struct("CountedDrive")
             .field("partition_start_sector", &self.partition_start_sector())
@@ -67,7 +68,7 @@ impl<R> fmt::Debug for CountedDrive<R> {
 }
 
 impl<R> CountedDrive<R> {
-    /// The sector in which the partition starts.
+    /// The sector where the partition starts.
     pub fn partition_start_sector(&self) -> u64 {
         self.volume.mount.start.into()
     }
@@ -82,11 +83,11 @@ impl<R> CountedDrive<R> {
         LongAd::of_c(self.volume.root)
     }
 
-    /// The volume's name. No sector is asked for: opening kept its field.
+    /// The volume's name. This asks for no sector: opening kept the label field.
     ///
     /// # Errors
     ///
-    /// Refused by 2 where the field isn't a name.
+    /// Refusal 2 if the field is not a valid name.
     pub fn label(&self) -> Answered<String> {
         let [field @ .., length] = self.volume.label;
         let refused = |why| Refused { why, sectors: 0 };
@@ -95,7 +96,7 @@ impl<R> CountedDrive<R> {
         Ok(Answer { value: listed.into_iter().next().map(|entry| entry.name).unwrap_or_default(), sectors: 0 })
     }
 
-    /// The sector that the reader couldn't give, where the last call was refused by 1.
+    /// The sector that the reader could not read, if the last call was refused with 1.
     pub fn missed(&self) -> Option<&Missed> {
         self.source.missed.as_ref()
     }
@@ -105,12 +106,12 @@ impl<R> CountedDrive<R> {
         &self.source.reader
     }
 
-    /// The reader back. It stands wherever the last call left it.
+    /// Returns the reader, at whatever position the last call left it.
     pub fn into_inner(self) -> R {
         self.source.reader
     }
 
-    /// The entries of a directory whose bytes are at hand, for which so many sectors were asked.
+    /// The entries of a directory from its bytes, which took this many sectors.
     fn listed(&self, bytes: &[u8], sectors: u64) -> Answered<Vec<DirEntry>> {
         let refused = |why| Refused { why, sectors };
         // A name of 8 bits a letter may have twice as many bytes as recorded, so a listing is at most twice as long as its directory.
@@ -122,13 +123,13 @@ impl<R> CountedDrive<R> {
 }
 
 impl<R: Read + Seek> CountedDrive<R> {
-    /// Of a volume that is known already.
+    /// From a volume that is already known.
     pub(crate) fn over(reader: R, volume: Volume) -> CountedDrive<R> {
         CountedDrive { source: Source::new(reader), volume, trail: Trail::default() }
     }
 
-    /// Where the last call was refused, and why: `refused` is what it gave. A call that is made in between leaves its own place. The sectors that are looked at
-    /// for it are asked of the reader again.
+    /// Where and why the last call was refused; `refused` is what it returned. Call it before any other call on the
+    /// drive. It asks the reader again for the sectors that it looks at.
     pub fn diagnose(&mut self, refused: &Refused) -> Diagnosis {
         if !is_of_the_disc(refused.why) {
             return Diagnosis::bare(*refused);
@@ -138,7 +139,7 @@ impl<R: Read + Seek> CountedDrive<R> {
         diagnosis
     }
 
-    /// Makes a call on an image again, and gives how it was refused.
+    /// Repeats a call on an image, and returns its refusal.
     pub(crate) fn replay(&mut self, asked: Asked) -> Option<Refusal> {
         match asked {
             Asked::Lookup(path, matching) => self.lookup_as(path, matching).err().map(Refusal::from),
@@ -152,7 +153,7 @@ impl<R: Read + Seek> CountedDrive<R> {
         }
     }
 
-    /// Reads a file whose bytes go nowhere, behind what the trail has.
+    /// Reads a file and discards its bytes, continuing the trail.
     fn passed(&mut self, icb: LongAd) -> Option<Refusal> {
         match self.copied(icb, &mut io::sink()) {
             Err(Uncopied::Refused { refused, .. }) => Some(refused.why),
@@ -160,7 +161,7 @@ impl<R: Read + Seek> CountedDrive<R> {
         }
     }
 
-    /// Goes over the directories of a show, in its order, to where it was refused.
+    /// Visits the directories of a show, in its order, up to where it was refused.
     fn walked(&mut self, levels: u32) -> Option<Refusal> {
         self.trail = Trail::default();
         if !(1..=16).contains(&levels) {
@@ -187,8 +188,8 @@ impl<R: Read + Seek> CountedDrive<R> {
     ///
     /// # Errors
     ///
-    /// An `Unopened`, with the reader in it: refused by 1 where a sector can't be had, 2 where a descriptor isn't what it must be, 3 where
-    /// one is missing, and 4 where the volume has a form that isn't read.
+    /// An `Unopened`, which holds the reader. Refusal 1 if a sector can't be read, 2 if a descriptor is invalid, 3 if a
+    /// descriptor is missing, 4 if the volume is not supported.
     pub fn open(reader: R) -> std::result::Result<Answer<CountedDrive<R>>, Unopened<R>> {
         let (mut source, mut opening) = (Source::new(reader), calls::opening_start());
         while let Some(wanted) = calls::opening_wants(&opening) {
@@ -206,37 +207,37 @@ impl<R: Read + Seek> CountedDrive<R> {
     ///
     /// # Errors
     ///
-    /// Refused by 3 where nothing has a name of the path, and as a listing is for each directory on the way.
+    /// Refusal 3 if a name on the path does not exist; and the refusals of a listing for each directory on the way.
     pub fn lookup(&mut self, path: impl AsRef<[u8]>) -> Answered<LongAd> {
         self.lookup_as(path, Matching::CaseIgnored)
     }
 
-    /// The same, with components matched as is said.
+    /// The same with a choice of matching.
     ///
     /// # Errors
     ///
-    /// Refused by 3 where nothing has a name of the path, by 9 where two or more entries match one that is to be unambiguous, and as a
-    /// listing is for each directory on the way.
+    /// Refusal 3 if a name on the path does not exist, 9 if it is ambiguous; and the refusals of a listing for each
+    /// directory on the way.
     pub fn lookup_as(&mut self, path: impl AsRef<[u8]>, matching: Matching) -> Answered<LongAd> {
         let Walked { came, sectors, .. } = self.walk(path.as_ref(), matching);
         came.map(|value| Answer { value, sectors }).map_err(|why| Refused { why, sectors })
     }
 
-    /// The component at which [`CountedDrive::lookup`] finds nothing, as a part of the path; none where the path is there.
+    /// The component at which [`CountedDrive::lookup`] finds nothing, as a part of the path; `None` if the path exists.
     ///
     /// # Errors
     ///
-    /// Refused as the lookup is, but for 3.
+    /// The refusals of the lookup, except 3.
     pub fn failed<'p>(&mut self, path: &'p (impl AsRef<[u8]> + ?Sized)) -> Answered<Option<&'p [u8]>> {
         self.failed_as(path, Matching::CaseIgnored)
     }
 
-    /// The same for [`CountedDrive::lookup_as`]. A component that is ambiguous isn't one at which nothing is found: the call is then refused as the
-    /// lookup is.
+    /// The same for [`CountedDrive::lookup_as`]. An ambiguous component is not one at which nothing is found: the call
+    /// is then refused as the lookup is.
     ///
     /// # Errors
     ///
-    /// Refused as the lookup is, but for 3.
+    /// The refusals of the lookup, except 3.
     pub fn failed_as<'p>(&mut self, path: &'p (impl AsRef<[u8]> + ?Sized), matching: Matching) -> Answered<Option<&'p [u8]>> {
         let Walked { came, lost, sectors } = self.walk(path.as_ref(), matching);
         match came {
@@ -245,30 +246,30 @@ impl<R: Read + Seek> CountedDrive<R> {
         }
     }
 
-    /// The entries of a directory in the disc's order, without those that are deleted and the parent.
+    /// The entries of a directory in the order of the disc, without deleted entries and the parent.
     ///
     /// # Errors
     ///
-    /// Refused by 1 where a sector can't be had, 2 where a descriptor or a name isn't what it must be, and 4 where the directory has a form
-    /// that isn't read; by 5 or 6 where there is no memory for it.
+    /// Refusal 1 if a sector can't be read, 2 if a descriptor or a name is invalid, 4 if the directory is not
+    /// supported; 5 or 6 if there is not enough memory.
     pub fn read_directory(&mut self, icb: impl Into<LongAd>) -> Answered<Vec<DirEntry>> {
         self.trail = Trail::default();
         let read = self.directory(icb.into())?;
         self.listed(&read, read.sectors)
     }
 
-    /// A file's bytes, or a directory's own.
+    /// The bytes of a file, or of a directory itself.
     ///
     /// # Errors
     ///
-    /// Refused by 1 where a sector can't be had, 2 where a descriptor isn't what it must be, and 4 where the file has a form that isn't
-    /// read; by 5 where there is no memory for its bytes.
+    /// Refusal 1 if a sector can't be read, 2 if a descriptor is invalid, 4 if the file is not supported; 5 if there is
+    /// not enough memory for its bytes.
     pub fn read_file(&mut self, icb: impl Into<LongAd>) -> Answered<Vec<u8>> {
         self.trail = Trail::default();
         self.file(icb.into())
     }
 
-    /// The same, behind what the trail has.
+    /// The same, continuing the trail.
     fn file(&mut self, icb: LongAd) -> Answered<Vec<u8>> {
         let (mut most, mut known) = (SOME_FILE, false);
         let mut read = self.whole(icb, |source, needed| {
@@ -283,20 +284,20 @@ impl<R: Read + Seek> CountedDrive<R> {
         Ok(read)
     }
 
-    /// Looks a path up and reads what it names; the count is that of both.
+    /// Looks a path up and reads what it names. The count covers both.
     ///
     /// # Errors
     ///
-    /// Refused as the lookup is, and then as the read of what it names.
+    /// The refusals of the lookup, then those of the read.
     pub fn read_path(&mut self, path: impl AsRef<[u8]>) -> Answered<Vec<u8>> {
         self.read_path_as(path, Matching::CaseIgnored)
     }
 
-    /// The same, with components matched as is said.
+    /// The same with a choice of matching.
     ///
     /// # Errors
     ///
-    /// Refused as the lookup is, and then as the read of what it names.
+    /// The refusals of the lookup, then those of the read.
     pub fn read_path_as(&mut self, path: impl AsRef<[u8]>, matching: Matching) -> Answered<Vec<u8>> {
         let icb = self.lookup_as(path, matching)?;
         let both = |sectors: u64| sectors.saturating_add(icb.sectors);
@@ -306,20 +307,21 @@ impl<R: Read + Seek> CountedDrive<R> {
         }
     }
 
-    /// Writes a file's bytes to a writer as they arrive, and gives how many there are: for a file that doesn't fit in memory.
+    /// Writes a file's bytes to a writer as they arrive, and returns their number. Use it for a file that doesn't fit
+    /// in memory.
     ///
-    /// What had arrived is written also where the read is refused in the end. Nothing bounds it but the descriptors of the file: a disc that was made to do
-    /// harm may give more bytes than it has, and a writer that has had enough fails.
+    /// Bytes that arrived before a refusal are written. Only the file's descriptors bound the length: a malicious disc
+    /// may give more bytes than it has. To stop, let the writer fail.
     ///
     /// # Errors
     ///
-    /// An `Uncopied`: the read was refused, with how many bytes are written, or the writer failed.
+    /// An `Uncopied`: the read was refused, with the number of bytes written so far, or the writer failed.
     pub fn copy_file(&mut self, icb: impl Into<LongAd>, to: &mut impl Write) -> std::result::Result<Answer<u64>, Uncopied> {
         self.trail = Trail::default();
         self.copied(icb.into(), to)
     }
 
-    /// The same, behind what the trail has.
+    /// The same, continuing the trail.
     fn copied(&mut self, icb: LongAd, to: &mut impl Write) -> std::result::Result<Answer<u64>, Uncopied> {
         let (mut window, mut written) = (Vec::with_capacity(WINDOW), 0);
         let mut write = |window: &mut Vec<u8>| {
@@ -340,7 +342,7 @@ impl<R: Read + Seek> CountedDrive<R> {
         }
     }
 
-    /// A directory's bytes. More than a directory may have are refused by 6.
+    /// A directory's bytes. A directory that is too long is refused with 6.
     fn directory(&mut self, icb: LongAd) -> Answered<Vec<u8>> {
         self.whole(icb, |_, _| MOST_DIRECTORY).map_err(|refused| match refused.why {
             Refusal::NoRoom => Refused { why: Refusal::NoWork, ..refused },
@@ -348,7 +350,7 @@ impl<R: Read + Seek> CountedDrive<R> {
         })
     }
 
-    /// A file's bytes in memory, of which there are no more than `most` says once it is asked for so many.
+    /// A file's bytes in memory; `most` gives the largest number allowed, once that many are asked for.
     fn whole(&mut self, icb: LongAd, mut most: impl FnMut(&mut Source<R>, usize) -> usize) -> Answered<Vec<u8>> {
         let mut out = Vec::new();
         let Ok(reading) = self.read::<Infallible>(icb, &mut out, |source, out, more| {
@@ -360,7 +362,8 @@ impl<R: Read + Seek> CountedDrive<R> {
         Ok(calls::reading_ended(&reading)?.map(|()| out))
     }
 
-    /// Reads to the end. Before sectors are asked for, `lend` makes room in `out` for as many bytes, and says how many may be lent of it at most.
+    /// Reads to the end. Before sectors are asked for, `lend` makes room in `out` for that many bytes, and returns how
+    /// many of it may be lent at most.
     fn read<E>(
         &mut self,
         icb: LongAd,
@@ -411,15 +414,15 @@ impl<R: Read + Seek> CountedDrive<R> {
     }
 }
 
-/// What a walk along a path came to, and the component that it found nothing for.
+/// The result of walking a path, and the component for which nothing was found.
 struct Walked<'p> {
     came: std::result::Result<LongAd, Refusal>,
     lost: Option<&'p [u8]>,
     sectors: u64,
 }
 
-/// How many sectors from the wanted one on the rules want, whatever stands in them: those of a continuation, and those of an extent up to the
-/// information length. With none of it missing an extent's first sector is wanted all the same.
+/// How many sectors from the wanted one on are needed, whatever they hold: those of a continuation, or those of an
+/// extent up to the information length. If none of it is missing, an extent's first sector is needed all the same.
 fn run(reading: &Reading) -> u64 {
     let all = u64::from(reading.left) + 1;
     match reading.phase {
@@ -429,7 +432,8 @@ fn run(reading: &Reading) -> u64 {
     }
 }
 
-/// Makes a row of which so many places are in use long enough for the next sector. Where there is no memory the read itself refuses.
+/// Makes a row with this many places in use long enough for the next sector. If there is no memory, the read itself
+/// refuses.
 fn lengthen(row: &mut Row, listed: usize) {
     let places = listed.saturating_add(MOST_EXTENTS);
     if row.len() < places && row.try_reserve(places - row.len()).is_ok() {
@@ -437,7 +441,7 @@ fn lengthen(row: &mut Row, listed: usize) {
     }
 }
 
-/// A file identifier (ECMA-167 4/14.4) of a recorded name, whose listing has the name as UTF-8.
+/// A file identifier (ECMA-167 4/14.4) with a recorded name, to get the name as UTF-8 from its listing.
 fn identifier(name: &[u8]) -> Vec<u8> {
     let mut whole = vec![0; 38];
     // Its tag: the id, and the checksum of that; a body of no bytes has a CRC of 0.
@@ -447,11 +451,11 @@ fn identifier(name: &[u8]) -> Vec<u8> {
     whole
 }
 
-/// A disc that couldn't be opened: why, and its reader back.
+/// A disc that could not be opened: the reason, and its reader.
 pub struct Unopened<R> {
-    /// Why it was refused, and the sectors that were asked for.
+    /// The refusal, with the number of sectors that were asked for.
     pub refused: Refused,
-    /// The sector that the reader couldn't give, where it was refused by 1.
+    /// The sector that the reader could not read, if it was refused with 1.
     pub missed: Option<Missed>,
     /// The reader.
     pub reader: R,
@@ -475,7 +479,7 @@ impl<R> fmt::Display for Unopened<R> {
 impl<R> error::Error for Unopened<R> {}
 
 impl<R: Read + Seek> Unopened<R> {
-    /// Where it was refused, and why. The sectors that are looked at for it are asked of the reader again.
+    /// Where and why it was refused. This asks the reader again for the sectors that it looks at.
     pub fn diagnose(&mut self) -> Diagnosis {
         opening(&mut Source::new(&mut self.reader), How::default(), self.refused)
     }
@@ -487,14 +491,14 @@ impl<R> From<Unopened<R>> for Refused {
     }
 }
 
-/// Why a file wasn't copied whole.
+/// Why a file was not copied completely.
 #[derive(Debug)]
 pub enum Uncopied {
-    /// The read was refused; so many bytes had arrived by then, and are written.
+    /// The read was refused. The bytes that had arrived are written.
     Refused {
-        /// Why, and the sectors that were asked for.
+        /// The refusal, with the number of sectors that were asked for.
         refused: Refused,
-        /// The bytes that are written.
+        /// The number of bytes written.
         written: u64,
     },
     /// The writer failed.
@@ -505,7 +509,7 @@ impl fmt::Display for Uncopied {
     fn fmt(&self, f: &mut fmt::Formatter<'_>) -> fmt::Result {
         match self {
             Uncopied::Refused { refused, .. } => refused.fmt(f),
-            Uncopied::Output(error) => write!(f, "the bytes can't be written: {error}"),
+            Uncopied::Output(error) => write!(f, "can't write the bytes: {error}"),
         }
     }
 }

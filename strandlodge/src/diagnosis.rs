@@ -1,4 +1,4 @@
-//! Where a refused call stood, and which cause the refusal had: worked out on demand, by going over the call again.
+//! The place and the cause of a refusal, worked out on demand by repeating the call.
 
 use crate::answer::{Refusal, Refused};
 use crate::cause::{Cause, of_opening};
@@ -11,22 +11,23 @@ use crate::udf::DescriptorTag;
 use std::io::{Read, Seek};
 use std::{error, fmt};
 
-/// A call that was refused, to be gone over again.
+/// The call that was refused.
 #[derive(Debug, Clone, Copy, PartialEq, Eq)]
 pub enum Asked<'p> {
-    /// A lookup of a path, or which component of it failed.
+    /// A lookup of a path, or of the component that failed.
     Lookup(&'p [u8], Matching),
-    /// A read of what a path names, by itself or as one of many.
+    /// A read of a path, alone or as one of many.
     ReadPath(&'p [u8], Matching),
     /// A listing of a directory.
     ReadDirectory(LongAd),
-    /// A read of a file; and its extents, or its part of the image, which ask for the first of the same sectors.
+    /// A read of a file; also its extents or its part of the image, which ask for the first of the same sectors.
     ReadFile(LongAd),
-    /// A show of so many levels. However many sectors it was lent, any refusal but 16 stands where it stands without a budget.
+    /// A show of this many levels. Whatever its budget was, any refusal except 16 is at the same place as without a
+    /// budget.
     Show(u32),
 }
 
-/// What a sector was asked for.
+/// What a sector was needed for.
 #[derive(Debug, Clone, Copy, PartialEq, Eq, Hash)]
 pub enum Sought {
     /// The anchor, in sector 256.
@@ -37,14 +38,14 @@ pub enum Sought {
     FileSet,
     /// The entry of a file or a directory.
     Entry,
-    /// The descriptors of a file, where they go on elsewhere.
+    /// A continuation of a file's descriptors.
     Continuation,
     /// The bytes of a file or a directory.
     Bytes,
 }
 
 impl Sought {
-    /// By the phase of a read.
+    /// From the phase of a read.
     pub(crate) fn of_reading(phase: u8) -> Sought {
         match phase {
             0 => Sought::Entry,
@@ -67,16 +68,16 @@ impl fmt::Display for Sought {
     }
 }
 
-/// What stands in a sector.
+/// What is in a sector.
 #[derive(Debug, Clone, Copy, PartialEq, Eq, Hash)]
 pub enum Standing {
-    /// It isn't wholly there, or can't be read.
+    /// It is not completely there, or can't be read.
     Missing,
     /// Nothing but zeros.
     Zeros,
-    /// Bytes without a tag at their front, as those of most files.
+    /// Bytes that do not start with a tag, as in most files.
     Untagged,
-    /// A descriptor, or what has its tag.
+    /// A descriptor, or something that starts with its tag.
     Tagged(DescriptorTag),
 }
 
@@ -104,11 +105,11 @@ impl fmt::Display for Standing {
 /// The last sector that a refused call asked for.
 #[derive(Debug, Clone, Copy, PartialEq, Eq, Hash)]
 pub struct Place {
-    /// Counted from the disc's start.
+    /// The sector, counted from the start of the disc.
     pub sector: u64,
-    /// What it was asked for.
+    /// What it was needed for.
     pub sought: Sought,
-    /// What stands there.
+    /// What is there.
     pub standing: Standing,
 }
 
@@ -119,22 +120,22 @@ impl fmt::Display for Place {
     }
 }
 
-/// A refusal with where it came about and, as far as that can be told, its cause.
+/// A refusal with its place and, if known, its cause.
 ///
-/// It is worked out on demand, by going over the call again a sector at a time; calls that aren't asked for one cost nothing. `Display` gives the cause, or
-/// what the number means, and then the place.
+/// It is worked out on demand, by repeating the call one sector at a time; other calls cost nothing. `Display` prints
+/// the cause, or the meaning of the number, and then the place.
 ///
 /// ```
-/// use strandlodge::{Asked, How, Matching, Vault, diagnose};
+/// use strandlodge::{Asked, How, Matching, Disc, diagnose};
 ///
 /// # fn main() -> Result<(), Box<dyn std::error::Error>> {
 /// let image = strandlodge::write(&[("9", b"cue 9")])?;
-/// let vault = Vault::open(&image)?;
-/// let refused = vault.lookup("10").unwrap_err();
-/// let why = vault.diagnose(Asked::Lookup(b"10", Matching::CaseIgnored), &refused);
+/// let disc = Disc::open(&image)?;
+/// let refused = disc.lookup("10").unwrap_err();
+/// let why = disc.diagnose(Asked::Lookup(b"10", Matching::CaseIgnored), &refused);
 /// println!("{why}: {:?}", why.place.map(|place| place.sector));
 ///
-/// let refused = Vault::open(&image[..9000]).unwrap_err();
+/// let refused = Disc::open(&image[..9000]).unwrap_err();
 /// println!("{}", diagnose(&image[..9000], How::default(), &refused)); // sector 256 isn't there
 /// # Ok(())
 /// # }
@@ -143,26 +144,26 @@ impl fmt::Display for Place {
 pub struct Diagnosis {
     /// The refusal.
     pub refused: Refused,
-    /// The last sector that was asked for. None where there was none, where memory or sectors were too few (5, 6, 7, 12 and 16), and where the image
-    /// has changed since.
+    /// The last sector that was asked for. `None` if there was none, if memory or sectors were too few (5, 6, 7, 12 and
+    /// 16), or if the image has changed since.
     pub place: Option<Place>,
-    /// Which of its causes the refusal had: that of 4 always, and that of the others where it can be told.
+    /// The cause: always given for refusal 4, and for others if it is known.
     pub cause: Option<Cause>,
 }
 
 impl Diagnosis {
-    /// What is known without a second look.
+    /// What is known without looking again.
     pub(crate) fn bare(refused: Refused) -> Diagnosis {
         Diagnosis { refused, place: None, cause: None }
     }
 
-    /// With the sector that was asked for last, looked at again.
+    /// Adds the last sector that was asked for, looked at again.
     pub(crate) fn at<R: Read + Seek>(refused: Refused, last: Option<(u64, Sought)>, source: &mut Source<R>) -> Diagnosis {
         let place = last.map(|(sector, sought)| Place { sector, sought, standing: Standing::of(source.look(sector)) });
         Diagnosis { place, ..Diagnosis::bare(refused) }
     }
 
-    /// What was wrong, without where: the cause, or what the number means.
+    /// What was wrong, without the place: the cause, or the meaning of the number.
     pub fn what(&self) -> String {
         self.cause.as_ref().map_or_else(|| self.refused.to_string(), Cause::to_string)
     }
@@ -175,26 +176,26 @@ impl fmt::Display for Diagnosis {
     }
 }
 
-/// It can be given as an error itself; what the refusal's number means is its source.
+/// You can return it as an error. Its source is the meaning of the refusal's number.
 impl error::Error for Diagnosis {
     fn source(&self) -> Option<&(dyn error::Error + 'static)> {
         Some(&self.refused)
     }
 }
 
-/// Whether a refusal is for what the disc holds, and not for the memory or the sectors that were lent.
+/// Whether a refusal is for what the disc holds, not for lack of memory or budget.
 pub(crate) fn is_of_the_disc(why: Refusal) -> bool {
     use Refusal::{BadShelf, NoRoom, NoSlot, NoWork, OverBudget, TooMany, Unknown};
     !matches!(why, NoRoom | NoWork | NoSlot | TooMany | BadShelf | OverBudget | Unknown(_))
 }
 
-/// Where an opening was refused, and why: of [`Vault::open_as`](crate::Vault::open_as) and [`read_volume_label_as`](crate::read_volume_label_as) with
-/// these choices.
+/// Where and why an opening was refused, by [`Disc::open_as`](crate::Disc::open_as) or
+/// [`read_volume_label_as`](crate::read_volume_label_as) with these choices.
 pub fn diagnose(image: &[u8], how: How, refused: &Refused) -> Diagnosis {
     opening(&mut Source::new(Copied::new(image)), how, *refused)
 }
 
-/// The same of a disc that is read by a reader.
+/// The same for a disc over a reader.
 pub(crate) fn opening<R: Read + Seek>(source: &mut Source<R>, how: How, refused: Refused) -> Diagnosis {
     if !is_of_the_disc(refused.why) {
         return Diagnosis::bare(refused);

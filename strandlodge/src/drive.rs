@@ -1,25 +1,26 @@
-//! The calls, over a reader.
+//! The calls over a reader.
 
 use crate::answer::{Answer, Refused};
 use crate::counted_drive::{CountedDrive, Uncopied, Unopened};
 use crate::diagnosis::Diagnosis;
+use crate::disc::plain;
 use crate::error::Result;
 use crate::matching::Matching;
 use crate::paths::{PathText, component};
 use crate::records::{DirEntry, LongAd};
 use crate::source::Missed;
-use crate::vault::plain;
 use std::fmt;
 use std::io::{Read, Seek, Write};
 
-/// An opened volume over the reader that it was opened from: a file, a drive such as `/dev/sr0`, or anything else that can be read and sought in.
+/// An opened disc over a reader: a file, a drive such as `/dev/sr0`, or anything else that implements `Read` and
+/// `Seek`.
 ///
-/// It has the original's shape. Each call asks the reader for the sectors of its list, each once and in their order, and for nothing else; those
-/// that stand in a row are asked for together, up to 32. Nothing is kept from one call to the next. A sector is looked at where it came to, in
-/// memory that this owns: whatever the reader gives, the answer is that of one disc.
+/// It has the original's shape. Each call asks the reader only for the sectors that it needs, each once and in order;
+/// adjacent sectors are read together, up to 32. Nothing is kept from one call to the next. The bytes of a sector are
+/// looked at in memory of its own, so whatever the reader gives, the answer is that of one disc.
 ///
-/// A sector that the reader can't give, since a seek or a read failed or since it isn't wholly there, is refusal 1, and [`Drive::missed`] says which
-/// it is and what the reader said.
+/// If the reader can't give a sector, because a seek or a read failed or the sector is not completely there, the call
+/// is refused with 1. [`Drive::missed`] then says which sector, and what the reader reported.
 ///
 /// ```no_run
 /// use strandlodge::Drive;
@@ -43,7 +44,7 @@ impl<R> fmt::Debug for Drive<R> {
 }
 
 impl<R> Drive<R> {
-    /// The same calls, with the sectors that each asks for.
+    /// The same calls, each with the number of sectors that it asked for.
     ///
     /// ```no_run
     /// # fn main() -> Result<(), Box<dyn std::error::Error>> {
@@ -56,12 +57,12 @@ impl<R> Drive<R> {
         &mut self.inner
     }
 
-    /// The sectors that opening asked for.
+    /// The number of sectors that opening asked for.
     pub fn sectors(&self) -> u64 {
         self.sectors
     }
 
-    /// The sector in which the partition starts.
+    /// The sector where the partition starts.
     pub fn partition_start_sector(&self) -> u64 {
         self.inner.partition_start_sector()
     }
@@ -76,7 +77,7 @@ impl<R> Drive<R> {
         self.inner.root_directory_icb()
     }
 
-    /// The volume's name. No sector is asked for: opening kept its field.
+    /// The volume's name. This asks for no sector: opening kept the label field.
     ///
     /// ```no_run
     /// # fn main() -> Result<(), Box<dyn std::error::Error>> {
@@ -87,12 +88,12 @@ impl<R> Drive<R> {
     ///
     /// # Errors
     ///
-    /// Refused by 2 where the field isn't a name.
+    /// Refusal 2 if the field is not a valid name.
     pub fn label(&self) -> Result<String> {
         plain(self.inner.label())
     }
 
-    /// The sector that the reader couldn't give, where the last call was refused by 1.
+    /// The sector that the reader could not read, if the last call was refused with 1.
     pub fn missed(&self) -> Option<&Missed> {
         self.inner.missed()
     }
@@ -102,15 +103,15 @@ impl<R> Drive<R> {
         self.inner.get_ref()
     }
 
-    /// The reader back. It stands wherever the last call left it.
+    /// Returns the reader, at whatever position the last call left it.
     pub fn into_inner(self) -> R {
         self.inner.into_inner()
     }
 }
 
 impl<R: Read + Seek> Drive<R> {
-    /// Where the last call was refused, and why: `refused` is what it gave. A call that is made in between leaves its own place. The sectors that are looked at
-    /// for it are asked of the reader again.
+    /// Where and why the last call was refused; `refused` is what it returned. Call it before any other call on the
+    /// drive. It asks the reader again for the sectors that it looks at.
     ///
     /// ```no_run
     /// # fn main() -> Result<(), Box<dyn std::error::Error>> {
@@ -125,7 +126,7 @@ impl<R: Read + Seek> Drive<R> {
         self.inner.diagnose(refused)
     }
 
-    /// Opens the volume of a disc, as [`Vault::open`](crate::Vault::open) does.
+    /// Opens the volume of a disc, as [`Disc::open`](crate::Disc::open) does.
     ///
     /// ```no_run
     /// # fn main() -> Result<(), Box<dyn std::error::Error>> {
@@ -136,14 +137,14 @@ impl<R: Read + Seek> Drive<R> {
     ///
     /// # Errors
     ///
-    /// An `Unopened`, with the reader in it: refused by 1 where a sector can't be had, 2 where a descriptor isn't what it must be, 3 where
-    /// one is missing, and 4 where the volume has a form that isn't read.
+    /// An `Unopened`, which holds the reader. Refusal 1 if a sector can't be read, 2 if a descriptor is invalid, 3 if a
+    /// descriptor is missing, 4 if the volume is not supported.
     pub fn open(reader: R) -> std::result::Result<Drive<R>, Unopened<R>> {
         let Answer { value: inner, sectors } = CountedDrive::open(reader)?;
         Ok(Drive { inner, sectors })
     }
 
-    /// The ICB that a path names, as [`Vault::lookup`](crate::Vault::lookup) finds it.
+    /// The ICB that a path names, as [`Disc::lookup`](crate::Disc::lookup) finds it.
     ///
     /// ```no_run
     /// # fn main() -> Result<(), Box<dyn std::error::Error>> {
@@ -155,12 +156,12 @@ impl<R: Read + Seek> Drive<R> {
     ///
     /// # Errors
     ///
-    /// Refused by 3 where nothing has a name of the path, and as a listing is for each directory on the way.
+    /// Refusal 3 if a name on the path does not exist; and the refusals of a listing for each directory on the way.
     pub fn lookup(&mut self, path: impl AsRef<[u8]>) -> Result<LongAd> {
         plain(self.inner.lookup(path))
     }
 
-    /// The same, with components matched as is said.
+    /// The same with a choice of matching.
     ///
     /// ```no_run
     /// # fn main() -> Result<(), Box<dyn std::error::Error>> {
@@ -172,14 +173,14 @@ impl<R: Read + Seek> Drive<R> {
     ///
     /// # Errors
     ///
-    /// Refused by 3 where nothing has a name of the path, by 9 where two or more entries match one that is to be unambiguous, and as a
-    /// listing is for each directory on the way.
+    /// Refusal 3 if a name on the path does not exist, 9 if it is ambiguous; and the refusals of a listing for each
+    /// directory on the way.
     pub fn lookup_as(&mut self, path: impl AsRef<[u8]>, matching: Matching) -> Result<LongAd> {
         plain(self.inner.lookup_as(path, matching))
     }
 
-    /// The component at which [`Drive::lookup`] finds nothing, as a part of the path, text of text and bytes of bytes; none where the path is
-    /// there.
+    /// The component at which [`Drive::lookup`] finds nothing, as a part of the path: a `str` of a `str`, bytes of
+    /// bytes. `None` if the path exists.
     ///
     /// ```no_run
     /// # fn main() -> Result<(), Box<dyn std::error::Error>> {
@@ -191,13 +192,13 @@ impl<R: Read + Seek> Drive<R> {
     ///
     /// # Errors
     ///
-    /// Refused as the lookup is, but for 3.
+    /// The refusals of the lookup, except 3.
     pub fn failed<'p, P: PathText + ?Sized>(&mut self, path: &'p P) -> Result<Option<&'p P::Component>> {
         self.failed_as(path, Matching::CaseIgnored)
     }
 
-    /// The same for [`Drive::lookup_as`]. A component that is ambiguous isn't one at which nothing is found: the call is then refused as the
-    /// lookup is.
+    /// The same for [`Drive::lookup_as`]. An ambiguous component is not one at which nothing is found: the call is then
+    /// refused as the lookup is.
     ///
     /// ```no_run
     /// # fn main() -> Result<(), Box<dyn std::error::Error>> {
@@ -209,13 +210,13 @@ impl<R: Read + Seek> Drive<R> {
     ///
     /// # Errors
     ///
-    /// Refused as the lookup is, but for 3.
+    /// The refusals of the lookup, except 3.
     pub fn failed_as<'p, P: PathText + ?Sized>(&mut self, path: &'p P, matching: Matching) -> Result<Option<&'p P::Component>> {
         let found = plain(self.inner.failed_as(path.bytes(), matching))?;
         Ok(found.and_then(|found| component(path, found)))
     }
 
-    /// The entries of a directory in the disc's order, without those that are deleted and the parent.
+    /// The entries of a directory in the order of the disc, without deleted entries and the parent.
     ///
     /// ```no_run
     /// # fn main() -> Result<(), Box<dyn std::error::Error>> {
@@ -229,13 +230,13 @@ impl<R: Read + Seek> Drive<R> {
     ///
     /// # Errors
     ///
-    /// Refused by 1 where a sector can't be had, 2 where a descriptor or a name isn't what it must be, and 4 where the directory has a form
-    /// that isn't read; by 5 or 6 where there is no memory for it.
+    /// Refusal 1 if a sector can't be read, 2 if a descriptor or a name is invalid, 4 if the directory is not
+    /// supported; 5 or 6 if there is not enough memory.
     pub fn read_directory(&mut self, icb: impl Into<LongAd>) -> Result<Vec<DirEntry>> {
         plain(self.inner.read_directory(icb))
     }
 
-    /// A file's bytes, or a directory's own.
+    /// The bytes of a file, or of a directory itself.
     ///
     /// ```no_run
     /// # fn main() -> Result<(), Box<dyn std::error::Error>> {
@@ -248,8 +249,8 @@ impl<R: Read + Seek> Drive<R> {
     ///
     /// # Errors
     ///
-    /// Refused by 1 where a sector can't be had, 2 where a descriptor isn't what it must be, and 4 where the file has a form that isn't
-    /// read; by 5 where there is no memory for its bytes.
+    /// Refusal 1 if a sector can't be read, 2 if a descriptor is invalid, 4 if the file is not supported; 5 if there is
+    /// not enough memory for its bytes.
     pub fn read_file(&mut self, icb: impl Into<LongAd>) -> Result<Vec<u8>> {
         plain(self.inner.read_file(icb))
     }
@@ -266,12 +267,12 @@ impl<R: Read + Seek> Drive<R> {
     ///
     /// # Errors
     ///
-    /// Refused as the lookup is, and then as the read of what it names.
+    /// The refusals of the lookup, then those of the read.
     pub fn read_path(&mut self, path: impl AsRef<[u8]>) -> Result<Vec<u8>> {
         plain(self.inner.read_path(path))
     }
 
-    /// The same, with components matched as is said.
+    /// The same with a choice of matching.
     ///
     /// ```no_run
     /// # fn main() -> Result<(), Box<dyn std::error::Error>> {
@@ -283,15 +284,16 @@ impl<R: Read + Seek> Drive<R> {
     ///
     /// # Errors
     ///
-    /// Refused as the lookup is, and then as the read of what it names.
+    /// The refusals of the lookup, then those of the read.
     pub fn read_path_as(&mut self, path: impl AsRef<[u8]>, matching: Matching) -> Result<Vec<u8>> {
         plain(self.inner.read_path_as(path, matching))
     }
 
-    /// Writes a file's bytes to a writer as they arrive, and gives how many there are: for a file that doesn't fit in memory.
+    /// Writes a file's bytes to a writer as they arrive, and returns their number. Use it for a file that doesn't fit
+    /// in memory.
     ///
-    /// What had arrived is written also where the read is refused in the end. Nothing bounds it but the descriptors of the file: a disc that was made to do
-    /// harm may give more bytes than it has, and a writer that has had enough fails.
+    /// Bytes that arrived before a refusal are written. Only the file's descriptors bound the length: a malicious disc
+    /// may give more bytes than it has. To stop, let the writer fail.
     ///
     /// ```no_run
     /// # fn main() -> Result<(), Box<dyn std::error::Error>> {
@@ -304,7 +306,7 @@ impl<R: Read + Seek> Drive<R> {
     ///
     /// # Errors
     ///
-    /// An `Uncopied`: the read was refused, with how many bytes are written, or the writer failed.
+    /// An `Uncopied`: the read was refused, with the number of bytes written so far, or the writer failed.
     pub fn copy_file(&mut self, icb: impl Into<LongAd>, to: &mut impl Write) -> std::result::Result<u64, Uncopied> {
         self.inner.copy_file(icb, to).map(|answer| answer.value)
     }

@@ -1,4 +1,4 @@
-//! The entries of files and directories: the records that have more in them than fields.
+//! The entries of files and directories: records that are more than a list of fields.
 
 use crate::answer::{Refusal, Refused, Result};
 use crate::parsing;
@@ -16,16 +16,16 @@ pub struct FileIdentifierDescriptor {
     /// Its name.
     pub identifier: String,
     pub icb: LongAd,
-    /// The next one stands so many bytes on.
+    /// The distance to the next one, in bytes.
     pub total_size: usize,
 }
 
 impl FileIdentifierDescriptor {
-    /// The descriptor at the front of these bytes.
+    /// Parses the descriptor at the front of these bytes.
     ///
     /// # Errors
     ///
-    /// Refused by 2 where the bytes are too few, or aren't such a record.
+    /// Refusal 2 if there are too few bytes, or they are not such a record.
     pub fn parse(bytes: &[u8]) -> Result<FileIdentifierDescriptor> {
         let raw = parsing::file_identifier(bytes)?;
         let name = bytes.get(raw.name_at..).and_then(|rest| rest.get(..raw.name_length)).unwrap_or_default();
@@ -39,23 +39,23 @@ impl FileIdentifierDescriptor {
         })
     }
 
-    /// It isn't listed.
+    /// Whether it is deleted; then it is not listed.
     pub fn is_deleted(&self) -> bool {
         self.file_characteristics & 4 != 0
     }
 
-    /// It stands for a directory.
+    /// Whether it names a directory.
     pub fn is_directory(&self) -> bool {
         self.file_characteristics & 2 != 0
     }
 
-    /// It stands for the directory above.
+    /// Whether it names the parent directory.
     pub fn is_parent(&self) -> bool {
         self.file_characteristics & 8 != 0
     }
 }
 
-/// What an entry says of its file (4/14.6).
+/// The ICB tag of an entry (4/14.6).
 #[derive(Debug, Clone, Copy, PartialEq, Eq, Hash)]
 #[allow(missing_docs)]
 pub struct IcbTag {
@@ -70,14 +70,14 @@ pub struct IcbTag {
 }
 
 impl IcbTag {
-    /// The bytes that it has.
+    /// Its size in bytes.
     pub const SIZE: usize = 20;
 
-    /// The record at the front of these bytes.
+    /// Parses the record at the front of these bytes.
     ///
     /// # Errors
     ///
-    /// Refused by 2 where the bytes are too few, or aren't such a record.
+    /// Refusal 2 if there are too few bytes, or they are not such a record.
     pub fn parse(bytes: &[u8]) -> Result<IcbTag> {
         parsing::icb_tag(bytes).map(IcbTag::of_c)
     }
@@ -88,7 +88,7 @@ impl IcbTag {
     }
 }
 
-/// How an entry says where its file is (4/14.6.8).
+/// How an entry gives the place of its file (4/14.6.8).
 #[derive(Debug, Clone, Copy, PartialEq, Eq, Hash)]
 #[allow(missing_docs)]
 pub enum AdType {
@@ -99,25 +99,25 @@ pub enum AdType {
 }
 
 impl AdType {
-    /// By the flags of an ICB tag.
+    /// From the flags of an ICB tag.
     ///
     /// # Errors
     ///
-    /// Refused by 2 where the flags name no kind of area.
+    /// Refusal 2 if the flags name no kind of area.
     pub fn from_flags(flags: u16) -> Result<AdType> {
         let kinds = [AdType::Short, AdType::Long, AdType::Extended, AdType::EmbeddedInIcb];
         kinds.get(usize::from(flags & 7)).copied().map_or_else(malformed, Ok)
     }
 }
 
-/// Where the descriptors of a file go on: one of type 3 (4/14.14.1.1).
+/// Where the descriptors of a file continue: a descriptor of type 3 (4/14.14.1.1).
 #[derive(Debug, Clone, Copy, PartialEq, Eq, Hash)]
 pub struct AdContinuation {
     /// In bytes.
     pub length: u32,
     /// The first block.
     pub block: u32,
-    /// The partition, where the descriptor names one.
+    /// The partition, if the descriptor names one.
     pub partition_ref: Option<u16>,
 }
 
@@ -136,31 +136,32 @@ pub struct FileEntry {
     pub record_length: u32,
     pub information_length: u64,
     pub logical_blocks_recorded: u64,
-    /// An extended entry has one.
+    /// Only an extended entry has one.
     pub object_size: Option<u64>,
     pub length_of_extended_attributes: u32,
     pub length_of_allocation_descriptors: u32,
     pub short_ads: Vec<ShortAd>,
     pub long_ads: Vec<LongAd>,
     pub ext_ads: Vec<ExtAd>,
-    /// The file itself, where it is embedded.
+    /// The file itself, if it is embedded.
     pub embedded_data: Vec<u8>,
     pub ad_type: AdType,
-    /// Where the descriptors go on, if they do: it isn't followed here. [`Vault::extents`](crate::Vault::extents) gives those of the whole chain.
+    /// Where the descriptors continue, if they do. It is not followed here; [`Disc::extents`](crate::Disc::extents)
+    /// follows the whole chain.
     pub continuation: Option<AdContinuation>,
 }
 
 impl FileEntry {
-    /// The bytes of an entry in front of its attributes.
+    /// The size of an entry before its extended attributes.
     pub const PREFIX_SIZE: usize = 176;
-    /// Of an extended one.
+    /// The same for an extended entry.
     pub const EFE_PREFIX_SIZE: usize = 216;
 
-    /// The entry at the front of these bytes. An extent that is compressed is refused by 4, as in a read.
+    /// Parses the entry at the front of these bytes. A compressed extent is refused with 4, as in a read.
     ///
     /// # Errors
     ///
-    /// Refused by 2 where the bytes are too few, or are no entry, and by 4 where an extent is compressed.
+    /// Refusal 2 if there are too few bytes, or they are not an entry; 4 if an extent is compressed.
     pub fn parse(bytes: &[u8]) -> Result<FileEntry> {
         let raw = parsing::file_entry(bytes)?;
         let area = bytes.get(raw.area_at..).and_then(|rest| rest.get(..raw.area_length)).unwrap_or_default();
@@ -190,7 +191,7 @@ impl FileEntry {
         Ok(entry)
     }
 
-    /// Puts what stands in an area behind what there is: the descriptors up to the one that ends it.
+    /// Appends the descriptors of an area, up to the one that ends it.
     fn read_area(&mut self, area: &[u8]) -> Result<()> {
         let kind = self.ad_type;
         if kind == AdType::EmbeddedInIcb {
@@ -216,12 +217,12 @@ impl FileEntry {
         short.chain(long).chain(extended).filter_map(Descriptor::extent).collect()
     }
 
-    /// Its type is a directory's. The calls on a volume don't look at it.
+    /// Whether its file type is that of a directory. The calls on a volume don't look at it.
     pub fn is_directory(&self) -> bool {
         self.icb_tag.file_type == 4
     }
 
-    /// It is an extended one.
+    /// Whether it is an extended entry.
     pub fn is_extended(&self) -> bool {
         self.tag.id == TagId::ExtendedFileEntry
     }
@@ -237,7 +238,7 @@ pub(crate) enum Descriptor {
 }
 
 impl Descriptor {
-    /// The one at the front, of this kind; with its length.
+    /// Parses the descriptor of this kind at the front, with its length.
     fn parse(kind: AdType, bytes: &[u8]) -> Result<(u32, Descriptor)> {
         let next = |length, block, partition_ref| Descriptor::Continuation(AdContinuation { length, block, partition_ref });
         Ok(match kind {
@@ -256,7 +257,7 @@ impl Descriptor {
         })
     }
 
-    /// What a read makes of it; a continuation is none.
+    /// The extent, as a read sees it; `None` for a continuation.
     pub(crate) fn extent(self) -> Option<AllocExtent> {
         let named = |length, extent_type, place: LbAddr| AllocExtent {
             length,
@@ -275,12 +276,12 @@ impl Descriptor {
     }
 }
 
-/// A descriptor that isn't read.
+/// A descriptor that is refused.
 #[derive(Debug, Clone, Copy, PartialEq, Eq)]
 pub(crate) enum Unread {
-    /// Its recorded length isn't its information length.
+    /// Its recorded length differs from its information length.
     Compressed(ExtAd),
-    /// It isn't one.
+    /// It is invalid.
     Malformed,
 }
 
@@ -291,7 +292,8 @@ impl Unread {
     }
 }
 
-/// The descriptors of an area in turn (docs/RULES.md, part 6): a length of 0 ends it, a continuation is the last, and a compressed extent is refused by 4.
+/// Iterates over the descriptors of an area (docs/RULES.md, part 6): a length of 0 ends it, a continuation is the last,
+/// and a compressed extent is refused with 4.
 pub(crate) struct Area<'a> {
     kind: AdType,
     rest: &'a [u8],

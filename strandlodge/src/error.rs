@@ -1,4 +1,4 @@
-//! Why a call of `Vault` or `Drive` gave nothing: a refusal with its cause, or an error of the system.
+//! The error of a call of `Disc` or `Drive`: a refusal with its cause, or a system error.
 
 use crate::answer::{Refusal, Refused};
 use crate::cause::Cause;
@@ -7,22 +7,23 @@ use crate::diagnosis::Diagnosis;
 use std::ops::Deref;
 use std::{error, fmt, io};
 
-/// What a call of [`Vault`](crate::Vault) or [`Drive`](crate::Drive) gives, and what a function gives that makes such calls.
+/// The result of a call of [`Disc`](crate::Disc) or [`Drive`](crate::Drive), and of functions that make such calls.
 pub type Result<T> = std::result::Result<T, Error>;
 
-/// Why there is no answer: a refusal, or an error of the system, so that `?` takes both, as it does with the original's error.
+/// A refusal, or a system error, so that `?` works for both, as it does with the original's error.
 ///
-/// It stands for its [`Refused`]: `error.why`, `error.sectors` and `error.number()` are those of the refusal, and a `&Error` goes where a `&Refused` is wanted.
-/// An error of the system is [`Refusal::Io`] with no sector asked for. `Display` gives the cause, where it is known, as `diagnose` has it, and else what
-/// the number means. The calls of [`Vault`](crate::Vault) say their cause by themselves. To say it those of [`Drive`](crate::Drive) would have to ask the
-/// reader again, which [`Drive::diagnose`](crate::Drive::diagnose) does.
+/// It dereferences to its [`Refused`]: `error.why`, `error.sectors` and `error.number()` are those of the refusal, and
+/// you can pass a `&Error` as a `&Refused`. A system error is [`Refusal::Io`] with no sector asked for. `Display`
+/// prints the cause if it is known, otherwise the meaning of the number. The calls of [`Disc`](crate::Disc) find the
+/// cause by themselves. Those of [`Drive`](crate::Drive) would have to ask the reader again; use
+/// [`Drive::diagnose`](crate::Drive::diagnose) for that.
 ///
 /// ```
-/// use strandlodge::{Result, Vault};
+/// use strandlodge::{Result, Disc};
 ///
 /// fn load(image: &str, cue: &str) -> Result<Vec<u8>> {
-///     let vault = Vault::open(std::fs::read(image)?)?;
-///     vault.read_path(cue)
+///     let disc = Disc::open(std::fs::read(image)?)?;
+///     disc.read_path(cue)
 /// }
 ///
 /// let error = load("no such file", "SHOW/9").unwrap_err();
@@ -46,17 +47,17 @@ impl Error {
         Error(Box::new(Why { refused, cause: None, error: Some(error) }))
     }
 
-    /// The refusal; of an error of the system, 1 with no sector asked for.
+    /// The refusal; for a system error, 1 with no sector asked for.
     pub fn refused(&self) -> Refused {
         self.0.refused
     }
 
-    /// Which of its causes the refusal had, where that is known: the one that `diagnose` has.
+    /// The cause of the refusal if it is known, as `diagnose` gives it.
     pub fn cause(&self) -> Option<&Cause> {
         self.0.cause.as_ref()
     }
 
-    /// What the system said, where a file or a reader failed.
+    /// The system error, if a file or a reader failed.
     pub fn io(&self) -> Option<&io::Error> {
         self.0.error.as_ref()
     }
@@ -88,7 +89,7 @@ impl fmt::Display for Error {
 }
 
 impl error::Error for Error {
-    /// What the refusal's number means, where the cause was said in its place.
+    /// The meaning of the refusal's number, if `Display` printed the cause instead.
     fn source(&self) -> Option<&(dyn error::Error + 'static)> {
         match &*self.0 {
             Why { error: Some(error), .. } => error.source(),
@@ -98,7 +99,7 @@ impl error::Error for Error {
     }
 }
 
-/// Equal where the refusals are.
+/// Two errors are equal if their refusals are.
 impl PartialEq for Error {
     fn eq(&self, other: &Error) -> bool {
         self.0.refused == other.0.refused
@@ -117,7 +118,7 @@ impl From<Refused> for Error {
     }
 }
 
-/// Of a call that asks for no sector, such as [`write`](crate::write()).
+/// For a call that asks for no sector, such as [`write`](crate::write()).
 impl From<Refusal> for Error {
     fn from(why: Refusal) -> Error {
         Error::from(Refused { why, sectors: 0 })
@@ -130,7 +131,7 @@ impl From<Diagnosis> for Error {
     }
 }
 
-/// With what the reader said of the sector that it couldn't give.
+/// Keeps what the reader reported for the sector that it could not read.
 impl<R> From<Unopened<R>> for Error {
     fn from(unopened: Unopened<R>) -> Error {
         match unopened.missed {

@@ -2,24 +2,27 @@
 
 use strandlodge_sys::vault::{CHECKED, HIGHEST, MAPS};
 
-/// How a volume is opened. The default is the original's rule.
+/// The choices on opening. The default follows the original.
 #[derive(Debug, Clone, Copy, Default, PartialEq, Eq, Hash)]
 pub struct How {
-    /// Of several primary volume, partition or logical volume descriptors the one with the highest volume descriptor sequence number counts,
-    /// the later of equals. Else the last one does. Partition descriptors are compared whatever their partition numbers; with `maps` the start of
-    /// a map's partition is by those of its own number alone, with this choice and without.
+    /// Of several primary volume, partition or logical volume descriptors, use the one with the highest volume
+    /// descriptor sequence number, the later of equals. Otherwise the last one counts. Partition descriptors are
+    /// compared whatever their partition numbers; but with `maps`, only those of a map's own partition number decide
+    /// where its partition starts, with this choice or without.
     pub highest: bool,
-    /// The body of each descriptor that is parsed, on opening and in every call on the volume, must have the CRC that its tag says; else the
-    /// call is refused by 10, [`Refusal::BadCrc`](crate::Refusal::BadCrc). Else no body is looked at, as in the original.
+    /// Check the CRC of each descriptor that is parsed, on opening and in every call on the volume. If it is wrong, the
+    /// call is refused with 10, [`Refusal::BadCrc`](crate::Refusal::BadCrc). Otherwise CRCs are not looked at, as in
+    /// the original.
     pub checked: bool,
-    /// Partition references are indices into the logical volume's partition maps, as ECMA-167 has it: up to four, all of type 1. Each extent,
-    /// continuation and ICB is then found in the partition that its own reference leads to; one that names none stands in that of its entry.
-    /// Else references are compared with the partition's number, and those of ICBs aren't looked at, as in the original.
+    /// Partition references are indices into the logical volume's partition maps, as in ECMA-167: up to four, all of
+    /// type 1. Each extent, continuation and ICB is then in the partition of its own reference; one without a reference
+    /// is in that of its entry. Otherwise references are compared with the partition's number, and those of ICBs are
+    /// ignored, as in the original.
     pub maps: bool,
 }
 
 impl How {
-    /// As it crosses the interface: the sum of the choices.
+    /// As a number for the interface: the sum of the choices.
     pub(crate) fn number(self) -> u32 {
         let choices = [(self.checked, CHECKED), (self.maps, MAPS), (self.highest, HIGHEST)];
         choices.iter().filter(|(chosen, _)| *chosen).map(|(_, bit)| bit).sum()

@@ -1,4 +1,4 @@
-//! A file in memory without a copy: a disc of 25 GB opens at once, and costs what is looked at.
+//! A file mapped into memory without a copy: a disc of 25 GB opens at once, and costs only what you look at.
 #![allow(unsafe_code)]
 
 use std::ffi::{c_int, c_void};
@@ -18,20 +18,20 @@ unsafe extern "C" {
     fn munmap(at: *mut c_void, length: usize) -> c_int;
 }
 
-/// A file or a device, mapped to be read: an image that a [`Vault`](crate::Vault) can own.
+/// A file or a device, mapped for reading: an image that a [`Disc`](crate::Disc) can own.
 ///
 /// ```no_run
-/// use strandlodge::{Mapped, Vault};
+/// use strandlodge::{Mapped, Disc};
 ///
 /// # fn main() -> Result<(), Box<dyn std::error::Error>> {
-/// // SAFETY: nobody writes to this file, or cuts it short, while the vault is there.
-/// let vault = Vault::open(unsafe { Mapped::open("show.img")? })?;
-/// println!("{}", vault.label()?);
+/// // SAFETY: nobody writes to this file, or cuts it short, while the disc is there.
+/// let disc = Disc::open(unsafe { Mapped::open("show.img")? })?;
+/// println!("{}", disc.label()?);
 /// # Ok(())
 /// # }
 /// ```
 pub struct Mapped {
-    /// None where the file is empty: an empty map is refused by the system.
+    /// `None` if the file is empty: the system refuses an empty map.
     at: Option<NonNull<u8>>,
     length: usize,
 }
@@ -46,13 +46,14 @@ impl Mapped {
     ///
     /// # Safety
     ///
-    /// Nobody writes to the file while it is mapped: a `&[u8]` says so of its bytes, and no map can see to it. Who can't keep that reads the
-    /// file into memory, or uses [`Drive`](crate::Drive). A file that is cut short meanwhile, and a drive that can't read a sector, end the program
-    /// by SIGBUS where what is gone is looked at; bytes that are added at a file's end aren't in the map.
+    /// Nobody may write to the file while it is mapped: a `&[u8]` promises that, and no map can enforce it. If you
+    /// can't keep that promise, read the file into memory, or use [`Drive`](crate::Drive). If the file is cut short, or
+    /// the drive can't read a sector, looking at the missing bytes ends the program with SIGBUS. Bytes added at the end
+    /// of the file are not in the map.
     ///
     /// # Errors
     ///
-    /// What the system says where the file can't be opened or mapped.
+    /// The system error if the file can't be opened or mapped.
     pub unsafe fn open(path: impl AsRef<Path>) -> io::Result<Mapped> {
         let mut file = File::open(path)?;
         // Where the end is: a device has no length in its metadata.
@@ -61,7 +62,7 @@ impl Mapped {
         unsafe { Mapped::front(&file, length) }
     }
 
-    /// Maps the first `length` bytes of a file. A byte that the file doesn't have ends the program when it is looked at.
+    /// Maps the first `length` bytes of a file. If the file is shorter, looking at a missing byte ends the program.
     ///
     /// # Safety
     ///
@@ -69,7 +70,7 @@ impl Mapped {
     ///
     /// # Errors
     ///
-    /// What the system says where the file can't be mapped.
+    /// The system error if the file can't be mapped.
     pub unsafe fn front(file: &File, length: usize) -> io::Result<Mapped> {
         if length == 0 {
             return Ok(Mapped { at: None, length });
@@ -100,7 +101,7 @@ impl AsRef<[u8]> for Mapped {
 }
 
 impl fmt::Debug for Mapped {
-    /// Without the bytes, which may be many gigabytes.
+    /// Leaves out the bytes, which may be many gigabytes.
     fn fmt(&self, f: &mut fmt::Formatter<'_>) -> fmt::Result {
         f.debug_struct("Mapped").field("length", &self.length).finish_non_exhaustive()
     }

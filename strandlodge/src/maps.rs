@@ -1,7 +1,7 @@
-//! The partition maps of a volume, and where they place a block.
+//! The partition maps of a volume, and the sector of a block.
 //!
-//! What the proved calls read doesn't go through here: these are the same rules said once more, for whoever looks for the bytes of an extent in
-//! the image itself.
+//! The proved calls don't use this module. It restates the same rules, for callers that look for the bytes of an extent
+//! in the image.
 
 use crate::records::{LbAddr, LongAd};
 use strandlodge_sys::vault::Mount;
@@ -13,29 +13,29 @@ pub struct PartitionMap {
     pub volume: u16,
     /// The partition's number.
     pub number: u16,
-    /// The sector in which the partition starts.
+    /// The sector where the partition starts.
     pub start: u64,
 }
 
-/// The maps that a volume is read by.
+/// The maps of a volume.
 pub(crate) fn maps(mount: Mount) -> Vec<PartitionMap> {
     let each = mount.volumes.into_iter().zip(mount.numbers).zip(mount.starts);
     each.take(mount.maps as usize).map(|((volume, number), start)| PartitionMap { volume, number, start: start.into() }).collect()
 }
 
-/// The start of the partition that a map leads to, if there is such a map.
+/// The start of a map's partition, if there is such a map.
 fn mapped(mount: Mount, reference: u16) -> Option<u64> {
     maps(mount).get(usize::from(reference)).map(|map| map.start)
 }
 
-/// The sector of a block, by the reference that a descriptor gives.
+/// The sector of a block, given a descriptor's partition reference.
 pub(crate) fn place_of(mount: Mount, place: LbAddr) -> Option<u64> {
     let own = || (place.partition_ref == mount.partition).then_some(mount.start.into());
     let start = if mount.maps == 0 { own() } else { mapped(mount, place.partition_ref) };
     Some(start? + u64::from(place.block))
 }
 
-/// The start of the partition in which the entry of an ICB stands.
+/// The start of the partition that holds the entry of an ICB.
 pub(crate) fn started(mount: Mount, icb: LongAd) -> Option<u64> {
     if mount.maps == 0 { Some(mount.start.into()) } else { mapped(mount, icb.location.partition_ref) }
 }
@@ -48,7 +48,7 @@ mod tests {
         Mount { start: 7, partition: 5, checked: 0, maps, volumes: [1, 2, 3, 4], numbers: [5, 6, 7, 8], starts: [10, 20, 30, u32::MAX] }
     }
 
-    /// Where block 2^32 - 1 stands by a descriptor's reference, and by an ICB's.
+    /// The sector of block 2^32 - 1 by a descriptor's reference, and by an ICB's.
     fn placed(maps: u32, partition_ref: u16) -> (Option<u64>, Option<u64>) {
         let location = LbAddr { block: u32::MAX, partition_ref };
         let icb = LongAd { length: 0, extent_type: 3, location, implementation_use: [0; 6] };

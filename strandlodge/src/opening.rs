@@ -1,4 +1,4 @@
-//! The sectors that an opening asks for, gone over again for a diagnosis. What is opened doesn't come from here.
+//! Repeats the sectors of an opening for a diagnosis. Opening itself does not use this module.
 
 use crate::diagnosis::Sought;
 use crate::how::How;
@@ -9,16 +9,16 @@ use std::io::{Read, Seek};
 
 const SECTOR: u32 = 2048;
 
-/// What stands in the main sequence, as far as opening reads it without checking bodies.
+/// The main sequence, as far as opening reads it without checking CRCs.
 #[derive(Default)]
 pub struct Sequence {
-    /// The first sector, where there is an anchor.
+    /// The first sector, if there is an anchor.
     first: u64,
-    /// How many sectors of it are asked for.
+    /// How many of its sectors are asked for.
     visited: u64,
     pub has_primary: bool,
     pub partitions: Vec<PartitionDescriptor>,
-    /// The logical volume descriptors, each with its sector's bytes.
+    /// The logical volume descriptors, each with the bytes of its sector.
     logical: Vec<(LogicalVolumeDescriptor, Vec<u8>)>,
 }
 
@@ -39,7 +39,7 @@ impl Sequence {
         sequence
     }
 
-    /// Takes a sector by its id; false where the sequence ends there.
+    /// Takes a sector by its id; false if the sequence ends there.
     fn take(&mut self, bytes: Vec<u8>) -> bool {
         match bytes[..2] {
             [1, 0] => self.has_primary = true,
@@ -51,7 +51,7 @@ impl Sequence {
         true
     }
 
-    /// The sector that was asked for as the n-th, and for what.
+    /// The n-th sector that was asked for, and for what.
     pub fn asked(&self, how: How, n: u64) -> Option<(u64, Sought)> {
         match n.checked_sub(1)? {
             0 => Some((AVDP_SECTOR, Sought::Anchor)),
@@ -60,18 +60,18 @@ impl Sequence {
         }
     }
 
-    /// The logical volume descriptor that prevails, with its sector.
+    /// The logical volume descriptor that counts, with its sector.
     pub fn logical(&self, how: How) -> Option<&(LogicalVolumeDescriptor, Vec<u8>)> {
         prevailing(self.logical.iter(), how, |(logical, _)| logical.volume_descriptor_sequence_number)
     }
 
-    /// The partition descriptor that prevails, of all or of those of one number.
+    /// The partition descriptor that counts, of all or of those with one number.
     pub fn partition(&self, how: How, number: Option<u16>) -> Option<&PartitionDescriptor> {
         let own = self.partitions.iter().filter(|one| number.is_none_or(|number| one.partition_number == number));
         prevailing(own, how, |one| one.volume_descriptor_sequence_number)
     }
 
-    /// The maps of the logical volume descriptor that prevails.
+    /// The maps of the logical volume descriptor that counts.
     pub fn table(&self, how: How) -> Option<MapTable> {
         let (_, bytes) = self.logical(how)?;
         let start = |number| self.partition(how, Some(number)).map(|one| one.partition_starting_location);
@@ -93,7 +93,7 @@ impl Sequence {
     }
 }
 
-/// The last, or where the highest is chosen the last of those with the highest number.
+/// The last one; with `highest`, the last of those with the highest number.
 fn prevailing<T>(all: impl Iterator<Item = T>, how: How, number: impl Fn(&T) -> u32) -> Option<T> {
     if how.highest { all.max_by_key(number) } else { all.last() }
 }

@@ -1,13 +1,14 @@
 //! The calls of include/records.h, wrapped.
 //!
-//! Why they are sound: the header asks that the lent pieces don't overlap and that their pointers aren't null, which holds of a shared slice and of a
-//! vector of this module's own; and the calls stay within the lengths that they are given, whatever the bytes and the values are.
+//! Why they are sound: the header requires that the lent pieces don't overlap and that their pointers aren't null. That
+//! holds for a shared slice and a vector of this module's own. The calls stay within the lengths that they are given,
+//! whatever the bytes and the values are.
 #![allow(unsafe_code)]
 
 use crate::answer::{Refusal, Refused, Result};
 use strandlodge_sys::records::*;
 
-/// The value, where the number says that there is one. No record asks for a sector.
+/// The value, if the answer is 0. No record asks for a sector.
 fn done<T>(answer: u64, value: T) -> Result<T> {
     Refusal::of(answer).map_or(Ok(value), |why| Err(Refused { why, sectors: 0 }))
 }
@@ -84,7 +85,7 @@ pub fn is_in_place(tag: Tag, sector: u64, block: u32) -> bool {
     unsafe { records_tag_in_place(tag, sector, block) }
 }
 
-/// The body check: `bytes` are those at hand from the descriptor on.
+/// The body check: `bytes` start at the descriptor.
 pub fn has_right_body(tag: Tag, bytes: &[u8]) -> bool {
     // SAFETY: the head of this module; nothing is lent for writing.
     unsafe { records_tag_body(tag, bytes.as_ptr(), bytes.len()) }

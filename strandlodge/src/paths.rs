@@ -1,16 +1,16 @@
-//! Paths as they are handed in, and their components.
+//! Paths as arguments, and their components.
 
 use std::ops::Range;
 
-/// A path, as text or as bytes: a component of it is of the same kind, a `str` of a `str` and a `[u8]` of a `[u8]`.
+/// A path, as text or as bytes. Its components have the same kind: a `str` of a `str`, and a `[u8]` of a `[u8]`.
 pub trait PathText {
-    /// What a component is.
+    /// The type of a component.
     type Component: ?Sized;
 
     /// The path's bytes.
     fn bytes(&self) -> &[u8];
 
-    /// A part of the path; none where it isn't one.
+    /// A part of the path, if the range is one.
     fn part(&self, range: Range<usize>) -> Option<&Self::Component>;
 }
 
@@ -38,7 +38,7 @@ impl PathText for [u8] {
     }
 }
 
-/// Those that hold a path of one of the two kinds.
+/// Types that hold a path of one of the two kinds.
 macro_rules! holding {
     ($([$($of:tt)*] $name:ty, $kind:ty;)*) => {$(
         impl<$($of)*> PathText for $name {
@@ -62,7 +62,8 @@ holding! {
     [T: PathText + ?Sized] &T, T;
 }
 
-/// The component that a call gave as a part of the path's bytes. It stands between slashes, so that it is text where the path is.
+/// The component that a call returned as a part of the path's bytes. It is between slashes, so it is text if the path
+/// is.
 pub(crate) fn component<'p, P: PathText + ?Sized>(path: &'p P, found: &[u8]) -> Option<&'p P::Component> {
     let at = found.as_ptr().addr().checked_sub(path.bytes().as_ptr().addr())?;
     path.part(at..at.checked_add(found.len())?)

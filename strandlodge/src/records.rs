@@ -1,4 +1,4 @@
-//! What calls are given and give, with the original's names.
+//! The arguments and results of calls, with the original's names.
 
 use crate::answer::Answer;
 use strandlodge_sys::vault as face;
@@ -12,12 +12,12 @@ pub struct LbAddr {
     pub partition_ref: u16,
 }
 
-/// Where something stands: the ICB of a file or a directory.
+/// The place of something on the disc, such as the ICB of a file or a directory.
 #[derive(Debug, Clone, Copy, PartialEq, Eq, Hash)]
 pub struct LongAd {
-    /// In bytes, below 2^30 where it was read from a disc.
+    /// In bytes; below 2^30 if it was read from a disc.
     pub length: u32,
-    /// 0 to 3 where it was read from a disc; 0 is recorded.
+    /// 0 to 3 if it was read from a disc; 0 is recorded.
     pub extent_type: u8,
     /// The first block.
     pub location: LbAddr,
@@ -46,7 +46,7 @@ impl LongAd {
     }
 }
 
-/// What `lookup` gives goes into `read_file` as it is.
+/// Lets you pass the result of `lookup` to `read_file`.
 impl From<Answer<LongAd>> for LongAd {
     fn from(answer: Answer<LongAd>) -> LongAd {
         answer.value
@@ -56,13 +56,13 @@ impl From<Answer<LongAd>> for LongAd {
 /// An extent of a file, in the order of the file.
 #[derive(Debug, Clone, Copy, PartialEq, Eq, Hash)]
 pub struct AllocExtent {
-    /// The bytes that it gives to its file.
+    /// The number of bytes of the file in it.
     pub length: u32,
-    /// 0: recorded. 1: allocated and not recorded. 2: neither.
+    /// 0: recorded. 1: allocated but not recorded. 2: neither.
     pub extent_type: u8,
     /// The first block, counted from the partition's start.
     pub block: u32,
-    /// The partition, where the descriptor names one.
+    /// The partition, if the descriptor names one.
     pub partition_ref: Option<u16>,
 }
 
@@ -71,29 +71,29 @@ pub struct AllocExtent {
 pub struct DirEntry {
     /// The name as recorded.
     pub name: String,
-    /// What it stands for.
+    /// The ICB of the file or directory.
     pub icb: LongAd,
-    /// Whether that is a directory.
+    /// Whether it is a directory.
     pub is_directory: bool,
 }
 
-/// An entry of a whole show: one for each path that leads to it.
+/// An entry of a show: there is one for each path that leads to it.
 #[derive(Debug, Clone, PartialEq, Eq, Hash)]
 pub struct ShowEntry {
-    /// How many names its path has: 1 for what stands in the root.
+    /// The number of names in its path: 1 for the entries of the root.
     pub level: u8,
-    /// The names from the root down to its own, with a slash between each two. A name that has a slash itself, or no byte, stands in it as it is, and
-    /// such a path doesn't lead back here.
+    /// The names from the root down to its own, joined by slashes. A name that itself contains a slash, or is empty, is
+    /// included as it is; such a path does not lead back here.
     pub path: String,
-    /// What its directory has of it.
+    /// The entry in its directory.
     pub entry: DirEntry,
 }
 
-/// The bytes of a record's mark, and of all in front of its name.
+/// The size of a record's mark, and of everything before its name.
 const MARK: usize = 2;
 const HEAD: usize = MARK + 1 + 16 + 2;
 
-/// The entries of a listing, whose records include/vault.h says (`vault_list`); none if there isn't memory for them.
+/// The entries of a listing (records as in `vault_list` of include/vault.h); `None` if there is not enough memory.
 pub(crate) fn entries(listing: &[u8]) -> Option<Vec<DirEntry>> {
     let (mut entries, mut rest) = (Vec::new(), listing);
     entries.try_reserve_exact(count(listing)).ok()?;
@@ -104,30 +104,30 @@ pub(crate) fn entries(listing: &[u8]) -> Option<Vec<DirEntry>> {
     Some(entries)
 }
 
-/// How many records a listing has.
+/// The number of records of a listing.
 fn count(listing: &[u8]) -> usize {
     std::iter::successors(Some(listing), |rest| behind(rest)).count() - 1
 }
 
-/// What stands behind the first record; none where there is none.
+/// What follows the first record; `None` if there is no record.
 fn behind(listing: &[u8]) -> Option<&[u8]> {
     let (head, rest) = listing.split_first_chunk::<HEAD>()?;
     rest.get(u16::from_le_bytes([head[HEAD - 2], head[HEAD - 1]]).into()..)
 }
 
-/// The record at the front, none in it if there isn't memory for its name, and what stands behind it.
+/// The record at the front, without the entry if there is no memory for its name, and what follows it.
 fn record(listing: &[u8]) -> Option<(Option<DirEntry>, &[u8])> {
     marked(listing.split_at_checked(MARK)?.1)
 }
 
-/// The record at the front of a show (`vault_show`): its level, the rest of it, and what stands behind it.
+/// The record at the front of a show (`vault_show`): its level, its entry, and what follows it.
 pub(crate) fn leveled(show: &[u8]) -> Option<(u8, Option<DirEntry>, &[u8])> {
     let (level, rest) = show.split_at_checked(MARK)?.1.split_first()?;
     let (entry, behind) = marked(rest)?;
     Some((*level, entry, behind))
 }
 
-/// What a record has behind its mark, and its level if it has one.
+/// The rest of a record after its mark and, in a show, its level.
 fn marked(rest: &[u8]) -> Option<(Option<DirEntry>, &[u8])> {
     let (&[directory], rest) = rest.split_first_chunk()?;
     let (icb, rest) = rest.split_first_chunk()?;

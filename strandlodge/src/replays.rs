@@ -61,7 +61,7 @@ fn failed(answer: Answered<Option<&[u8]>>, path: &[u8]) -> Said {
 
 // ---- lent memory
 
-/// An empty vector with room for exactly so many, all of it written once.
+/// An empty vector with room for exactly this many, all of it written once.
 fn lent<T: Copy>(n: u32, came: T) -> Vec<T> {
     let mut lent = Vec::with_capacity(n as usize);
     lent.resize(n as usize, came);
@@ -77,7 +77,7 @@ fn whole<T: Copy>(mut lent: Vec<T>) -> Vec<T> {
     lent
 }
 
-/// Whether what stands behind the content is as it came.
+/// Whether the memory after the content is unchanged.
 fn is_kept<T: Copy + PartialEq>(content: Vec<T>, came: T) -> bool {
     let front = content.len();
     whole(content)[front..].iter().all(|one| *one == came)
@@ -160,8 +160,8 @@ fn hold_short(asked: &Asked, given: &Said, lent: u32) {
 /// The runs of a file, with memory as it is needed: joined they are the read, with its refusal and its count. Then with as many slots as there
 /// are runs, with one too few and with none: 7 comes last, with the same count.
 fn hold_runs(volume: Volume, image: &[u8], icb: LongAd) {
-    let vault = Counted::over(image, volume, How::default());
-    let (runs, read) = match (vault.runs(icb), vault.read_file(icb)) {
+    let disc = Counted::over(image, volume, How::default());
+    let (runs, read) = match (disc.runs(icb), disc.read_file(icb)) {
         (Ok(runs), Ok(read)) => (runs, read),
         (runs, read) => return assert_eq!(runs.map(|runs| runs.len()), read.map(|read| read.len() as u64)),
     };
@@ -180,7 +180,7 @@ fn hold_runs(volume: Volume, image: &[u8], icb: LongAd) {
 
 // ---- `Counted`
 
-/// A listing's record behind its mark, of what was read from one.
+/// A listing's record after its mark, from an entry that was read from one.
 fn record(entry: &DirEntry) -> Vec<u8> {
     let (icb, n) = (recorded(&entry.icb.to_c()), entry.name.len() as u16);
     [&[u8::from(entry.is_directory)], &icb[..], &n.to_le_bytes(), entry.name.as_bytes()].concat()
@@ -197,30 +197,30 @@ fn records(show: Show) -> Vec<u8> {
 /// Where the query lent too little, it isn't refused so here, and there is nothing to compare.
 fn counted(asked: &Asked) -> Option<Said> {
     let Asked { image, volume, call, query: q, is_short } = *asked;
-    let (icb, path, m, vault) = (LongAd::recorded(&q.icb), &q.text[..], matching(q), Counted::over(image, volume, how(q.volume)));
+    let (icb, path, m, disc) = (LongAd::recorded(&q.icb), &q.text[..], matching(q), Counted::over(image, volume, how(q.volume)));
     let given = match call {
         Call::Probe => Said::of(crate::probe_vrs(image).into(), 0),
-        Call::Open => said(Counted::open_as(image, how(q.volume)), |said, vault| Said { volume: opened(vault), ..said }),
+        Call::Open => said(Counted::open_as(image, how(q.volume)), |said, disc| Said { volume: opened(disc), ..said }),
         Call::Label => said(Counted::label_of(image, how(q.volume)), |said, label| said.with(label.into_bytes())),
         Call::Lookup => {
-            hold_matching(&vault, path);
-            let icb = vault.lookup_as(path, m);
-            icb.iter().for_each(|icb| hold_measured(&vault, icb.value));
+            hold_matching(&disc, path);
+            let icb = disc.lookup_as(path, m);
+            icb.iter().for_each(|icb| hold_measured(&disc, icb.value));
             found(icb)
         }
-        Call::Failed | Call::FailedAt => failed(vault.failed_as(path, m), path),
-        Call::List => said(vault.read_directory(icb), |said, entries| said.with(listing(&entries))),
+        Call::Failed | Call::FailedAt => failed(disc.failed_as(path, m), path),
+        Call::List => said(disc.read_directory(icb), |said, entries| said.with(listing(&entries))),
         Call::Read => {
-            hold_measured(&vault, icb);
-            said(vault.read_file(icb), |said, bytes| said.with(bytes))
+            hold_measured(&disc, icb);
+            said(disc.read_file(icb), |said, bytes| said.with(bytes))
         }
-        Call::Part | Call::PartAt => said(vault.part(icb), |said, part| part_of(image, part, said)),
-        Call::Extents => said(vault.extents(icb), |said, extents| said.with_slots(extents.iter().map(slot).collect())),
-        Call::ReadPath => said(vault.read_path_as(path, m), |said, bytes| said.with(bytes)),
-        Call::ReadAll => list(&vault, q),
-        Call::Show => said(vault.show(q.levels, q.most), |said, show| said.with(records(show))),
-        Call::Measure => said(vault.measure(icb), |said, length| Said { length, ..said }),
-        Call::Runs => said(vault.runs(icb), |said, runs| said.with_slots(runs.places().map(|run| vec![run.at, run.length]).collect())),
+        Call::Part | Call::PartAt => said(disc.part(icb), |said, part| part_of(image, part, said)),
+        Call::Extents => said(disc.extents(icb), |said, extents| said.with_slots(extents.iter().map(slot).collect())),
+        Call::ReadPath => said(disc.read_path_as(path, m), |said, bytes| said.with(bytes)),
+        Call::ReadAll => list(&disc, q),
+        Call::Show => said(disc.show(q.levels, q.most), |said, show| said.with(records(show))),
+        Call::Measure => said(disc.measure(icb), |said, length| Said { length, ..said }),
+        Call::Runs => said(disc.runs(icb), |said, runs| said.with_slots(runs.places().map(|run| vec![run.at, run.length]).collect())),
     };
     assert!(![5, 6, 7, 12].contains(&given.answer), "{call:?} {q:?}");
     (!is_short).then_some(given)
@@ -232,9 +232,9 @@ fn slot(extent: &crate::AllocExtent) -> Vec<u64> {
 
 /// The volume that was opened: it has the label that the image has, and the partition descriptor that is said to prevail is the one that it was
 /// opened by, where it has no maps.
-fn opened(vault: Counted) -> Volume {
-    let (image, how, volume) = (vault.image(), vault.how(), vault.volume());
-    assert_eq!(vault.label(), Counted::label_of(image, how));
+fn opened(disc: Counted) -> Volume {
+    let (image, how, volume) = (disc.image(), disc.how(), disc.volume());
+    assert_eq!(disc.label(), Counted::label_of(image, how));
     let all = volume_descriptors(image, how);
     let mut ones = all.iter().filter(|one| one.prevails && one.kind == Kind::Partition);
     if !how.maps {
@@ -250,9 +250,9 @@ fn is_ambiguous(answer: &Answered<LongAd>) -> bool {
 
 /// What the other choices come to beside the first: an unambiguous path is the first choice's or refused by 9, as no other is; and where a
 /// path gives something as it is written and is unambiguous, both are the same.
-fn hold_matching(vault: &Counted, path: &[u8]) {
+fn hold_matching(disc: &Counted, path: &[u8]) {
     let [first, written, only] =
-        [Matching::CaseIgnored, Matching::AsWritten, Matching::Unambiguous].map(|matching| vault.lookup_as(path, matching));
+        [Matching::CaseIgnored, Matching::AsWritten, Matching::Unambiguous].map(|matching| disc.lookup_as(path, matching));
     assert!(!is_ambiguous(&first) && !is_ambiguous(&written));
     if !is_ambiguous(&only) {
         assert_eq!(only, first);
@@ -263,15 +263,15 @@ fn hold_matching(vault: &Counted, path: &[u8]) {
 }
 
 /// What is measured is the length of what is read, with its number and its count.
-fn hold_measured(vault: &Counted, icb: LongAd) {
-    assert_eq!(vault.measure(icb), vault.read_file(icb).map(|read| read.map(|bytes| bytes.len() as u64)));
+fn hold_measured(disc: &Counted, icb: LongAd) {
+    assert_eq!(disc.measure(icb), disc.read_file(icb).map(|read| read.map(|bytes| bytes.len() as u64)));
 }
 
 /// A list of paths: each item is what the path gives by itself.
-fn list(vault: &Counted, q: &Query) -> Said {
+fn list(disc: &Counted, q: &Query) -> Said {
     let (paths, m): (Vec<&[u8]>, Matching) = (q.text.split(|byte| *byte == 0).collect(), matching(q));
-    let given = vault.read_all_as(&paths, m).unwrap();
-    let alone: Vec<Said> = paths.iter().map(|path| said(vault.read_path_as(path, m), |said, bytes| said.with(bytes))).collect();
+    let given = disc.read_all_as(&paths, m).unwrap();
+    let alone: Vec<Said> = paths.iter().map(|path| said(disc.read_path_as(path, m), |said, bytes| said.with(bytes))).collect();
     assert_eq!(given.sectors, alone.iter().map(|one| one.count).sum::<u64>());
     let bytes: Vec<u8> = given.iter().flatten().flatten().copied().collect();
     let item = |item: &crate::Item| item.as_ref().map_or_else(|why| (0, why.number()), |bytes| (bytes.len() as u64, 0));
@@ -342,10 +342,10 @@ fn paths_of_a_show_lead_back() {
         if name == "names" || name.contains("each naming the next") {
             continue;
         }
-        let vault = Counted::open(&bytes).unwrap();
-        for one in vault.show(16, UNLIMITED).into_iter().flatten() {
+        let disc = Counted::open(&bytes).unwrap();
+        for one in disc.show(16, UNLIMITED).into_iter().flatten() {
             assert_eq!(one.path.split('/').count(), usize::from(one.level), "{name}: {}", one.path);
-            let found = vault.lookup_as(&one.path, Matching::Unambiguous);
+            let found = disc.lookup_as(&one.path, Matching::Unambiguous);
             if !is_ambiguous(&found) {
                 assert_eq!(found.unwrap().value, one.entry.icb, "{name}: {}", one.path);
                 shown += 1;

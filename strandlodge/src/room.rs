@@ -1,18 +1,20 @@
-//! Memory that is lent to a call, and more of it as long as that was the only trouble.
+//! Memory that is lent to a call, and more of it if too little memory was the only problem.
 
 use crate::answer::{Answered, Refusal};
 
-/// What is lent at first, in bytes. A show's cues and directories fit.
+/// What is lent at first, in bytes. The cues and directories of a show fit.
 pub const FIRST: usize = 64 << 10;
 
-/// The most work space for a directory: some five million entries. It is all cleared by each call, so a bad disc must not ask for more.
+/// The most work space for a directory: some five million entries. Each call clears all of it, so a bad disc must not
+/// ask for more.
 pub const MOST_DIRECTORY: usize = 256 << 20;
 
-/// The most that the listing of a directory of so many bytes has (docs/RULES.md, 4.9 and 8.9).
+/// The longest listing of a directory of this many bytes (docs/RULES.md, 4.9 and 8.9).
 ///
-/// A name that is recorded in n bytes, of which the first is its compression id, has at most 2 (n - 1): one or two for each byte, or up to three for each
-/// pair. Its record has 21 more. Its identifier has 38 + n, rounded up to a multiple of 4, which the last one may want. Of all n up to 255 a record is longest beside
-/// its identifier at 254: 527 bytes of 292.
+/// A name recorded in n bytes, the first of which is its compression id, has at most 2 (n - 1) bytes of UTF-8: one or
+/// two for each byte, or up to three for each pair. Its record has 21 more. Its identifier has 38 + n bytes, rounded up
+/// to a multiple of 4; the last one may lack the rounding. Of all n up to 255, the record is longest compared with its
+/// identifier at 254: 527 bytes for 292.
 pub fn most_listed(directory: usize) -> usize {
     directory.next_multiple_of(4).saturating_mul(527) / 292
 }
@@ -20,19 +22,19 @@ pub fn most_listed(directory: usize) -> usize {
 /// The most for the records of a show: some six million entries.
 pub const MOST_SHOW: usize = 256 << 20;
 
-/// So many paths are read by one call, with `FIRST` bytes of output lent for each: a list of any length takes no more than 64 MiB beside what it
-/// gives.
+/// The number of paths read by one call, with `FIRST` bytes of output lent for each: a list of any length takes no more
+/// than 64 MiB besides its results.
 pub const AT_ONCE: usize = 1024;
 
 /// What may be lent for a file of any image.
 pub const SOME_FILE: usize = 256 << 20;
 
-/// The most for a file of this image. Only one whose extents overlap has more bytes than its disc.
+/// The most for a file of this image. Only a file whose extents overlap is longer than its disc.
 pub fn most_file(image: &[u8]) -> usize {
     image.len().max(SOME_FILE)
 }
 
-/// An empty vector with room for exactly so many bytes; none where that is more than the most, or can't be had.
+/// An empty vector with room for exactly this many bytes; `None` if that is more than `most`, or can't be allocated.
 pub fn exactly(bytes: u64, most: usize) -> Option<Vec<u8>> {
     let bytes = usize::try_from(bytes).ok().filter(|bytes| *bytes <= most)?;
     let mut room = Vec::new();
@@ -47,7 +49,8 @@ pub struct Room<T> {
 }
 
 impl<T> Room<T> {
-    /// Room for `first` items, which may grow to `most`. Where that can't be had there is none, and the call itself refuses.
+    /// Room for `first` items, which may grow to `most`. If it can't be allocated there is none, and the call itself
+    /// refuses.
     pub fn new(first: usize, most: usize) -> Room<T> {
         let mut room = Room { lent: Vec::new(), most };
         room.reach(first);
@@ -59,13 +62,14 @@ impl<T> Room<T> {
         Room { lent: Vec::new(), most: 0 }
     }
 
-    /// Twice the room; false if that is more than the most, or can't be had.
+    /// Doubles the room; false if that is more than the most, or can't be allocated.
     pub fn double(&mut self) -> bool {
         let now = self.lent.capacity();
         self.reach(now.saturating_mul(2))
     }
 
-    /// Room for `items`, or for the most if that is less; false if it is no more than there was, or can't be had.
+    /// Makes room for `items`, or for the most if that is less; false if that is no more than before, or can't be
+    /// allocated.
     pub fn reach(&mut self, items: usize) -> bool {
         let items = items.min(self.most);
         if items <= self.lent.capacity() {
@@ -77,7 +81,8 @@ impl<T> Room<T> {
     }
 }
 
-/// Makes a call, and again with twice the room where too little of it was the refusal. A refused call has written nothing.
+/// Makes a call, and repeats it with twice the room if it was refused for lack of room. A refused call has written
+/// nothing.
 pub fn retry<T, R>(out: &mut Room<T>, work: &mut Room<u8>, mut call: impl FnMut(&mut Vec<T>, &mut Vec<u8>) -> Answered<R>) -> Answered<R> {
     loop {
         let answer = call(&mut out.lent, &mut work.lent);
@@ -96,7 +101,8 @@ pub fn retry<T, R>(out: &mut Room<T>, work: &mut Room<u8>, mut call: impl FnMut(
 mod tests {
     use super::*;
 
-    /// Each length of a name, alone and behind another, the last without the bytes that round it up. Bytes for other uses make an identifier longer alone.
+    /// Each length of a name, alone and after another, the last without its rounding. Bytes for other uses only make an
+    /// identifier longer.
     #[test]
     fn a_listing_has_no_more() {
         let name = |n: usize| 2 * n.saturating_sub(1);

@@ -1,37 +1,39 @@
-//! A file as runs of the image: its bytes where they stand, and none of them copied.
+//! A file as runs of the image: its bytes in place, without a copy.
 
 use crate::answer::Answered;
 use crate::calls;
 use crate::counted::{Counted, FIRST_SLOTS, MOST_SLOTS};
 use crate::diagnosis::Asked;
+use crate::disc::Disc;
 use crate::error::Result;
 use crate::records::LongAd;
 use crate::room::{Room, retry};
-use crate::vault::Vault;
 use std::fmt;
 use std::iter::FusedIterator;
 use strandlodge_sys::vault as face;
 
-/// Where a run of a file's bytes stands in the image.
+/// The place of a run of a file's bytes in the image.
 #[derive(Debug, Clone, Copy, PartialEq, Eq, Hash)]
 pub struct Run {
-    /// The place of its first byte in the image.
+    /// The offset of its first byte in the image.
     pub at: u64,
-    /// How many bytes it has, at least 1.
+    /// The number of bytes, at least 1.
     pub length: u64,
 }
 
-/// A file's bytes as parts of the image, in reading order: joined they are what `read_file` gives, which is proved. [`Vault::runs`] gives them.
+/// A file's bytes as parts of the image, in reading order, from [`Disc::runs`]. It is proved that joined they are what
+/// `read_file` gives.
 ///
-/// It is an iterator of the parts, each with a byte at least. Two may follow each other in the image, overlap or be the same. What it says of itself is of
-/// the runs that are still to come. Beside the borrow of the image it holds 16 bytes for each run.
+/// It iterates over the parts, each of at least one byte. Two parts may follow each other in the image, overlap or be
+/// equal. Its methods cover only the runs that are still to come. Besides the borrow of the image it holds 16 bytes for
+/// each run.
 #[derive(Clone)]
 pub struct Runs<'a> {
     image: &'a [u8],
     row: Vec<face::Run>,
-    /// The first that is still to come.
+    /// The first run that is still to come.
     next: usize,
-    /// The bytes of those that are.
+    /// The bytes of the runs that are still to come.
     bytes: u64,
 }
 
@@ -41,23 +43,23 @@ impl<'a> Runs<'a> {
         Runs { image, row, next: 0, bytes }
     }
 
-    /// How many bytes they have together: the file's length, as a read gives it, where none was taken yet.
+    /// The total number of bytes; before the first part is taken, the file's length as a read gives it.
     pub fn len(&self) -> u64 {
         self.bytes
     }
 
-    /// Whether they have no byte, as those of an empty file.
+    /// Whether there are no bytes, as in an empty file.
     pub fn is_empty(&self) -> bool {
         self.bytes == 0
     }
 
-    /// Where each stands, without looking at the image.
+    /// The place of each run. This does not look at the image.
     ///
     /// ```
     /// # fn main() -> Result<(), Box<dyn std::error::Error>> {
     /// let image = strandlodge::write(&[("9", b"cue 9")])?;
-    /// let vault = strandlodge::Vault::open(&image)?;
-    /// for run in vault.runs(vault.lookup("9")?)?.places() {
+    /// let disc = strandlodge::Disc::open(&image)?;
+    /// for run in disc.runs(disc.lookup("9")?)?.places() {
     ///     println!("{} bytes from byte {} of the image on", run.length, run.at);
     /// }
     /// # Ok(())
@@ -67,13 +69,14 @@ impl<'a> Runs<'a> {
         self.rest().iter().map(|run| Run { at: run.at, length: run.length })
     }
 
-    /// Those of the bytes from number `from` on, and of no more than so many: past the end there are fewer, or none. The first and the last run are cut.
+    /// The runs of at most `bytes` bytes, from byte `from` on. Past the end there are fewer, or none. The first and the
+    /// last run are cut to fit.
     ///
     /// ```
     /// # fn main() -> Result<(), Box<dyn std::error::Error>> {
     /// let image = strandlodge::write(&[("9", b"cue 9, blackout")])?;
-    /// let vault = strandlodge::Vault::open(&image)?;
-    /// let part: Vec<&[u8]> = vault.runs(vault.lookup("9")?)?.range(7, 5).collect();
+    /// let disc = strandlodge::Disc::open(&image)?;
+    /// let part: Vec<&[u8]> = disc.runs(disc.lookup("9")?)?.range(7, 5).collect();
     /// assert_eq!(part.concat(), b"black");
     /// # Ok(())
     /// # }
@@ -133,26 +136,27 @@ impl<'a> Iterator for Runs<'a> {
 impl FusedIterator for Runs<'_> {}
 
 impl fmt::Debug for Runs<'_> {
-    /// Without the bytes, which may be many gigabytes.
+    /// Leaves out the bytes, which may be many gigabytes.
     fn fmt(&self, f: &mut fmt::Formatter<'_>) -> fmt::Result {
         f.debug_struct("Runs").field("runs", &self.rest().len()).field("bytes", &self.bytes).finish_non_exhaustive()
     }
 }
 
-/// A run's bytes. Each stands in an image that stands still; of another image one that doesn't is none.
+/// A run's bytes. They are inside an image that doesn't change; if it did change, a run outside it is empty.
 fn part<'a>(image: &'a [u8], run: &face::Run) -> &'a [u8] {
     let (at, length) = (usize::try_from(run.at).unwrap_or(usize::MAX), usize::try_from(run.length).unwrap_or(usize::MAX));
     image.get(at..).and_then(|rest| rest.get(..length)).unwrap_or_default()
 }
 
 impl<'a> Counted<'a> {
-    /// A file's bytes, or a directory's own, as parts of the image: [`Vault::runs`]. Refusals and count are those of [`Counted::read_file`].
+    /// The bytes of a file, or of a directory itself, as parts of the image: see [`Disc::runs`]. The refusals and the
+    /// count are those of [`Counted::read_file`].
     ///
     /// ```no_run
     /// # fn main() -> std::result::Result<(), Box<dyn std::error::Error>> {
     /// let image = std::fs::read("show.img")?;
-    /// let vault = strandlodge::Counted::open(&image)?;
-    /// let runs = vault.runs(vault.lookup("SHOW/FILM")?)?;
+    /// let disc = strandlodge::Counted::open(&image)?;
+    /// let runs = disc.runs(disc.lookup("SHOW/FILM")?)?;
     /// println!("{} bytes, which take {} sectors", runs.len(), runs.sectors);
     /// # Ok(())
     /// # }
@@ -160,7 +164,7 @@ impl<'a> Counted<'a> {
     ///
     /// # Errors
     ///
-    /// Refused as the read is, but for want of memory; by 7 where there is none for the runs.
+    /// The refusals of the read, except those for lack of memory; 7 if there is no memory for the runs.
     pub fn runs(&self, icb: impl Into<LongAd>) -> Answered<Runs<'a>> {
         let (icb, volume, image) = (icb.into(), self.volume(), self.image());
         // An extent gives one run at most, and an embedded file is one.
@@ -171,19 +175,20 @@ impl<'a> Counted<'a> {
     }
 }
 
-impl<B: AsRef<[u8]>> Vault<B> {
-    /// A file's bytes, or a directory's own, as parts of the image, in reading order: what [`Vault::read_file`] gives, without a copy. It is refused as that
-    /// is, before there is a first part, but for want of memory: a run takes 16 bytes, however long it is, and a file that doesn't fit in memory, or has
-    /// more bytes than its image since its extents overlap, has its runs all the same. 7 is given where there is no memory for the runs themselves, of which
-    /// the rules allow 4,194,560.
+impl<B: AsRef<[u8]>> Disc<B> {
+    /// The bytes of a file, or of a directory itself, as parts of the image in reading order: what [`Disc::read_file`]
+    /// gives, without a copy. Refusals come before the first part. They are those of the read, except for lack of
+    /// memory: a run takes 16 bytes, however long it is. So this also works for a file that doesn't fit in memory, or
+    /// that is longer than its image because its extents overlap. Refusal 7 is given if there is no memory for the runs
+    /// themselves; the rules allow 4,194,560 of them.
     ///
     /// ```
     /// # fn main() -> Result<(), Box<dyn std::error::Error>> {
     /// # use std::io::Write;
     /// # let image = strandlodge::write(&[("FILM", b"a long one")])?;
-    /// # let vault = strandlodge::Vault::open(&image)?;
+    /// # let disc = strandlodge::Disc::open(&image)?;
     /// # let mut file = Vec::new();
-    /// let runs = vault.runs(vault.lookup("FILM")?)?;
+    /// let runs = disc.runs(disc.lookup("FILM")?)?;
     /// println!("{} bytes", runs.len());
     /// for part in runs {
     ///     file.write_all(part)?; // straight from the image
@@ -195,7 +200,7 @@ impl<B: AsRef<[u8]>> Vault<B> {
     ///
     /// # Errors
     ///
-    /// Refused as the read is, but for want of memory; by 7 where there is none for the runs.
+    /// The refusals of the read, except those for lack of memory; 7 if there is no memory for the runs.
     pub fn runs(&self, icb: impl Into<LongAd>) -> Result<Runs<'_>> {
         let icb = icb.into();
         self.told(Asked::ReadFile(icb), self.counted().runs(icb))

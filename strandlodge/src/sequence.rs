@@ -1,5 +1,5 @@
-//! The main volume descriptor sequence, for a person to look at: which descriptors stand there, and which of them prevailed. What is opened
-//! doesn't come from here.
+//! The main volume descriptor sequence, for display: its descriptors, and which of them count. Opening does not use
+//! this module.
 
 use crate::answer::{Refusal, Refused};
 use crate::calls;
@@ -10,20 +10,20 @@ use std::fmt;
 
 pub(crate) const SECTOR: usize = 2048;
 
-/// The sector of the anchor, where the place and the length of the sequence stand.
+/// The sector of the anchor, which gives the place and the length of the sequence.
 const ANCHOR: usize = AVDP_SECTOR as usize;
 
 /// The id of the descriptor that ends the sequence.
 const TERMINATING: u16 = 8;
 
-/// The kinds of descriptors of which one prevails.
+/// The kinds of descriptors of which one counts.
 #[derive(Debug, Clone, Copy, PartialEq, Eq, Hash)]
 pub enum Kind {
-    /// It has the label.
+    /// Holds the label.
     PrimaryVolume,
-    /// It says where the partition starts.
+    /// Says where the partition starts.
     Partition,
-    /// It says where the file set descriptor stands.
+    /// Says where the file set descriptor is.
     LogicalVolume,
 }
 
@@ -40,18 +40,18 @@ impl fmt::Display for Kind {
 /// A descriptor of the main volume descriptor sequence.
 #[derive(Debug, Clone, Copy, PartialEq, Eq, Hash)]
 pub struct VolumeDescriptor {
-    /// Where it stands.
+    /// The sector that holds it.
     pub sector: u64,
-    /// What it is.
+    /// Its kind.
     pub kind: Kind,
     /// Its volume descriptor sequence number.
     pub number: u32,
-    /// Whether it is the one of its kind that counts. None does where the sequence was refused.
+    /// Whether it is the one of its kind that counts. None counts if the sequence was refused.
     pub prevails: bool,
 }
 
-/// The descriptors of the main sequence of which one of each kind counts, in order, up to the first that opening refuses. The sectors are
-/// looked at again, and aren't counted.
+/// The descriptors of the main sequence of which one of each kind counts, in order, up to the first that opening
+/// refuses. This looks at the sectors again, and does not count them.
 pub fn volume_descriptors(image: &[u8], how: How) -> Vec<VolumeDescriptor> {
     if !holds(image, ANCHOR) {
         return Vec::new();
@@ -74,8 +74,8 @@ pub fn volume_descriptors(image: &[u8], how: How) -> Vec<VolumeDescriptor> {
     if accepted < whole { found } else { marked(image, found, how) }
 }
 
-/// How many sectors of the sequence opening has accepted, at most. A refusal by 1, 2 or 10 is that of the last sector that was asked for: the
-/// anchor, which is the first, a sector of the sequence, or the file set descriptor's, which is behind them all.
+/// How many sectors of the sequence opening has accepted, at most. A refusal 1, 2 or 10 is for the last sector asked
+/// for: the anchor, which is the first, a sector of the sequence, or the file set descriptor's, which comes after them.
 fn accepted(image: &[u8], how: How) -> usize {
     // The sectors are the same without the maps, whose table has a refusal by 2 of its own.
     match calls::open(image, How { maps: false, ..how }.number()) {
@@ -84,8 +84,8 @@ fn accepted(image: &[u8], how: How) -> usize {
     }
 }
 
-/// The same, with those marked that prevail: of each kind the last, or the last of those with the highest number. Through maps the partition
-/// descriptors of each partition number are a kind by themselves.
+/// The same, marking those that count: of each kind the last, or the last of those with the highest number. With maps,
+/// the partition descriptors of each partition number are a kind of their own.
 fn marked(image: &[u8], mut found: Vec<VolumeDescriptor>, how: How) -> Vec<VolumeDescriptor> {
     let mut prevail = HashMap::new();
     for (i, one) in found.iter().enumerate() {
@@ -99,12 +99,12 @@ fn marked(image: &[u8], mut found: Vec<VolumeDescriptor>, how: How) -> Vec<Volum
     found
 }
 
-/// The number of the partition that a partition descriptor is of.
+/// The partition number of a partition descriptor.
 pub(crate) fn partition(image: &[u8], one: &VolumeDescriptor) -> u16 {
     (number(image, one.sector as usize, 20) >> 16) as u16
 }
 
-/// The sector in which it says that its partition starts.
+/// The start of its partition, as it gives it.
 pub(crate) fn partition_start(image: &[u8], one: &VolumeDescriptor) -> u32 {
     number(image, one.sector as usize, 188)
 }
@@ -113,7 +113,7 @@ fn holds(image: &[u8], sector: usize) -> bool {
     sector < image.len() / SECTOR
 }
 
-/// The number at a place of a sector, whose low half is an id.
+/// The number at an offset of a sector; its low half is an id.
 pub(crate) fn number(image: &[u8], sector: usize, at: usize) -> u32 {
     calls::peek(image, sector * SECTOR + at).map_or(0, u32::from_le_bytes)
 }

@@ -1,36 +1,36 @@
-//! A reader that is asked for sectors: for each once, and for those that stand in a row together.
+//! A reader that is asked for sectors, each once; adjacent sectors together.
 
 use crate::calls;
 use crate::counted::SECTOR_SIZE;
 use std::fmt;
 use std::io::{self, Read, Seek, SeekFrom};
 
-/// So many sectors are asked for together at most: 64 KiB.
+/// The most sectors that are asked for together: 64 KiB.
 pub const TOGETHER: u64 = 32;
 
 const SECTOR: usize = SECTOR_SIZE as usize;
 
-/// A sector that a reader couldn't give.
+/// A sector that a reader could not read.
 #[derive(Debug)]
 pub struct Missed {
-    /// The sector, counted from the disc's start.
+    /// The sector, counted from the start of the disc.
     pub sector: u64,
-    /// What the reader said: [`UnexpectedEof`](io::ErrorKind::UnexpectedEof) where the sector isn't wholly there.
+    /// What the reader reported; [`UnexpectedEof`](io::ErrorKind::UnexpectedEof) if the sector is not completely there.
     pub error: io::Error,
 }
 
-/// A reader, and the sectors that came from it and were not taken yet.
+/// A reader, and the sectors that it gave and that were not taken yet.
 pub struct Source<R> {
     pub reader: R,
-    /// Where the reader stands, as far as that is known.
+    /// The position of the reader, if it is known.
     stands: Option<u64>,
     buffer: Vec<u8>,
-    /// The bytes of the buffer that were taken, and those that came.
+    /// How many bytes of the buffer were taken, and how many came.
     taken: usize,
     came: usize,
-    /// Why no more came, until it is told.
+    /// Why no more came, until it is reported.
     ended: Option<io::Error>,
-    /// The sector that couldn't be had, once it was wanted.
+    /// The sector that could not be read, once it was wanted.
     pub missed: Option<Missed>,
 }
 
@@ -39,17 +39,17 @@ impl<R: Read + Seek> Source<R> {
         Source { reader, stands: None, buffer: Vec::new(), taken: 0, came: 0, ended: None, missed: None }
     }
 
-    /// Before a call: what an earlier one left is forgotten, so that each sector is asked for anew.
+    /// Call this before a call: it forgets what an earlier one left, so that each sector is asked for anew.
     pub fn begin(&mut self) {
         (self.taken, self.came, self.ended, self.missed) = (0, 0, None, None);
     }
 
-    /// Whether the next sector is at hand, or is known not to be had.
+    /// Whether the next sector has come, or is known to be unreadable.
     pub fn is_full(&self) -> bool {
         self.taken < self.came || self.ended.is_some()
     }
 
-    /// Asks for some sectors, of which each is wanted in its turn.
+    /// Asks for some sectors, each of which is wanted in turn.
     pub fn fetch(&mut self, first: u64, sectors: u64) {
         let length = sectors.clamp(1, TOGETHER) as usize * SECTOR;
         if self.buffer.len() < length {
@@ -73,7 +73,7 @@ impl<R: Read + Seek> Source<R> {
         Ok(())
     }
 
-    /// Reads until there are so many bytes. What came before an error counts.
+    /// Reads until there are this many bytes. What came before an error counts.
     fn fill(&mut self, length: usize) -> io::Result<()> {
         while self.came < length {
             let room = &mut self.buffer[self.came..length];
@@ -88,7 +88,7 @@ impl<R: Read + Seek> Source<R> {
         Ok(())
     }
 
-    /// The sector of this number, which is the next one: no bytes where it couldn't be had.
+    /// The sector with this number, which is the next one; empty if it could not be read.
     pub fn take(&mut self, number: u64) -> &[u8] {
         let at = self.taken;
         if at < self.came {
@@ -99,7 +99,7 @@ impl<R: Read + Seek> Source<R> {
         &[]
     }
 
-    /// A sector, looked at beside a call's list: what the last call left is kept but for what it had not taken.
+    /// Looks at a sector outside a call's list. This keeps what the last call left, except what it had not taken.
     pub fn look(&mut self, number: u64) -> Option<Vec<u8>> {
         number.checked_mul(SECTOR_SIZE)?;
         let missed = self.missed.take();
@@ -110,14 +110,15 @@ impl<R: Read + Seek> Source<R> {
         (bytes.len() == SECTOR).then_some(bytes)
     }
 
-    /// How many bytes the reader has, where it can tell.
+    /// The number of bytes of the reader, if it can tell.
     pub fn length(&mut self) -> Option<u64> {
         self.stands = None;
         self.reader.seek(SeekFrom::End(0)).ok()
     }
 }
 
-/// An image as a reader: what is read is copied, each byte looked at once, also where the image is a map that someone writes to.
+/// An image as a reader: what is read is copied, each byte read once, even if the image is a map that someone writes
+/// to.
 pub struct Copied<'a> {
     image: &'a [u8],
     at: u64,
@@ -152,8 +153,8 @@ impl Seek for Copied<'_> {
 impl fmt::Display for Missed {
     fn fmt(&self, f: &mut fmt::Formatter<'_>) -> fmt::Result {
         match self.error.kind() {
-            io::ErrorKind::UnexpectedEof => write!(f, "sector {} isn't there: the disc or image ends before it", self.sector),
-            _ => write!(f, "sector {} can't be read: {}", self.sector, self.error),
+            io::ErrorKind::UnexpectedEof => write!(f, "sector {} is missing: the disc or image ends before it", self.sector),
+            _ => write!(f, "can't read sector {}: {}", self.sector, self.error),
         }
     }
 }

@@ -1,4 +1,4 @@
-//! Many files that are read by one call.
+//! Many files read by one call.
 
 use crate::answer::{Answered, Refusal, Refused};
 use crate::calls::{self, Rows};
@@ -6,10 +6,10 @@ use crate::matching::Matching;
 use crate::room::{FIRST, Room};
 use strandlodge_sys::vault::{NO_WORK, Volume};
 
-/// What a path of a list gives: a file's bytes, or why there are none.
+/// The result of one path of a list: a file's bytes, or the refusal.
 pub type Item = std::result::Result<Vec<u8>, Refusal>;
 
-/// Paths as a call takes them: a zero byte between each two. One that has such a byte itself can't be among them.
+/// Paths as a call takes them, separated by zero bytes. A path that contains a zero byte can't be among them.
 #[derive(Default)]
 pub struct List {
     bytes: Vec<u8>,
@@ -21,7 +21,7 @@ impl List {
         !path.contains(&0)
     }
 
-    /// The paths that a list can have, in their order; none if there isn't memory for it.
+    /// The paths that a list can hold, in order; `None` if there is not enough memory.
     pub fn of(paths: &[impl AsRef<[u8]>]) -> Option<List> {
         let mut list = List::default();
         for path in paths.iter().map(AsRef::as_ref).filter(|path| List::can_have(path)) {
@@ -36,7 +36,7 @@ impl List {
     }
 }
 
-/// What a list of paths came to, taken from the front.
+/// The results of a list of paths, taken from the front.
 #[derive(Default)]
 pub struct Stack {
     out: Vec<u8>,
@@ -46,8 +46,9 @@ pub struct Stack {
 }
 
 impl Stack {
-    /// Reads a list by one call, and again with more work space where too little of it was the refusal of a path. The output has room for as much
-    /// as files have at first: one that doesn't fit what is left of it is refused by 5. No paths are no list: no bytes would be one path.
+    /// Reads a list with one call, and repeats it with more work space if a path was refused for lack of it. The output
+    /// has room for as much as files have at first: a file that doesn't fit into the rest is refused with 5. An empty
+    /// list is not read: no bytes would mean one path.
     pub fn read(volume: Volume, image: &[u8], list: &List, matching: Matching, work: &mut Room<u8>) -> Answered<Stack> {
         let mut stack = Stack::default();
         if list.paths == 0 {
@@ -65,7 +66,7 @@ impl Stack {
         }
     }
 
-    /// What the next path gives.
+    /// The result of the next path.
     pub fn next(&mut self) -> Option<std::result::Result<&[u8], Refusal>> {
         let (answer, length) = (*self.rows.answers.get(self.taken)?, *self.rows.lengths.get(self.taken)?);
         let from = self.from;
@@ -78,12 +79,12 @@ impl Stack {
     }
 }
 
-/// For a list that there is no memory for.
+/// The refusal of a list that there is no memory for.
 pub fn too_many() -> Refused {
     Refused { why: Refusal::TooMany, sectors: 0 }
 }
 
-/// Bytes of one's own, if there is memory for them.
+/// A copy of the bytes, if there is memory for it.
 pub fn copied(bytes: &[u8]) -> Item {
     let mut own = Vec::new();
     own.try_reserve_exact(bytes.len()).map_err(|_| Refusal::NoRoom)?;

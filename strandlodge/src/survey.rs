@@ -7,25 +7,25 @@ use crate::room::{FIRST, MOST_DIRECTORY, Room};
 use std::fmt;
 use strandlodge_sys::vault::{DONE, FIGURES, OVER_BUDGET};
 
-/// How many answer numbers there are: 0, and the refusals'.
+/// The number of answers: 0 and the refusals.
 const ANSWERS: usize = OVER_BUDGET as usize + 1;
 
-/// How many figures stand in front of those by answer number; the chain stands behind.
+/// The number of figures before those by answer; the chain comes after them.
 const FRONT: usize = 5;
 
 type Row = [u64; FIGURES];
 
-/// A figure: a number of any size, as far as 64 bits hold it.
+/// A figure: a number of any size, given up to 64 bits.
 #[derive(Debug, Clone, Copy, PartialEq, Eq, Hash, Default)]
 pub struct Figure {
-    /// Held at 2^64 - 1.
+    /// At most 2^64 - 1.
     pub number: u64,
-    /// It passes 2^64 - 1.
+    /// Whether the figure exceeds 2^64 - 1.
     pub over: bool,
 }
 
 impl Figure {
-    /// There is none of what it counts.
+    /// Whether the figure is 0.
     pub fn is_zero(self) -> bool {
         self == Figure::default()
     }
@@ -37,48 +37,52 @@ impl From<u64> for Figure {
     }
 }
 
-/// The number; or `over`.
+/// Prints the number, or `over`.
 impl fmt::Display for Figure {
     fn fmt(&self, f: &mut fmt::Formatter<'_>) -> fmt::Result {
         if self.over { f.pad("over") } else { self.number.fmt(f) }
     }
 }
 
-/// The figures of an image or of a shelf. Files and directories are those that [`Vault::show`](crate::Vault::show) at 16 levels lists, each once for each
-/// path; the root isn't counted.
+/// The figures of an image or of a shelf. Files and directories are those that [`Disc::show`](crate::Disc::show) lists
+/// at 16 levels, each counted once for each path. The root is not counted.
 #[derive(Debug, Clone, Copy, PartialEq, Eq, Hash, Default)]
 pub struct Figures {
-    /// Files found, those that can't be read among them.
+    /// Files found, including those that can't be read.
     pub files: Figure,
     /// Directories.
     pub directories: Figure,
-    /// What the files that can be read have, added up.
+    /// The sum of the bytes of the files that can be read.
     pub bytes: Figure,
-    /// Their extents, as [`Vault::extents`](crate::Vault::extents) lists them.
+    /// Their extents, as [`Disc::extents`](crate::Disc::extents) lists them.
     pub extents: Figure,
-    /// The sectors that reading each file asks for, also those that are refused; not those of opening, of the tree and of the extent lists.
+    /// The sectors that reading each file asks for, including files that are refused. Not included are the sectors of
+    /// opening, of the tree and of the extent lists.
     pub sectors: Figure,
-    /// How many files have each answer number: 0 are those that can be read.
+    /// How many files have each answer; 0 is for those that can be read.
     pub files_by_answer: [Figure; ANSWERS],
-    /// How many images have each: of their opening or of their tree, or 16 where these and the reads of the files together want more sectors than were lent.
-    /// One that has another than 0 has no other figure. No file has 16.
+    /// How many images have each answer, of their opening or their tree; or 16, if these and the reads of the files
+    /// together need more sectors than the budget. An image with an answer other than 0 has no other figure. No file
+    /// has 16.
     pub images_by_answer: [Figure; ANSWERS],
-    /// The most continuations of allocation descriptors that were followed for a file that can be read.
+    /// The largest number of continuations of allocation descriptors that were followed for a file that can be read.
     pub chain: Figure,
 }
 
 impl Figures {
-    /// How many numbers a place of a row has: two for each figure.
+    /// The number of numbers in a place of a row: two for each figure.
     pub const NUMBERS: usize = FIGURES;
 
-    /// The numbers of its place, as they cross the interface (docs/RULES.md, 16.3): of each figure its number, and 1 where it is over or else 0.
+    /// The figures as the numbers of a row (docs/RULES.md, 16.3): for each figure its number, then 1 if it is over,
+    /// otherwise 0.
     pub fn numbers(&self) -> [u64; Figures::NUMBERS] {
         let mut numbers = [0; FIGURES];
         numbers.iter_mut().zip(self.place()).for_each(|(to, number)| *to = number);
         numbers
     }
 
-    /// The figures that have these numbers, as [`Figures::numbers`] gives them. So they can be kept, or sent elsewhere, and added up by [`survey_total`].
+    /// The figures with these numbers, as [`Figures::numbers`] gives them. With both you can store figures, or send
+    /// them elsewhere, and add them up with [`survey_total`].
     ///
     /// ```
     /// use strandlodge::{Figures, How, UNLIMITED, survey_image};
@@ -89,27 +93,27 @@ impl Figures {
         Figures::of(numbers)
     }
 
-    /// Why an image wasn't surveyed; of a shelf, the first of these by its number. None where each was.
+    /// Why an image was not surveyed; for a shelf, the lowest such number. `None` if every image was surveyed.
     pub fn refusal(&self) -> Option<Refusal> {
         refused(&self.images_by_answer).next().map(|(why, _)| why)
     }
 
-    /// How many files are refused so.
+    /// How many files have this refusal.
     pub fn files_refused(&self, why: Refusal) -> Figure {
         by(&self.files_by_answer, why)
     }
 
-    /// How many images are refused so.
+    /// How many images have this refusal.
     pub fn images_refused(&self, why: Refusal) -> Figure {
         by(&self.images_by_answer, why)
     }
 
-    /// Each refusal that a file has, by its number, and how many have it.
+    /// Each refusal of a file, in order of its number, and how many files have it.
     pub fn refused_files(&self) -> impl Iterator<Item = (Refusal, Figure)> + '_ {
         refused(&self.files_by_answer)
     }
 
-    /// Each refusal that an image has, by its number, and how many have it.
+    /// Each refusal of an image, in order of its number, and how many images have it.
     pub fn refused_images(&self) -> impl Iterator<Item = (Refusal, Figure)> + '_ {
         refused(&self.images_by_answer)
     }
@@ -136,7 +140,7 @@ impl Figures {
     }
 }
 
-/// Of a refusal that isn't in the table there are none.
+/// 0 for a refusal that isn't in the table.
 fn by(figures: &[Figure; ANSWERS], why: Refusal) -> Figure {
     usize::try_from(why.number()).ok().and_then(|number| figures.get(number)).copied().unwrap_or_default()
 }
@@ -149,16 +153,18 @@ fn refused(figures: &[Figure; ANSWERS]) -> impl Iterator<Item = (Refusal, Figure
 /// The figures of a shelf: of each image, in the order given, and of all.
 #[derive(Debug, Clone, PartialEq, Eq, Hash)]
 pub struct Survey {
-    /// Of each image.
+    /// The figures of each image.
     pub images: Vec<Figures>,
-    /// Of the shelf: theirs added up, and the longest of the chains.
+    /// The figures of the shelf: the sums, and the longest chain.
     pub total: Figures,
 }
 
-/// Surveys images: the figures of each, and of all. An image that can't be opened, or whose tree is refused, keeps none of the others back, and is counted
-/// under its answer number; so is a file that can't be read. Each image is lent `most` sectors.
+/// Surveys images: the figures of each, and of all. An image that can't be opened, or whose tree is refused, counts
+/// under its answer and does not affect the others; so does a file that can't be read. Each image has a budget of
+/// `most` sectors.
 ///
-/// Each is surveyed as by [`survey_image`]. The call is refused, by 15, only where there is no memory for the figures.
+/// Each image is surveyed as by [`survey_image`]. The call is refused, with 15, only if there is no memory for the
+/// figures.
 ///
 /// ```
 /// # fn main() -> Result<(), Box<dyn std::error::Error>> {
@@ -173,7 +179,7 @@ pub struct Survey {
 ///
 /// # Errors
 ///
-/// Refused by 15 where there is no memory for the figures. What refuses an image is in its figures.
+/// Refusal 15 if there is no memory for the figures. The refusal of an image is in its figures.
 pub fn survey(images: &[impl AsRef<[u8]>], how: How, most: u64) -> Result<Survey, Refusal> {
     let mut figures = Vec::new();
     figures.try_reserve_exact(images.len()).map_err(|_| Refusal::BadShelf)?;
@@ -182,14 +188,15 @@ pub fn survey(images: &[impl AsRef<[u8]>], how: How, most: u64) -> Result<Survey
     Ok(Survey { images: figures, total })
 }
 
-/// The figures of one image: for who has one at a time, and adds them up by [`survey_total`].
+/// The figures of one image. To add up those of several, use [`survey_total`].
 ///
-/// The directories on the way down a tree stand in a work space together, and a tree that doesn't fit is refused by 6. Here that begins with 64 KiB and is
-/// doubled, to 256 MiB at most; [`survey_shelf`] takes one of any length.
+/// The directories on the way down a tree share one work space, and a tree that doesn't fit is refused with 6. Here the
+/// work space starts at 64 KiB and doubles up to 256 MiB; [`survey_shelf`] takes one of any length.
 ///
-/// A directory is gone through once for each path to it, as by [`Vault::show`](crate::Vault::show): of a disc that was made to do harm these may be more than
-/// can be counted. So the image is lent `most` sectors, for its opening, its tree and the reads of its files together, and is refused by 16 where it wants more;
-/// [`UNLIMITED`](crate::UNLIMITED) is no budget. A survey that is made again with more work space has `most` sectors again.
+/// A directory is visited once for each path to it, as in [`Disc::show`](crate::Disc::show), and a malicious disc may
+/// have more paths than can be counted. So the image has a budget of `most` sectors, for its opening, its tree and the
+/// reads of its files together, and is refused with 16 if it needs more; [`UNLIMITED`](crate::UNLIMITED) is no budget.
+/// A survey that is repeated with more work space has `most` sectors again.
 ///
 /// ```
 /// # fn main() -> Result<(), Box<dyn std::error::Error>> {
@@ -212,10 +219,9 @@ pub fn survey_image(image: &[u8], how: How, most: u64) -> Figures {
     }
 }
 
-/// Surveys images that stand one behind another in one slice, from its front, each as long as `lengths` says, by one call of the archive. Each is lent `most`
-/// sectors. The figures are defined by the work space's length: an image whose tree doesn't fit is refused by 6. It is all zero on return.
-///
-/// Refused by 15 where the lengths pass the slice, or where there is no memory for the figures.
+/// Surveys images that are in one slice one after another, from its front, each as long as `lengths` says, with one
+/// call of the archive. Each has a budget of `most` sectors. The figures depend on the length of the work space: an
+/// image whose tree doesn't fit is refused with 6. The work space is all zero on return.
 ///
 /// ```
 /// # fn main() -> Result<(), Box<dyn std::error::Error>> {
@@ -230,7 +236,8 @@ pub fn survey_image(image: &[u8], how: How, most: u64) -> Figures {
 ///
 /// # Errors
 ///
-/// Refused by 15 where the lengths pass the shelf, or there is no memory for the figures. What refuses an image is in its figures.
+/// Refusal 15 if the lengths exceed the shelf, or if there is no memory for the figures. The refusal of an image is in
+/// its figures.
 pub fn survey_shelf(shelf: &[u8], lengths: &[u64], how: How, most: u64, work: &mut [u8]) -> Result<Survey, Refusal> {
     let mut row = zeros(lengths.len())?;
     done(calls::survey_in(shelf, lengths, how.number(), most, &mut row, work))?;
@@ -239,8 +246,8 @@ pub fn survey_shelf(shelf: &[u8], lengths: &[u64], how: How, most: u64, work: &m
     Ok(Survey { images, total })
 }
 
-/// The total of figures, as [`survey`] gives it: each added up, and the longest of the chains. One that is over makes that of the total so. Refused, by 15,
-/// only where there is no memory for it.
+/// The total of figures, as [`survey`] gives it: each added up, and the longest chain. If one is over, so is that of
+/// the total.
 ///
 /// ```
 /// # fn main() -> Result<(), Box<dyn std::error::Error>> {
@@ -254,7 +261,7 @@ pub fn survey_shelf(shelf: &[u8], lengths: &[u64], how: How, most: u64, work: &m
 ///
 /// # Errors
 ///
-/// Refused by 15 where there is no memory for the figures.
+/// Refusal 15 if there is no memory for the figures.
 pub fn survey_total(images: &[Figures]) -> Result<Figures, Refusal> {
     let mut row = zeros(images.len())?;
     row.iter_mut().zip(images.iter().flat_map(Figures::place)).for_each(|(to, number)| *to = number);
@@ -262,7 +269,7 @@ pub fn survey_total(images: &[Figures]) -> Result<Figures, Refusal> {
     Ok(row.last_chunk().map_or_else(Figures::default, Figures::of))
 }
 
-/// A row for so many images, and for the shelf.
+/// A row for this many images and the shelf.
 fn zeros(images: usize) -> Result<Vec<u64>, Refusal> {
     let (numbers, mut row) = (images.saturating_add(1).saturating_mul(FIGURES), Vec::new());
     row.try_reserve_exact(numbers).map_err(|_| Refusal::BadShelf)?;
@@ -286,7 +293,7 @@ fn done(answer: u64) -> Result<(), Refusal> {
 mod tests {
     use super::*;
 
-    /// Each number of a place stands where it is to, and comes back.
+    /// Each number of a place is where it must be, and comes back.
     #[test]
     fn a_place_is_read_as_it_is_written() {
         let place: Row = std::array::from_fn(|n| if n % 2 == 0 { 100 + n as u64 } else { (n as u64 / 2) % 2 });

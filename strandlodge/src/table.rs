@@ -1,33 +1,34 @@
-//! The partition maps of the logical volume descriptor, for a person to look at: those of every form. What is opened doesn't come from here.
+//! The partition maps of the logical volume descriptor, of every type, for display. Opening does not use this module.
 
 use crate::calls;
 use crate::how::How;
 use crate::sequence::{Kind, SECTOR, partition, partition_start, volume_descriptors};
 
-/// Where in a logical volume descriptor the length of the table, the number of maps and the table itself stand (ECMA-167 3/10.6).
+/// The offsets of the table's length, the number of maps and the table itself in a logical volume descriptor (ECMA-167
+/// 3/10.6).
 const LENGTH: usize = 264;
 const MAPS: usize = 268;
 const TABLE: usize = 440;
 
-/// A map of type 1 begins with these.
+/// A map of type 1 begins with these bytes.
 const PLAIN: [u8; 2] = [1, 6];
 
-/// The map table of the logical volume descriptor that prevails.
+/// The map table of the logical volume descriptor that counts.
 #[derive(Debug, Clone, PartialEq, Eq, Hash)]
 pub struct MapTable {
-    /// How many maps it says that it has.
+    /// The number of maps that it gives.
     pub maps: u32,
-    /// The length in bytes that it says.
+    /// The length in bytes that it gives.
     pub length: u32,
-    /// The maps, as far as they stand wholly in the table and in its sector. A reference is a place among them.
+    /// The maps that are completely inside the table and its sector. A reference is an index into them.
     pub found: Vec<MapForm>,
 }
 
 impl MapTable {
-    /// So many maps are read at most.
+    /// The most maps that are supported.
     pub const MOST: u32 = 4;
 
-    /// Whether the table, and six bytes for each of its maps, stand where they are to.
+    /// Whether the table, and six bytes for each of its maps, are where they must be.
     pub fn is_whole(&self) -> bool {
         u64::from(self.maps) * 6 <= self.length.into() && TABLE as u64 + u64::from(self.length) <= SECTOR as u64
     }
@@ -36,27 +37,29 @@ impl MapTable {
 /// A partition map.
 #[derive(Debug, Clone, PartialEq, Eq, Hash)]
 pub enum MapForm {
-    /// Of type 1, which is read.
+    /// Type 1, which is supported.
     Plain {
         /// The sequence number of the volume that holds the partition.
         volume: u16,
         /// The partition's number.
         number: u16,
-        /// Where the partition starts, by the partition descriptor of that number that prevails. Without one the map isn't read.
+        /// Where the partition starts, according to the partition descriptor of that number that counts. Without one
+        /// the map is not supported.
         start: Option<u64>,
     },
-    /// Of another form, which isn't read.
+    /// Another type, which is not supported.
     Other {
         /// Its type.
         kind: u8,
         /// Its length in bytes.
         length: u8,
-        /// The partition type that it is identified by, where it is of type 2: as recorded, up to the first zero.
+        /// Its partition type identifier, if it is of type 2: as recorded, up to the first zero.
         identifier: Vec<u8>,
     },
 }
 
-/// The map table of the logical volume descriptor that prevails, if one does. The sectors are looked at again, and aren't counted.
+/// The map table of the logical volume descriptor that counts, if there is one. This looks at the sectors again, and
+/// does not count them.
 pub fn map_table(image: &[u8], how: How) -> Option<MapTable> {
     let descriptors = volume_descriptors(image, How { maps: true, ..how });
     let prevailing = |kind| descriptors.iter().filter(move |one| one.prevails && one.kind == kind);
@@ -66,7 +69,8 @@ pub fn map_table(image: &[u8], how: How) -> Option<MapTable> {
     Some(table(image.get(logical * SECTOR..)?, start))
 }
 
-/// The table of the logical volume descriptor at the front of these bytes; `start` says where a partition of a number starts, if there is one.
+/// The table of the logical volume descriptor at the front of these bytes; `start` gives the start of the partition
+/// with a number, if there is one.
 pub(crate) fn table(logical: &[u8], start: impl Fn(u16) -> Option<u32>) -> MapTable {
     let number = |at| calls::peek(logical, at).map_or(0, u32::from_le_bytes);
     let (length, maps) = (number(LENGTH), number(MAPS));
@@ -81,7 +85,7 @@ pub(crate) fn table(logical: &[u8], start: impl Fn(u16) -> Option<u32>) -> MapTa
     MapTable { maps, length, found }
 }
 
-/// The bytes of the map at a place of a sector, where it ends in front of `end`. Each is looked at once.
+/// The bytes of the map at an offset of a sector, if it ends before `end`. Each is read once.
 fn map_at(sector: &[u8], at: usize, end: usize) -> Option<Vec<u8>> {
     let [kind, length] = calls::peek(sector, at).filter(|_| at + PLAIN.len() <= end)?;
     if usize::from(length) < PLAIN.len() || at + usize::from(length) > end {
@@ -91,7 +95,7 @@ fn map_at(sector: &[u8], at: usize, end: usize) -> Option<Vec<u8>> {
     Some([kind, length].into_iter().chain(rest).collect())
 }
 
-/// A map by its bytes.
+/// A map from its bytes.
 fn form(map: &[u8], start: impl Fn(u16) -> Option<u32>) -> MapForm {
     match *map {
         [kind, length, v, w, n, m] if [kind, length] == PLAIN => {

@@ -4,18 +4,19 @@ use crate::records::{ShowEntry, leveled};
 use std::fmt;
 use std::iter::FusedIterator;
 
-/// The entries of a volume down to a number of levels, each before what stands under it, and those of a directory in the disc's order.
+/// The entries of a volume down to a number of levels. An entry comes before what is below it, and the entries of a
+/// directory come in the order of the disc.
 #[derive(Clone)]
 pub struct Show {
     records: Vec<u8>,
     from: usize,
-    /// The path of the entry before, and where in it the name of each level ends.
+    /// The path of the previous entry, and where in it the name of each level ends.
     path: String,
     ends: Vec<usize>,
 }
 
 impl Show {
-    /// Over the records that `vault_show` gives.
+    /// From the records that `vault_show` gives.
     pub(crate) fn of(records: Vec<u8>) -> Show {
         Show { records, from: 0, path: String::new(), ends: Vec::new() }
     }
@@ -44,7 +45,7 @@ impl Iterator for Show {
 impl FusedIterator for Show {}
 
 impl fmt::Debug for Show {
-    /// Without the records, which may have many megabytes.
+    /// Leaves out the records, which may have many megabytes.
     fn fmt(&self, f: &mut fmt::Formatter<'_>) -> fmt::Result {
         f.debug_struct("Show").field("bytes", &self.records.len()).finish_non_exhaustive()
     }

@@ -1,7 +1,8 @@
-//! The original's records, parsed and encoded by the proved calls of include/records.h, under their names there and with their fields.
+//! The original's records, with their names and fields, parsed and encoded by the proved calls of include/records.h.
 //!
-//! A record is parsed at the front of the bytes, and what stands behind it isn't looked at; a refusal is 2, and asks for no sector. The one that the calls
-//! don't give whole is a file's entry: its area of descriptors is cut into them here, each of which is parsed by a call.
+//! A record is parsed at the front of the bytes; what follows it is ignored. A refusal is 2 and asks for no sector. The
+//! calls give every record whole except a file's entry: its area is split into descriptors here, and each of them is
+//! parsed by a call.
 //!
 //! ```
 //! use strandlodge::udf::{DescriptorTag, TagId};
@@ -14,15 +15,15 @@
 //! ```
 
 use crate::answer::{Refusal, Refused, Result};
+pub use crate::disc::{probe_vrs, read_volume_label};
 pub use crate::entries::{AdContinuation, AdType, FileEntry, FileIdentifierDescriptor, IcbTag};
 use crate::parsing;
 pub use crate::records::{AllocExtent, DirEntry, LbAddr, LongAd};
-pub use crate::vault::{probe_vrs, read_volume_label};
 use strandlodge_sys::records as face;
 
 pub use crate::counted::SECTOR_SIZE;
 
-/// The sector in which the anchor stands (3/10.2).
+/// The sector of the anchor (3/10.2).
 pub const AVDP_SECTOR: u64 = 256;
 
 macro_rules! ids {
@@ -35,7 +36,7 @@ macro_rules! ids {
         }
 
         impl TagId {
-            /// The kind of this number, where there is one.
+            /// The kind with this number, if there is one.
             pub fn from_raw(v: u16) -> Option<TagId> {
                 match v {
                     $($number => Some(TagId::$name),)*
@@ -43,7 +44,7 @@ macro_rules! ids {
                 }
             }
 
-            /// What it is called.
+            /// Its name in English.
             pub fn name(self) -> &'static str {
                 match self {
                     $(TagId::$name => $says,)*
@@ -76,7 +77,7 @@ ids! {
     ExtendedFileEntry = 266, "extended file entry";
 }
 
-/// What a record that can't be is refused by.
+/// The refusal of an invalid record.
 pub(crate) fn malformed<T>() -> Result<T> {
     Err(Refused { why: Refusal::Malformed, sectors: 0 })
 }
@@ -90,34 +91,35 @@ pub struct DescriptorTag {
     pub serial_number: u16,
     pub crc: u16,
     pub crc_length: u16,
-    /// Where the descriptor says that it stands.
+    /// Where the descriptor claims to be.
     pub location: u32,
 }
 
 impl DescriptorTag {
-    /// The bytes that it has.
+    /// Its size in bytes.
     pub const SIZE: usize = 16;
 
-    /// The tag at the front of these bytes: its checksum and its id are right.
+    /// Parses the tag at the front of these bytes and checks its checksum and its id.
     ///
     /// # Errors
     ///
-    /// Refused by 2 where the bytes are too few, or aren't such a record.
+    /// Refusal 2 if there are too few bytes, or they are not such a record.
     pub fn parse(bytes: &[u8]) -> Result<DescriptorTag> {
         DescriptorTag::of_c(parsing::tag(bytes)?)
     }
 
-    /// As it is recorded.
+    /// Its recorded form.
     pub fn encode(&self) -> [u8; DescriptorTag::SIZE] {
         parsing::tag_bytes(self.to_c())
     }
 
-    /// Whether it says the place at which it stands: `sector` for a volume's descriptor, and `block`, within its partition, for any other.
+    /// Whether its location matches where it is: `sector` for a volume's descriptor; `block`, within its partition, for any
+    /// other.
     pub fn is_in_place(&self, sector: u64, block: u32) -> bool {
         parsing::is_in_place(self.to_c(), sector, block)
     }
 
-    /// Whether the descriptor at the front of these bytes has the CRC that its tag says.
+    /// Whether the descriptor at the front of these bytes has the CRC that its tag gives.
     pub fn has_right_body(&self, bytes: &[u8]) -> bool {
         parsing::has_right_body(self.to_c(), bytes)
     }
@@ -137,7 +139,7 @@ impl DescriptorTag {
     }
 }
 
-/// Records that cross the interface field by field, with their sizes and both ways.
+/// Records that cross the interface field by field, both ways, with their sizes.
 macro_rules! small {
     ($($says:literal $name:ident, $size:literal, $parse:ident, $bytes:ident { $($field:ident: $kind:ty,)* })*) => {$(
         #[doc = $says]
@@ -148,20 +150,20 @@ macro_rules! small {
         }
 
         impl $name {
-            /// The bytes that it has.
+            /// Its size in bytes.
             pub const SIZE: usize = $size;
 
-            /// The record at the front of these bytes.
+            /// Parses the record at the front of these bytes.
             ///
             /// # Errors
             ///
-            /// Refused by 2 where the bytes are too few, or aren't such a record.
+            /// Refusal 2 if there are too few bytes, or they are not such a record.
             pub fn parse(bytes: &[u8]) -> Result<$name> {
                 let face::$name { $($field,)* } = parsing::$parse(bytes)?;
                 Ok($name { $($field: $field.into(),)* })
             }
 
-            /// As it is recorded.
+            /// Its recorded form.
             pub fn encode(self) -> [u8; $name::SIZE] {
                 let $name { $($field,)* } = self;
                 parsing::$bytes(face::$name { $($field: $field.into(),)* })
@@ -191,38 +193,38 @@ impl From<LbAddr> for face::LbAddr {
 }
 
 impl LbAddr {
-    /// The bytes that it has.
+    /// Its size in bytes.
     pub const SIZE: usize = 6;
 
-    /// The record at the front of these bytes.
+    /// Parses the record at the front of these bytes.
     ///
     /// # Errors
     ///
-    /// Refused by 2 where the bytes are too few, or aren't such a record.
+    /// Refusal 2 if there are too few bytes, or they are not such a record.
     pub fn parse(bytes: &[u8]) -> Result<LbAddr> {
         parsing::lb_addr(bytes).map(LbAddr::from)
     }
 
-    /// As it is recorded.
+    /// Its recorded form.
     pub fn encode(self) -> [u8; LbAddr::SIZE] {
         parsing::lb_addr_bytes(self.into())
     }
 }
 
 impl LongAd {
-    /// The bytes that it has.
+    /// Its size in bytes.
     pub const SIZE: usize = 16;
 
-    /// The record at the front of these bytes.
+    /// Parses the record at the front of these bytes.
     ///
     /// # Errors
     ///
-    /// Refused by 2 where the bytes are too few, or aren't such a record.
+    /// Refusal 2 if there are too few bytes, or they are not such a record.
     pub fn parse(bytes: &[u8]) -> Result<LongAd> {
         parsing::long_ad(bytes).map(LongAd::from)
     }
 
-    /// As it is recorded.
+    /// Its recorded form.
     pub fn encode(self) -> [u8; LongAd::SIZE] {
         let LongAd { length, extent_type, location, implementation_use } = self;
         parsing::long_ad_bytes(face::LongAd { length, extent_type, location: location.into(), implementation_use })
@@ -236,25 +238,26 @@ impl From<face::LongAd> for LongAd {
     }
 }
 
-/// The name in a d-string (OSTA UDF 2.1.1). One of id 254 or 255, a deleted one, is empty, where the original refuses it.
+/// The name in a d-string (OSTA UDF 2.1.1). A deleted one, with id 254 or 255, gives an empty name; the original
+/// refuses it.
 ///
 /// # Errors
 ///
-/// Refused by 2 where the bytes aren't a name.
+/// Refusal 2 if the bytes are not a name.
 pub fn decode_dstring(payload: &[u8]) -> Result<String> {
     parsing::dstring(payload)
 }
 
-/// The name in a field, whose last byte says how many of the others it has (1/7.2.12).
+/// The name in a field, whose last byte gives its length (1/7.2.12).
 ///
 /// # Errors
 ///
-/// Refused by 2 where the field isn't a name.
+/// Refusal 2 if the field is not a valid name.
 pub fn decode_dstring_field(field: &[u8]) -> Result<String> {
     parsing::dstring_field(field)
 }
 
-/// Descriptors that are parsed and not encoded: some fields as they cross the interface, and some made of what crosses.
+/// Descriptors that are parsed but not encoded: some fields as they cross the interface, and some made from them.
 macro_rules! descriptors {
     ($($says:literal $name:ident, $parse:ident { $($field:ident: $kind:ty = $make:expr,)* })*) => {$(
         #[doc = $says]
@@ -266,11 +269,11 @@ macro_rules! descriptors {
         }
 
         impl $name {
-            /// The descriptor at the front of these bytes.
+            /// Parses the descriptor at the front of these bytes.
             ///
             /// # Errors
             ///
-            /// Refused by 2 where the bytes are too few, or aren't such a record.
+            /// Refusal 2 if there are too few bytes, or they are not such a record.
             pub fn parse(bytes: &[u8]) -> Result<$name> {
                 let raw = parsing::$parse(bytes)?;
                 Ok($name { tag: DescriptorTag::of_c(raw.tag)?, $($field: { let make: fn(_) -> Result<$kind> = $make; make(raw.$field)? },)* })
@@ -279,7 +282,7 @@ macro_rules! descriptors {
     )*};
 }
 
-/// A field as it crosses.
+/// A field as it crosses the interface.
 fn same<T>(value: T) -> Result<T> {
     Ok(value)
 }
@@ -322,17 +325,17 @@ descriptors! {
     "The file set descriptor (4/14.1), with the root." FileSetDescriptor, file_set {
         root_directory_icb: LongAd = place,
     }
-    "The header of a continuation (4/14.5): the descriptors stand behind it." AllocationExtentDescriptor, aed {
+    "The header of a continuation (4/14.5); its descriptors follow it." AllocationExtentDescriptor, aed {
         previous_allocation_extent_location: u32 = same,
         length_of_allocation_descriptors: u32 = same,
     }
 }
 
 impl AllocationExtentDescriptor {
-    /// The bytes that it has.
+    /// Its size in bytes.
     pub const HEADER_SIZE: usize = 24;
 
-    /// As it is recorded.
+    /// Its recorded form.
     pub fn encode(&self) -> [u8; AllocationExtentDescriptor::HEADER_SIZE] {
         let &AllocationExtentDescriptor { ref tag, previous_allocation_extent_location, length_of_allocation_descriptors } = self;
         parsing::aed_bytes(face::Aed { tag: tag.to_c(), previous_allocation_extent_location, length_of_allocation_descriptors })

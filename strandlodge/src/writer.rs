@@ -1,27 +1,29 @@
-//! Vaults written: a complete image from names and files.
+//! Writes a complete image from names and files.
 
 use crate::answer::Refusal;
 use crate::calls;
 use crate::counted::SECTOR_SIZE;
 
-/// A vault of these files, in their order: the bytes of a complete image, docs/LAYOUT.md has every one of them. Equal files give equal images.
+/// The bytes of a complete image of these files, in order. docs/LAYOUT.md describes every byte. Equal files give equal
+/// images.
 ///
-/// A name is 1 to 127 bytes from 21 to 7E, without the slash, and no two are equal with ASCII case ignored, else the call is refused by 13. There are up to
-/// 64 files of up to 1,073,739,776 bytes each, else it is refused by 14. It is refused by 5 where there is no memory for the image, or for a copy
-/// of the files one behind another, from which it is written: [`write_staged`] takes files that stand so already.
+/// A name has 1 to 127 bytes from 21 to 7E, without the slash, and no two may be equal with ASCII case ignored;
+/// otherwise the call is refused with 13. There may be up to 64 files of up to 1,073,739,776 bytes each; otherwise it
+/// is refused with 14. It is refused with 5 if there is no memory for the image, or for a copy of the files one after
+/// another, from which it is written. If your files already are one after another in memory, use [`write_staged`].
 ///
 /// ```no_run
 /// # fn main() -> std::result::Result<(), Box<dyn std::error::Error>> {
 /// let image = strandlodge::write(&[("9", &b"cue 9"[..]), ("10.1A", b"cue 10.1A")])?;
-/// let vault = strandlodge::Vault::open(&image)?;
-/// assert_eq!(vault.read_path("10.1A")?, b"cue 10.1A");
+/// let disc = strandlodge::Disc::open(&image)?;
+/// assert_eq!(disc.read_path("10.1A")?, b"cue 10.1A");
 /// # Ok(())
 /// # }
 /// ```
 ///
 /// # Errors
 ///
-/// Refused by 13 for a name, by 14 for the files, and by 5 where there is no memory for the image.
+/// Refusal 13 for a name, 14 for the files, 5 if there is no memory for the image.
 pub fn write(files: &[(impl AsRef<[u8]>, impl AsRef<[u8]>)]) -> Result<Vec<u8>, Refusal> {
     let names = ended(files.iter().map(|(name, _)| name.as_ref()))?;
     let lengths: Vec<u64> = files.iter().map(|(_, bytes)| bytes.as_ref().len() as u64).collect();
@@ -32,8 +34,9 @@ pub fn write(files: &[(impl AsRef<[u8]>, impl AsRef<[u8]>)]) -> Result<Vec<u8>, 
     Ok(image)
 }
 
-/// The same of files that stand one behind another in `staging`, from its front, over the front of `image`; what is behind it there stays as it came.
-/// Gives the image's sectors of 2,048 bytes, and is refused by 5 where `image` has fewer whole ones. A refusal writes nothing.
+/// The same for files that are one after another in `staging`, from its front. The image goes to the front of `image`,
+/// and the rest of it is unchanged. Returns the number of sectors of 2,048 bytes. It is refused with 5 if `image` has
+/// fewer whole sectors. A refusal writes nothing.
 ///
 /// ```
 /// # fn main() -> Result<(), strandlodge::Refusal> {
@@ -47,12 +50,13 @@ pub fn write(files: &[(impl AsRef<[u8]>, impl AsRef<[u8]>)]) -> Result<Vec<u8>, 
 ///
 /// # Errors
 ///
-/// Refused by 13 for a name, by 14 for the files or what is staged of them, and by 5 where the image is too short.
+/// Refusal 13 for a name, 14 for the files or the staging area, 5 if `image` is too short.
 pub fn write_staged(names: &[impl AsRef<[u8]>], lengths: &[u64], staging: &[u8], image: &mut [u8]) -> Result<u64, Refusal> {
     calls::write(&ended(names.iter().map(AsRef::as_ref))?, lengths, staging, image)
 }
 
-/// The sectors of the image of files with these names and lengths, or why it can't be written: what [`write_staged`] answers, given enough memory.
+/// The number of sectors of the image of files with these names and lengths, or why it can't be written: what
+/// [`write_staged`] returns, given enough memory.
 ///
 /// ```
 /// assert_eq!(strandlodge::write_total(&["9", "11"], &[5, 6]), Ok(384));
@@ -61,12 +65,12 @@ pub fn write_staged(names: &[impl AsRef<[u8]>], lengths: &[u64], staging: &[u8],
 ///
 /// # Errors
 ///
-/// Refused by 13 for a name, and by 14 for the files.
+/// Refusal 13 for a name, 14 for the files.
 pub fn write_total(names: &[impl AsRef<[u8]>], lengths: &[u64]) -> Result<u64, Refusal> {
     calls::write_total(&ended(names.iter().map(AsRef::as_ref))?, lengths)
 }
 
-/// The names, each with a zero byte behind it. One that has such a byte in it would be two.
+/// The names, each followed by a zero byte. A name that contains a zero byte would be two, so it is refused.
 fn ended<'a>(names: impl Iterator<Item = &'a [u8]>) -> Result<Vec<u8>, Refusal> {
     let mut all = Vec::new();
     for name in names {

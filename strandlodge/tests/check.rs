@@ -4,7 +4,7 @@
 mod common;
 
 use common::command::{Folder, Said};
-use common::{Disc, SECTOR, continuation, continued, crc, mend, named, reclosed, seal, sealed, short_ad, show};
+use common::{SECTOR, TestDisc, continuation, continued, crc, mend, named, reclosed, seal, sealed, short_ad, show};
 use std::ops::Range;
 
 /// The sample show's partition, and its root.
@@ -125,8 +125,8 @@ const FILLERS: usize = 52;
 
 /// The sample show with another root, whose bytes stand in three extents that end inside blocks. Of its identifiers `b` begins in one
 /// extent, with four bytes of its tag, and goes on in the next; `c` begins in the second block of an extent, and `d` at the front of one.
-fn laid() -> (Disc, Laid) {
-    let mut disc = Disc::new();
+fn laid() -> (TestDisc, Laid) {
+    let mut disc = TestDisc::new();
     let data = disc.lay(&[7; 16]);
     let area = continuation(&short_ad(16, data));
     let header = disc.lay(&area);
@@ -267,7 +267,7 @@ fn a_check_may_stop_at_a_wrong_body() {
     let folder = Folder::new();
     folder.write("a.img", &planted);
     let said = folder.vault(&["check", "--checked", "a.img"]);
-    let unread = "/b: can't be read: a descriptor's body isn't the one that its tag has the CRC of: it is scratched, or was written so (refusal 10); \
+    let unread = "/b: can't be read: a descriptor fails its CRC check: the disc is scratched, or was written that way (refusal 10); \
                   the last sector asked for was 307, for a file entry: it has tag 261 (file entry)\n";
     assert_eq!((said.status, said.out), (65, one.ruined_in(&planted) + unread));
     assert_eq!(said.error, sentence(all.len() - 2, 0, 1, 1));
@@ -293,8 +293,7 @@ fn a_block_outside_the_partition_is_none() {
 /// What can't be read is said, and the rest is checked all the same.
 #[test]
 fn what_cannot_be_read_is_said() {
-    let malformed =
-        "can't be read: a descriptor, a name or a length on the disc is not what it must be: it is damaged, or isn't UDF (refusal 2)";
+    let malformed = "can't be read: a descriptor, name or length is invalid: the disc is damaged, or is not UDF (refusal 2)";
     // The entry of cue 9, in block 5: its tag's checksum.
     let mut image = show();
     image[at(5) + 4] ^= 1;
@@ -318,7 +317,7 @@ fn what_cannot_be_read_is_said() {
     let place = "the last sector asked for was 292, for a file entry: it has tag 261 (file entry)";
     assert_eq!((said.status, said.out), (67, format!("/SHOW, from byte {} on: {malformed}; {place}\n", last - 176)));
     // An ICB outside the image, and one of length 0.
-    let mut disc = Disc::new();
+    let mut disc = TestDisc::new();
     let mut none = named("not", 0, false);
     none[20..24].fill(0);
     let folder = disc.entry(3, &[named("far", 99_999, false), sealed(none)].concat(), 88);
@@ -327,8 +326,8 @@ fn what_cannot_be_read_is_said() {
         locate(&mut disc.0, at, location);
     }
     let said = check(&disc.0);
-    assert!(said.status == 67 && said.out.starts_with("/far: can't be read: a sector that was asked for"), "{said:?}");
-    assert_eq!(said.out.lines().nth(1), Some("/not: can't be read: its ICB has a length of 0, and names nothing (refusal 2)"));
+    assert!(said.status == 67 && said.out.starts_with("/far: can't be read: a sector is missing"), "{said:?}");
+    assert_eq!(said.out.lines().nth(1), Some("/not: can't be read: its ICB has length 0 and names nothing (refusal 2)"));
 }
 
 /// A descriptor of type 3, of this kind: 0 short_ad, 1 long_ad, 2 ext_ad.
@@ -347,7 +346,7 @@ fn continued_by(kind: u8, length: u32, block: u32, partition: u16) -> Vec<u8> {
 #[test]
 fn continuations_of_every_kind_are_checked() {
     for (kind, partition) in [(0, 0), (1, 5), (2, 5), (1, 6), (2, 6)] {
-        let mut disc = Disc::new();
+        let mut disc = TestDisc::new();
         let header = disc.lay(&continuation(&[]));
         let file = disc.entry(kind, &continued_by(kind, 24, header, partition), 0);
         let root = disc.entry(3, &named("file", file, false), 44);
@@ -357,7 +356,7 @@ fn continuations_of_every_kind_are_checked() {
         }
         let said = check(&disc.0);
         if partition == 6 {
-            let why = "/file: can't be read: partition reference 6 isn't the number of the volume's partition, which is 5 (refusal 4); ";
+            let why = "/file: can't be read: partition reference 6 is not the number of the volume's partition, which is 5 (refusal 4); ";
             assert!(said.status == 67 && said.out.starts_with(why) && said.out.lines().count() == 1, "{kind} {said:?}");
             continue;
         }
@@ -370,7 +369,7 @@ fn continuations_of_every_kind_are_checked() {
 /// A chain that goes on to itself is refused at its 33rd continuation, and has one header all the same.
 #[test]
 fn a_chain_that_cannot_be_followed_is_said() {
-    let mut disc = Disc::new();
+    let mut disc = TestDisc::new();
     let header = disc.lay(&continuation(&continued(32, 0)));
     let own = continued(32, header);
     let from = at(header) + 24;
@@ -398,7 +397,7 @@ fn a_chain_that_cannot_be_followed_is_said() {
 /// Directories that hold each other and themselves, by names that are walked once; and one block that is a file's and a directory's.
 #[test]
 fn directories_that_hold_each_other_end() {
-    let mut disc = Disc::new();
+    let mut disc = TestDisc::new();
     let first = disc.0.len() / SECTOR - START;
     let (one, two) = (first as u32, first as u32 + 1);
     let of_one = [named("self", one, true), named("two", two, true), named("root", ROOT, true), named("file", two, false)].concat();
@@ -425,7 +424,7 @@ fn directories_that_hold_each_other_end() {
 /// A thousand directories, each in the one before: the front of a long path is left out.
 #[test]
 fn a_deep_disc_is_walked_to_its_end() {
-    let mut disc = Disc::new();
+    let mut disc = TestDisc::new();
     let first = (disc.0.len() / SECTOR - START) as u32;
     for i in 0..1000 {
         let block = disc.entry(3, &named("d", first + i + 1, true), 40);

@@ -4,7 +4,7 @@ mod common;
 
 use common::asked::images;
 use common::command::{Folder, Said, left_out, tool};
-use common::{Disc, SECTOR, VOLUME_BODY, harm, identifier, named, noise, reclosed, seal, show};
+use common::{SECTOR, TestDisc, VOLUME_BODY, harm, identifier, named, noise, reclosed, seal, show};
 use std::ffi::OsStr;
 use std::os::unix::ffi::OsStrExt;
 use std::process::{Command, Stdio};
@@ -148,14 +148,14 @@ fn the_sample_as_a_tree() {
     // The last level has a directory: it is drawn, and that it isn't looked into is said.
     let said = folder.vault(&["tree", "show.img", "--levels", "1"]);
     assert_eq!((said.status, said.out.as_str()), (11, "/\n└── SHOW/\n1 directory, 0 files\n"));
-    let says = "show.img: 1 directory at level 1, the last, not looked into: \"SHOW\" (refusal 11); --levels 2 shows more";
+    let says = "show.img: 1 directory at level 1, the last level, not looked into: \"SHOW\" (refusal 11); --levels 2 shows more";
     assert_eq!(said.error, format!("vault: {says}\n"));
     assert_eq!(folder.vault(&["tree", "show.img", "NONE"]).status, 3);
 }
 
 /// What is said of an image that wants more than the limit.
 fn stopped(name: &str, limit: &str, so: &str) -> String {
-    let cure = "The disc may be made to do harm: --limit N sets another limit, --no-limit none.";
+    let cure = "The disc may be malicious. Use --limit N for another limit, or --no-limit for none.";
     format!("vault: {name}: stopped after {limit} sectors, the limit{so}. {cure}\n")
 }
 
@@ -191,7 +191,7 @@ fn a_check_stops_at_its_limit() {
         let said = folder.vault(&["check", "show.img", "--limit", limit]);
         assert_eq!((said.status, said.out.as_str()), (68, ""), "{said:?}");
         let (front, cure) =
-            (format!("vault: show.img: stopped after {limit} sectors, the limit; so far: descriptors: "), ". The disc may be made");
+            (format!("vault: show.img: stopped after {limit} sectors, the limit; so far: descriptors: "), ". The disc may be malicious");
         assert!(said.error.starts_with(&front) && said.error.contains(cure), "{said:?}");
     }
     let said = folder.vault(&["check", "show.img", "--limit", "15", "--json"]);
@@ -225,7 +225,7 @@ fn a_disc_that_was_made_to_do_harm_holds_no_command() {
 /// Directories of overlapping extents, each many times as long as the disc: a few of them are more than a limit.
 #[test]
 fn directories_that_overlap_hold_no_command() {
-    let (folder, mut disc) = (Folder::new(), Disc::new());
+    let (folder, mut disc) = (Folder::new(), TestDisc::new());
     std::fs::create_dir(folder.at("to")).unwrap();
     // An identifier that has a block to itself, by its bytes for other uses.
     let (head, name, other) = (identifier(b"", 5, false), b"\x08cue", SECTOR - 42);
@@ -249,21 +249,21 @@ fn directories_that_overlap_hold_no_command() {
         said.error
     );
     let said = folder.vault(&["get", "-r", "over.img", "-o", "to", "--limit", limit]);
-    assert_eq!((said.status, said.error), (68, stopped("over.img", limit, "; nothing is written")));
+    assert_eq!((said.status, said.error), (68, stopped("over.img", limit, "; nothing was written")));
 }
 
 /// A directory of two names for the root: 2^16 paths at the last level.
 #[test]
 fn a_directory_that_holds_itself() {
     let folder = Folder::new();
-    let mut disc = Disc::new();
+    let mut disc = TestDisc::new();
     let root = disc.directory(&[named("a", 3, true), named("cue\u{1b}", 5, false)]);
     disc.root(root);
     folder.write("one.img", &disc.0);
     let said = folder.vault(&["ls", "-R", "one.img"]);
     assert_eq!((said.status, said.out.lines().count()), (11, 32));
     assert!(said.out.starts_with("a/\na/a/\n") && said.out.contains("a/a/cue\\u{1b}\na/cue\\u{1b}\ncue\\u{1b}\n"), "{said:?}");
-    let last = format!("vault: one.img: 1 directory at level 16, the last, not looked into: \"{}a\" (refusal 11)\n", "a/".repeat(15));
+    let last = format!("vault: one.img: 1 directory at level 16, the last level, not looked into: \"{}a\" (refusal 11)\n", "a/".repeat(15));
     assert_eq!(said.error, last);
 
     let root = disc.directory(&[named("a", 3, true), named("b", 3, true)]);
@@ -274,14 +274,14 @@ fn a_directory_that_holds_itself() {
     assert!(said.status == 68 && (300..600).contains(&said.out.lines().count()), "{said:?}");
     let said = folder.vault(&["tree", "two.img"]);
     assert_eq!((said.status, said.out.lines().count()), (11, (1 << 17) - 2 + 2));
-    assert!(said.error.contains("65536 directories at level 16, the last, not looked into"), "{}", said.error);
+    assert!(said.error.contains("65536 directories at level 16, the last level, not looked into"), "{}", said.error);
 }
 
 /// A directory that can't be read is named, and what stands behind it is shown; the status is that of its refusal.
 #[test]
 fn a_tree_names_what_it_cannot_read() {
     let folder = Folder::new();
-    let mut disc = Disc::new();
+    let mut disc = TestDisc::new();
     let below = disc.directory(&[named("x", 5, false), named("gone", 900_000, true), named("z", 5, false)]);
     let root = disc.directory(&[named("a", 5, false), named("d", below, true), named("b", 5, false)]);
     disc.root(root);
@@ -291,8 +291,8 @@ fn a_tree_names_what_it_cannot_read() {
     assert_eq!((said.status, said.out.as_str()), (1, drawn));
     let place = "(refusal 1); the last sector asked for was 900288, for a file entry: it isn't there";
     let lines: Vec<&str> = said.error.lines().collect();
-    assert!(lines[0].starts_with("vault: a.img: \"d/gone\": a sector that was asked for") && lines[0].ends_with(place), "{said:?}");
-    assert_eq!(lines[1..], ["vault: a.img: 1 directory can't be listed, and the rest is shown"]);
+    assert!(lines[0].starts_with("vault: a.img: \"d/gone\": a sector is missing") && lines[0].ends_with(place), "{said:?}");
+    assert_eq!(lines[1..], ["vault: a.img: 1 directory can't be listed; the rest is shown"]);
     for drive in [&[][..], &["--drive"]] {
         let said = folder.vault(&[&["ls", "-R", "a.img"], drive].concat());
         assert_eq!((said.status, said.out.as_str(), said.error.lines().count()), (1, "a\nd/\nd/x\nd/gone/\nd/z\nb\n", 2), "{said:?}");
@@ -311,7 +311,7 @@ fn a_tree_names_what_it_cannot_read() {
     let said = folder.vault(&["tree", "a.img", "--levels", "2"]);
     assert_eq!((said.status, said.out.lines().count(), said.error.lines().count()), (2, 16, 10), "{said:?}");
     assert!(
-        said.error.contains("the last, not looked into: \"d/gone\"") && said.error.contains("10 directories can't be listed"),
+        said.error.contains("the last level, not looked into: \"d/gone\"") && said.error.contains("10 directories can't be listed"),
         "{said:?}"
     );
 }
@@ -321,7 +321,7 @@ fn a_tree_names_what_it_cannot_read() {
 fn a_file_by_its_place_is_not_listed() {
     let folder = with_show();
     folder.write("empty.img", &{
-        let mut disc = Disc::new();
+        let mut disc = TestDisc::new();
         let (file, directory) = (disc.file(b""), disc.entry(3, b"", 0));
         let root = disc.directory(&[named("file", file, false), named("directory", directory, true)]);
         disc.root(root);
@@ -331,7 +331,7 @@ fn a_file_by_its_place_is_not_listed() {
         seal(&mut disc.0[at..], 160);
         disc.0
     });
-    let says = "is a file, whose name isn't known here: `vault stat` shows it, and `vault cat` gives its bytes";
+    let says = "is a file, and an ICB has no name to list: use `vault stat` or `vault cat`";
     for (words, image) in
         [(&["ls"][..], "show.img"), (&["ls", "-R"], "show.img"), (&["tree"], "show.img"), (&["ls", "--drive"], "show.img")]
     {
@@ -378,7 +378,7 @@ fn a_refusal_is_a_document() {
 
 #[test]
 fn numbers_are_said_as_they_are_counted() {
-    let (folder, mut disc) = (Folder::new(), Disc::new());
+    let (folder, mut disc) = (Folder::new(), TestDisc::new());
     let (one, short) = (disc.file(b"1"), disc.entry(3, b"1", 1));
     let root = disc.directory(&[named("one", one, false), named("short", short, false)]);
     disc.root(root);
@@ -501,7 +501,7 @@ fn every_command_that_opens_can_check_bodies() {
             };
             let is_said = on_the_way && !matches!(words, ["label", _] | ["stat", _]);
             assert_eq!(
-                plain.error.lines().filter(|line| line.contains("has a wrong body")).count(),
+                plain.error.lines().filter(|line| line.contains("fails its CRC check")).count(),
                 usize::from(is_said),
                 "{words:?} {plain:?}"
             );
@@ -509,7 +509,7 @@ fn every_command_that_opens_can_check_bodies() {
                 assert_eq!((checked.status, checked.out, checked.error.as_str()), (0, shown.out, ""), "{words:?} {sector}");
                 continue;
             }
-            let says = ["a descriptor's body isn't the one", "(refusal 10); `vault check` says which", "without --checked"];
+            let says = ["a descriptor fails its CRC check", "(refusal 10); `vault check` lists", "without --checked"];
             assert_eq!((checked.status, checked.error.lines().count()), (10, 1), "{words:?} {checked:?}");
             assert!(says.iter().all(|part| checked.error.contains(part)), "{words:?} {checked:?}");
         }
@@ -559,7 +559,7 @@ fn a_copied_image_answers_the_same() {
     }
     answers(&folder.vault(&["get", "show.img", "SHOW/11", "cue", "--copy"]), "");
     assert_eq!(std::fs::read_to_string(folder.at("cue")).unwrap(), BLACKOUT);
-    refuses(&folder, &["--copy", "get", "show.img", "SHOW/9", "./show.img"], 64, "this is the image itself");
+    refuses(&folder, &["--copy", "get", "show.img", "SHOW/9", "./show.img"], 64, "this is the image itself: choose another file");
 }
 
 #[test]
@@ -596,12 +596,12 @@ fn bad_images_are_refused_by_every_command() {
     folder.write("cut", &image[..290 * 2048]);
     folder.write("random", &noise(1 << 20));
     let bad = [
-        ("none", 66, "there is no such file"),
+        ("none", 66, "no such file"),
         ("folder", 66, "this is a directory"),
-        ("empty", 1, "isn't wholly inside the image"),
-        ("short", 1, "isn't wholly inside the image"),
-        ("cut", 1, "isn't wholly inside the image"),
-        ("random", 2, "is not what it must be"),
+        ("empty", 1, "a sector is missing"),
+        ("short", 1, "a sector is missing"),
+        ("cut", 1, "a sector is missing"),
+        ("random", 2, "is invalid"),
     ];
     for (image, status, phrase) in bad {
         refuses(&folder, &["label", image], status, phrase);
@@ -613,7 +613,7 @@ fn bad_images_are_refused_by_every_command() {
         refuses(&folder, &["stat", image, "SHOW/9"], status, phrase);
         refuses(&folder, &["get", image, "SHOW/9", "new"], status, phrase);
     }
-    refuses(&folder, &["probe", "none"], 66, "there is no such file");
+    refuses(&folder, &["probe", "none"], 66, "no such file");
     refuses(&folder, &["probe", "folder"], 66, "this is a directory");
     for image in ["empty", "short", "random"] {
         is_no(&folder.vault(&["probe", image]));
@@ -630,16 +630,12 @@ fn a_pipe_is_no_image() {
         Said::of(child.wait_with_output().unwrap())
     };
     let said = piped(&["label", "/dev/stdin"], b"");
-    assert_eq!(
-        (said.status, said.error.contains("this is a pipe or the like") && said.error.contains("--copy reads it")),
-        (66, true),
-        "{said:?}"
-    );
+    assert_eq!((said.status, said.error.contains("a pipe?") && said.error.contains("use --copy")), (66, true), "{said:?}");
     // Read into memory it is one.
     answers(&piped(&["--copy", "label", "/dev/stdin"], &show()), "SHOW 1\n");
     answers(&piped(&["cat", "/dev/stdin", "SHOW/11", "--copy"], &show()), BLACKOUT);
     assert_eq!(piped(&["--copy", "survey", "/dev/stdin"], &show()).status, 0);
-    let (big, mut disc) = (noise(5_000_000), Disc::new());
+    let (big, mut disc) = (noise(5_000_000), TestDisc::new());
     let file = disc.file(&big);
     let root = disc.directory(&[named("big", file, false)]);
     disc.root(root);
@@ -668,27 +664,27 @@ fn bad_paths_are_refused() {
 #[test]
 fn wrong_usage_is_said() {
     let folder = with_show();
-    refuses(&folder, &["lable", "show.img"], 64, "there is no command lable");
+    refuses(&folder, &["lable", "show.img"], 64, "unknown command lable");
     refuses(&folder, &["label"], 64, "label needs IMAGE");
     refuses(&folder, &["cat", "show.img"], 64, "cat needs PATH");
     refuses(&folder, &["get", "show.img", "SHOW/9"], 64, "get needs FILE");
     refuses(&folder, &["get", "show.img", "-o", "."], 64, "get needs PATH");
-    refuses(&folder, &["get", "show.img", "SHOW/9", "-o"], 64, "-o needs TO");
+    refuses(&folder, &["get", "show.img", "SHOW/9", "-o"], 64, "-o needs a folder");
     refuses(&folder, &["get", "show.img", "SHOW/9", "SHOW/11", "cue"], 64, "cue follows");
-    refuses(&folder, &["cat", "show.img", "SHOW/9", "-o", "."], 64, "-o is for get");
+    refuses(&folder, &["cat", "show.img", "SHOW/9", "-o", "."], 64, "-o works only with get");
     refuses(&folder, &["stat"], 64, "stat needs IMAGE");
     refuses(&folder, &["sample"], 64, "sample needs FILE");
     refuses(&folder, &["ls", "show.img", "SHOW", "more"], 64, "more follows");
-    refuses(&folder, &["-l", "show.img"], 64, "-l is for ls");
-    refuses(&folder, &["-q", "show.img"], 64, "there is no option -q");
-    refuses(&folder, &["--as-written", "--unambiguous", "ls", "show.img"], 64, "are choices, of which one can be taken");
-    refuses(&folder, &["ls", "show.img", "--levels=2"], 64, "--levels is for tree and ls -R (`vault ls --help` says how)");
-    refuses(&folder, &["make", "-V", "NAME", "show.img"], 64, "-V is the version of vault, and no option of make");
+    refuses(&folder, &["-l", "show.img"], 64, "-l works only with ls");
+    refuses(&folder, &["-q", "show.img"], 64, "unknown option -q");
+    refuses(&folder, &["--as-written", "--unambiguous", "ls", "show.img"], 64, "use only one of");
+    refuses(&folder, &["ls", "show.img", "--levels=2"], 64, "--levels works only with tree and ls -R (see `vault ls --help`)");
+    refuses(&folder, &["make", "-V", "NAME", "show.img"], 64, "-V prints the version of vault; it is not an option of make");
     assert_eq!(folder.vault(&["help", "ls"]).out, folder.vault(&["ls", "--help"]).out);
     assert_eq!(folder.vault(&["help"]).out, folder.vault(&["--help"]).out);
     assert_eq!(folder.vault(&["ls", "-Rl", "show.img", "--levels=2"]).out, folder.vault(&["ls", "-R", "-l", "show.img"]).out);
-    refuses(&folder, &["--as-written", "label", "show.img"], 64, "are for a PATH");
-    refuses(&folder, &["--unambiguous"], 64, "are for a PATH");
+    refuses(&folder, &["--as-written", "label", "show.img"], 64, "work only with ls");
+    refuses(&folder, &["--unambiguous"], 64, "work only with ls");
     refuses(&folder, &["\u{1b}[2J"], 64, "\\u{1b}[2J");
 }
 
@@ -704,10 +700,10 @@ fn get_writes_the_file_whole_or_not_at_all() {
     assert!(std::fs::read_to_string(folder.at("old")).unwrap().starts_with("cue 10.1a\n"));
     assert!(folder.at("link").is_symlink());
     refuses(&folder, &["get", "show.img", "SHOW/9", "folder"], 74, "this is a directory");
-    refuses(&folder, &["get", "show.img", "SHOW/9", "none/new"], 74, "the file can't be written");
-    refuses(&folder, &["get", "show.img", "SHOW/9", "/dev/null"], 74, "this is no ordinary file");
-    refuses(&folder, &["get", "show.img", "SHOW/9", ""], 74, "this names no file");
-    refuses(&folder, &["get", "show.img", "SHOW/9", "./show.img"], 64, "this is the image itself");
+    refuses(&folder, &["get", "show.img", "SHOW/9", "none/new"], 74, "can't write this file");
+    refuses(&folder, &["get", "show.img", "SHOW/9", "/dev/null"], 74, "not a regular file");
+    refuses(&folder, &["get", "show.img", "SHOW/9", ""], 74, "this is not the name of a file");
+    refuses(&folder, &["get", "show.img", "SHOW/9", "./show.img"], 64, "this is the image itself: choose another file");
     assert_eq!(folder.names(), ["folder", "link", "old", "show.img"]);
     assert!(std::fs::read(folder.at("show.img")).unwrap() == show());
 }
@@ -766,10 +762,7 @@ fn many_files_go_on_past_a_refused_one() {
     folder.write("bad.img", &image);
     let said = folder.vault(&["get", "bad.img", "-o", "to", "SHOW/11", "SHOW/10.1A", "--as-written"]);
     assert_eq!((said.status, said.out.as_str()), (67, "SHOW/10.1A: 57 bytes, to to/10.1A\n"));
-    assert!(
-        said.error.starts_with("vault: bad.img: \"SHOW/11\": a sector that was asked for isn't") && said.error.contains("(refusal 1)"),
-        "{said:?}"
-    );
+    assert!(said.error.starts_with("vault: bad.img: \"SHOW/11\": a sector is missing") && said.error.contains("(refusal 1)"), "{said:?}");
     assert_eq!(std::fs::read_to_string(folder.at("to/11")).unwrap(), BLACKOUT);
     // A ruined body.
     folder.write("bad.img", &scratched(293, 40));
@@ -777,9 +770,9 @@ fn many_files_go_on_past_a_refused_one() {
     assert_eq!((said.status, said.error.contains("(refusal 10); `vault check`"), said.out.lines().count()), (67, true, 1), "{said:?}");
     // All of them, and what isn't an image at all.
     assert_eq!(folder.vault(&["get", "show.img", "-o", "to", "x", "y"]).status, 67);
-    refuses(&folder, &["get", "none", "-o", "to", "SHOW/9"], 66, "there is no such file");
+    refuses(&folder, &["get", "none", "-o", "to", "SHOW/9"], 66, "no such file");
     folder.write("random", &noise(1 << 20));
-    refuses(&folder, &["get", "random", "-o", "to", "SHOW/9"], 2, "is not what it must be");
+    refuses(&folder, &["get", "random", "-o", "to", "SHOW/9"], 2, "is invalid");
 }
 
 /// A file has the name that the disc has, is written once, and isn't the image.
@@ -788,23 +781,27 @@ fn many_files_have_their_own_names() {
     let folder = with_folder();
     let said = folder.vault(&["get", "--as-original", "show.img", "-o", "to", "show/10.1a", "SHOW/10.1A"]);
     assert_eq!((said.status, said.out.as_str()), (67, "show/10.1a: 57 bytes, to to/10.1A\n"));
-    assert!(said.error.contains("\"10.1a\" under \"show\" gives \"10.1A\" in block 7, the first of 2"), "{said:?}");
-    assert!(said.error.contains("\"SHOW/10.1A\" would be written over \"show/10.1a\", to to/10.1A"), "{said:?}");
+    assert!(said.error.contains("\"10.1a\" under \"show\" matched \"10.1A\" in block 7, the first of 2"), "{said:?}");
+    assert!(said.error.contains("\"SHOW/10.1A\" and \"show/10.1a\" would both be written to to/10.1A"), "{said:?}");
     assert_eq!(taken(&folder), ["10.1A"]);
     let said = folder.vault(&["get", "--unambiguous", "show.img", "-o", "to", "SHOW/10.1a", "SHOW/9"]);
     assert_eq!((said.status, said.error.contains("is ambiguous, 2 entries match")), (67, true), "{said:?}");
     assert_eq!(taken(&folder), ["10.1A", "9"]);
     std::fs::rename(folder.at("show.img"), folder.at("to/11")).unwrap();
     let said = folder.vault(&["get", "to/11", "-o", "to", "SHOW/11", "SHOW/9"]);
-    assert_eq!((said.status, said.error.contains("to/11: this is the image itself"), said.out.lines().count()), (67, true, 1), "{said:?}");
+    assert_eq!(
+        (said.status, said.error.contains("to/11: this is the image itself: choose another file"), said.out.lines().count()),
+        (67, true, 1),
+        "{said:?}"
+    );
     assert!(std::fs::read(folder.at("to/11")).unwrap() == show());
 }
 
 #[test]
 fn many_files_need_a_folder() {
     let folder = with_folder();
-    refuses(&folder, &["get", "show.img", "-o", "none", "SHOW/9"], 74, "the folder can't be written to");
-    refuses(&folder, &["get", "show.img", "-o", "show.img", "SHOW/9"], 74, "this is no folder");
+    refuses(&folder, &["get", "show.img", "-o", "none", "SHOW/9"], 74, "can't write to this folder");
+    refuses(&folder, &["get", "show.img", "-o", "show.img", "SHOW/9"], 74, "not a folder");
     // One that can't be written: the others are.
     std::fs::create_dir(folder.at("to/9")).unwrap();
     let said = folder.vault(&["get", "show.img", "-o", "to", "SHOW/9", "SHOW/12", "SHOW/11"]);
@@ -815,7 +812,7 @@ fn many_files_need_a_folder() {
 
 /// A disc with a file of 40 MB, `big`, in a folder of its own.
 fn with_big() -> (Folder, Vec<u8>) {
-    let (folder, bytes, mut disc) = (Folder::new(), noise(40_000_000), Disc::new());
+    let (folder, bytes, mut disc) = (Folder::new(), noise(40_000_000), TestDisc::new());
     let block = disc.file(&bytes);
     let listing = disc.directory(&[named("big", block, false)]);
     disc.root(listing);
@@ -858,7 +855,7 @@ fn a_copy_that_does_not_fit_is_said() {
     let (folder, _) = with_big();
     let said = within(&folder, "ulimit -v 30000", &["--copy", "ls", "big.img"]);
     let length = std::fs::metadata(folder.at("big.img")).unwrap().len();
-    let sentence = format!("vault: big.img: there is no memory for a copy of {length} bytes: without --copy a file is mapped\n");
+    let sentence = format!("vault: big.img: not enough memory to copy {length} bytes: without --copy, a file is mapped instead\n");
     assert_eq!((said.status, said.error, said.out), (66, sentence, String::new()));
     assert_eq!(within(&folder, "ulimit -v 65000", &["--copy", "ls", "big.img"]).out, "big\n");
 }
@@ -868,7 +865,7 @@ fn a_write_that_fails_leaves_nothing() {
     let (folder, _) = with_big();
     folder.write("old", b"as it was");
     let said = limited(&folder, "trap '' XFSZ; ulimit -f 1000", "old");
-    assert_eq!((said.status, said.error.contains("old: the file can't be written")), (74, true), "{said:?}");
+    assert_eq!((said.status, said.error.contains("old: can't write this file")), (74, true), "{said:?}");
     assert_eq!(folder.names(), ["big.img", "old"]);
     assert_eq!(std::fs::read(folder.at("old")).unwrap(), b"as it was");
 }
@@ -888,7 +885,7 @@ fn a_full_disk_is_said() {
     for words in [&["cat", "show.img", "SHOW/9"][..], &["label", "show.img"], &["check", "show.img"], &["--help"], &[]] {
         let full = std::fs::OpenOptions::new().write(true).open("/dev/full").unwrap();
         let said = Said::of(folder.command(words).stdout(full).output().unwrap());
-        assert_eq!((said.status, said.error.contains("standard output can't be written")), (74, true), "{words:?} {said:?}");
+        assert_eq!((said.status, said.error.contains("can't write to standard output")), (74, true), "{words:?} {said:?}");
     }
 }
 
@@ -910,7 +907,7 @@ fn a_terminal_sees_a_bar() {
 
 #[test]
 fn a_terminal_is_not_tricked_by_names() {
-    let mut disc = Disc::new();
+    let mut disc = TestDisc::new();
     // 16 bits to a letter: an escape, a mark that turns text round, one of no width, a line feed, a backslash.
     let tricks: Vec<u8> = "a\u{1b}[2J\u{202e}\u{200b}\n\\".encode_utf16().flat_map(u16::to_be_bytes).collect();
     let listing = disc.directory(&[identifier(&[b"\x10", &tricks[..]].concat(), 7, false), identifier(b"\x08b\x9bc", 3, true)]);
@@ -925,5 +922,5 @@ fn a_terminal_is_not_tricked_by_names() {
     let said = folder.vault(&["stat", "--raw", "tricks.img", "A\u{1b}[2J\u{202e}\u{200b}\n\\"]);
     assert_eq!((said.status, said.error.lines().count()), (0, 1));
     assert!(said.out.contains("path     A\\u{1b}[2J") && said.out.contains("entry    a\\u{1b}[2J"), "{said:?}");
-    assert!(said.error.starts_with("vault: \"A\\u{1b}[2J\\u{202e}\\u{200b}\\u{a}\\\\\" under the root gives \"a\\u{1b}[2J"), "{said:?}");
+    assert!(said.error.starts_with("vault: \"A\\u{1b}[2J\\u{202e}\\u{200b}\\u{a}\\\\\" under the root matched \"a\\u{1b}[2J"), "{said:?}");
 }

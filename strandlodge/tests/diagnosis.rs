@@ -4,14 +4,14 @@ mod common;
 
 use common::asked::images;
 use common::command::Folder;
-use common::{Disc, SECTOR, VOLUME_BODY, continuation, continued, named, reclosed, seal, short_ad, show};
+use common::{SECTOR, TestDisc, VOLUME_BODY, continuation, continued, named, reclosed, seal, short_ad, show};
 use std::cell::Cell;
 use std::error;
 use std::io::{self, Cursor, Read, Seek, SeekFrom};
 use std::rc::Rc;
 use strandlodge::udf::{ExtAd, TagId};
 use strandlodge::{Asked, Cause, Counted, CountedDrive, Diagnosis, Drive, How, Kind, LbAddr, LongAd, Matching, Refusal, Refused};
-use strandlodge::{Sought, Standing, UNLIMITED, Vault, diagnose};
+use strandlodge::{Disc, Sought, Standing, UNLIMITED, diagnose};
 use strandlodge_sys::asked::{Call, Image};
 
 /// A reader that notes the last sector that it was asked for, from a single-sector buffer on.
@@ -76,14 +76,14 @@ fn stored_volumes_that_are_not_opened() {
             let Err(refused) = Counted::open_as(&image, how) else { continue };
             let why = diagnose(&image, how, &refused);
             assert!(why.place.is_some(), "{name} {how:?} {why:?}");
-            says_why(Vault::open_as(&image, how), &why, &name);
+            says_why(Disc::open_as(&image, how), &why, &name);
             sound(&why, &image, &name);
         }
     }
     assert!(refusals[1] > 3 && refusals[2] > 10 && refusals[3] > 2 && refusals[4] > 2, "{refusals:?}");
 }
 
-/// What `Vault` says of a refusal is what a diagnosis says, whether or not it is asked for one.
+/// What `Disc` says of a refusal is what a diagnosis says, whether or not it is asked for one.
 fn says_why<T>(given: strandlodge::Result<T>, why: &Diagnosis, about: &str) {
     let error = given.map(|_| ()).unwrap_err();
     assert_eq!((error.refused(), error.cause()), (why.refused, why.cause.as_ref()), "{about}");
@@ -98,7 +98,7 @@ fn stored_volumes_whose_files_are_not_read() {
     let mut refusals = [0; 15];
     for Image { name, bytes: image, queries, .. } in images("directories") {
         let Ok(vault) = Counted::open(&image) else { continue };
-        let plain = Vault::open(&image).unwrap();
+        let plain = Disc::open(&image).unwrap();
         let (reader, last) = Watched::of(&image);
         let mut drive = CountedDrive::open(reader).unwrap().value;
         let mut hold = |asked: Asked, refused: Option<Refused>, again: Again| {
@@ -216,7 +216,7 @@ fn a_disc_of_another_block_size_is_called_by_it() {
         folder.write("a.img", &image);
         for words in [&["ls", "a.img"][..], &["label", "a.img"], &["ls", "--drive", "a.img"], &["check", "a.img"], &["info", "a.img"]] {
             let said = folder.vault(words);
-            let says = format!("vault: a.img: the disc has blocks of {size} bytes, and blocks of 2048 are read (refusal ");
+            let says = format!("vault: a.img: the disc has blocks of {size} bytes; only 2048 is supported (refusal ");
             assert!(said.error.starts_with(&says) && !said.error.contains("damaged"), "{words:?} {said:?}");
             assert_eq!(said.status, why.refused.number() as i32);
         }
@@ -281,11 +281,11 @@ fn each_cause_of_a_read() {
         (2, [ext_ad(100, 5), ext_ad(99, 5)].concat(), compressed, Sought::Entry),
         (0, continued((1 << 20) + 1, 12).to_vec(), Cause::LongContinuation((1 << 20) + 1), Sought::Entry),
     ] {
-        let mut disc = Disc::new();
+        let mut disc = TestDisc::new();
         let block = disc.entry(kind, &area, 1000);
         let root = disc.directory(&[named("file", block, false), named("folder", block, true)]);
         disc.root(root);
-        let vault = Vault::open(disc.0.clone()).unwrap();
+        let vault = Disc::open(disc.0.clone()).unwrap();
         let icb = vault.lookup("file").unwrap();
         let refused = vault.read_file(icb).unwrap_err();
         let why = vault.diagnose(Asked::ReadFile(icb), &refused);
@@ -298,7 +298,7 @@ fn each_cause_of_a_read() {
 }
 
 /// The same along a path, in a show, and from a drive.
-fn by_every_call(vault: &Vault<Vec<u8>>, why: &Diagnosis) {
+fn by_every_call(vault: &Disc<Vec<u8>>, why: &Diagnosis) {
     let (why, matching) = (why.to_string(), Matching::AsWritten);
     let refused = vault.read_path_as("file", matching).unwrap_err();
     assert_eq!(vault.diagnose(Asked::ReadPath(b"file", matching), &refused).to_string(), why);
@@ -340,7 +340,7 @@ fn a_cause_behind_continuations() {
         (0, short_ad(7 | 1 << 30, 3).to_vec(), Cause::NotRecorded { extent_type: 1, length: 7 }),
         (2, ext_ad(99, 5), Cause::Compressed { block: 12, recorded: 99, information: 100 }),
     ] {
-        let mut disc = Disc::new();
+        let mut disc = TestDisc::new();
         let next = |length: usize, block: u32| match kind {
             0 => continued(length, block).to_vec(),
             _ => {
@@ -358,7 +358,7 @@ fn a_cause_behind_continuations() {
         let block = disc.entry(kind, &next(first.len(), first_at), 100);
         let root = disc.directory(&[named("file", block, false)]);
         disc.root(root);
-        let vault = Vault::open(&disc.0).unwrap();
+        let vault = Disc::open(&disc.0).unwrap();
         let icb = vault.lookup("file").unwrap();
         let why = vault.diagnose(Asked::ReadFile(icb), &vault.read_file(icb).unwrap_err());
         let place = why.place.unwrap();
@@ -370,7 +370,7 @@ fn a_cause_behind_continuations() {
 #[test]
 fn what_has_no_place_has_none() {
     let image = show();
-    let vault = Vault::open(&image).unwrap();
+    let vault = Disc::open(&image).unwrap();
     let icb = vault.lookup("SHOW/9").unwrap();
     // An ICB of no length: no sector is asked for.
     let empty = LongAd { length: 0, ..icb };
@@ -390,7 +390,7 @@ fn what_has_no_place_has_none() {
     assert_eq!((why.refused.why, why.place.map(|place| place.sector)), (Refusal::TooDeep, Some(291)));
     let over = vault.show(2, 1).unwrap_err();
     let why = vault.diagnose(Asked::Show(2), &over);
-    assert_eq!((why.to_string().as_str(), why.place, why.cause), ("more sectors would be asked for than were lent", None, None));
+    assert_eq!((why.to_string().as_str(), why.place, why.cause), ("more sectors would be needed than the budget allows", None, None));
     assert_eq!(vault.diagnose(Asked::Show(17), &vault.show(17, UNLIMITED).unwrap_err()).place, None);
 }
 

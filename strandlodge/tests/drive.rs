@@ -4,7 +4,7 @@ mod common;
 
 use common::asked::images;
 use common::command::{Folder, Said, left_out, tool};
-use common::{Disc, SECTOR, continuation, continued, named, noise, short_ad, show};
+use common::{SECTOR, TestDisc, continuation, continued, named, noise, short_ad, show};
 use std::io::{self, Cursor, Read, Seek, SeekFrom, Write};
 use std::process::Command;
 use strandlodge::{Counted, CountedDrive, LbAddr, LongAd, Matching, Refusal, Uncopied};
@@ -173,7 +173,7 @@ fn stored_volumes_answer_as_from_memory() {
 
 /// A disc with one file, whose descriptors stand in two continuations behind its entry, and the file's ICB.
 fn chained() -> (Vec<u8>, LongAd) {
-    let mut disc = Disc::new();
+    let mut disc = TestDisc::new();
     let data = disc.lay(&noise(700 * SECTOR));
     let ads = |from: u32, n: u32| (from..from + n).flat_map(|i| short_ad(SECTOR - 3, data + i)).collect::<Vec<u8>>();
     let last = continuation(&[ads(402, 297), short_ad(10 * SECTOR, data).to_vec()].concat());
@@ -211,7 +211,7 @@ fn a_sector_is_asked_for_once_and_none_in_vain() {
 
 #[test]
 fn the_reader_is_not_moved_where_it_stands() {
-    let mut disc = Disc::new();
+    let mut disc = TestDisc::new();
     let bytes = noise(100 * SECTOR);
     let block = disc.file(&bytes);
     let root = disc.directory(&[named("file", block, false)]);
@@ -252,7 +252,7 @@ fn a_reader_that_fails_at_each_place() {
                 assert_eq!((unopened.refused.why, unopened.refused.sectors), (Refusal::Io, place as u64 + 1));
                 let missed = unopened.missed.as_ref().unwrap();
                 assert_eq!((missed.sector, missed.error.to_string().as_str()), (sector, "a scratch"));
-                assert_eq!(unopened.to_string(), format!("sector {sector} can't be read: a scratch"));
+                assert_eq!(unopened.to_string(), format!("can't read sector {sector}: a scratch"));
                 continue;
             }
         };
@@ -301,7 +301,7 @@ fn a_reader_that_changes() {
 
 #[test]
 fn a_length_on_the_disc_allocates_nothing() {
-    let mut disc = Disc::new();
+    let mut disc = TestDisc::new();
     let data = disc.lay(&noise(5000));
     let absurd = disc.entry(0, &short_ad(5000, data), u64::MAX);
     let root = disc.directory(&[named("absurd", absurd, false)]);
@@ -314,7 +314,7 @@ fn a_length_on_the_disc_allocates_nothing() {
 /// A file of more bytes than its disc, and more than 256 MiB, whose extents overlap.
 #[test]
 fn a_file_beyond_its_disc_is_refused() {
-    let mut disc = Disc::new();
+    let mut disc = TestDisc::new();
     let data = disc.lay(&noise(4 << 20));
     let area: Vec<u8> = (0..65).flat_map(|_| short_ad(4 << 20, data)).collect();
     let block = disc.entry(0, &area, 65 * (4 << 20));
@@ -334,7 +334,7 @@ fn a_file_beyond_its_disc_is_refused() {
 /// As many extents as a continuation can have, so that the row is lengthened again and again.
 #[test]
 fn many_extents() {
-    let mut disc = Disc::new();
+    let mut disc = TestDisc::new();
     let data = disc.lay(&noise(SECTOR));
     let many = ((1 << 20) - 24) / 8;
     let area: Vec<u8> = (0..many).flat_map(|i| short_ad(1 + i % 3, data)).collect();
@@ -431,11 +431,11 @@ fn the_command_says_which_sector_is_missing() {
     folder.write("cut.img", &image[..300 * SECTOR]);
     let said = folder.vault(&["ls", "none.img", "--drive", "--sectors"]);
     let missing =
-        "vault: sectors asked for: open 1\nvault: none.img: sector 256 isn't there: the disc or image ends before it (refusal 1)\n";
+        "vault: sectors asked for: open 1\nvault: none.img: sector 256 is missing: the disc or image ends before it (refusal 1)\n";
     assert_eq!((said.status, said.error.as_str()), (1, missing));
     // The cue's entry is block 11, and its bytes would stand in the next.
     let said = folder.vault(&["get", "cut.img", "SHOW/11", "cue", "--drive"]);
-    let missing = "vault: cut.img: \"SHOW/11\": sector 300 isn't there: the disc or image ends before it (refusal 1)\n";
+    let missing = "vault: cut.img: \"SHOW/11\": sector 300 is missing: the disc or image ends before it (refusal 1)\n";
     assert_eq!((said.status, said.out.as_str(), said.error.as_str()), (1, "", missing));
     assert_eq!(folder.names(), ["cut.img", "none.img", "show.img"]);
 }
@@ -444,7 +444,7 @@ fn the_command_says_which_sector_is_missing() {
 #[test]
 fn the_command_streams() {
     let folder = Folder::new();
-    let (mut disc, bytes) = (Disc::new(), noise((3 << 20) + 5));
+    let (mut disc, bytes) = (TestDisc::new(), noise((3 << 20) + 5));
     let block = disc.file(&bytes);
     let entry = disc.entry(0, &short_ad(4 * SECTOR, block + 1), 4 * SECTOR as u64);
     let root = disc.directory(&[named("file", block, false), named("cut", entry, false)]);
@@ -469,6 +469,6 @@ fn a_pipe_is_no_drive() {
     let Some(sh) = tool("sh") else { return left_out("a_pipe_is_no_drive", "sh") };
     let words = ["-c", "\"$0\" ls /dev/stdin --drive < show.img; cat show.img | \"$0\" ls /dev/stdin --drive", env!("CARGO_BIN_EXE_vault")];
     let said = Said::of(Command::new(sh).args(words).current_dir(folder.at("")).output().unwrap());
-    let error = "vault: /dev/stdin: this is a pipe or the like, and no file or device: --copy reads it into memory\n";
+    let error = "vault: /dev/stdin: not a file or device (a pipe?): use --copy to read it into memory\n";
     assert_eq!((said.status, said.out.as_str(), said.error.as_str()), (66, "SHOW/\n", error));
 }

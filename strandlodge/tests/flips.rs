@@ -4,7 +4,7 @@
 mod common;
 
 use common::command::Folder;
-use common::{Disc, SECTOR, crc, named, seal, short_ad, show};
+use common::{SECTOR, TestDisc, crc, named, seal, short_ad, show};
 use std::ffi::{c_int, c_void};
 use std::fs::File;
 use std::os::fd::AsRawFd;
@@ -49,7 +49,7 @@ fn flipping<T>(file: &Path, at: usize, values: [u32; 2], work: impl FnOnce() -> 
 /// A disc with the file `cat` and the directory `ls`, which are one: 231 extents, of which the first has 42 bytes, or 420,000. Gives the place
 /// of that length. The entry's CRC is of its area too, where that is said, and then right for the smaller length.
 fn with_flip(folder: &Folder, summed: bool) -> (usize, [u32; 2]) {
-    let mut disc = Disc::new();
+    let mut disc = TestDisc::new();
     let cues: Vec<Vec<u8>> = (0..10_000).map(|_| named("10", 3, false)).collect();
     let (one, all) = (cues[0].len(), cues.concat());
     let block = disc.lay(&all);

@@ -4,7 +4,7 @@ mod common;
 
 use common::asked::images;
 use common::command::{Folder, Said};
-use common::{Disc, SECTOR, named, noise, short_ad};
+use common::{SECTOR, TestDisc, named, noise, short_ad};
 use std::fs::{File, OpenOptions};
 use std::io::Write;
 use std::path::Path;
@@ -66,7 +66,7 @@ fn a_read_passes_from_1_to_its_answer_once_and_names_what_it_waits_for() {
 /// A disc whose file `cue` stands behind all else, its second extent in front of the first, with some sectors behind it; the file's bytes, and
 /// the number of sectors that they need.
 fn disc() -> (Vec<u8>, Vec<u8>, usize) {
-    let mut disc = Disc::new();
+    let mut disc = TestDisc::new();
     let (bytes, free) = (noise(9000), disc.lay(b""));
     let entry = disc.entry(0, &[short_ad(5000, free + 5), short_ad(4000, free + 3)].concat(), 9000);
     let bad = named("bad", free + 4, false);
@@ -160,7 +160,7 @@ fn the_time_that_is_waited_has_an_end() {
         folder.write("disc.img", &image[..length]);
         let began = Instant::now();
         let said = folder.vault(&["get", "disc.img", "cue", "file", "--wait", seconds]);
-        let says = format!(": it isn't there; waited for {seconds} s: {} sectors are there, and {missing} isn't yet\n", length / SECTOR);
+        let says = format!(": it isn't there; waited {seconds} s: {} sectors are there; {missing} is not there yet\n", length / SECTOR);
         assert!(
             said.status == 1 && said.error.ends_with(&says) && said.error.contains("(refusal 1); the last sector asked for was "),
             "{said:?}"
@@ -173,7 +173,7 @@ fn the_time_that_is_waited_has_an_end() {
     waits((needed - 2) * SECTOR + 2047, "0", &format!("sector {}", needed - 2));
     // The anchor, the file set descriptor, and the root's entry.
     waits(0, "0", "sector 256");
-    waits(290 * SECTOR, "0", "one that is asked for");
+    waits(290 * SECTOR, "0", "a sector that is needed");
     waits(291 * SECTOR, "0", "sector 291");
     assert_eq!(folder.names(), ["disc.img"]);
 }
@@ -184,10 +184,10 @@ fn an_image_that_shrinks_or_goes_is_told_of() {
     let (folder, (image, _, needed)) = (Folder::new(), disc());
     let words = ["cat", "disc.img", "cue", "--wait", "600"];
     let refused = |said: Said, says: &str| assert!(said.status == 66 && said.error.contains(says), "{said:?}");
-    refused(folder.vault(&words), "there is no such file");
+    refused(folder.vault(&words), "no such file");
     // Whenever the command begins to wait, what comes next is a length that is less.
     let lost: [(&dyn Fn(usize), &str); 2] = [
-        (&|_| drop(std::fs::remove_file(folder.at("disc.img"))), "disc.img: there is no such file"),
+        (&|_| drop(std::fs::remove_file(folder.at("disc.img"))), "disc.img: no such file"),
         (&|n| File::options().write(true).open(folder.at("disc.img")).unwrap().set_len(n as u64).unwrap(), "the image shrank from"),
     ];
     for (lose, says) in lost {

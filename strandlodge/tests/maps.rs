@@ -16,7 +16,7 @@ const NUMBERS: [u16; 2] = [5, 9];
 /// A place: a block, and a reference.
 type Place = (u32, u16);
 
-struct Disc(Vec<u8>);
+struct TestDisc(Vec<u8>);
 
 /// A map of type 1.
 fn map(volume: u16, number: u16) -> [u8; 6] {
@@ -47,13 +47,13 @@ fn identifier(name: &str, icb: Place, marks: u8, block: u32) -> Vec<u8> {
     located([head, vec![0; length]].concat()[..length].to_vec(), block)
 }
 
-impl Disc {
+impl TestDisc {
     /// The sample show's volume structure over two empty partitions, with these bytes for a map table that says this number of maps.
-    fn new(maps: u32, table: &[u8], file_set: Place) -> Disc {
+    fn new(maps: u32, table: &[u8], file_set: Place) -> TestDisc {
         let mut image = show();
         image.truncate(STARTS[0] * SECTOR);
         image.resize(440 * SECTOR, 0);
-        let mut disc = Disc(image);
+        let mut disc = TestDisc(image);
         // The terminating descriptor makes room for the second partition's.
         disc.0.copy_within(35 * SECTOR..36 * SECTOR, 36 * SECTOR);
         disc.0.copy_within(33 * SECTOR..34 * SECTOR, 35 * SECTOR);
@@ -77,7 +77,7 @@ impl Disc {
     }
 
     fn lay(&mut self, place: Place, bytes: &[u8]) {
-        self.0[Disc::at(place)..][..bytes.len()].copy_from_slice(bytes);
+        self.0[TestDisc::at(place)..][..bytes.len()].copy_from_slice(bytes);
     }
 
     fn file_set(&mut self, place: Place, root: Place) {
@@ -111,9 +111,9 @@ const DEEP: &[u8] = b"in the second partition";
 /// A disc with a file set in the second partition, whose root is in the first: `near` stands in both partitions by long_ads, `far` in the
 /// second by short_ads, over a continuation; FOLDER is an entry of the second with its identifiers in the first; `lost` has a reference that
 /// no map has.
-fn two() -> Disc {
+fn two() -> TestDisc {
     let table = [map(1, NUMBERS[0]), map(1, NUMBERS[1])].concat();
-    let mut disc = Disc::new(2, &table, (0, 1));
+    let mut disc = TestDisc::new(2, &table, (0, 1));
     disc.file_set((0, 1), (3, 0));
     let names = [
         identifier("", (3, 0), 10, 3),
@@ -139,8 +139,8 @@ fn two() -> Disc {
 }
 
 /// A disc with one partition, of number 5, which its one map leads to; every reference is 0, as ECMA-167 has it.
-fn one() -> Disc {
-    let mut disc = Disc::new(1, &map(1, NUMBERS[0]), (2, 0));
+fn one() -> TestDisc {
+    let mut disc = TestDisc::new(1, &map(1, NUMBERS[0]), (2, 0));
     disc.file_set((2, 0), (3, 0));
     let names = identifier("cue", (4, 0), 0, 3);
     disc.entry((3, 0), 3, &names, names.len());
@@ -209,7 +209,7 @@ fn of_each_partition_number_one_descriptor_prevails() {
     let prevail = |how| volume_descriptors(&image, how).iter().filter(|one| one.prevails && one.kind == Kind::Partition).count();
     assert_eq!((prevail(How::default()), prevail(MAPS), prevail(How { highest: true, ..MAPS })), (1, 2, 2));
     // The same descriptors are shown where the table is refused, to the last.
-    let mut bad = Disc(image.clone());
+    let mut bad = TestDisc(image.clone());
     bad.volume(34, &[(264, &[11])]);
     assert_eq!(Counted::open_as(&bad.0, MAPS).unwrap_err().why, Refusal::Malformed);
     assert_eq!(volume_descriptors(&bad.0, MAPS), volume_descriptors(&image, MAPS));
@@ -235,7 +235,7 @@ fn tables_that_are_not_read() {
         (1, vec![1, 7, 1, 0, 5, 0, 0], (2, 0), Refusal::Unsupported, vec![MapForm::Other { kind: 1, length: 7, identifier: vec![] }]),
     ];
     for (maps, table, file_set, why, found) in cases {
-        let image = Disc::new(maps, &table, file_set).0;
+        let image = TestDisc::new(maps, &table, file_set).0;
         assert_eq!(Counted::open_as(&image, MAPS).unwrap_err().why, why, "{maps} {table:?}");
         let shown = map_table(&image, How::default()).unwrap();
         assert_eq!((shown.maps, shown.length, shown.found), (maps, table.len() as u32, found));
@@ -264,7 +264,7 @@ fn every_command_that_opens_goes_through_the_maps() {
         // Without, the file set isn't in the partition.
         let plain = folder.vault(words);
         assert_eq!(plain.status, 4, "{words:?}");
-        assert!(plain.error.contains("(refusal 4); its partition is found through its maps, with --maps; the last sector"), "{plain:?}");
+        assert!(plain.error.contains("(refusal 4); --maps opens it, through its partition maps; the last sector"), "{plain:?}");
     };
     says(&["label", "a.img"], "SHOW 1\n");
     says(&["ls", "a.img"], "near\nfar\nFOLDER/\nlost\n");
@@ -297,13 +297,12 @@ fn the_maps_of_a_volume_are_shown() {
     assert!(said.status == 4 && said.out.ends_with(maps), "{said:?}");
     let mut virtual_map = [&map(1, 5)[..], &[2, 64, 0, 0, 0], b"*UDF Virtual Partition"].concat();
     virtual_map.resize(70, 0);
-    let folder = written(&Disc::new(2, &virtual_map, (0, 1)).0);
+    let folder = written(&TestDisc::new(2, &virtual_map, (0, 1)).0);
     let said = folder.vault(&["stat", "a.img", "--maps"]);
-    assert!(said.out.ends_with("map      1, type 2 (*UDF Virtual Partition), 64 bytes: a form that isn't read\n"), "{said:?}");
+    assert!(said.out.ends_with("map      1, type 2 (*UDF Virtual Partition), 64 bytes: not supported\n"), "{said:?}");
     // No way out is said where the maps are none either.
     for said in [said, folder.vault(&["ls", "a.img"])] {
-        let why =
-            "partition map 1 is of type 2 (*UDF Virtual Partition), and type 1 is read (refusal 4); the last sector asked for was 36,";
+        let why = "partition map 1 is of type 2 (*UDF Virtual Partition); only type 1 is supported (refusal 4); the last sector asked for was 36,";
         assert!(said.status == 4 && said.error.contains(why) && !said.error.contains("--maps"), "{said:?}");
     }
 }
@@ -312,7 +311,7 @@ fn the_maps_of_a_volume_are_shown() {
 fn a_partition_whose_number_is_not_its_reference() {
     let folder = written(&one().0);
     let plain = folder.vault(&["cat", "a.img", "cue"]);
-    assert!(plain.status == 4 && plain.error.contains("with --maps"), "{plain:?}");
+    assert!(plain.status == 4 && plain.error.contains("; --maps opens it"), "{plain:?}");
     assert_eq!(folder.vault(&["cat", "--maps", "a.img", "cue"]).out, "a look");
     assert_eq!(folder.vault(&["check", "--maps", "a.img"]).out, "10 descriptors, each in place and with a right body\n");
 }
@@ -334,7 +333,7 @@ fn a_reference_that_no_map_has_is_the_cause() {
 #[test]
 fn check_walks_through_the_maps() {
     let disc = two();
-    let lost = "/lost: can't be read: partition reference 2 leads to no partition map, of which there are 2 (refusal 4)\n";
+    let lost = "/lost: can't be read: partition reference 2 leads to no partition map; there are 2 (refusal 4)\n";
     let sentence = |misplaced: u32, ruined: u32| {
         format!("vault: a.img: descriptors: 20, not in place: {misplaced}, with a wrong body: {ruined}; places that can't be read: 1\n")
     };
@@ -351,7 +350,7 @@ fn check_walks_through_the_maps() {
         ((7, 0), "/FOLDER/..: file identifier (id 257)"),
         ((6, 1), "/FOLDER/deep: file entry (id 261)"),
     ] {
-        let at = Disc::at(place);
+        let at = TestDisc::at(place);
         let stands = format!("block {} (sector {})", place.0, at / SECTOR);
         let mut moved = disc.0.clone();
         moved[at + 12] ^= 64;

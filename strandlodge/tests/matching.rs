@@ -4,7 +4,7 @@
 mod common;
 
 use common::command::{Folder, Said};
-use common::{DELETED, Disc, PARENT, identifier, marked, named, show};
+use common::{DELETED, PARENT, TestDisc, identifier, marked, named, show};
 use strandlodge::Matching::{self, AsWritten, CaseIgnored, Unambiguous};
 use strandlodge::{Answer, Counted, Refusal, Refused};
 
@@ -13,8 +13,8 @@ const LOWER: &str = "cue 10.1a\nfront wash 20, the look before the interval\n";
 const ALL: [Matching; 3] = [CaseIgnored, AsWritten, Unambiguous];
 
 /// A disc whose root has these names, each with a file that holds its number, or what `mark` makes of its entry.
-fn disc_of(names: &[&str], mark: impl Fn(usize, Vec<u8>) -> Vec<u8>) -> Disc {
-    let mut disc = Disc::new();
+fn disc_of(names: &[&str], mark: impl Fn(usize, Vec<u8>) -> Vec<u8>) -> TestDisc {
+    let mut disc = TestDisc::new();
     let mut entries = Vec::new();
     for (i, name) in names.iter().enumerate() {
         let block = disc.file(format!("{i}").as_bytes());
@@ -25,12 +25,12 @@ fn disc_of(names: &[&str], mark: impl Fn(usize, Vec<u8>) -> Vec<u8>) -> Disc {
     disc
 }
 
-fn plain(names: &[&str]) -> Disc {
+fn plain(names: &[&str]) -> TestDisc {
     disc_of(names, |_, entry| entry)
 }
 
 /// What each choice reads along a path: the bytes, or the number of the refusal.
-fn reads(disc: &Disc, path: &str) -> [Result<String, u64>; 3] {
+fn reads(disc: &TestDisc, path: &str) -> [Result<String, u64>; 3] {
     let vault = Counted::open(&disc.0).unwrap();
     ALL.map(|matching| {
         let read = vault.read_path_as(path, matching).map_err(|refused| refused.number());
@@ -39,7 +39,7 @@ fn reads(disc: &Disc, path: &str) -> [Result<String, u64>; 3] {
 }
 
 /// The entries by their numbers, for the three choices.
-fn gives(disc: &Disc, path: &str, expected: [Result<usize, u64>; 3]) {
+fn gives(disc: &TestDisc, path: &str, expected: [Result<usize, u64>; 3]) {
     assert_eq!(reads(disc, path), expected.map(|entry| entry.map(|i| i.to_string())), "{path}");
 }
 
@@ -107,7 +107,7 @@ fn names_that_are_equal() {
     // One name in both widths, and one in which a surrogate is dropped.
     let wide = |units: &[u16]| [&[16][..], &units.iter().flat_map(|unit| unit.to_be_bytes()).collect::<Vec<u8>>()].concat();
     for recorded in [wide(&[0x41, 0x42]), wide(&[0x41, 0xd800, 0x42])] {
-        let mut disc = Disc::new();
+        let mut disc = TestDisc::new();
         let blocks = [0, 1].map(|i| disc.file(format!("{i}").as_bytes()));
         let root = disc.directory(&[identifier(&recorded, blocks[0], false), named("AB", blocks[1], false)]);
         disc.root(root);
@@ -117,7 +117,7 @@ fn names_that_are_equal() {
 
 #[test]
 fn case_is_that_of_ascii() {
-    let mut disc = Disc::new();
+    let mut disc = TestDisc::new();
     let blocks = [0, 1].map(|i| disc.file(format!("{i}").as_bytes()));
     let root = disc.directory(&[identifier(b"\x08\xc9", blocks[0], false), identifier(b"\x08\xe9", blocks[1], false)]);
     disc.root(root);
@@ -139,8 +139,8 @@ fn what_is_not_listed_does_not_match() {
 }
 
 /// Two folders of the same letters, each with the cues `first` and `second` of its own, and a third by itself.
-fn folders() -> Disc {
-    let mut disc = Disc::new();
+fn folders() -> TestDisc {
+    let mut disc = TestDisc::new();
     let mut entries = Vec::new();
     for (i, name) in ["Act", "ACT", "other"].iter().enumerate() {
         let blocks = [0, 1].map(|j| disc.file(format!("{}", 2 * i + j).as_bytes()));
@@ -178,7 +178,7 @@ fn a_directory_is_read_first() {
 }
 
 /// A folder with the image of a disc.
-fn with(disc: &Disc) -> Folder {
+fn with(disc: &TestDisc) -> Folder {
     let folder = Folder::new();
     folder.write("a.img", &disc.0);
     folder
@@ -196,16 +196,16 @@ fn remarks(said: &Said, out: &str, lines: &[&str]) {
     assert_eq!((said.status, said.out.as_str(), &given[..]), (0, out, lines));
 }
 
-const CASE: &str = "(--as-written takes the very name alone, --unambiguous refuses where several match)";
-const SAFE: &str = "(--as-written takes the very name alone)";
-const BOTH: &str = "(--as-written takes the very name alone, --unambiguous refuses)";
+const CASE: &str = "(--as-written accepts only the exact name, --unambiguous refuses if several match)";
+const SAFE: &str = "(--as-written accepts only the exact name)";
+const BOTH: &str = "(--as-written accepts only the exact name, --unambiguous refuses)";
 
 #[test]
 fn the_wrong_look_is_not_given_without_a_word() {
     let folder = with_show();
     for (path, name) in [("SHOW/10.1A", "10.1A"), ("SHOW/10.1a", "10.1a")] {
         let line =
-            format!("\"{name}\" under \"SHOW\" gives \"10.1A\" in block 7, the first of 2 that match, and not \"10.1a\" in block 9 {BOTH}");
+            format!("\"{name}\" under \"SHOW\" matched \"10.1A\" in block 7, the first of 2 that match, not \"10.1a\" in block 9 {BOTH}");
         remarks(&folder.vault(&["cat", "--as-original", "a.img", path]), UPPER, &[&line]);
         remarks(&folder.vault(&["ls", "--as-original", "a.img", path]), "10.1A\n", &[&line]);
         remarks(&folder.vault(&["get", "--as-original", "a.img", path, "cue"]), "", &[&line]);
@@ -246,12 +246,12 @@ fn the_command_s_own_rule_is_made_of_the_choices() {
 #[test]
 fn each_name_of_a_path_has_the_rule_by_itself() {
     let folder = with(&folders());
-    let second = |above: &str| format!("\"Second\" under \"{above}\" gives \"second\", in another case {SAFE}");
+    let second = |above: &str| format!("\"Second\" under \"{above}\" matched \"second\", which differs in case {SAFE}");
     for drive in [&[][..], &["--drive"]] {
         let vault = |words: &[&str]| folder.vault(&[words, drive].concat());
         remarks(&vault(&["cat", "a.img", "ACT/Second"]), "3", &[&second("ACT")]);
         remarks(&vault(&["cat", "a.img", "//Act//Second/"]), "1", &[&second("//Act")]);
-        let other = format!("\"OTHER\" under the root gives \"other\", in another case {SAFE}");
+        let other = format!("\"OTHER\" under the root matched \"other\", which differs in case {SAFE}");
         remarks(&vault(&["cat", "a.img", "OTHER/Second"]), "5", &[&other, &second("OTHER")]);
         let acts = "\"act\" under the root is ambiguous, 2 entries match: \"Act\" in block 21, \"ACT\" in block 27";
         refuses(&folder, &[&["cat", "a.img", "act/second"], drive].concat(), 9, acts);
@@ -270,7 +270,7 @@ fn a_wrong_body_on_the_way_is_said() {
     let folder = Folder::new();
     std::fs::create_dir(folder.at("to")).unwrap();
     let (start, whole) = (288 * common::SECTOR, show());
-    let says = "has a wrong body, and is taken as it stands (--checked refuses it, and `vault check` lists all such descriptors)";
+    let says = "fails its CRC check and was used anyway (--checked refuses it; `vault check` lists all such descriptors)";
     // The root's entry, that of SHOW, and that of cue 9: bytes that nothing is read by.
     for (block, line) in [
         (3, format!("a.img: \"SHOW/9\": a descriptor on the way to it {says}")),
@@ -307,7 +307,7 @@ fn a_wrong_body_on_the_way_is_said() {
 fn wrong_bodies_are_not_a_line_each() {
     let (folder, mut image) = (Folder::new(), show());
     std::fs::create_dir(folder.at("to")).unwrap();
-    let says = "has a wrong body, and is taken as it stands (--checked refuses it, and `vault check` lists all such descriptors)";
+    let says = "fails its CRC check and was used anyway (--checked refuses it; `vault check` lists all such descriptors)";
     image[32 * common::SECTOR + 100] ^= 1;
     folder.write("a.img", &image);
     let said = folder.vault(&["cat", "a.img", "SHOW/9"]);
@@ -318,21 +318,21 @@ fn wrong_bodies_are_not_a_line_each() {
     folder.write("a.img", &disc.0);
     let said = folder.vault(&["get", "-r", "a.img", "-o", "to"]);
     assert_eq!((said.status, said.error.lines().count()), (0, 9), "{said:?}");
-    assert!(said.error.ends_with("vault: 2 more paths have a descriptor with a wrong body: `vault check` lists them\n"), "{said:?}");
+    assert!(said.error.ends_with("vault: 2 more paths have a descriptor that fails its CRC check: `vault check` lists them\n"), "{said:?}");
 }
 
 /// A disc that holds 10.1a alone, asked for 10.1A; and every name of a path.
 #[test]
 fn a_name_in_another_case_is_remarked() {
     let folder = with(&plain(&["9", "10.1a"]));
-    let line = format!("\"10.1A\" under the root gives \"10.1a\", in another case {CASE}");
+    let line = format!("\"10.1A\" under the root matched \"10.1a\", which differs in case {CASE}");
     remarks(&folder.vault(&["cat", "--as-original", "a.img", "10.1A"]), "1", &[&line]);
     remarks(&folder.vault(&["cat", "--unambiguous", "a.img", "/10.1A"]), "1", &[&line]);
     remarks(&folder.vault(&["cat", "a.img", "10.1A"]), "1", &[&line.replace(CASE, SAFE)]);
     remarks(&folder.vault(&["cat", "a.img", "10.1a"]), "1", &[]);
     remarks(&folder.vault(&["cat", "--unambiguous", "a.img", "10.1a"]), "1", &[]);
     let folder = with_show();
-    let line = format!("\"show\" under the root gives \"SHOW\", in another case {SAFE}");
+    let line = format!("\"show\" under the root matched \"SHOW\", which differs in case {SAFE}");
     remarks(&folder.vault(&["cat", "a.img", "show/9"]), "cue 9\nhouse lights to half\n", &[&line]);
     remarks(&folder.vault(&["ls", "a.img", "/show/"]), "9\n10.1A\n10.1a\n11\n", &[&line]);
     remarks(&folder.vault(&["ls", "a.img"]), "SHOW/\n", &[]);
@@ -341,8 +341,8 @@ fn a_name_in_another_case_is_remarked() {
 #[test]
 fn each_name_of_a_path_has_its_line() {
     let folder = with(&folders());
-    let act = format!("\"act\" under the root gives \"Act\" in block 21, the first of 2 that match, and not \"ACT\" in block 27 {BOTH}");
-    let second = format!("\"Second\" under \"act\" gives \"second\", in another case {CASE}");
+    let act = format!("\"act\" under the root matched \"Act\" in block 21, the first of 2 that match, not \"ACT\" in block 27 {BOTH}");
+    let second = format!("\"Second\" under \"act\" matched \"second\", which differs in case {CASE}");
     remarks(&folder.vault(&["cat", "--as-original", "a.img", "act/Second"]), "1", &[&act, &second]);
     remarks(&folder.vault(&["cat", "--as-original", "a.img", "act//second"]), "1", &[&act]);
     remarks(&folder.vault(&["ls", "--as-original", "a.img", "act"]), "first\nsecond\n", &[&act]);
@@ -372,7 +372,7 @@ fn every_command_with_a_path_remarks() {
             assert!(lines.iter().all(|line| line.contains("--as-written") && line.contains("--unambiguous")), "{words:?} {said:?}");
             // By the command's own rule it is one line: the cue has the very name.
             let said = folder.vault(&[words, drive].concat());
-            let line = format!("vault: \"show\" under the root gives \"SHOW\", in another case {SAFE}\n");
+            let line = format!("vault: \"show\" under the root matched \"SHOW\", which differs in case {SAFE}\n");
             assert_eq!((said.status, said.error), (0, line), "{words:?}");
         }
     }
@@ -385,8 +385,8 @@ fn every_command_with_a_path_remarks() {
 #[test]
 fn a_second_entry_of_the_very_name_is_remarked() {
     let folder = with(&plain(&["x", "x", "y"]));
-    let line = "\"x\" under the root gives \"x\" in block 17, the first of 2 that match, and not \"x\" in block 19 \
-                (--as-written doesn't tell them apart and --icb does, --unambiguous refuses)";
+    let line = "\"x\" under the root matched \"x\" in block 17, the first of 2 that match, not \"x\" in block 19 \
+                (--icb tells them apart, --as-written doesn't, --unambiguous refuses)";
     remarks(&folder.vault(&["cat", "a.img", "x"]), "0", &[line]);
     remarks(&folder.vault(&["cat", "--as-written", "a.img", "x"]), "0", &[line]);
     remarks(&folder.vault(&["cat", "--as-written", "a.img", "y"]), "2", &[]);
@@ -459,7 +459,7 @@ fn an_older_show_names_the_newer() {
     image[root + 56..root + 64].fill(0);
     image[root + 172..root + 176].fill(0);
     folder.write("a.img", &image);
-    let cure = "; the disc was closed again, and by its descriptors of the highest number this is there, with --highest\n";
+    let cure = "; the disc was closed again later: --highest finds it\n";
     let said = folder.vault(&["cat", "a.img", "SHOW/9"]);
     assert_eq!(said.error, format!("vault: a.img: there is nothing named \"SHOW\" under the root (refusal 3){cure}"));
     assert_eq!(folder.vault(&["cat", "--highest", "a.img", "SHOW/9"]).status, 0);
@@ -468,7 +468,7 @@ fn an_older_show_names_the_newer() {
     folder.write("a.img", &common::reclosed());
     for words in [&["label", "a.img"][..], &["ls", "a.img"], &["check", "a.img"], &["survey", "a.img"]] {
         let said = folder.vault(words);
-        let cure = "; it was closed again, and opens by its descriptors of the highest number, with --highest; the last sector asked for";
+        let cure = "; it was closed again later: --highest opens it; the last sector asked for";
         assert!(said.status != 0 && said.error.contains(cure), "{words:?} {said:?}");
         // The older descriptors don't stand where they say.
         assert_eq!(folder.vault(&[words, &["--highest"]].concat()).status, if words[0] == "check" { 65 } else { 0 }, "{words:?}");

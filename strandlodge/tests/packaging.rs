@@ -230,7 +230,7 @@ fn the_examples_in_c_give_files_of_any_length() {
     folder.write("long.img", &strandlodge::write(&[("LONG", &long)]).unwrap());
     folder.write("cut.img", &show()[..9000]);
     let none = ["show.img", "SHOW/12", "No volume, or no such path\n", "3"];
-    let not_there = ["cut.img", "SHOW/9", "A sector asked for isn't wholly inside the image\n", "1"];
+    let not_there = ["cut.img", "SHOW/9", "A sector that was asked for is not completely inside the image\n", "1"];
     let below = ["show.img", "SHOW/9/deeper", "No volume, or no such path\n", "3"];
     for name in ["example", "window", "lookup"] {
         compiled(&folder, name);
@@ -275,7 +275,7 @@ fn the_examples_in_rust_run() {
     let run = ran(&cue, &["show.img", "SHOW/10.1a"]);
     assert!(run.status == 0 && run.out.starts_with("cue 10.1a\n") && run.error.is_empty(), "{run:?}");
     let run = ran(&cue, &["show.img", "SHOW/12"]);
-    let says = "there is nothing named \"12\" on SHOW 1\nthere is no volume, or nothing of that name (3)\n";
+    let says = "there is nothing named \"12\" on SHOW 1\nno volume, or no such path (3)\n";
     assert_eq!((run.status, run.error.as_str()), (1, says));
     let run = ran(&cue, &["none.img", "9"]);
     assert!(run.status == 1 && run.error.ends_with("(os error 2) (1)\n"), "{run:?}");
@@ -326,9 +326,15 @@ fn options_are_told_of() {
 /// A tree in which all is built: the script, and a command that only says that it ran.
 fn built() -> Folder {
     let folder = Folder::new();
-    for name in
-        ["crates", "target/staticlib", "target/unproved", "strandlodge/src", "target/command/proved", "target/command/unproved", "strandlodge-sys/src"]
-    {
+    for name in [
+        "crates",
+        "target/staticlib",
+        "target/unproved",
+        "strandlodge/src",
+        "target/command/proved",
+        "target/command/unproved",
+        "strandlodge-sys/src",
+    ] {
         fs::create_dir_all(folder.at(name)).unwrap();
     }
     for name in [
@@ -382,7 +388,13 @@ fn what_is_built_is_not_built_again() {
     let run = alone(&folder, &["ls", "a b"]);
     assert_eq!((run.status, run.out.as_str(), run.error.as_str()), (0, "proved ran ls a b\n", ""));
     assert_eq!(alone(&folder, &["--build"]).out, "");
-    for newer in ["strandlodge/src/a.rs", "strandlodge/Cargo.toml", "strandlodge/build.rs", "strandlodge-sys/src/a.rs", "target/staticlib/libvault_c.a"] {
+    for newer in [
+        "strandlodge/src/a.rs",
+        "strandlodge/Cargo.toml",
+        "strandlodge/build.rs",
+        "strandlodge-sys/src/a.rs",
+        "target/staticlib/libvault_c.a",
+    ] {
         age(&folder, newer, "now + 20 seconds");
         let run = alone(&folder, &["ls"]);
         assert!(run.status == 69 && run.error.contains("cargo is missing"), "{newer} {run:?}");
@@ -397,7 +409,7 @@ fn what_is_built_is_not_built_again() {
 #[test]
 fn archives_of_the_one_kind_are_not_taken_for_the_other() {
     let folder = built();
-    assert_eq!(alone(&folder, &["--prove"]).out, "vault: the command stands on archives whose proofs were checked on this machine\n");
+    assert_eq!(alone(&folder, &["--prove"]).out, "vault: the command uses archives whose proofs were checked on this machine\n");
     let needs_rt = |words: &[&str]| {
         let run = alone(&folder, words);
         assert!(run.status == 69 && run.error.contains("rt is missing"), "{run:?}");

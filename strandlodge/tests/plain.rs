@@ -1,4 +1,4 @@
-//! `Vault` and `Drive` as a console uses them: lines that were written for the original, and the same answers as where the sectors are counted.
+//! `Disc` and `Drive` as a console uses them: lines that were written for the original, and the same answers as where the sectors are counted.
 
 mod common;
 
@@ -8,7 +8,7 @@ use std::collections::HashSet;
 use std::io::Cursor;
 use std::path::Path;
 use std::sync::Arc;
-use strandlodge::{Answered, Counted, CountedDrive, DirEntry, Drive, How, LongAd, Mapped, Matching, Refusal, Refused, Result, Vault};
+use strandlodge::{Answered, Counted, CountedDrive, DirEntry, Disc, Drive, How, LongAd, Mapped, Matching, Refusal, Refused, Result};
 use strandlodge::{UNLIMITED, read_volume_label, read_volume_label_as};
 
 /// The lines that were promised to stand, word for word; and the disc is either kind.
@@ -25,7 +25,7 @@ macro_rules! as_they_stood {
 }
 
 #[allow(clippy::needless_question_mark)]
-fn from_image(disc: &Vault<Vec<u8>>, p: &str) -> Result<Vec<u8>> {
+fn from_image(disc: &Disc<Vec<u8>>, p: &str) -> Result<Vec<u8>> {
     as_they_stood!(disc, p)
 }
 
@@ -36,7 +36,7 @@ fn from_reader(disc: &mut Drive<Cursor<Vec<u8>>>, p: &str) -> Result<Vec<u8>> {
 
 #[test]
 fn the_lines_that_were_promised_stand() {
-    let (vault, mut drive) = (Vault::open(show()).unwrap(), Drive::open(Cursor::new(show())).unwrap());
+    let (vault, mut drive) = (Disc::open(show()).unwrap(), Drive::open(Cursor::new(show())).unwrap());
     for p in ["9", "10.1a", "SHOW/11", "none"] {
         assert_eq!(from_image(&vault, p), from_reader(&mut drive, p));
     }
@@ -57,7 +57,7 @@ fn load(disc: &mut Drive<Cursor<Vec<u8>>>, cue: &str) -> Result<Vec<u8>> {
 
 /// The same over an image.
 #[allow(clippy::needless_question_mark)]
-fn load_from(disc: &Vault<impl AsRef<[u8]>>, cue: &str) -> Result<Vec<u8>> {
+fn load_from(disc: &Disc<impl AsRef<[u8]>>, cue: &str) -> Result<Vec<u8>> {
     let show: LongAd = disc.lookup("SHOW")?;
     let entries: Vec<DirEntry> = disc.read_directory(show)?;
     for entry in &entries {
@@ -74,7 +74,7 @@ fn load_from(disc: &Vault<impl AsRef<[u8]>>, cue: &str) -> Result<Vec<u8>> {
 #[test]
 fn lines_for_the_original_stand() {
     let mut drive = Drive::open(Cursor::new(show())).unwrap();
-    let vault = Vault::open(show()).unwrap();
+    let vault = Disc::open(show()).unwrap();
     for cue in ["9", "10.1A", "10.1a", "11", "SHOW/11"] {
         let look = load(&mut drive, cue).unwrap();
         assert_eq!(look, load_from(&vault, cue).unwrap());
@@ -88,33 +88,33 @@ fn lines_for_the_original_stand() {
 
 /// A disc that goes from where it is opened to where it is read.
 struct Console {
-    disc: Vault<Vec<u8>>,
+    disc: Disc<Vec<u8>>,
 }
 
 #[test]
 fn an_image_is_owned_or_borrowed() {
     let image = show();
-    let opened = || -> Result<Console> { Ok(Console { disc: Vault::open(show())? }) };
+    let opened = || -> Result<Console> { Ok(Console { disc: Disc::open(show())? }) };
     let console = std::thread::spawn(opened).join().unwrap().unwrap();
     assert!(console.disc.read_path("SHOW/11").unwrap().starts_with(b"cue 11\n"));
     assert_eq!(console.disc.image(), &image[..]);
     assert_eq!(console.disc.into_inner(), image);
     // Borrowed it can be copied.
-    let vault = Vault::open(&image).unwrap();
+    let vault = Disc::open(&image).unwrap();
     let (one, other) = (vault, vault);
     assert_eq!(one.lookup("SHOW").unwrap(), other.lookup("SHOW").unwrap());
     let shared: Arc<[u8]> = image.clone().into();
-    let vault = Vault::open(shared.clone()).unwrap();
+    let vault = Disc::open(shared.clone()).unwrap();
     std::thread::scope(|scope| {
         for cue in ["SHOW/9", "SHOW/11"] {
             let vault = vault.clone();
             scope.spawn(move || assert!(vault.read_path(cue).is_ok()));
         }
     });
-    assert_eq!(Vault::open(image.clone().into_boxed_slice()).unwrap().sectors(), 6);
-    assert_eq!(Vault::open(&image[..100]).unwrap_err().why, Refusal::Io);
-    assert_eq!(Vault::open([0; 0]).unwrap_err().sectors, 1);
-    assert!(format!("{vault:?}").starts_with("Vault { partition_start_sector: 288, partition_number: 5, root_directory_icb: "));
+    assert_eq!(Disc::open(image.clone().into_boxed_slice()).unwrap().sectors(), 6);
+    assert_eq!(Disc::open(&image[..100]).unwrap_err().why, Refusal::Io);
+    assert_eq!(Disc::open([0; 0]).unwrap_err().sectors, 1);
+    assert!(format!("{vault:?}").starts_with("Disc { partition_start_sector: 288, partition_number: 5, root_directory_icb: "));
 }
 
 #[test]
@@ -125,7 +125,7 @@ fn an_image_may_be_a_map_of_a_file() {
     folder.write("empty", b"");
     // SAFETY: nobody else knows these files.
     let map = |name| unsafe { Mapped::open(folder.at(name)) };
-    let opened = || -> Result<Vault<Mapped>> { Vault::open(map("show.img").unwrap()) };
+    let opened = || -> Result<Disc<Mapped>> { Disc::open(map("show.img").unwrap()) };
     let vault = std::thread::scope(|scope| scope.spawn(opened).join().unwrap()).unwrap();
     assert!(vault.read_path("SHOW/11").unwrap().starts_with(b"cue 11\n"));
     assert_eq!((vault.image().to_vec(), format!("{:?}", vault.into_inner())), (show(), "Mapped { length: 622592, .. }".to_string()));
@@ -146,7 +146,7 @@ fn text(answered: Answered<Option<&[u8]>>) -> Result<Option<&str>> {
 fn plain_answers_are_the_counted_ones() {
     let image = show();
     for how in [How::default(), How { checked: true, ..How::default() }, How { highest: true, ..How::default() }] {
-        let (vault, counted) = (Vault::open_as(image.clone(), how).unwrap(), Counted::open_as(&image, how).unwrap());
+        let (vault, counted) = (Disc::open_as(image.clone(), how).unwrap(), Counted::open_as(&image, how).unwrap());
         assert_eq!((vault.sectors(), vault.how(), vault.counted().how()), (counted.sectors, how, how));
         assert_eq!((vault.partition_start_sector(), vault.partition_number()), (288, 5));
         assert_eq!((vault.maps(), vault.root_directory_icb()), (counted.maps(), counted.root_directory_icb()));
@@ -178,7 +178,7 @@ fn plain_answers_are_the_counted_ones() {
         }
     }
     assert_eq!(read_volume_label(&image), Ok("SHOW 1".to_string()));
-    let cut = Vault::open(&image[..300 * 2048]).unwrap();
+    let cut = Disc::open(&image[..300 * 2048]).unwrap();
     let (icb, counted) = (cut.lookup("SHOW/11").unwrap(), cut.counted());
     let refused = cut.read_file(icb).unwrap_err();
     assert_eq!((cut.missing_sector(icb, &refused), counted.missing_sector(icb, &refused)), (Some(300), Some(300)));
@@ -227,7 +227,7 @@ fn a_counted_answer_stands_for_its_value() {
 /// Of a path that is text a component is text, and of bytes it is bytes.
 #[test]
 fn the_component_that_failed_is_of_the_path_s_kind() {
-    let (vault, mut drive) = (Vault::open(show()).unwrap(), Drive::open(Cursor::new(show())).unwrap());
+    let (vault, mut drive) = (Disc::open(show()).unwrap(), Drive::open(Cursor::new(show())).unwrap());
     assert_eq!((vault.failed("SHOW/12").unwrap(), drive.failed("SHOW/12").unwrap()), (Some("12"), Some("12")));
     assert_eq!((vault.failed("SHÖW/12").unwrap(), vault.failed(&"SHOW/é".to_string()).unwrap()), (Some("SHÖW"), Some("é")));
     assert_eq!((vault.failed(b"SHOW/\xff").unwrap(), drive.failed(&b"x/9".to_vec()).unwrap()), (Some(&b"\xff"[..]), Some(&b"x"[..])));
@@ -240,9 +240,9 @@ fn loaded(file: &Path, cue: &str) -> Result<Vec<u8>> {
     let mut disc = Drive::open(std::fs::File::open(file)?)?;
     let mut copy = Vec::new();
     disc.copy_file(disc.root_directory_icb(), &mut copy)?;
-    let vault = Vault::open(std::fs::read(file)?)?;
+    let vault = Disc::open(std::fs::read(file)?)?;
     let again = strandlodge::write(&[(cue, vault.read_path(cue)?)])?;
-    Vault::open(again)?.read_path(cue)
+    Disc::open(again)?.read_path(cue)
 }
 
 #[test]
@@ -256,7 +256,7 @@ fn one_error_is_of_refusals_and_of_files() {
     assert_eq!((missing.refused(), missing.io().unwrap().kind()), (Refused { why: Refusal::Io, sectors: 0 }, std::io::ErrorKind::NotFound));
     assert_eq!(missing.to_string(), missing.io().unwrap().to_string());
     // What the reader said, and what a number means.
-    assert_eq!(error("cut.img", "9").to_string(), "sector 256 isn't there: the disc or image ends before it");
+    assert_eq!(error("cut.img", "9").to_string(), "sector 256 is missing: the disc or image ends before it");
     assert_eq!((error("cut.img", "9").number(), error("cut.img", "9").sectors), (1, 1));
     assert_eq!(error("none.img", "9").to_string(), Refusal::Malformed.to_string());
     assert_eq!(error("show.img", "SHOW/12").to_string(), Refusal::NotBluray.to_string());
@@ -268,18 +268,29 @@ fn one_error_is_of_refusals_and_of_files() {
 
 #[test]
 fn places_can_be_kept_in_a_set() {
-    let vault = Vault::open(show()).unwrap();
+    let vault = Disc::open(show()).unwrap();
     let icbs: HashSet<LongAd> = ["SHOW/9", "SHOW/10.1A", "show/10.1a", "SHOW/9"].iter().map(|path| vault.lookup(path).unwrap()).collect();
     assert_eq!(icbs.len(), 2);
     let entries: HashSet<DirEntry> = vault.read_directory(vault.lookup("SHOW").unwrap()).unwrap().into_iter().collect();
     assert_eq!(entries.len(), 4);
 }
 
+/// Code that was written when the type had this name.
+#[test]
+#[allow(deprecated)]
+fn the_old_name_still_works() {
+    fn label(disc: &strandlodge::Vault<Vec<u8>>) -> Result<String> {
+        disc.label()
+    }
+    let disc = strandlodge::Vault::open(show()).unwrap();
+    assert_eq!(label(&disc).unwrap(), Disc::open(show()).unwrap().label().unwrap());
+}
+
 /// Every call has an example in its documentation, which the tests compile, and says how it is refused.
 #[test]
 fn every_call_has_an_example_and_its_errors() {
     let mut calls = 0;
-    for source in [include_str!("../src/vault.rs"), include_str!("../src/drive.rs"), include_str!("../src/writer.rs")] {
+    for source in [include_str!("../src/disc.rs"), include_str!("../src/drive.rs"), include_str!("../src/writer.rs")] {
         let mut documented = String::new();
         for line in source.lines().map(str::trim_start) {
             if line.starts_with("///") {

@@ -3,20 +3,20 @@
 mod common;
 
 use common::command::{Folder, Said};
-use common::{Disc, SECTOR, continuation, continued, hold_runs, named, noise, short_ad, show};
+use common::{SECTOR, TestDisc, continuation, continued, hold_runs, named, noise, short_ad, show};
 use std::fs::{self, File};
 use std::io::{Read, Seek, SeekFrom, Write};
 use std::os::unix::fs::FileExt;
 use std::process::{Command, Stdio};
 use std::time::Instant;
-use strandlodge::{Counted, LongAd, Refusal, Refused, Run, Runs, Vault};
+use strandlodge::{Counted, Disc, LongAd, Refusal, Refused, Run, Runs};
 
 fn joined(runs: Runs) -> Vec<u8> {
     runs.collect::<Vec<_>>().concat()
 }
 
 /// A disc with one file, `FILM`, of this entry.
-fn with_film(mut disc: Disc, entry: u32) -> Vec<u8> {
+fn with_film(mut disc: TestDisc, entry: u32) -> Vec<u8> {
     let root = disc.directory(&[named("FILM", entry, false)]);
     disc.root(root);
     disc.0
@@ -24,7 +24,7 @@ fn with_film(mut disc: Disc, entry: u32) -> Vec<u8> {
 
 /// A film in extents of these lengths, which stand on the disc in the opposite order, and of so many bytes in all.
 fn pieces(lengths: &[usize], length: u64) -> (Vec<u8>, Vec<u8>) {
-    let (mut disc, bytes) = (Disc::new(), noise(lengths.iter().sum()));
+    let (mut disc, bytes) = (TestDisc::new(), noise(lengths.iter().sum()));
     let (mut end, mut area) = (bytes.len(), Vec::new());
     for length in lengths.iter().rev() {
         area.push(short_ad(*length, disc.lay(&bytes[end - length..end])));
@@ -41,7 +41,7 @@ const LENGTHS: [usize; 6] = [1, 2048, 3000, 2047, 5000, 4096];
 #[test]
 fn runs_are_cut_at_every_border() {
     let (image, film) = pieces(&LENGTHS, 16_000);
-    let vault = Vault::open(&image).unwrap();
+    let vault = Disc::open(&image).unwrap();
     let runs = vault.runs(vault.lookup("FILM").unwrap()).unwrap();
     assert_eq!((runs.len(), runs.is_empty(), runs.places().count()), (16_000, false, 6));
     assert_eq!(runs.places().map(|run| run.length).collect::<Vec<_>>(), [1, 2048, 3000, 2047, 5000, 3904]);
@@ -69,7 +69,7 @@ fn runs_are_cut_at_every_border() {
 #[test]
 fn what_is_taken_is_no_longer_told_of() {
     let (image, film) = pieces(&LENGTHS, 16_000);
-    let vault = Vault::open(&image).unwrap();
+    let vault = Disc::open(&image).unwrap();
     let mut runs = vault.runs(vault.lookup("FILM").unwrap()).unwrap();
     assert_eq!(runs.next().unwrap(), &film[..1]);
     assert_eq!((runs.len(), runs.places().count(), runs.size_hint()), (15_999, 5, (5, Some(5))));
@@ -83,7 +83,7 @@ fn what_is_taken_is_no_longer_told_of() {
 
 #[test]
 fn an_empty_file_has_none_and_an_embedded_one_is_one() {
-    let mut disc = Disc::new();
+    let mut disc = TestDisc::new();
     let files = [disc.entry(0, &[], 0), disc.entry(3, b"cue", 3), disc.entry(0, &short_ad(0, 7), 1 << 60), disc.entry(3, b"", 0)];
     let root = disc.directory(&files.iter().enumerate().map(|(i, block)| named(&i.to_string(), *block, false)).collect::<Vec<_>>());
     disc.root(root);
@@ -103,7 +103,7 @@ fn an_empty_file_has_none_and_an_embedded_one_is_one() {
 #[test]
 fn the_sample_show_by_its_runs() {
     let image = show();
-    let (owned, counted) = (Vault::open(image.clone()).unwrap(), Counted::open(&image).unwrap());
+    let (owned, counted) = (Disc::open(image.clone()).unwrap(), Counted::open(&image).unwrap());
     for path in ["", "SHOW", "SHOW/9", "SHOW/10.1A", "SHOW/11"] {
         let icb: LongAd = owned.lookup(path).unwrap();
         let (runs, again) = (owned.runs(icb).unwrap(), counted.runs(counted.lookup(path).unwrap()).unwrap());
@@ -129,7 +129,7 @@ fn runs_are_refused_as_the_read_is() {
     }
     assert!(seen.iter().all(|n| *n > 2), "{seen:?}");
     // A hole, and an ICB that leads nowhere.
-    let mut disc = Disc::new();
+    let mut disc = TestDisc::new();
     let hole = disc.entry(0, &short_ad(5000 | 1 << 30, 0), 5000);
     let image = with_film(disc, hole);
     let vault = Counted::open(&image).unwrap();
@@ -141,7 +141,7 @@ fn runs_are_refused_as_the_read_is() {
 
 /// A file of 400 extents over the same MiB, in an image of less than two.
 fn overlapping() -> Vec<u8> {
-    let (mut disc, mib) = (Disc::new(), noise(1 << 20));
+    let (mut disc, mib) = (TestDisc::new(), noise(1 << 20));
     let area = short_ad(1 << 20, disc.lay(&mib)).repeat(400);
     let further = disc.lay(&continuation(&area));
     let entry = disc.entry(0, &continued(24 + area.len(), further), 1 << 60);
@@ -164,7 +164,7 @@ fn a_file_of_more_bytes_than_its_image_has_its_runs() {
 
 /// More runs than are lent at first, and than the system writes at once: 100,000 of 100 bytes each and one of one.
 fn scattered() -> (Vec<u8>, Vec<u8>) {
-    let (mut disc, cue) = (Disc::new(), noise(100));
+    let (mut disc, cue) = (TestDisc::new(), noise(100));
     let block = disc.lay(&cue);
     let area = short_ad(100, block).repeat(100_000);
     let further = disc.lay(&continuation(&area));
@@ -267,8 +267,8 @@ fn a_part_of_a_file_that_is_cut_short_is_refused() {
 #[test]
 fn a_file_of_more_bytes_than_its_image_is_written_in_part() {
     let shelf = Shelf::new(&overlapping());
-    let sentence = "vault: disc.img: \"FILM\": the file has more bytes than its image, since its extents overlap; \
-                    cat and get of one file take N of them with --bytes N (refusal 5)\n";
+    let sentence = "vault: disc.img: \"FILM\": the file is longer than its image, because its extents overlap; \
+                    to read N bytes of it, use cat or get with --bytes N (refusal 5)\n";
     for words in ["cat disc.img FILM", "get disc.img FILM film", "cat disc.img FILM --from 400000000"] {
         let said = shelf.says(words);
         assert_eq!((said.status, said.error.as_str(), said.bytes.len()), (5, sentence, 0), "{words}");
@@ -287,7 +287,7 @@ const MARK: usize = 10_000;
 
 /// A sparse disc with a film in extents of these lengths, which stand one behind another: zeros but for the marks.
 fn sparse(folder: &Folder, lengths: &[u64]) -> File {
-    let (mut disc, mut area) = (Disc::new(), Vec::new());
+    let (mut disc, mut area) = (TestDisc::new(), Vec::new());
     // Behind the entry and the directory.
     let first = disc.lay(&[]) + 16;
     let mut block = first;

@@ -3,7 +3,7 @@
 mod common;
 
 use common::command::{Folder, Said, left_out, tool};
-use common::{Disc, identifier, named, show};
+use common::{TestDisc, identifier, named, show};
 use std::fs;
 use std::os::unix::fs::MetadataExt;
 use std::process::Command;
@@ -11,7 +11,7 @@ use std::sync::{Mutex, MutexGuard};
 
 /// A disc whose root has a file of each of these names, with its place among them as its bytes.
 fn disc_of(names: &[&str]) -> Vec<u8> {
-    let mut disc = Disc::new();
+    let mut disc = TestDisc::new();
     let files: Vec<u32> = (0..names.len()).map(|i| disc.file(i.to_string().as_bytes())).collect();
     let wide = |name: &str| -> Vec<u8> { std::iter::once(16).chain(name.encode_utf16().flat_map(u16::to_be_bytes)).collect() };
     let entries: Vec<Vec<u8>> = names.iter().zip(files).map(|(name, block)| identifier(&wide(name), block, false)).collect();
@@ -79,7 +79,7 @@ fn twins_are_both_kept_on_a_stick() {
         let said = folder.vault(&["get", "-r", "show.img", "-o", "to"]);
         assert_eq!((said.status, said.out.lines().count()), (74, 4), "{said:?}");
         assert!(said.out.contains("SHOW/10.1a: 54 bytes, to to/SHOW/10.1a~2\n"), "{said:?}");
-        assert!(said.error.contains("\"SHOW/10.1a\" is written to to/SHOW/10.1a~2, since its own name is another's here"), "{said:?}");
+        assert!(said.error.contains("\"SHOW/10.1a\" is written to to/SHOW/10.1a~2: its own name is taken there"), "{said:?}");
         assert!(said.error.ends_with("1 of 5 files and folders not under their own names\n"), "{said:?}");
         assert_eq!(fs::read_dir(folder.at("to/SHOW")).unwrap().count(), 4, "{again}");
         assert!(read("10.1A").starts_with("cue 10.1A\n") && read("10.1a~2").starts_with("cue 10.1a\n"));
@@ -97,7 +97,7 @@ fn twins_are_both_kept_on_a_stick() {
 #[test]
 fn folders_that_differ_in_case_are_two_on_a_stick() {
     let Some(stick) = Stick::new("folders on a stick") else { return };
-    let (folder, mut disc) = (&stick.folder, Disc::new());
+    let (folder, mut disc) = (&stick.folder, TestDisc::new());
     let (one, two) = (disc.file(b"one"), disc.file(b"two"));
     let (upper, lower) = (disc.directory(&[named("cue", one, false)]), disc.directory(&[named("cue", two, false)]));
     let root = disc.directory(&[named("ACT", upper, true), named("act", lower, true)]);
@@ -125,7 +125,7 @@ fn a_stick_takes_every_name() {
     let said = folder.vault(&["get", "-r", "a.img", "-o", "to"]);
     assert!(said.status == 74 && said.out.contains("a\\u{2f}b: 1 byte, to to/a%2Fb\n"), "{said:?}");
     let refused = said.error.lines().find(|line| line.contains("a:b")).unwrap();
-    assert!(refused.ends_with("; get -r --portable writes names that every file system takes"), "{refused}");
+    assert!(refused.ends_with("; try get -r --portable, which writes names that every file system accepts"), "{refused}");
 }
 
 /// Where case is told apart, portable names differ by more.
@@ -137,14 +137,14 @@ fn portable_names_can_be_copied_anywhere() {
     assert!(fs::read_to_string(folder.at("to/SHOW/10.1a~2")).unwrap().starts_with("cue 10.1a\n"));
     for words in [&["get", "--portable", "show.img", "SHOW/9", "x"][..], &["get", "--sums", "s", "show.img", "-o", "to", "SHOW/9"]] {
         let said = folder.vault(words);
-        assert!(said.status == 64 && said.error.contains("--portable and --sums are for get -r"), "{said:?}");
+        assert!(said.status == 64 && said.error.contains("--portable and --sums work only with get -r"), "{said:?}");
     }
 }
 
 /// More files than wait at once, over old ones: each is replaced, and nothing is left behind.
 #[test]
 fn many_old_files_are_replaced() {
-    let (folder, mut disc) = (with_show(), Disc::new());
+    let (folder, mut disc) = (with_show(), TestDisc::new());
     let cue = disc.file(b"a look");
     let entries: Vec<Vec<u8>> = (0..2300).map(|i| named(&i.to_string(), cue, false)).collect();
     let root = disc.directory(&entries);
@@ -178,17 +178,17 @@ fn sums_are_taken_by_sha256sum() {
     assert!(said.status == 74 && said.error.contains("--sums needs sha256sum") && !folder.at("to/SHOW").exists(), "{said:?}");
     // Not over a file of the disc, nor over the image.
     let said = folder.vault(&["get", "-r", "show.img", "-o", "to", "--sums", "to/SHOW/9"]);
-    assert!(said.status == 74 && said.error.contains("a file of the disc was written here"), "{said:?}");
+    assert!(said.status == 74 && said.error.contains("a file from the disc was written here"), "{said:?}");
     assert_eq!(folder.vault(&["get", "-r", "show.img", "-o", "to", "--sums", "show.img"]).status, 64);
 }
 
 #[test]
 fn two_nights_are_compared() {
-    let (folder, mut disc) = (with_show(), Disc::new());
+    let (folder, mut disc) = (with_show(), TestDisc::new());
     let looks: Vec<u32> = [&b"nine"[..], b"ten", b"eleven"].map(|look| disc.file(look)).to_vec();
     let inner = disc.directory(&[named("x", looks[0], false)]);
-    let make = |disc: &Disc, entries: &[Vec<u8>]| {
-        let mut disc = Disc(disc.0.clone());
+    let make = |disc: &TestDisc, entries: &[Vec<u8>]| {
+        let mut disc = TestDisc(disc.0.clone());
         let root = disc.directory(entries);
         disc.root(root);
         disc.0

@@ -5,7 +5,7 @@ mod common;
 
 use common::asked::images;
 use common::command::{Folder, Said, left_out, tool};
-use common::{Disc, SECTOR, harm, named, show};
+use common::{SECTOR, TestDisc, harm, named, show};
 use std::process::Command;
 use strandlodge::udf::{AllocationExtentDescriptor, FileEntry};
 use strandlodge::{Counted, Figure, Figures, How, LbAddr, LongAd, Refusal, Refused, Show, Survey};
@@ -285,7 +285,7 @@ fn no_images_have_no_figures() {
 /// The show with folder SHOW large, so that its work space has to grow, and below it a folder as large.
 #[test]
 fn the_work_space_grows() {
-    let mut disc = Disc::new();
+    let mut disc = TestDisc::new();
     let file = disc.file(b"cue");
     let names = |front: &str| (0..5000).map(|n| named(&format!("{front}{n:05}"), file, false)).collect::<Vec<_>>();
     let below = disc.directory(&names("b"));
@@ -368,7 +368,7 @@ fn the_command_goes_on_behind_a_disc_that_was_made_to_do_harm() {
     let line = |name: &str| format!("       4           1              154        4          8     0       - {name}");
     let limit = 500_000 + 4 * disc.len() / SECTOR;
     let stopped = |limit: usize| {
-        let cure = "The disc may be made to do harm: --limit N sets another limit, --no-limit none.";
+        let cure = "The disc may be malicious. Use --limit N for another limit, or --no-limit for none.";
         format!("harm.img: stopped after {limit} sectors, the limit (refusal 16). {cure}")
     };
     let total = "       8           2              308        8         16     0       - total";
@@ -413,17 +413,14 @@ fn the_command_surveys_a_shelf() {
     let said = folder.vault(&["survey", "show.img", "cut.img"]);
     assert_eq!((said.status, said.out.as_str()), (67, format!("{line}{}", line.replace("show.img", "total")).as_str()), "{said:?}");
     let errors: Vec<&str> = said.error.lines().collect();
-    assert!(
-        errors[0].starts_with("vault: cut.img: a sector that was asked for isn't") && errors[0].contains("(refusal 1); the last sector"),
-        "{said:?}"
-    );
+    assert!(errors[0].starts_with("vault: cut.img: a sector is missing") && errors[0].contains("(refusal 1); the last sector"), "{said:?}");
     assert_eq!(errors[1..], ["vault: survey: images: 2, not surveyed: 1; files: 4, of which can be read: 4"]);
     let said = folder.vault(&["survey", "ruined.img", "none.img", "show.img", "--copy"]);
     let lines: Vec<&str> = said.out.lines().collect();
     let total = "       8           2              281        7         15     0     2:1 total";
     assert!(said.status == 67 && lines.len() == 3 && lines[0].ends_with("     0     2:1 ruined.img") && lines[2] == total, "{said:?}");
     let last = "vault: survey: images: 3, not surveyed: 1; files: 8, of which can be read: 7\n";
-    assert_eq!(said.error, format!("vault: none.img: there is no such file\n{last}"));
+    assert_eq!(said.error, format!("vault: none.img: no such file\n{last}"));
     assert_eq!(folder.vault(&["survey", "ruined.img"]).status, 67);
 }
 
@@ -522,7 +519,7 @@ fn a_row_that_is_not_whole_is_refused() {
     ] {
         folder.write("rows", rows.as_bytes());
         let said = folder.vault(&["survey", "--total", "rows"]);
-        let error = format!("vault: rows: line {line} is no whole row of `vault survey --rows`\n");
+        let error = format!("vault: rows: line {line} is not a complete row of `vault survey --rows`\n");
         assert_eq!((said.status, said.out.as_str(), said.error), (65, "", error));
     }
     assert_eq!(folder.vault(&["survey", "--total", "none"]).status, 66);

@@ -3,7 +3,7 @@
 mod common;
 
 use common::command::{Folder, Said, left_out, tool};
-use common::{Disc, SECTOR, identifier, named, noise, sealed, short_ad, show};
+use common::{SECTOR, TestDisc, identifier, named, noise, sealed, short_ad, show};
 use std::fs::{self, File};
 use std::os::unix::fs::{MetadataExt, PermissionsExt, symlink};
 use std::process::{Command, Stdio};
@@ -33,8 +33,8 @@ fn wide(name: &str) -> Vec<u8> {
 }
 
 /// A disc whose root has a file of each of these names, with its place among them as its bytes.
-fn disc_of(names: &[&str]) -> Disc {
-    let mut disc = Disc::new();
+fn disc_of(names: &[&str]) -> TestDisc {
+    let mut disc = TestDisc::new();
     let files: Vec<u32> = (0..names.len()).map(|i| disc.file(i.to_string().as_bytes())).collect();
     let entries: Vec<Vec<u8>> = names.iter().zip(files).map(|(name, block)| identifier(&wide(name), block, false)).collect();
     let root = disc.directory(&entries);
@@ -79,8 +79,8 @@ fn what_ls_prints_is_taken_back() {
     }
     assert_eq!(folder.vault(&["ls", "-0", "a.img"]).out, TRICKS.map(|name| format!("{name}\0")).concat());
     assert_eq!(folder.vault(&["ls", "-R", "-0", "a.img"]).out, TRICKS.map(|name| format!("{name}\0")).concat());
-    refuses(&folder.vault(&["cat", "a.img", "back\\slash"]), 64, "--raw takes PATH as it is");
-    refuses(&folder.vault(&["cat", "a.img", "\\n"]), 64, "begins \\\\, \\u{..} or \\x..");
+    refuses(&folder.vault(&["cat", "a.img", "back\\slash"]), 64, "--raw takes PATH literally");
+    refuses(&folder.vault(&["cat", "a.img", "\\n"]), 64, "starts \\\\, \\u{..} or \\x..");
 }
 
 #[test]
@@ -97,7 +97,7 @@ fn what_no_path_leads_to_is_had_by_its_place() {
         assert_eq!(fs::read_to_string(folder.at("file")).unwrap(), i.to_string());
         assert!(folder.vault(&["stat", "a.img", "--icb", icb]).out.contains("kind     file\n"));
     }
-    refuses(&folder.vault(&["cat", "a.img", "with\\u{2f}slash"]), 64, "ls -i shows its place, for --icb");
+    refuses(&folder.vault(&["cat", "a.img", "with\\u{2f}slash"]), 64, "use --icb with its place, from ls -i");
     assert_eq!(folder.vault(&["cat", "a.img", "with/slash"]).status, 3);
 }
 
@@ -150,7 +150,7 @@ fn a_link_is_followed_or_refused() {
     answers(&folder.vault(&["get", "show.img", "SHOW/11", "link"]), "");
     assert_eq!(fs::read_to_string(folder.at("old")).unwrap(), BLACKOUT);
     assert!(folder.at("link").is_symlink());
-    refuses(&folder.vault(&["get", "show.img", "SHOW/11", "lost"]), 74, "this is a link that leads to nothing");
+    refuses(&folder.vault(&["get", "show.img", "SHOW/11", "lost"]), 74, "this is a broken link");
     assert_eq!(folder.names(), ["link", "lost", "old", "show.img"]);
 }
 
@@ -172,14 +172,14 @@ fn standard_output_is_written_and_not_replaced() {
     let before = fs::metadata(folder.at("error")).unwrap().ino();
     let status = folder.command(&["get", "show.img", "SHOW/11", "/dev/stderr"]).stderr(error).status().unwrap();
     assert_eq!((status.code(), fs::metadata(folder.at("error")).unwrap().ino()), (Some(74), before));
-    assert!(fs::read_to_string(folder.at("error")).unwrap().contains("this is no ordinary file"));
+    assert!(fs::read_to_string(folder.at("error")).unwrap().contains("not a regular file"));
     assert_eq!(folder.vault(&["make", "/dev/stdout", "show.img"]).status, 74);
 }
 
 /// A file that grows too long ends the command by a signal, and what was written goes with it.
 #[test]
 fn a_signal_leaves_nothing() {
-    let (folder, mut disc) = (Folder::new(), Disc::new());
+    let (folder, mut disc) = (Folder::new(), TestDisc::new());
     let block = disc.file(&noise(4_000_000));
     let root = disc.directory(&[named("big", block, false)]);
     disc.root(root);
@@ -271,21 +271,21 @@ fn no_link_leads_out_of_the_folder() {
     symlink("../elsewhere", folder.at("to/SHOW")).unwrap();
     let said = folder.vault(&["get", "-r", "show.img", "-o", "to"]);
     assert_eq!(said.status, 74, "{said:?}");
-    assert!(said.error.contains("to/SHOW: this is there, and is no folder"), "{said:?}");
+    assert!(said.error.contains("to/SHOW: this exists and is not a folder"), "{said:?}");
     assert!(below(&folder, "elsewhere").is_empty(), "{:?}", below(&folder, "elsewhere"));
     fs::remove_file(folder.at("to/SHOW")).unwrap();
     fs::create_dir(folder.at("to/SHOW")).unwrap();
     symlink("../../file", folder.at("to/SHOW/9")).unwrap();
     let said = folder.vault(&["get", "-r", "show.img", "-o", "to"]);
     assert_eq!((said.status, said.out.lines().count()), (74, 3), "{said:?}");
-    assert!(said.error.contains("to/SHOW/9: this is a link, which isn't followed here"), "{said:?}");
+    assert!(said.error.contains("to/SHOW/9: this is a link, and links are not followed here"), "{said:?}");
     assert_eq!(fs::read(folder.at("file")).unwrap(), b"as it was");
 }
 
 /// Directories that hold each other, and themselves: each is taken once.
 #[test]
 fn directories_that_hold_each_other_end() {
-    let (folder, mut disc) = (with_folder(), Disc::new());
+    let (folder, mut disc) = (with_folder(), TestDisc::new());
     let cue = disc.file(b"a look");
     // The root is block 3, whatever it is made of.
     let other = disc.directory(&[named("up", 3, true), named("cue", cue, false)]);
@@ -300,14 +300,14 @@ fn directories_that_hold_each_other_end() {
         let said = folder.vault(&[&["get", "-r", "a.img", "-o", "to"], drive].concat());
         assert_eq!((said.status, below(&folder, "to")), (67, ["a/", "a/cue", "cue"].map(String::from).to_vec()), "{said:?}");
         for path in ["self", "again", "b", "a/up"] {
-            assert!(said.error.contains(&format!("\"{path}\" is a directory that another entry named before")), "{said:?}");
+            assert!(said.error.contains(&format!("\"{path}\" is a directory that an earlier entry also names")), "{said:?}");
         }
     }
 }
 
 #[test]
 fn what_cannot_be_had_keeps_nothing_back() {
-    let (folder, mut disc) = (with_folder(), Disc::new());
+    let (folder, mut disc) = (with_folder(), TestDisc::new());
     let cue = disc.file(b"a look");
     let lost = disc.entry(0, &common::short_ad(10, 1 << 20), 10);
     let root = disc.directory(&[named("gone", 900_000, true), named("lost", lost, false), named("cue", cue, false)]);
@@ -325,20 +325,20 @@ fn what_cannot_be_had_keeps_nothing_back() {
     for limit in ["1", "7", "8", "16"] {
         for drive in [&[][..], &["--drive"]] {
             let said = many.vault(&[&["get", "-r", "show.img", "-o", "to", "--limit", limit], drive].concat());
-            refuses(&said, 68, &format!("stopped after {limit} sectors, the limit; nothing is written. The disc may be made to do harm"));
+            refuses(&said, 68, &format!("stopped after {limit} sectors, the limit; nothing was written. The disc may be malicious"));
             assert!(below(&many, "to").is_empty(), "{said:?}");
         }
     }
     for limit in [&["--limit", "17"][..], &["--no-limit"], &["--limit", "17", "--drive"]] {
         assert_eq!(many.vault(&[&["get", "-r", "show.img", "-o", "to"], limit].concat()).status, 0);
     }
-    refuses(&many.vault(&["get", "-r", "show.img", "-o", "none"]), 74, "the folder can't be written to");
+    refuses(&many.vault(&["get", "-r", "show.img", "-o", "none"]), 74, "can't write to this folder");
 }
 
 /// Long paths to many entries: more than is kept in memory.
 #[test]
 fn paths_of_many_bytes_are_refused_before_anything_is_written() {
-    let (folder, mut disc) = (with_folder(), Disc::new());
+    let (folder, mut disc) = (with_folder(), TestDisc::new());
     let cue = disc.file(b"a look");
     let entries: Vec<Vec<u8>> = (0..40_000).map(|i| named(&format!("{i}"), cue, false)).collect();
     let mut below = disc.directory(&entries);
@@ -347,7 +347,7 @@ fn paths_of_many_bytes_are_refused_before_anything_is_written() {
     }
     disc.root(below);
     folder.write("a.img", &disc.0);
-    refuses(&folder.vault(&["get", "-r", "a.img", "-o", "to"]), 68, "take a folder at a time; nothing is written");
+    refuses(&folder.vault(&["get", "-r", "a.img", "-o", "to"]), 68, "copy one folder at a time; nothing was written");
     assert_eq!(fs::read_dir(folder.at("to")).unwrap().count(), 0);
 }
 
@@ -359,7 +359,7 @@ fn one_file_is_not_written_twice() {
     folder.write("to/10.1A", b"");
     let said = folder.vault(&["get", "--as-written", "show.img", "-o", "to", "SHOW/10.1A", "SHOW/10.1a"]);
     assert_eq!((said.status, said.out.as_str()), (67, "SHOW/10.1A: 57 bytes, to to/10.1A\n"), "{said:?}");
-    assert!(said.error.contains("to/10.1a: this is the same file as one that was written before"), "{said:?}");
+    assert!(said.error.contains("to/10.1a: this is the same file as one already written"), "{said:?}");
     assert!(fs::read_to_string(folder.at("to/10.1A")).unwrap().starts_with("cue 10.1A\n"));
 }
 
@@ -368,7 +368,7 @@ fn a_terminal_sees_how_much_is_taken() {
     let Some(script) = tool("script") else {
         return left_out("progress on a terminal", "script");
     };
-    let (folder, mut disc) = (Folder::new(), Disc::new());
+    let (folder, mut disc) = (Folder::new(), TestDisc::new());
     let files: Vec<u32> = (0..4).map(|_| disc.file(&noise(10_000_000))).collect();
     let entries: Vec<Vec<u8>> = files.iter().enumerate().map(|(i, block)| named(&i.to_string(), *block, false)).collect();
     let root = disc.directory(&entries);
@@ -496,7 +496,7 @@ fn each_command_has_its_help() {
             "{said:?}"
         );
     }
-    refuses(&folder.vault(&["lable", "--help"]), 64, "there is no command lable");
+    refuses(&folder.vault(&["lable", "--help"]), 64, "unknown command lable");
     let said = folder.vault(&["--version"]);
     let first = format!("vault {} (include/vault.h {})", env!("CARGO_PKG_VERSION"), strandlodge_sys::vault::VERSION);
     let lines: Vec<&str> = said.out.lines().collect();
@@ -515,7 +515,7 @@ fn what_was_planted_is_neither_followed_nor_written() {
     for drive in [&[][..], &["--drive"]] {
         let said = folder.vault(&[&["get", "-r", "show.img", "-o", "to"], drive].concat());
         assert_eq!((said.status, said.out.as_str()), (74, ""), "{said:?}");
-        for (name, why) in [("9", "no ordinary file"), ("10.1A", "isn't followed"), ("10.1a", "isn't followed"), ("11", "no ordinary file")]
+        for (name, why) in [("9", "not a regular file"), ("10.1A", "not followed"), ("10.1a", "not followed"), ("11", "not a regular file")]
         {
             assert!(said.error.lines().any(|line| line.contains(&format!("to/SHOW/{name}: ")) && line.contains(why)), "{name} {said:?}");
         }
@@ -528,7 +528,7 @@ fn what_was_planted_is_neither_followed_nor_written() {
     folder.write("to/SHOW", b"a file");
     symlink("to", folder.at("link")).unwrap();
     let said = folder.vault(&["get", "-r", "show.img", "-o", "link"]);
-    assert!(said.status == 74 && said.error.contains("link/SHOW: this is there, and is no folder"), "{said:?}");
+    assert!(said.status == 74 && said.error.contains("link/SHOW: this exists and is not a folder"), "{said:?}");
     fs::remove_file(folder.at("to/SHOW")).unwrap();
     assert_eq!(folder.vault(&["get", "-r", "show.img", "-o", "link"]).status, 0);
     assert_eq!(below(&folder, "to"), ["SHOW/", "SHOW/10.1A", "SHOW/10.1a", "SHOW/11", "SHOW/9"]);
@@ -557,7 +557,7 @@ fn names_that_become_one_are_told_apart() {
     let wide = ["é".repeat(125), "é".repeat(126)];
     let names = ["a/b", "a%2Fb", "a%2Fb~2", "..", ".%2E", "", "unnamed", &wide[0], &wide[1], &long[0], &long[1]];
     let recorded = |name: &str| -> Vec<u8> { std::iter::once(8).chain(name.chars().map(|c| c as u8)).collect() };
-    let (folder, mut disc) = (with_folder(), Disc::new());
+    let (folder, mut disc) = (with_folder(), TestDisc::new());
     let files: Vec<u32> = (0..names.len()).map(|i| disc.file(i.to_string().as_bytes())).collect();
     let entries: Vec<Vec<u8>> = names.iter().zip(files).map(|(name, block)| identifier(&recorded(name), block, false)).collect();
     let root = disc.directory(&entries);
@@ -584,7 +584,7 @@ fn hostile() -> (Vec<u8>, usize) {
     let units = [0, 0x22, 0x5c, 0x7f, 0x85, 0x2028, 0x202e, 0xd7ff, 0xd800, 0xdbff, 0xdc00, 0xdfff, 0xe000, 0xfeff, 0xfffe, 0xffff];
     recorded.extend(units.map(|unit: u16| [&[16, 0, b'a'][..], &unit.to_be_bytes(), &[0, b'b']].concat()));
     recorded.extend([vec![], vec![8], vec![16], vec![254, 1], vec![255, 1]]);
-    let mut disc = Disc::new();
+    let mut disc = TestDisc::new();
     let files: Vec<u32> = recorded.iter().map(|name| disc.file(name)).collect();
     let entry = |(name, block): (&Vec<u8>, &u32)| identifier(name, *block, false);
     let inner = disc.directory(&recorded.iter().zip(&files).map(entry).collect::<Vec<_>>());
@@ -634,7 +634,7 @@ fn documents_are_json_whatever_the_names_are() {
 /// Sizes by an entry, by a read, and in extents: of a file whose extents end early, of one that can't be read, and of one that is embedded.
 #[test]
 fn files_have_their_sizes() {
-    let (folder, mut disc) = (Folder::new(), Disc::new());
+    let (folder, mut disc) = (Folder::new(), TestDisc::new());
     let bytes = disc.lay(&[7; 3000]);
     let short = disc.entry(0, &[short_ad(2048, bytes), short_ad(100, bytes + 1)].concat(), 5000);
     let gone = disc.entry(0, &short_ad(2048, 1_000_000), 2048);
@@ -659,5 +659,5 @@ fn files_have_their_sizes() {
     let said = folder.vault(&["stat", "a.img", "short"]);
     assert!(said.out.contains("\nlength   5000 bytes, as its entry says\nread     2148 bytes\nstorage  extents: 2\n"), "{said:?}");
     let said = folder.vault(&["stat", "a.img", "gone"]);
-    assert!(said.status == 0 && said.out.contains("\nread     none: a sector that was asked for isn't"), "{said:?}");
+    assert!(said.status == 0 && said.out.contains("\nread     none: a sector is missing"), "{said:?}");
 }

@@ -114,7 +114,7 @@ fn genisoimage() {
     // By its number the partition isn't found any more, and by its map it is.
     folder.write("other.iso", &renumbered(std::fs::read(folder.at("disc.iso")).unwrap()));
     let lost = folder.vault(&["ls", "other.iso"]);
-    assert!(lost.status == 4 && lost.error.contains("found through its maps, with --maps; "), "{lost:?}");
+    assert!(lost.status == 4 && lost.error.contains("; --maps opens it, through its partition maps; "), "{lost:?}");
     assert_eq!(folder.vault(&["ls", "--maps", "other.iso", "wide"]).out, folder.vault(&["ls", "disc.iso", "wide"]).out);
     assert_eq!(all_right(&folder, &["check", "--maps", "--checked", "other.iso"]), all_right(&folder, &["check", "disc.iso"]));
     assert!(folder.vault(&["cat", "--maps", "other.iso", "of 3000000"]).bytes == noise(3_000_000));
@@ -161,7 +161,7 @@ fn mkudffs(tool: &Path, words: &[&str]) -> (Folder, i32, i32) {
     }
     // A map of type 2 isn't read, whether or not the disc is without maps.
     let (maps, plain) = (folder.vault(&["ls", "--maps", "disc.img"]), folder.vault(&["stat", "disc.img"]));
-    let other = plain.out.lines().any(|line| line.starts_with("map ") && line.ends_with("a form that isn't read"));
+    let other = plain.out.lines().any(|line| line.starts_with("map ") && line.ends_with("not supported"));
     assert_eq!(maps.status, if other { 4 } else { root.status }, "{words:?} {plain:?}");
     (folder, label.status, root.status)
 }
@@ -218,7 +218,7 @@ fn mkudffs_for_rewritable_discs() {
     for (media, revision) in [("cdrw", "2.01"), ("dvdrw", "2.01")] {
         let (folder, label, root) = mkudffs(&tool, &["-b", "2048", "-m", media, "-r", revision]);
         assert_eq!((label, root), (0, 0), "{media} {revision}");
-        assert!(folder.vault(&["stat", "disc.img"]).out.contains("type 2 (*UDF Sparable Partition), 64 bytes: a form that isn't read\n"));
+        assert!(folder.vault(&["stat", "disc.img"]).out.contains("type 2 (*UDF Sparable Partition), 64 bytes: not supported\n"));
         assert_eq!(folder.vault(&["ls", "disc.img", "--maps"]).status, 4);
     }
 }
@@ -233,14 +233,14 @@ fn mkudffs_in_forms_that_are_not_read() {
         let (folder, label, root) = mkudffs(&tool, &["-b", "2048", "-m", media, "-r", revision]);
         assert_eq!((label, root), (4, 4), "{media} {revision}");
         let said = folder.vault(&["ls", "disc.img"]);
-        assert!(said.error.contains("partition map 1 is of type 2 (*UDF Virtual Partition), and type 1 is read"), "{said:?}");
+        assert!(said.error.contains("partition map 1 is of type 2 (*UDF Virtual Partition); only type 1 is supported"), "{said:?}");
     }
     for block in ["512", "1024", "4096"] {
         let (folder, label, root) = mkudffs(&tool, &["-b", block]);
         assert_eq!((label, root), (2, 2), "{block}");
         for words in [&["ls", "disc.img"][..], &["ls", "disc.img", "--drive"]] {
             let said = folder.vault(words);
-            assert!(said.error.starts_with(&format!("vault: disc.img: the disc has blocks of {block} bytes, and ")), "{said:?}");
+            assert!(said.error.starts_with(&format!("vault: disc.img: the disc has blocks of {block} bytes; only ")), "{said:?}");
         }
     }
 }

@@ -2,9 +2,9 @@
 
 mod common;
 
-use common::{Disc, SECTOR, continued, short_ad, show};
+use common::{SECTOR, TestDisc, continued, short_ad, show};
 use strandlodge::udf::*;
-use strandlodge::{Refusal, Vault};
+use strandlodge::{Disc, Refusal};
 
 fn sector(image: &[u8], number: usize) -> &[u8] {
     &image[number * SECTOR..][..SECTOR]
@@ -25,7 +25,7 @@ fn the_show_s_descriptors_are_parsed() {
     assert_eq!((logical.logical_volume_identifier.as_str(), logical.logical_block_size), ("LOGICAL", 2048));
     let place = logical.file_set_descriptor_location.location;
     let set = FileSetDescriptor::parse(sector(&image, 288 + place.block as usize)).unwrap();
-    assert_eq!(set.root_directory_icb, Vault::open(&image).unwrap().root_directory_icb());
+    assert_eq!(set.root_directory_icb, Disc::open(&image).unwrap().root_directory_icb());
     assert!(set.tag.has_right_body(sector(&image, 288 + place.block as usize)) && set.tag.is_in_place(0, place.block));
     // Another descriptor, too few bytes, and a wrong checksum.
     assert_eq!(FileSetDescriptor::parse(sector(&image, 256)).unwrap_err().why, Refusal::Malformed);
@@ -38,7 +38,7 @@ fn the_show_s_descriptors_are_parsed() {
 #[test]
 fn an_entry_has_the_extents_that_a_call_gives() {
     let image = show();
-    let vault = Vault::open(&image).unwrap();
+    let vault = Disc::open(&image).unwrap();
     for path in ["SHOW", "SHOW/9", "SHOW/10.1A", "SHOW/11"] {
         let icb = vault.lookup(path).unwrap();
         let entry = FileEntry::parse(sector(&image, vault.icb_sector(icb).unwrap() as usize)).unwrap();
@@ -60,7 +60,7 @@ fn an_entry_has_the_extents_that_a_call_gives() {
 
 /// An entry with its area behind it, and the sector that it stands in.
 fn laid(kind: u8, area: &[u8]) -> Vec<u8> {
-    let mut disc = Disc::new();
+    let mut disc = TestDisc::new();
     let block = disc.entry(kind, area, 7);
     sector(&disc.0, 288 + block as usize).to_vec()
 }

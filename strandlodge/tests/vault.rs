@@ -2,8 +2,8 @@
 
 mod common;
 
-use common::{DELETED, Disc, SECTOR, continuation, continued, harm, identifier, marked, named, noise, reclosed, short_ad, show};
-use strandlodge::{AllocExtent, Answer, Counted, How, Kind, Matching, Refusal, Refused, Show, Vault};
+use common::{DELETED, SECTOR, TestDisc, continuation, continued, harm, identifier, marked, named, noise, reclosed, short_ad, show};
+use strandlodge::{AllocExtent, Answer, Counted, Disc, How, Kind, Matching, Refusal, Refused, Show};
 use strandlodge::{UNLIMITED, probe_vrs, read_volume_label, volume_descriptors};
 
 const UPPER: &[u8] = b"cue 10.1A\nfront wash 80, blue backs 40, follow 6 seconds\n";
@@ -192,7 +192,7 @@ fn descriptors_of_the_sequence() {
 
 #[test]
 fn refusals_of_files() {
-    let mut disc = Disc::new();
+    let mut disc = TestDisc::new();
     let unrecorded = disc.entry(0, &short_ad(10 | 1 << 30, 1), 10);
     let missing = disc.entry(0, &short_ad(10, 1 << 20), 10);
     let bad = disc.lay(&[1; 100]);
@@ -211,7 +211,7 @@ fn refusals_of_files() {
 
 #[test]
 fn an_embedded_file_is_a_part_of_the_image() {
-    let mut disc = Disc::new();
+    let mut disc = TestDisc::new();
     let block = disc.entry(3, b"in the entry, and behind it", 12);
     let listing = disc.directory(&[named("embedded", block, false)]);
     disc.root(listing);
@@ -225,8 +225,8 @@ fn an_embedded_file_is_a_part_of_the_image() {
 }
 
 /// A disc with a directory of 20,000 entries (1.1 MB of identifiers), the last of them a file of 5 MB, and above it a directory of one.
-fn wide_disc(bytes: &[u8]) -> Disc {
-    let mut disc = Disc::new();
+fn wide_disc(bytes: &[u8]) -> TestDisc {
+    let mut disc = TestDisc::new();
     let file = disc.file(bytes);
     let mut entries: Vec<Vec<u8>> = (0..20_000).map(|i| named(&format!("a longer name {i}"), 1, false)).collect();
     entries.push(named("last", file, false));
@@ -264,7 +264,7 @@ fn room_grows_until_the_answer_fits() {
 
 #[test]
 fn slots_grow_until_the_list_fits() {
-    let mut disc = Disc::new();
+    let mut disc = TestDisc::new();
     let block = disc.lay(&noise(100));
     let area = short_ad(100, block).repeat(120_000);
     let further = disc.lay(&continuation(&area));
@@ -284,7 +284,7 @@ fn slots_grow_until_the_list_fits() {
 
 #[test]
 fn names_grow_when_they_are_listed() {
-    let mut disc = Disc::new();
+    let mut disc = TestDisc::new();
     // 254 letters of two bytes each, in 255 recorded bytes.
     let recorded = [&[8][..], &[0xe9; 254]].concat();
     let entries: Vec<Vec<u8>> = (0..200).map(|_| identifier(&recorded, 1, false)).collect();
@@ -298,7 +298,7 @@ fn names_grow_when_they_are_listed() {
 
 #[test]
 fn an_absurd_disc_is_refused_by_its_number() {
-    let mut disc = Disc::new();
+    let mut disc = TestDisc::new();
     let block = disc.lay(&vec![0; 1 << 20]);
     // 400 extents over the same MiB: no memory is taken by what a disc says of itself.
     let area = short_ad(1 << 20, block).repeat(400);
@@ -394,7 +394,7 @@ fn lists_of_nothing() {
 /// More than is lent at first: files that don't fit what is left, a directory that doesn't fit the work space, and more paths than one call takes.
 #[test]
 fn lists_of_much() {
-    let (mut disc, sizes) = (Disc::new(), [0, 4096, 300_000, 65_536, 1, 2_000_000]);
+    let (mut disc, sizes) = (TestDisc::new(), [0, 4096, 300_000, 65_536, 1, 2_000_000]);
     let files = sizes.map(|n| disc.file(&noise(n)));
     let entries: Vec<Vec<u8>> = (0..5000).map(|i| named(&format!("cue {i:05}"), files[i % 6], false)).collect();
     let listing = disc.directory(&entries);
@@ -497,7 +497,7 @@ fn a_show_of_a_disc_that_was_made_to_do_harm() {
 /// More than is lent at first: records of more than 64 KiB, and directories that together have more.
 #[test]
 fn a_large_show() {
-    let mut disc = Disc::new();
+    let mut disc = TestDisc::new();
     let cue = disc.file(b"a look");
     let named_so = |n: usize, name: &str| (0..n).map(|i| named(&format!("{name} {i:04}"), cue, false)).collect::<Vec<_>>();
     let mut below = disc.directory(&named_so(900, "a cue of the innermost directory"));
@@ -518,7 +518,7 @@ fn a_large_show() {
 /// A directory that holds itself is found at the last level.
 #[test]
 fn a_show_of_a_directory_that_holds_itself() {
-    let mut disc = Disc::new();
+    let mut disc = TestDisc::new();
     let root = disc.directory(&[named("again", 3, true), named("cue", 5, false)]);
     disc.root(root);
     let vault = Counted::open(&disc.0).unwrap();
@@ -534,12 +534,12 @@ fn a_show_of_a_directory_that_holds_itself() {
 fn a_listing_has_room_at_once() {
     for n in [0, 1, 2, 100, 250, 253, 254, 255] {
         let recorded: Vec<u8> = [8].into_iter().chain(std::iter::repeat(0xe9)).take(n).collect();
-        let mut disc = Disc::new();
+        let mut disc = TestDisc::new();
         let mut bytes = identifier(&recorded, 5, false).repeat(1000);
         bytes.truncate(bytes.len() - ((38 + n).next_multiple_of(4) - (38 + n)));
         let root = disc.file(&bytes);
         disc.root(root);
-        let vault = Vault::open(&disc.0).unwrap();
+        let vault = Disc::open(&disc.0).unwrap();
         let entries = vault.read_directory(vault.root_directory_icb()).unwrap();
         assert_eq!((entries.len(), entries[999].name.len()), (1000, 2 * n.saturating_sub(1)), "{n}");
     }
@@ -548,12 +548,12 @@ fn a_listing_has_room_at_once() {
 /// A directory of more than 256 MiB, by extents that overlap: it is refused by 6 before anything is lent, with the count of its sectors.
 #[test]
 fn a_directory_that_is_too_large_is_refused_at_once() {
-    let mut disc = Disc::new();
+    let mut disc = TestDisc::new();
     let bytes = marked(named("deleted", 5, false), DELETED).repeat((16 << 20) / 48);
     let (size, block) = (bytes.len(), disc.lay(&bytes));
     let root = disc.entry(0, &short_ad(size, block).repeat(17), 17 * size as u64);
     disc.root(root);
-    let vault = Vault::open(&disc.0).unwrap();
+    let vault = Disc::open(&disc.0).unwrap();
     let (root, sectors) = (vault.root_directory_icb(), 1 + 17 * size.div_ceil(SECTOR) as u64);
     assert_eq!(vault.read_directory(root).unwrap_err().refused(), Refused { why: Refusal::NoWork, sectors });
     assert_eq!(vault.measure(root), Ok(17 * size as u64));

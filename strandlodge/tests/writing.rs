@@ -152,21 +152,21 @@ fn a_refused_vault_leaves_nothing_behind() {
     let all: Vec<String> = (0..65).map(|i| i.to_string()).collect();
     let all: Vec<&str> = all.iter().map(String::as_str).collect();
     // Which name or file, which rule, and the twin.
-    let equal = "on a vault no two names are equal with ASCII case ignored, and a has this one (refusal 13)";
-    refuses(&["v.img", "a", "a b"], 13, "a b: the name has the byte 20, and on a vault those from 21 to 7E without the slash (refusal 13)");
+    let equal = "a has the same name, ignoring ASCII case: names on an image must differ (refusal 13)";
+    refuses(&["v.img", "a", "a b"], 13, "a b: the name contains the byte 20: an image takes 21 to 7E without the slash (refusal 13)");
     refuses(&["v.img", "0", "a", "A"], 13, &format!("vault: A: {equal}"));
     refuses(&["v.img", "a", "other/a"], 13, &format!("vault: other/a: {equal}"));
-    refuses(&["v.img", &"n".repeat(128)], 13, "n: the name has 128 bytes, and on a vault up to 127 (refusal 13)");
-    refuses(&["v.img", ".."], 13, "..: this path ends in no name, and a file on a vault has one (refusal 13)");
-    refuses(&[&["v.img"], &all[..]].concat(), 14, "v.img: these are 65 files, and a vault has up to 64 (refusal 14)");
+    refuses(&["v.img", &"n".repeat(128)], 13, "n: the name has 128 bytes: an image takes up to 127 (refusal 13)");
+    refuses(&["v.img", ".."], 13, "..: this path does not end in a file name (refusal 13)");
+    refuses(&[&["v.img"], &all[..]].concat(), 14, "v.img: 65 files are too many: an image holds up to 64 (refusal 14)");
     refuses(&[&["v.img", "a b"], &all[..]].concat(), 13, "a b: ");
-    let long = "long: the file has 1073739777 bytes, and on a vault up to 1073739776 (refusal 14)";
+    let long = "long: the file has 1073739777 bytes: an image takes up to 1073739776 (refusal 14)";
     refuses(&["v.img", "a", "long"], 14, long);
-    refuses(&["v.img", "a", "none"], 66, "none: the file can't be opened");
-    refuses(&["v.img", "a", "folder"], 66, "folder: this is no ordinary file");
-    refuses(&["v.img", "./v.img"], 64, "this is the image itself");
+    refuses(&["v.img", "a", "none"], 66, "none: can't open this file");
+    refuses(&["v.img", "a", "folder"], 66, "folder: not a regular file");
+    refuses(&["v.img", "./v.img"], 64, "this is the image itself: choose another file");
     refuses(&["folder", "a"], 74, "this is a directory");
-    refuses(&["no/v.img", "a"], 74, "the file can't be written");
+    refuses(&["no/v.img", "a"], 74, "can't write this file");
     refuses(&[], 64, "make needs IMAGE");
     // No vault of nothing, with what is there replaced or not.
     refuses(&["v.img"], 64, "make needs FILE");
@@ -180,10 +180,10 @@ fn what_is_there_is_replaced_by_force_alone() {
     let cues = ["9", "10.1A", "11"];
     cues.iter().for_each(|cue| folder.write(cue, cue.as_bytes()));
     std::os::unix::fs::symlink("9", folder.at("link")).unwrap();
-    let says = "there is a file of this name: it is replaced with --force alone";
+    let says = "this file exists: use --force to replace it";
     for words in [&["make", "9", "10.1A", "11"][..], &["make", "link", "11"], &["make", "9", "9"], &["sample", "9"], &["sample", "link"]] {
         let said = folder.vault(words);
-        let hint = if words[0] == "make" { "; IMAGE, which is written, stands before the files" } else { "" };
+        let hint = if words[0] == "make" { "; the first argument, IMAGE, is the file to write" } else { "" };
         assert_eq!((said.status, said.out.as_str(), said.error), (74, "", format!("vault: {}: {says}{hint}\n", words[1])), "{words:?}");
     }
     assert!(cues.iter().all(|cue| read(folder.at(cue)).unwrap() == cue.as_bytes()));

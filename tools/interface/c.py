@@ -86,12 +86,12 @@ def section(held):
 def texts(interface):
     """What each answer number says, as the comment in the sources has it."""
     front = interface.prefix.upper() + "_"
-    lines = [*commented(["What an answer number says, in a sentence without its full stop."])]
+    lines = [*commented(["The meaning of an answer, as a sentence without its full stop."])]
     lines += [f"static inline const char *{interface.prefix}_answer_text(uint64_t answer) {{", "    switch (answer) {"]
     for held in interface.constants[0]:
         said = " ".join(held.about).split(". ")[0].rstrip(".").replace("`", "")
         lines += [f"    case {front}{held.name}:", f'        return "{said}";']
-    return [*lines, "    default:", '        return "A number that isn\'t known";', "    }", "}", ""]
+    return [*lines, "    default:", '        return "An unknown number";', "    }", "}", ""]
 
 
 def header(interface, crate, behind=""):

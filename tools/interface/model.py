@@ -37,9 +37,9 @@ ANSWERS = ("disc", "answers")
 
 # Constants that are one enumeration in C, by its name: the module that has their numbers, and what is said of it. The others have no name in common.
 ENUMERATIONS = {
-    "answer": ("disc::answers", "What a call answers: that it is done, or why it is refused."),
+    "answer": ("disc::answers", "The answer of a call: done, or why it is refused."),
     "matching": ("listings::matchings", "How a component of a path is matched with the names of a directory's entries."),
-    "how": ("volumes::choices", "The choices on opening, a bit to a choice. A `how` is a number: the sum of those that are made."),
+    "how": ("volumes::choices", "The choices on opening, one bit each. A `how` is the sum of the choices that you make."),
 }
 
 # Parameters whose type in C is the enumeration of their name. `how` is a number: its bits are added up.
@@ -350,7 +350,7 @@ class Maker:
     def constants(self):
         """The answer numbers that are given, and the constants of the crate itself."""
         answers = self.reader.source(*ANSWERS)
-        given = re.search(r"Given are: ([\w, ]+)\.", " ".join(self.root.about))
+        given = re.search(r"Used here: ([\w, ]+)\.", " ".join(self.root.about))
         front = self.prefix.upper() + "_"
         names = [word.removeprefix(front) for word in given[1].split(", ")] if given else list(answers.constants)
         for name in names:

@@ -6,22 +6,22 @@ WIDTH = 140  # of strandlodge-sys/rustfmt.toml
 
 GENERIC = {
     "answer": """\
-/// What a call that parses answers: `{prefix}_X_answer`.
+/// The result of a call that parses: `{prefix}_X_answer`.
 #[repr(C)]
 #[derive(Debug, Clone, Copy, PartialEq, Eq)]
 pub struct Answer<T> {{
     /// A number of the table.
     pub answer: u64,
-    /// Zeros where the call was refused.
+    /// Zeros if the call was refused.
     pub value: T,
 }}
 """,
     "bytes": """\
-/// What a call that encodes gives: `{prefix}_X_bytes`.
+/// The result of a call that encodes: `{prefix}_X_bytes`.
 #[repr(C)]
 #[derive(Debug, Clone, Copy, PartialEq, Eq)]
 pub struct Encoded<const N: usize> {{
-    /// The record as it is recorded.
+    /// The record as recorded.
     pub bytes: [u8; N],
 }}
 """,

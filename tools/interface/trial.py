@@ -35,7 +35,7 @@ FAULTS = (
     ("memory that is written", VAULT, r"fn vault_probe\(image: &\[u8\]\)", "fn vault_probe(image: &mut [u8])"),
     ("another answer", VAULT, r"(fn vault_open\(image: &\[u8\], how: u32\)) -> Opened", r"\1 -> Reply"),
     ("a type that can't cross", VAULT, r"part_at: &mut usize", "part_at: (usize, usize)"),
-    ("a comment that says something else", VAULT, r"Opening doesn't depend on it", "Opening depends on it"),
+    ("a comment that says something else", VAULT, r"Opening does not depend on it", "Opening depends on it"),
     ("a matching of another width", VAULT, r"(fn vault_lookup\([^)]*?matching: )u32", r"\1u64"),
     ("a choice on opening among those of matching", VAULT, r"(VAULT_CHECKED: u32 = )CHECKED", r"\1AS_WRITTEN"),
     ("a choice of matching that has no enumeration", VAULT, r"(VAULT_UNAMBIGUOUS: u32 = )UNAMBIGUOUS", r"\g<1>2"),

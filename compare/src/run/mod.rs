@@ -179,7 +179,7 @@ pub fn main() {
     exit(if tally.mismatches > 0 { 1 } else { 0 });
 }
 
-/// Vaults that are written, where the archive is linked.
+/// Images that are written, if the archive is linked.
 #[cfg(linked)]
 fn written_vaults(bench: bool) {
     if bench {

@@ -1,4 +1,4 @@
-//! Vaults that the archive writes, read by the original, and by libudfread where that is installed: every name in its order, and every byte.
+//! Images that the archive writes, read by the original, and by libudfread where that is installed: every name in its order, and every byte.
 
 use super::calls::Volume;
 use super::given;

@@ -24,7 +24,7 @@ const ID: u16 = 6;
 
 const SIZE: usize = 440;
 
-// The identifier is the label's field as recorded.
+// The identifier is the label field as recorded.
 #[repr(C)]
 pub struct LogicalVolumeDescriptor {
     pub tag: DescriptorTag,
@@ -36,7 +36,7 @@ pub struct LogicalVolumeDescriptor {
     // In bytes.
     pub map_table_length: u32,
     pub number_of_partition_maps: u32,
-    // The first 24 bytes of the map table, as recorded; zeros past the bytes that were given.
+    // The first 24 bytes of the map table, as recorded; zeros past the end of the given bytes.
     pub partition_maps: [u8; 24],
 }
 

@@ -20,7 +20,7 @@ const ID: u16 = 1;
 
 const SIZE: usize = 56;
 
-// The volume identifier is the label's field as recorded.
+// The volume identifier is the label field as recorded.
 #[repr(C)]
 pub struct PrimaryVolumeDescriptor {
     pub tag: DescriptorTag,

@@ -20,14 +20,14 @@ use files::reads::read_file;
 use listings::matchings::Matching;
 use records::allocations::LongAd;
 
-// The answer number, the count of sectors, and the ICB that a path names.
+// The answer, the count of sectors, and the ICB that a path names.
 #[repr(C)]
 pub struct Found {
     // A number of the table.
     pub answer: u64,
     // The sectors asked for.
     pub count: u64,
-    // Zeros where the lookup was refused.
+    // Zeros if the lookup was refused.
     pub icb: LongAd,
 }
 

@@ -14,19 +14,20 @@ pub enum PartitionRef {
     Named(u16),
 }
 
-// How a volume is read: where its partition starts, the partition's number, whether the bodies of its descriptors are checked, and the partition
-// maps by which references are resolved, if there are any.
+// How a volume is read: where its partition starts, the partition's number, whether descriptors are checked, and the
+// partition maps that resolve references, if any.
 #[repr(C)]
 pub struct Mount {
-    // The sector in which the partition starts; of a volume with maps the file set's.
+    // The sector where the partition starts; for a volume with maps, the file set's partition.
     pub start: u32,
     // The partition's number.
     pub partition: u16,
-    // Any number but 0: the body of each descriptor that is parsed must have the CRC that its tag says.
+    // If not 0, the body of each descriptor that is parsed must have the CRC that its tag gives; otherwise the call is refused.
     pub checked: u32,
-    // How many partition maps there are: 0: references are compared with `partition`; above 4 counts as 4.
+    // The number of partition maps. 0: references are compared with `partition`. More than 4 counts as 4.
     pub maps: u32,
-    // Of each map, the volume sequence number, the partition's number and the sector in which it starts; zeros where there is none.
+    // For each map, the volume sequence number, the partition's number and the sector where it starts; zeros if there
+    // is none.
     pub volumes: [u16; 4],
     pub numbers: [u16; 4],
     pub starts: [u32; 4],

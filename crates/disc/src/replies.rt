@@ -1,14 +1,14 @@
 // The answer of a call that writes bytes into lent memory.
 ghost use mathlib.Core.Path.{_≡_};
 
-// The answer number, the count of sectors, and a length.
+// The answer, the count of sectors, and a length.
 #[repr(C)]
 pub struct Reply {
     // A number of the table.
     pub answer: u64,
     // The sectors asked for.
     pub count: u64,
-    // How many bytes or slots the answer has: 0 where the call was refused, but for the component that failed.
+    // The number of bytes or slots of the result. 0 if the call was refused, except for the component that failed.
     pub length: u64,
 }
 

@@ -42,19 +42,20 @@ const OVER: u8 = 3;
 // No run of sectors reaches beyond this.
 const MOST_SECTORS: u64 = 0x1000_0000_0000;
 
-// An opening under way.
+// An opening in progress.
 #[repr(C)]
 pub struct Opening {
-    // 0: the anchor is wanted; 1: a sector of the sequence; 2: the file set descriptor. Ask is_wanting, and not the phase, whether it has ended: a state that was
-    // made by hand may have ended in any.
+    // What is wanted: 0, the anchor; 1, a sector of the sequence; 2, the file set descriptor. To find out whether the
+    // opening has ended, call is_wanting; don't look at the phase: a state made by hand may have ended in any phase.
     pub phase: u8,
-    // The sector that is wanted.
+    // The sector wanted.
     pub at: u64,
-    // The sectors of the sequence behind it.
+    // The number of sectors of the sequence after it.
     pub left: u32,
     // What was kept of the descriptors so far.
     pub kept: Kept,
-    // The answer, how many sectors were wanted and have come or couldn't, and the volume: zeros but for the count until it has ended.
+    // The answer, how many sectors were wanted and have come or could not be read, and the volume. All zero, except the
+    // count, until the opening has ended.
     pub opened: Opened,
 }
 

@@ -39,43 +39,45 @@ const OVER: u8 = 4;
 // No run of sectors reaches beyond this.
 const MOST_SECTORS: u64 = 0x1000_0000_0000;
 
-// Of a continuation that arrives in parts: what its header said, and what is yet to come of its body and of its area.
+// A continuation that arrives in parts: what its header said, and what is still to come of its body and its area.
 #[repr(C)]
 pub struct Body {
-    // The tag is good.
+    // The tag is valid.
     pub tagged: bool,
-    // It is that of a header, and the area that it says fits the continuation.
+    // The tag is that of a header, and the area that the header gives fits the continuation.
     pub headed: bool,
-    // The tag's CRC, that of the body so far, and how many bytes of the body are yet to come.
+    // The tag's CRC, the CRC of the body so far, and how many bytes of the body are still to come.
     pub crc: u16,
     pub summed: u16,
     pub body_left: u32,
-    // How many bytes of the area are yet to come.
+    // How many bytes of the area are still to come.
     pub area_left: u32,
 }
 
-// A read under way.
+// A read in progress.
 #[repr(C)]
 pub struct Reading {
-    // 0: the file entry is wanted; 1: the first sector of a continuation; 2: a further one; 3: a sector of an extent. Ask is_wanting, and not the phase, whether it has
-    // ended: a state that was made by hand may have ended in any.
+    // What is wanted: 0, the file entry; 1, the first sector of a continuation; 2, a further one; 3, a sector of an
+    // extent. To find out whether the read has ended, call is_wanting; don't look at the phase: a state made by hand
+    // may have ended in any phase.
     pub phase: u8,
-    // The sector that is wanted, and how many behind it belong to the same continuation or extent.
+    // The sector wanted, and how many after it belong to the same continuation or extent.
     pub at: u64,
     pub left: u32,
     // How the entry's descriptors are read, their kind, and how many continuations may follow.
     pub mount: Mount,
     pub kind: u8,
     pub hops: u8,
-    // How many bytes are missing of the information length.
+    // How many bytes of the information length are still missing.
     pub missing: u64,
-    // The bytes of the continuation, or those of the extent from the sector on that is wanted.
+    // The bytes of the continuation, or those of the extent from the wanted sector on.
     pub size: u32,
-    // The place of the extent behind the one that is read.
+    // The place in the row of the extent after the one being read.
     pub next: usize,
     pub scan: Scan,
     pub body: Body,
-    // The answer, 0 until it has ended; how many sectors were wanted and have come or couldn't; how many bytes have arrived at the output.
+    // The answer, 0 until the read has ended; how many sectors were wanted and have come or could not be read; how many
+    // bytes have arrived in the output.
     pub answer: u64,
     pub count: u64,
     pub length: usize,

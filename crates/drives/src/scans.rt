@@ -15,13 +15,13 @@ use disc::places::PartitionRef;
 // A place in an area.
 #[repr(C)]
 pub struct Scan {
-    // The places of the row that hold extents.
+    // The number of places of the row that hold extents.
     pub listed: usize,
-    // An extent of this area found no place.
+    // An extent of this area found no free place.
     pub full: bool,
-    // 0: the area goes on; 1: it has ended; 2: with a continuation; any other: it is refused by 4.
+    // 0: the area continues; 1: it has ended; 2: it has ended with a continuation; any other: it is refused with 4.
     pub closed: u8,
-    // The bytes of the descriptor that has begun to arrive, and how many.
+    // The bytes of the descriptor that has begun to arrive, and their number.
     pub carried: usize,
     pub carry: [u8; 20],
     // The continuation.

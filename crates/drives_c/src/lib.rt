@@ -1,17 +1,21 @@
-// Straight from a drive, with no image in memory: a state names the sector that it wants, is lent its bytes, and goes on.
+// Reading straight from a drive, with no image in memory: a state names the sector that it wants, is lent its bytes,
+// and continues.
 //
-// A state is passed by value and holds no pointer. While it is wanting, lend a step the 2,048 bytes of the sector that it wants; any other
-// length, as that of (NULL, 0), says that the sector can't be had, which is VAULT_IO. A state that has ended has its answer, and a step of it changes nothing. Any state may be
-// stepped, also one made by hand whose bools are 0 or 1: the step stays inside what it was lent, and from every state the end is reached.
+// A state is passed by value and holds no pointers. While it wants a sector, lend a step the 2,048 bytes of that
+// sector. Any other length, such as that of (NULL, 0), means that the sector can't be read, which is VAULT_IO. A state
+// that has ended has its answer, and a step does not change it. You may step any state, even one made by hand whose
+// bools are 0 or 1: the step stays inside what it was lent, and every state reaches its end.
 //
-// The sectors that are wanted, the answer and the count are those of vault_open with no choice, and of vault_read, save that of a read VAULT_NO_SLOT and
-// VAULT_NO_ROOM may come before a later refusal: what was wanted is then the front of that list. What is said above of `out` and of the slots after a
-// refusal isn't so of a read by steps: what had arrived stays in `out`, and the row is zeroed. The steps have the contracts of crate drives.
+// The sectors wanted, the answer and the count are those of vault_open without choices, and of vault_read. One
+// difference: in a read, VAULT_NO_SLOT and VAULT_NO_ROOM may come before a later refusal; the sectors wanted are then
+// the front of that list. Another: what is said above of `out` and the slots after a refusal does not hold for a read
+// by steps. What had arrived stays in `out`, and the row is zeroed. The steps have the contracts of crate drives.
 //
-// A file of any length goes through a buffer of 2,048 bytes, which is what a step brings at most. After each step take the `length` bytes that have arrived
-// out of it, set `length` to 0, and lend the next step the same buffer. The file's extents all wait in the row, however many they are. A sector names at
-// most 256, and the first `scan.listed` slots are in use: lengthen the row before a step where fewer than 256 are left. It may move, as by realloc, and
-// what stands in its new slots doesn't matter. packaging/window.c does all of this.
+// A file of any length fits through a buffer of 2,048 bytes, the most that a step delivers. After each step, take the
+// `length` bytes that have arrived out of the buffer, set `length` to 0, and lend the next step the same buffer. All
+// extents of the file wait in the row, however many there are. A sector names at most 256, and the first `scan.listed`
+// slots are in use: before a step, lengthen the row if fewer than 256 are left. The row may move, as with realloc, and
+// its new slots may hold anything. packaging/window.c does all of this.
 ghost use mathlib.Core.Path.{_≡_};
 ghost use Rattle.volumes.specs.Openings.{usual, opening};
 ghost use Rattle.listings.specs.Listings.{matchingOf};
@@ -30,7 +34,7 @@ use vault::paths::Component;
 use vault::paths::next_component;
 use vault::volume::Volume;
 
-// An opening before its first sector: as vault_open with a `how` of 0. What it comes to is `opened`, once it has ended.
+// Starts an opening, as vault_open with a `how` of 0. When it has ended, `opened` is the result.
 #[no_mangle]
 pub extern "C" fn vault_opening_start() -> Opening
     ensures { λ r. ⌜ OpeningStands (opening usual) 0 r ⌝ }
@@ -39,7 +43,7 @@ pub extern "C" fn vault_opening_start() -> Opening
     Opening::start()
 }
 
-// Whether a sector is wanted; else the opening has ended.
+// Whether a sector is wanted. If not, the opening has ended.
 #[no_mangle]
 pub extern "C" fn vault_opening_is_wanting(opening: Opening) -> bool
     ensures { λ r. ⌜ r ≡ isOpeningWanting opening ⌝ }
@@ -47,7 +51,7 @@ pub extern "C" fn vault_opening_is_wanting(opening: Opening) -> bool
     opening.is_wanting()
 }
 
-// The sector that is wanted, counted from the disc's start; 0 where the opening has ended.
+// The sector wanted, counted from the start of the disc; 0 if the opening has ended.
 #[no_mangle]
 pub extern "C" fn vault_opening_wants(opening: Opening) -> u64
     ensures { λ r. ⌜ r ≡ wantedOnOpening opening ⌝ }
@@ -55,7 +59,7 @@ pub extern "C" fn vault_opening_wants(opening: Opening) -> u64
     opening.wants()
 }
 
-// The opening behind the sector that it wants.
+// Takes the sector wanted and returns the next state.
 #[no_mangle]
 pub extern "C" fn vault_opening_step(opening: Opening, sector: &[u8]) -> Opening
     ensures { λ r. ⌜ FedOnOpening opening (now (sector .entry)) r ⌝ }
@@ -63,10 +67,12 @@ pub extern "C" fn vault_opening_step(opening: Opening, sector: &[u8]) -> Opening
     opening.step(sector)
 }
 
-// A read before its first sector, of a file or of a directory's own bytes: as vault_read. An ICB that has no length or no place ends it at once.
+// Starts a read of a file or of the bytes of a directory itself, as vault_read. It ends at once if the ICB has no
+// length or no place.
 //
-// The file's extents wait in `row`, one to a slot, which is zeroed here: lend every step the same row, untouched. It may grow between steps, and so may the
-// output. An extent that finds no slot ends the read with VAULT_NO_SLOT, once its entry or continuation has come whole and is good.
+// The file's extents wait in `row`, one per slot. The row is zeroed here: lend every step the same row, unchanged. It
+// may grow between steps, and so may the output. An extent that finds no free slot ends the read with VAULT_NO_SLOT,
+// once its entry or continuation has arrived completely and is valid.
 #[no_mangle]
 pub extern "C" fn vault_reading_start(volume: Volume, icb: LongAd, row: &mut [[u32; 4]]) -> Reading
     ensures { λ r. ⌜ Starts (fileFeed (volume .0 .mount) icb) (now (row .entry)) (now (row .exit)) r ⌝ }
@@ -75,7 +81,7 @@ pub extern "C" fn vault_reading_start(volume: Volume, icb: LongAd, row: &mut [[u
     Reading::start(volume.0, icb, row)
 }
 
-// Whether a sector is wanted; else the read has ended.
+// Whether a sector is wanted. If not, the read has ended.
 #[no_mangle]
 pub extern "C" fn vault_reading_is_wanting(reading: Reading) -> bool
     ensures { λ r. ⌜ r ≡ isWanting reading ⌝ }
@@ -83,7 +89,7 @@ pub extern "C" fn vault_reading_is_wanting(reading: Reading) -> bool
     reading.is_wanting()
 }
 
-// The sector that is wanted, counted from the disc's start; 0 where the read has ended.
+// The sector wanted, counted from the start of the disc; 0 if the read has ended.
 #[no_mangle]
 pub extern "C" fn vault_reading_wants(reading: Reading) -> u64
     ensures { λ r. ⌜ r ≡ wantedSector reading ⌝ }
@@ -91,9 +97,10 @@ pub extern "C" fn vault_reading_wants(reading: Reading) -> u64
     reading.wants()
 }
 
-// The read behind the sector that it wants. The bytes of the file that stand in it go to `out` behind the `length` that have arrived, as many as there is room
-// for: a byte that finds none ends the read with VAULT_NO_ROOM. Nothing behind them is written, and what has arrived stays after a refusal too. The whole row
-// is zeroed as the read ends, however it does.
+// Takes the sector wanted and returns the next state. The bytes of the file in this sector go to `out` after the
+// `length` bytes that have arrived, as many as fit; a byte that does not fit ends the read with VAULT_NO_ROOM. Nothing
+// after them is written, and what has arrived stays even after a refusal. The whole row is zeroed when the read ends,
+// whatever the answer.
 #[no_mangle]
 pub extern "C" fn vault_reading_step(
     reading: Reading,
@@ -106,8 +113,8 @@ pub extern "C" fn vault_reading_step(
     reading.step(sector, row, out)
 }
 
-// Lists a directory whose bytes are at hand, as vault_list does; the count is 0. `volume` says whether the bodies of its entries are checked, and nothing
-// else of it is looked at.
+// Lists a directory whose bytes you have, as vault_list does; the count is 0. Of `volume`, only whether descriptors are
+// checked is used.
 #[no_mangle]
 pub extern "C" fn vault_list_bytes(volume: Volume, bytes: &[u8], out: &mut [u8]) -> Reply
     ensures { λ r. ⌜ record { reply = r; out = now (out .exit) } ≡ listsBytes (volume .0) (now (bytes .entry)) (now (out .entry)) ⌝ }
@@ -115,9 +122,9 @@ pub extern "C" fn vault_list_bytes(volume: Volume, bytes: &[u8], out: &mut [u8])
     volume.list_bytes(bytes, out)
 }
 
-// The entry that a component of a path names in a directory whose bytes are at hand, as vault_lookup matches it. Where none has the name the answer is
-// VAULT_DONE and `found` is false; two or more under VAULT_UNAMBIGUOUS are VAULT_AMBIGUOUS, and one bad entry refuses the directory. The empty component
-// is the name of an entry without one.
+// Finds the entry that a component of a path names in a directory whose bytes you have, as vault_lookup matches it. If
+// no entry has the name, the answer is VAULT_DONE and `found` is false. Two or more entries under VAULT_UNAMBIGUOUS are
+// VAULT_AMBIGUOUS. One bad entry refuses the directory. The empty component is the name of an entry without a name.
 #[no_mangle]
 pub extern "C" fn vault_match(
     volume: Volume,
@@ -130,8 +137,8 @@ pub extern "C" fn vault_match(
     volume.find_in(bytes, component, matching_of(matching))
 }
 
-// Where the first component of a path from `at` on stands; its length is 0 where there is none. From 0 on, and then each time from the end of the one before,
-// the components come in the order in which vault_lookup takes them.
+// Finds the first component of a path from `at` on; its length is 0 if there is none. Start at 0 and continue from the
+// end of each component: they come in the order in which vault_lookup takes them.
 #[no_mangle]
 pub extern "C" fn vault_next_component(path: &[u8], at: usize) -> Component
     ensures { λ r. ⌜ r ≡ nextComponent (now (path .entry)) at ⌝ }

@@ -23,8 +23,8 @@ const ID: u16 = 257;
 // The least size of an identifier: all before its implementation use and its name.
 pub const LEAST_SIZE: usize = 38;
 
-// An entry of a directory (id 257). Its name, a d-string of `name_length` bytes, stands at `name_at`; as UTF-8 it has `name_size` bytes.
-// The next entry starts `total_size` bytes on.
+// An entry of a directory (id 257). Its name, a d-string of `name_length` bytes, is at `name_at`; as UTF-8 it has
+// `name_size` bytes. The next entry starts `total_size` bytes further.
 #[repr(C)]
 pub struct FileIdentifierDescriptor {
     pub tag: DescriptorTag,

@@ -25,16 +25,16 @@ use files::resolves::front_of;
 use files::resolves::resolve;
 use records::allocations::LongAd;
 
-// What a slot of the extent list says of an extent.
+// An extent, as a slot of the extent list gives it.
 #[repr(C)]
 pub struct Extent {
-    // The effective length: the bytes that the extent gives to its file.
+    // The effective length: how many bytes of its file are in the extent.
     pub length: u32,
     // 0: recorded.
     pub extent_type: u32,
     // Counted from the partition's start.
     pub block: u32,
-    // 65,536 where the descriptor names none.
+    // 65,536 if the descriptor names none.
     pub partition: u32,
 }
 

@@ -23,12 +23,12 @@ use files::resolves::front_of;
 use files::resolves::resolve;
 use records::allocations::LongAd;
 
-// What a slot says of a run: so many bytes of the image from a place on.
+// A run, as a slot gives it: a number of bytes of the image, from a place on.
 #[repr(C)]
 pub struct Run {
-    // The place of its first byte in the image.
+    // The offset of its first byte in the image.
     pub at: u64,
-    // How many bytes it has, at least 1.
+    // The number of bytes, at least 1.
     pub length: u64,
 }
 

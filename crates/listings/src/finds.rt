@@ -17,15 +17,15 @@ use identifiers::LEAST_SIZE;
 use records::allocations::LongAd;
 use records::allocations::no_long;
 
-// The ICB of an entry, and whether it is a directory; zeros where none has the name, or where the directory is refused.
+// The ICB of an entry, and whether it is a directory. Zeros if no entry has the name, or if the directory is refused.
 #[repr(C)]
 pub struct Named {
-    // A number of the table: 0 also where none has the name.
+    // A number of the table; 0 also if no entry has the name.
     pub answer: u64,
     // Whether an entry has the name.
     pub found: bool,
     pub icb: LongAd,
-    // Whether the entry is a directory's.
+    // Whether the entry is a directory.
     pub directory: bool,
 }
 

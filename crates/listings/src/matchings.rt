@@ -3,10 +3,10 @@ ghost use mathlib.Core.Path.{_≡_};
 ghost use Rattle.listings.specs.Listings.{foldFor, matchingOf};
 use names::matching::Fold;
 
-// ASCII case is ignored, and the first entry that matches is taken.
+// Ignores ASCII case and takes the first entry that matches.
 pub const CASE_IGNORED: u32 = 0;
 
-// A name matches byte for byte, and the first entry that matches is taken.
+// Matches byte for byte and takes the first entry that matches.
 pub const AS_WRITTEN: u32 = 1;
 
 // ASCII case is ignored, and a component that two or more entries match is refused.

@@ -166,12 +166,12 @@ impl LbAddr {
     }
 }
 
-// Where something stands, and on which partition: the ICB of a file or a directory is one.
+// The place of something on the disc, such as the ICB of a file or a directory.
 #[repr(C)]
 pub struct LongAd {
-    // In bytes, below 2^30 where it was read.
+    // In bytes; below 2^30 if it was read from a disc.
     pub length: u32,
-    // 0 to 3 where it was read: 0 is recorded.
+    // 0 to 3 if it was read from a disc; 0 is recorded.
     pub extent_type: u8,
     // The first block.
     pub location: LbAddr,
@@ -280,7 +280,7 @@ impl LongAd {
 pub struct ExtAd {
     pub length: u32,
     pub extent_type: u8,
-    // 30 bits of what is recorded.
+    // 30 bits of the recorded number.
     pub recorded_length: u32,
     pub information_length: u32,
     pub location: LbAddr,

@@ -1,6 +1,7 @@
 // Allocation descriptors: extent_ad, short_ad, lb_addr, long_ad and ext_ad.
 //
-// A raw length is 30 bits of length below 2 bits of type. Encoding keeps so many bits of either, and 30 of an ext_ad's recorded length.
+// A raw length has 30 bits of length below 2 bits of type. Encoding keeps that many bits of each, and 30 bits of an
+// ext_ad's recorded length.
 ghost use mathlib.Core.Path.{_≡_};
 ghost use Rattle.records.specs.Allocations.{readExtent, encodeExtent, readShort, encodeShort, readAddress, encodeAddress, readLong, encodeLong, readExt, encodeExt};
 ghost use Rattle.records.specs.Answers.{extentAnswer, shortAnswer, addressAnswer};

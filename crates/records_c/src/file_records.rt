@@ -57,8 +57,9 @@ pub extern "C" fn records_parse_icb_tag(bytes: &[u8]) -> IcbTagAnswer
     }
 }
 
-// A file entry (id 261) or an extended one (266). The area of allocation descriptors, or the embedded file, stands in `bytes` from `area_at` on;
-// it lies within them, and isn't looked at here. The object size, an enum in the entry, crosses as a bool and a number.
+// A file entry (id 261) or an extended one (266). The area of allocation descriptors, or the embedded file, is in
+// `bytes` from `area_at` on. It is inside `bytes`, and is not looked at here. The object size, an enum in the entry, is
+// passed as a bool and a number.
 #[repr(C)]
 pub struct EntryFields {
     pub tag: DescriptorTag,
@@ -72,13 +73,13 @@ pub struct EntryFields {
     pub record_length: u32,
     pub information_length: u64,
     pub logical_blocks_recorded: u64,
-    // An extended entry has one.
+    // Whether there is one: an extended entry has it.
     pub has_object_size: bool,
-    // 0 where there is none.
+    // 0 if there is none.
     pub object_size: u64,
     pub length_of_extended_attributes: u32,
     pub length_of_allocation_descriptors: u32,
-    // Of the area: 0 short_ad, 1 long_ad, 2 ext_ad, 3 the file itself.
+    // The kind of the area: 0 short_ad, 1 long_ad, 2 ext_ad, 3 the file itself.
     pub kind: u8,
     pub area_at: usize,
     pub area_length: usize,

@@ -1,7 +1,8 @@
 // The descriptor tag, its CRC, and the header of an allocation extent.
 //
-// A tag is refused unless its id is 1 to 9 or 256 to 266, its reserved byte 0 and its checksum right; the CRC is checked by
-// records_tag_body alone. Encoding takes any id, and makes the checksum. A header is a tag with id 258 and two numbers.
+// A tag is refused unless its id is 1 to 9 or 256 to 266, its reserved byte is 0 and its checksum is right. Only
+// records_tag_body checks the CRC. Encoding takes any id and computes the checksum. A header is a tag with id 258 and
+// two numbers.
 ghost use mathlib.Core.Path.{_≡_};
 ghost use mathlib.Core.Bool.{false};
 ghost use Rattle.crcs.specs.Crcs.{crcOf};
@@ -64,8 +65,9 @@ pub extern "C" fn records_encode_tag(value: DescriptorTag) -> TagBytes
     }
 }
 
-// The place check: whether the tag's location is the number that it must be. `sector` and `block` are those that hold the descriptor's first
-// byte, counted from the disc's start and from its partition's. Ids 256 to 266 go by the block, and every other id by the sector.
+// The place check: whether the tag's location is the number that it must be. `sector` and `block` are those that hold
+// the descriptor's first byte, counted from the start of the disc and of its partition. Ids 256 to 266 go by the block,
+// all others by the sector.
 #[no_mangle]
 pub extern "C" fn records_tag_in_place(tag: DescriptorTag, sector: u64, block: u32) -> bool
     ensures { λ r. ⌜ r ≡ inPlace tag sector block ⌝ }
@@ -73,7 +75,8 @@ pub extern "C" fn records_tag_in_place(tag: DescriptorTag, sector: u64, block: u
     tag.is_in_place(Sector(sector), Block(block))
 }
 
-// The CRC of `bytes`, which a tag has of its descriptor's body: x^16 + x^12 + x^5 + 1, starting at 0, the highest bit of a byte first.
+// The CRC of `bytes`, as a tag holds it for its descriptor's body: x^16 + x^12 + x^5 + 1, starting at 0, highest bit of
+// a byte first.
 #[no_mangle]
 pub extern "C" fn records_crc(bytes: &[u8]) -> u16
     ensures { λ r. ⌜ r ≡ crcOf (now (bytes .entry)) ⌝ }
@@ -81,8 +84,8 @@ pub extern "C" fn records_crc(bytes: &[u8]) -> u16
     crc(bytes)
 }
 
-// The body check: `bytes` are those at hand from the descriptor on, with its tag in the first 16. Whether they hold as many behind these as the
-// tag's CRC length says, and these have the tag's CRC. A CRC length of 0 has the CRC 0.
+// The body check: whether `bytes`, which start with the descriptor's tag in the first 16, hold as many bytes after it
+// as the tag's CRC length says, and these have the tag's CRC. A CRC length of 0 has the CRC 0.
 #[no_mangle]
 pub extern "C" fn records_tag_body(tag: DescriptorTag, bytes: &[u8]) -> bool
     ensures { λ r. ⌜ r ≡ bodyRight (now (bytes .entry)) tag ⌝ }

@@ -1,7 +1,7 @@
 // Volume structure: the anchor, the descriptors of a volume descriptor sequence, and the file set descriptor.
 //
-// Each begins with a tag that has its id (2, 1, 5, 6, 256). The identifiers are d-string fields as they are recorded; one that can't be decoded
-// is refused.
+// Each begins with a tag that has its id (2, 1, 5, 6, 256). Identifiers are d-string fields as recorded; one that can't
+// be decoded is refused.
 ghost use mathlib.Core.Path.{_≡_};
 ghost use mathlib.Core.Bool.{false};
 ghost use Rattle.descriptors.specs.Answers.{anchorAnswer, partitionAnswer};

@@ -24,7 +24,7 @@ use disc::refusals::Refusal;
 use records::bytes::le16;
 use records::bytes::le32;
 
-// The id is a number, which reading keeps within the listed ones.
+// The id is a number. Parsing accepts only the ids above.
 #[repr(C)]
 pub struct DescriptorTag {
     pub id: u16,

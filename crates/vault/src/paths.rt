@@ -4,12 +4,12 @@ ghost use Rattle.vault.specs.Calls.{nextComponent};
 use listings::paths::component_end;
 use listings::paths::component_from;
 
-// Where a component of a path stands.
+// The place of a component in a path.
 #[repr(C)]
 pub struct Component {
-    // Its place in the path.
+    // Its offset in the path.
     pub at: usize,
-    // Its bytes: 0 where there is none.
+    // Its length; 0 if there is none.
     pub length: usize,
 }
 

@@ -1,45 +1,49 @@
-// UDF discs (ECMA-167, OSTA UDF) read from memory, and vaults written to it, for C.
+// Reads UDF discs (ECMA-167, OSTA UDF) from memory, and writes disc images to memory, for C.
 //
-// Link target/staticlib/libvault_c.a, which `rt staticlib vault_c` makes from the proved sources; for what is read straight from a drive libdrives_c.a, and
-// for surveys libsurveys_c.a, made in the same way. Each call has the contract of the call that it passes on, of crate vault, writers, drives, figures or
-// surveys.
+// Link target/staticlib/libvault_c.a, which `rt staticlib vault_c` makes from the proved sources. To read straight from
+// a drive, link libdrives_c.a; for surveys, libsurveys_c.a. Both are made in the same way. Each call has the contract
+// of the call that it passes on, of crate vault, writers, drives, figures or surveys.
 //
-// Nothing here allocates, keeps or frees memory: the caller lends the image, the output and the work space for the length of the call, each as a
-// pointer and a length. Lent pieces must not overlap. A piece of length 0 may have a null pointer. A piece has at most PTRDIFF_MAX bytes: no object is
-// larger. `component_at` and `part_at` point to a number that every call writes: they are never null. If the image changes during a call,
-// the answer may be that of no image; the call still ends, with a number of the table, and stays inside the memory that it was lent.
+// Nothing here allocates, keeps or frees memory. The caller lends the image, the output and the work space for the
+// duration of the call, each as a pointer and a length. Lent pieces must not overlap. A piece of length 0 may have a
+// null pointer. A piece has at most PTRDIFF_MAX bytes: no object is larger. Every call writes to `component_at` and
+// `part_at`, so they must not be null. If the image changes during a call, the result may match no state of the image.
+// The call still ends, with a number of the table, and stays inside the memory that it was lent.
 //
-// Stack, as measured on x86-64: vault_show takes less than 16 KB and vault_survey less than 19 KB on a tree of 16 levels, the most that they go down. Any other call takes
-// less than 3 KB.
+// Stack use, measured on x86-64: on a tree of 16 levels, the most that they go down, vault_show takes less than 16 KB
+// and vault_survey less than 19 KB. Any other call takes less than 3 KB.
 //
-// Every call on an image but the probe answers with a number, which has its name below, and with a count of the sectors of 2,048 bytes that it
-// asked for. A call that is refused (any number but 0) has zeros in every value but the count, where vault_failed has the component at
-// VAULT_NOT_BLURAY, and leaves `out` and the slots as they came. A call that is done writes the front of `out` and nothing behind it. `work` is
-// all zero on return from every call, refused or not.
+// Every call on an image except vault_probe returns an answer, one of the numbers named below, and a count: how many
+// sectors of 2,048 bytes it asked for. A call with an answer other than 0 is refused. It returns zeros in every value
+// except the count, and leaves `out` and the slots unchanged. (One exception: on VAULT_NOT_BLURAY, vault_failed returns
+// the component.) A call that is done writes the front of `out` and nothing after it. Every call, refused or not,
+// leaves `work` all zero.
 //
-// What bounds the time of each call, whatever the image holds: it is in proportion to what stands beside it. The descriptors of a file stand in its entry and
-// in a chain of at most 32 continuations of 1 MiB, together at most 16,385 sectors. A directory has at most the bytes of `work`, or is refused.
+// The time of each call is bounded, whatever the image holds: it is proportional to what the table gives. A file's
+// descriptors are in its entry and in a chain of at most 32 continuations of 1 MiB, together at most 16,385 sectors. A
+// directory that has more bytes than `work` is refused.
 //
 //     vault_open, vault_label     the main sequence, at most 2,097,151 sectors; once more for each map with VAULT_MAPS
 //     vault_probe                 8 sectors
-//     vault_lookup, vault_failed  for each component of the path a directory's bytes, entry and chain
+//     vault_lookup, vault_failed  for each component of the path: a directory's bytes, entry and chain
 //     vault_list                  the directory's bytes, entry and chain
-//     vault_read                  the bytes that are answered, and the file's entry and chain
-//     vault_measure, vault_part   the file's entry and chain: none of its bytes is looked at
-//     vault_extents, vault_runs   the same, and the slots that are written
+//     vault_read                  the bytes returned, and the file's entry and chain
+//     vault_measure, vault_part   the file's entry and chain; none of its bytes is read
+//     vault_extents, vault_runs   the same, and the slots written
 //     vault_read_path             the lookup and the read
 //     vault_read_all              the sum of its items
 //     vault_show                  most + 1 times the bytes of `work` and 2,048; one more directory's entry and chain
-//     vault_survey                of each image the opening, the show, and one more file's entry and chain
+//     vault_survey                for each image: the opening, the show, and one more file's entry and chain
 //     vault_opening_step          one sector
-//     vault_reading_step          one sector; where the chain or the read ends, the slots of the row
-//     vault_list_bytes            the bytes lent, as of vault_match and vault_next_component
-//     vault_write                 the image that is written, and the names
+//     vault_reading_step          one sector; when the chain or the read ends, also the slots of the row
+//     vault_list_bytes            the bytes lent; also vault_match and vault_next_component
+//     vault_write                 the image written, and the names
 //
-// With VAULT_UNLIMITED as `most`, vault_show and vault_survey have no bound but the number of paths, and a disc that was made to do harm may have more of these
-// than could ever be walked.
+// With VAULT_UNLIMITED as `most`, only the number of paths bounds vault_show and vault_survey. A malicious disc may
+// have more paths than anyone could ever walk.
 //
-// Any volume and any ICB may be handed in, also one made by hand. They are taken as they are: a length of 2^30 is not 0.
+// You may pass any volume and any ICB, even one made by hand. Fields are not masked: a length of 2^30 counts as
+// non-zero.
 ghost use mathlib.Core.Path.{_≡_};
 ghost use Rattle.layouts.specs.Calls.{wordsOf};
 ghost use Rattle.listings.specs.Listings.{matchingOf};
@@ -69,38 +73,40 @@ use volumes::openings::refused;
 
 pub mod writing;
 
-// ASCII case is ignored, and the first entry that matches is taken.
+// Ignores ASCII case and takes the first entry that matches.
 pub const VAULT_CASE_IGNORED: u32 = CASE_IGNORED;
 
-// A name matches byte for byte, and the first entry that matches is taken.
+// Matches byte for byte and takes the first entry that matches.
 pub const VAULT_AS_WRITTEN: u32 = AS_WRITTEN;
 
-// ASCII case is ignored, and a component that two or more entries match is refused by VAULT_AMBIGUOUS.
+// Ignores ASCII case; a component that two or more entries match is refused with VAULT_AMBIGUOUS.
 pub const VAULT_UNAMBIGUOUS: u32 = UNAMBIGUOUS;
 
-// A choice for `how`: the body of each descriptor that is parsed, on opening and in every call on the volume, must have the CRC that its tag
-// says, or the call is refused by VAULT_BAD_CRC.
+// A choice for `how`: check the CRC of each descriptor that is parsed, on opening and in every call on the volume. If
+// one is wrong, the call is refused with VAULT_BAD_CRC.
 pub const VAULT_CHECKED: u32 = CHECKED;
 
-// A choice for `how`: the partition references of descriptors and ICBs are indices into the logical volume's partition maps, of which there may be four,
-// all of type 1. Without it they are compared with the partition's number, and those of ICBs aren't looked at.
+// A choice for `how`: a partition reference in a descriptor or an ICB is an index into the logical volume's partition
+// maps, up to four, all of type 1. Without it, references are compared with the partition's number, and those of ICBs
+// are ignored.
 pub const VAULT_MAPS: u32 = MAPS;
 
-// A choice for `how`: of several primary volume, partition or logical volume descriptors the one with the highest volume descriptor
-// sequence number counts, the later of equals. Without it the last one does. Partition descriptors are compared whatever their partition
-// numbers; with VAULT_MAPS the start of a map's partition is by those of its own number alone, with this choice and without.
+// A choice for `how`: of several primary volume, partition or logical volume descriptors, the one with the highest
+// volume descriptor sequence number counts, the later of equals. Without it, the last one counts. Partition descriptors
+// are compared whatever their partition numbers; but with VAULT_MAPS only those of a map's own partition number decide
+// where its partition starts, with this choice or without.
 pub const VAULT_HIGHEST: u32 = HIGHEST;
 
-// For `most`: as many sectors as the call wants. It is for an image that is trusted.
+// For `most`: no limit. Use it for images that you trust.
 pub const VAULT_UNLIMITED: u64 = UNLIMITED;
 
-// The bytes of a sector, and of a block.
+// The number of bytes in a sector, and in a block.
 pub const VAULT_SECTOR_SIZE: usize = 2048;
 
-// Goes up whenever a struct or a call changes.
+// Increases whenever a struct or a call changes.
 pub const VAULT_VERSION: u32 = 12;
 
-// The VAULT_VERSION of the archive, which is to be that of the header.
+// The VAULT_VERSION of the archive. It must equal that of the header.
 #[no_mangle]
 pub extern "C" fn vault_version() -> u32
     ensures { λ r. ⌜ r ≡ 12 ⌝ }
@@ -108,7 +114,7 @@ pub extern "C" fn vault_version() -> u32
     VAULT_VERSION
 }
 
-// Whether the image has a volume recognition sequence. Opening doesn't depend on it.
+// Whether the image has a volume recognition sequence. Opening does not depend on it.
 #[no_mangle]
 pub extern "C" fn vault_probe(image: &[u8]) -> bool
     ensures { λ r. ⌜ r ≡ probed (now (image .entry)) ⌝ }
@@ -116,8 +122,9 @@ pub extern "C" fn vault_probe(image: &[u8]) -> bool
     probe(image)
 }
 
-// Opens the volume of an image. `how` is the sum of the choices, 0 for none of them; any other bit is VAULT_UNSUPPORTED with a count of 0.
-// A volume that is opened with VAULT_CHECKED or VAULT_MAPS says so in its mount, and every call on it goes by that; of VAULT_HIGHEST it holds no trace.
+// Opens the volume of an image. `how` is the sum of the choices, or 0 for none; any other bit is VAULT_UNSUPPORTED with
+// a count of 0. VAULT_CHECKED and VAULT_MAPS are kept in the volume's mount and apply to every call on the volume.
+// VAULT_HIGHEST leaves no trace in it.
 #[no_mangle]
 pub extern "C" fn vault_open(image: &[u8], how: u32) -> Opened
     ensures { λ r. ⌜ r ≡ opensAs (now (image .entry)) how ⌝ }
@@ -128,7 +135,8 @@ pub extern "C" fn vault_open(image: &[u8], how: u32) -> Opened
     }
 }
 
-// Opens an image, as vault_open does, and writes its label to `out`, as UTF-8 with no zero behind it; `length` is the label's.
+// Opens an image, as vault_open does, and writes its label to `out` as UTF-8, with no terminating zero. `length` is the
+// length of the label.
 #[no_mangle]
 pub extern "C" fn vault_label(image: &[u8], how: u32, out: &mut [u8]) -> Reply
     ensures { λ r. ⌜ record { reply = r; out = now (out .exit) } ≡ labelsAs (now (image .entry)) how (now (out .entry)) ⌝ }
@@ -139,10 +147,10 @@ pub extern "C" fn vault_label(image: &[u8], how: u32, out: &mut [u8]) -> Reply
     }
 }
 
-// The ICB that a path names. Components stand between slashes, and empty ones are dropped; the empty path names the root. `matching` says how
-// a component is matched with the names of a directory's entries that are neither deleted nor the parent: VAULT_CASE_IGNORED, VAULT_AS_WRITTEN or
-// VAULT_UNAMBIGUOUS, and any other number counts as VAULT_UNAMBIGUOUS. A component that isn't there, or that stands under a file, is
-// VAULT_NOT_BLURAY.
+// Finds the ICB that a path names. Slashes separate the components; empty components are dropped, and the empty path
+// names the root. `matching` says how a component is matched with the names of a directory's entries, except deleted
+// entries and the parent: VAULT_CASE_IGNORED, VAULT_AS_WRITTEN or VAULT_UNAMBIGUOUS. Any other number counts as
+// VAULT_UNAMBIGUOUS. A component that does not exist, or is below a file, is VAULT_NOT_BLURAY.
 #[no_mangle]
 pub extern "C" fn vault_lookup(
     volume: Volume,
@@ -156,8 +164,9 @@ pub extern "C" fn vault_lookup(
     volume.lookup(image, path, matching_of(matching), work)
 }
 
-// The component at which that lookup is refused by VAULT_NOT_BLURAY: `length` is the component's, and its place in the path goes to
-// `*component_at`. Both are 0 where no component was refused so, as at VAULT_AMBIGUOUS. The answer and the count are the lookup's.
+// Finds the component at which that lookup is refused with VAULT_NOT_BLURAY. `length` is the length of the component,
+// and its offset in the path goes to `*component_at`. Both are 0 if no component was refused in this way, for example
+// on VAULT_AMBIGUOUS. The answer and the count are those of the lookup.
 #[no_mangle]
 pub extern "C" fn vault_failed(
     volume: Volume,
@@ -172,7 +181,7 @@ pub extern "C" fn vault_failed(
     volume.failed_at(image, path, matching_of(matching), work, component_at)
 }
 
-// Lists a directory: a record for each entry that is neither deleted nor the parent, one behind the other, each in this order:
+// Lists a directory: one record for each entry except deleted entries and the parent, one after another. A record is:
 //
 //     44 45   1 for a directory, else 0   the ICB's 16 bytes as recorded
 //     the name's length (2 bytes, little-endian)   the name, as UTF-8
@@ -189,21 +198,24 @@ pub extern "C" fn vault_list(
     volume.list(image, icb, out, work)
 }
 
-// Lists the volume's whole tree, from its root, down to so many levels, 1 to 16: a record for each entry that a path of at most that many components leads
-// to, each before what stands under it, and the entries of a directory in the order of the disc. A record is that of vault_list with the level behind the
-// mark, which is 1 for the root's entries:
+// Lists the volume's whole tree from its root, down to `levels` levels, 1 to 16: one record for each entry that a path
+// of at most that many components leads to. An entry comes before what is below it, and the entries of a directory come
+// in the order of the disc. A record is that of vault_list with the level after the mark; the level is 1 for the root's
+// entries:
 //
 //     44 45   the level   1 for a directory, else 0   the ICB's 16 bytes as recorded
 //     the name's length (2 bytes, little-endian)   the name, as UTF-8
 //
-// A directory at the last level, even an empty one, is VAULT_TOO_DEEP at its turn, before it is read, and so is any other number of levels at once. The
-// directories on the way down stand in `work` together, one behind the other: VAULT_NO_WORK counts those above. One that holds itself is found at the last
-// level, and is VAULT_TOO_DEEP, or is VAULT_NO_WORK before.
+// A directory at the last level, even an empty one, is VAULT_TOO_DEEP when its turn comes, before it is read. Any other
+// number of levels is VAULT_TOO_DEEP at once. `work` holds the directories on the way down together, one after another:
+// VAULT_NO_WORK counts those above. A directory that contains itself reaches the last level and is VAULT_TOO_DEEP,
+// unless it is VAULT_NO_WORK before that.
 //
-// A directory is shown, and read, once for each path to it: a few directories may have more paths than could ever be walked. So `most` is how many sectors the
-// call may ask for. It is VAULT_OVER_BUDGET in the place of asking for one more, and the count is then `most`; refusals that it meets before stay what they are. A
-// call that asks for no more is the same as with VAULT_UNLIMITED. On a sound disc each sector of a directory is asked for once, so that as many as the image has
-// are enough.
+// A directory is read and shown once for each path to it, and a few directories may have more paths than anyone could
+// ever walk. So `most` is the number of sectors that the call may ask for. Instead of asking for one more, it is
+// refused with VAULT_OVER_BUDGET, and the count is then `most`; refusals that it meets earlier are unchanged. A call
+// that stays within `most` gives the same result as with VAULT_UNLIMITED. On a sound disc each sector of a directory is
+// asked for once, so the number of sectors of the image is enough.
 #[no_mangle]
 pub extern "C" fn vault_show(
     volume: Volume,
@@ -218,7 +230,7 @@ pub extern "C" fn vault_show(
     volume.show(image, levels, most, out, work)
 }
 
-// Reads a file, or a directory's own bytes, to `out`.
+// Reads a file, or the bytes of a directory itself, to `out`.
 #[no_mangle]
 pub extern "C" fn vault_read(volume: Volume, image: &[u8], icb: LongAd, out: &mut [u8]) -> Reply
     ensures { λ r. ⌜ record { reply = r; out = now (out .exit) } ≡ reads (now (image .entry)) (volume .0) icb (now (out .entry)) ⌝ }
@@ -226,7 +238,8 @@ pub extern "C" fn vault_read(volume: Volume, image: &[u8], icb: LongAd, out: &mu
     volume.read(image, icb, out)
 }
 
-// How many bytes vault_read answers for that file where there is room: `length` has them, and number and count are those of the read. Nothing is written.
+// Returns in `length` how many bytes vault_read gives for that file if there is room. The answer and the count are
+// those of the read. Nothing is written.
 #[no_mangle]
 pub extern "C" fn vault_measure(volume: Volume, image: &[u8], icb: LongAd) -> Reply
     ensures { λ r. ⌜ r ≡ measures (now (image .entry)) (volume .0) icb ⌝ }
@@ -234,8 +247,9 @@ pub extern "C" fn vault_measure(volume: Volume, image: &[u8], icb: LongAd) -> Re
     volume.measure(image, icb)
 }
 
-// The bytes of an embedded file where they stand: `length` of them, from `*part_at` on in the image. For any other file that can be read the
-// answer is VAULT_DONE, and both are 0, as they are where the call is refused. An embedded file of no bytes has a place all the same.
+// Finds the bytes of an embedded file in the image: `length` bytes from `*part_at` on. For any other file that can be
+// read, the answer is VAULT_DONE and both are 0; they are also 0 if the call is refused. An embedded file of no bytes
+// still has a place.
 #[no_mangle]
 pub extern "C" fn vault_part(
     volume: Volume,
@@ -248,9 +262,10 @@ pub extern "C" fn vault_part(
     volume.part_at(image, icb, part_at)
 }
 
-// The extents of a file, in the order in which they are read, one to a slot of `row`; `length` is how many. An embedded file has none. An extent's partition
-// is the reference as it is recorded. Its first sector is its block and the partition's start, added: where the mount has no maps that is `start`; where it
-// has, it is the reference's in `starts`, and for 65,536, none, that of the ICB's reference.
+// Lists the extents of a file in reading order, one per slot of `row`; `length` is their number. An embedded file has
+// none. An extent's partition is the reference as recorded. Its first sector is its block plus the start of its
+// partition. Without maps in the mount, that start is `start`. With maps, it is the entry of `starts` for the
+// reference; for 65,536 (none), the one for the ICB's reference.
 #[no_mangle]
 pub extern "C" fn vault_extents(
     volume: Volume,
@@ -263,10 +278,11 @@ pub extern "C" fn vault_extents(
     volume.extent_words(image, icb, row)
 }
 
-// The runs of a file: place and length of each run of the image that vault_read takes the file's bytes from, in reading order, one to a slot of `row`;
-// `length` is how many. They are cut as the read is cut, each has a byte at least and stands in the image, and their bytes, joined, are what vault_read
-// answers; an empty file has none. Two runs may follow each other in the image, overlap or be the same. Number and count are those of the read, with
-// VAULT_NO_SLOT, which comes last, for more runs than slots in the place of VAULT_NO_ROOM.
+// Lists the runs of a file: the offset and length of each run of the image that vault_read takes the file's bytes from,
+// in reading order, one per slot of `row`; `length` is their number. Runs are cut as the read is cut. Each has at least
+// one byte and is inside the image, and joined they are what vault_read gives. An empty file has none. Two runs may
+// follow each other in the image, overlap or be equal. The answer and the count are those of the read, except that more
+// runs than slots are VAULT_NO_SLOT, which comes last and takes the place of VAULT_NO_ROOM.
 #[no_mangle]
 pub extern "C" fn vault_runs(
     volume: Volume,
@@ -279,7 +295,7 @@ pub extern "C" fn vault_runs(
     volume.runs(image, icb, row)
 }
 
-// Looks a path up and reads what it names to `out`; the count is that of both.
+// Looks a path up and reads what it names to `out`. The count covers both.
 #[no_mangle]
 pub extern "C" fn vault_read_path(
     volume: Volume,
@@ -294,11 +310,12 @@ pub extern "C" fn vault_read_path(
     volume.read_path(image, path, matching_of(matching), out, work)
 }
 
-// Reads many files to `out`, one behind the other. `paths` has their paths with a zero byte between each two: n zeros make n + 1 paths, so that no bytes
-// are one path, and an empty path reads the root's bytes. Of each in turn `lengths` and `answers` say how many bytes it has and its answer, as vault_read_path
-// gives them for the room that is left; one that is refused has length 0, takes no room, and the rest go on. So the answer is VAULT_DONE also where every
-// path was refused, with the count of all and in `length` the bytes of all. More paths than places in either row are VAULT_TOO_MANY: then no sector is
-// asked for, and nothing is written but the zeros of `work`.
+// Reads many files to `out`, one after another. `paths` holds their paths, separated by zero bytes: n zeros make n + 1
+// paths, so no bytes are one path. An empty path reads the bytes of the root. For each path in turn, `lengths` and
+// `answers` get its number of bytes and its answer, as vault_read_path gives them for the room that is left. A path
+// that is refused has length 0 and takes no room, and the rest go on. So the answer is VAULT_DONE even if every path
+// was refused; the count is the sum of all, and `length` the bytes of all. If there are more paths than places in
+// either row, the answer is VAULT_TOO_MANY: no sector is asked for, and nothing is written except the zeros of `work`.
 #[no_mangle]
 pub extern "C" fn vault_read_all(
     volume: Volume,

@@ -53,25 +53,25 @@ impl How {
     }
 }
 
-// An opened volume. It holds no pointer: copy it, keep it, or make one by hand.
+// An opened volume. It holds no pointers: you can copy it, keep it, or make one by hand.
 #[repr(C)]
 pub struct VolumeRecord {
     // How it is read.
     pub mount: Mount,
     // The root directory.
     pub root: LongAd,
-    // The label's field as recorded.
+    // The label field as recorded.
     pub label: [u8; 32],
 }
 
-// The answer number, the count of sectors, and the volume.
+// The answer, the count of sectors, and the volume.
 #[repr(C)]
 pub struct Opened {
     // A number of the table.
     pub answer: u64,
     // The sectors asked for.
     pub count: u64,
-    // Zeros where opening was refused.
+    // Zeros if opening was refused.
     pub volume: VolumeRecord,
 }
 

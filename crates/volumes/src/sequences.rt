@@ -34,7 +34,7 @@ pub struct Kept {
     pub logical_sequence: u32,
     pub block_size: u32,
     pub file_set: LongAd,
-    // The front of the map table as recorded, its length in bytes, and how many maps it has.
+    // The front of the map table as recorded, its length in bytes, and its number of maps.
     pub map_table_length: u32,
     pub map_count: u32,
     pub maps: [u8; 24],

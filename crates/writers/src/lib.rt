@@ -36,7 +36,7 @@ use crate::parts::pour_front;
 use disc::answers::DONE;
 use disc::refusals::Refusal;
 
-// The answer number, and how many sectors the image has: 0 where the call was refused.
+// The answer, and how many sectors the image has; 0 if the call was refused.
 #[repr(C)]
 pub struct WriteReply {
     pub answer: u64,

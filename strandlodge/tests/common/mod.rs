@@ -72,11 +72,11 @@ pub fn noise(n: usize) -> Vec<u8> {
 }
 
 /// The sample show with more behind it.
-pub struct Disc(pub Vec<u8>);
+pub struct TestDisc(pub Vec<u8>);
 
-impl Disc {
-    pub fn new() -> Disc {
-        Disc(show())
+impl TestDisc {
+    pub fn new() -> TestDisc {
+        TestDisc(show())
     }
 
     /// Lays bytes in new blocks, and gives the first.
@@ -112,8 +112,8 @@ impl Disc {
 }
 
 /// A disc that was made to do harm: so many levels of directories, the root first, each with 20 entries that lead to the next, and the last one's to a file.
-pub fn harm(levels: usize) -> Disc {
-    let mut disc = Disc::new();
+pub fn harm(levels: usize) -> TestDisc {
+    let mut disc = TestDisc::new();
     let mut below = disc.entry(3, b"cue", 3);
     for level in 0..levels {
         let entries: Vec<u8> = (0..20).flat_map(|n| named(&format!("{n:02}"), below, level > 0)).collect();

@@ -103,38 +103,38 @@ pub struct Args {
 
 /// The commands that look at what a disc holds.
 const PATHS: &[&str] = &["ls", "tree", "cat", "get", "stat"];
-const FOR_PATHS: &str = "--as-written, --unambiguous and --as-original are for a PATH: that of ls, tree, cat, get or stat";
+const FOR_PATHS: &str = "--as-written, --unambiguous and --as-original work only with ls, tree, cat, get and stat";
 
 /// The commands that walk a disc.
 const WALKS: &[&str] = &["tree", "ls", "get", "check", "survey", "compare"];
-const FOR_WALKS: &str = "--limit and --no-limit are for tree, ls -R, get -r, check, survey and compare";
+const FOR_WALKS: &str = "--limit and --no-limit work only with tree, ls -R, get -r, check, survey and compare";
 
 /// Options that aren't for every command, those that they are for, and what is said else.
 const OPTIONS: [(&str, &[&str], &str); 25] = [
     ("--as-original", PATHS, FOR_PATHS),
     ("--as-written", PATHS, FOR_PATHS),
     ("--unambiguous", PATHS, FOR_PATHS),
-    ("--raw", PATHS, "--raw is for a PATH: that of ls, tree, cat, get or stat"),
-    ("--icb", PATHS, "--icb is for ls, tree, cat, get or stat, in place of PATH"),
-    ("-o", &["get"], "-o is for get"),
-    ("-r", &["get"], "-r is for get"),
+    ("--raw", PATHS, "--raw works only with ls, tree, cat, get and stat"),
+    ("--icb", PATHS, "--icb works only with ls, tree, cat, get and stat, in place of PATH"),
+    ("-o", &["get"], "-o works only with get"),
+    ("-r", &["get"], "-r works only with get"),
     ("--portable", &["get"], FOR_TREES),
     ("--sums", &["get"], FOR_TREES),
-    ("-R", &["ls"], "-R is for ls"),
-    ("-i", &["ls"], "-i is for ls"),
-    ("-0", &["ls"], "-0 is for ls"),
-    ("-l", &["ls"], "-l is for ls"),
+    ("-R", &["ls"], "-R works only with ls"),
+    ("-i", &["ls"], "-i works only with ls"),
+    ("-0", &["ls"], "-0 works only with ls"),
+    ("-l", &["ls"], "-l works only with ls"),
     (
         "--json",
         &["ls", "tree", "stat", "info", "check", "survey", "compare"],
-        "--json is for ls, tree, stat, info, check, survey and compare",
+        "--json works only with ls, tree, stat, info, check, survey and compare",
     ),
-    ("--rows", &["survey"], "--rows is for survey"),
-    ("--total", &["survey"], "--total is for survey"),
-    ("--levels", &["tree", "ls"], "--levels is for tree and ls -R"),
+    ("--rows", &["survey"], "--rows works only with survey"),
+    ("--total", &["survey"], "--total works only with survey"),
+    ("--levels", &["tree", "ls"], "--levels works only with tree and ls -R"),
     ("--limit", WALKS, FOR_WALKS),
     ("--no-limit", WALKS, FOR_WALKS),
-    ("--force", &["make", "sample"], "--force is for make and sample: it replaces a file that is there"),
+    ("--force", &["make", "sample"], "--force works only with make and sample, where it replaces an existing file"),
     ("--wait", &["cat", "get"], FOR_ONE_FILE),
     ("--from", &["cat", "get"], FOR_A_PART),
     ("--bytes", &["cat", "get"], FOR_A_PART),
@@ -142,13 +142,13 @@ const OPTIONS: [(&str, &[&str], &str); 25] = [
     (
         "--copy",
         &["label", "info", "ls", "tree", "cat", "get", "stat", "probe", "check", "survey", "compare"],
-        "--copy is for a command that reads an IMAGE",
+        "--copy works only with commands that read an IMAGE",
     ),
 ];
-const FOR_TREES: &str = "--portable and --sums are for get -r";
-const FOR_ONE_FILE: &str = "--wait is for one file: that of cat or get, without -o";
-const FOR_A_PART: &str = "--from and --bytes are for one file: that of cat or get, without -o";
-const FOR_DRIVES: &str = "--drive is for label, ls, tree, cat, stat, and get, with -o only where there is -r";
+const FOR_TREES: &str = "--portable and --sums work only with get -r";
+const FOR_ONE_FILE: &str = "--wait works only with cat, and with get without -o";
+const FOR_A_PART: &str = "--from and --bytes work only with cat, and with get without -o";
+const FOR_DRIVES: &str = "--drive works only with label, ls, tree, cat, stat and get; get -o also needs -r";
 
 /// What stands on the line beside words.
 #[derive(Default)]
@@ -186,18 +186,18 @@ impl Options {
             b"--help" | b"-h" => self.help = true,
             b"--version" => self.version = true,
             b"-V" => self.short_version = true,
-            b"-o" => self.folder = Some(rest.next().ok_or_else(|| Failure::usage("-o needs TO, a folder"))?),
-            b"--sums" => self.sums = Some(rest.next().ok_or_else(|| Failure::usage("--sums needs FILE"))?),
+            b"-o" => self.folder = Some(rest.next().ok_or_else(|| Failure::usage("-o needs a folder: -o TO"))?),
+            b"--sums" => self.sums = Some(rest.next().ok_or_else(|| Failure::usage("--sums needs a file: --sums FILE"))?),
             b"--icb" => self.icb = Some(icb(rest.next())?),
             b"--levels" => {
-                self.levels = Some(number(rest.next(), "--levels needs a number, 1 to 16", Bounds::MOST_LEVELS as u64)? as usize)
+                self.levels = Some(number(rest.next(), "--levels needs a number from 1 to 16", Bounds::MOST_LEVELS as u64)? as usize)
             }
-            b"--limit" => self.limit = Some(number(rest.next(), "--limit needs N, a number of sectors, of 1 or more", u64::MAX)?),
+            b"--limit" => self.limit = Some(number(rest.next(), "--limit needs a number of sectors, 1 or more", u64::MAX)?),
             b"--wait" => self.wait = Some(seconds(rest.next())?),
-            b"--from" => self.span.from = bytes(rest.next(), "--from needs N, the number of a byte: 0 is the first")?,
-            b"--bytes" => self.span.bytes = Some(bytes(rest.next(), "--bytes needs N, a number of bytes")?),
+            b"--from" => self.span.from = bytes(rest.next(), "--from needs the number of a byte; the first byte is 0")?,
+            b"--bytes" => self.span.bytes = Some(bytes(rest.next(), "--bytes needs a number of bytes")?),
             _ if known.is_some() => {}
-            other => return Err(Failure::usage(format!("there is no option {}", shown(other)))),
+            other => return Err(Failure::usage(format!("unknown option {}", shown(other)))),
         }
         Ok(())
     }
@@ -227,7 +227,7 @@ impl Options {
         };
         let known = |letter: &u8| OPTIONS.iter().any(|(name, ..)| name.as_bytes() == [b'-', *letter]) || b"hV".contains(letter);
         if !letters[..at].iter().all(known) {
-            return Err(Failure::usage(format!("there is no option -{}", shown(letters))));
+            return Err(Failure::usage(format!("unknown option -{}", shown(letters))));
         }
         letters[..at].iter().try_for_each(|letter| self.take(OsStr::from_bytes(&[b'-', *letter]), rest))?;
         match folder {
@@ -247,22 +247,24 @@ impl Options {
         }
         let deep = name.is_some_and(|name| name == "tree") || self.has("-R") || self.has("-r");
         if self.levels.is_some() && !deep {
-            return Err(Failure::usage("--levels is for tree and ls -R"));
+            return Err(Failure::usage("--levels works only with tree and ls -R"));
         }
         if self.limit()? != Limit::Usual && !deep && name.is_some_and(|name| name == "ls" || name == "get") {
             return Err(Failure::usage(FOR_WALKS));
         }
         if self.has("-r") && (self.levels.is_some() || self.folder.is_none()) {
-            return Err(Failure::usage("get -r needs -o TO, a folder, and takes no --levels"));
+            return Err(Failure::usage("get -r needs a folder (-o TO) and takes no --levels"));
         }
         if !self.has("-r") && (self.has("--portable") || self.has("--sums")) {
             return Err(Failure::usage(FOR_TREES));
         }
         if self.icb.is_some() && (self.folder.is_some() || self.has("--raw") || self.matching()? != Rule::default()) {
-            return Err(Failure::usage("--icb stands in place of a PATH: it goes with none of -o, --raw and the choices of matching"));
+            return Err(Failure::usage(
+                "--icb replaces PATH: it can't be combined with -o, --raw, --as-written, --unambiguous or --as-original",
+            ));
         }
         if self.has("--json") && (self.has("-0") || self.has("-i")) {
-            return Err(Failure::usage("--json has the names and the ICBs: it goes with neither -0 nor -i"));
+            return Err(Failure::usage("--json includes the names and the ICBs: it can't be combined with -0 or -i"));
         }
         Ok(())
     }
@@ -272,7 +274,7 @@ impl Options {
             (None, false) => Ok(Limit::Usual),
             (Some(most), false) => Ok(Limit::Most(most)),
             (None, true) => Ok(Limit::None),
-            (Some(_), true) => Err(Failure::usage("--limit and --no-limit are two choices, of which one can be taken")),
+            (Some(_), true) => Err(Failure::usage("use either --limit or --no-limit, not both")),
         }
     }
 
@@ -287,7 +289,7 @@ impl Options {
         match given[..] {
             [] => Ok(Rule::Safe),
             [choice] => Ok(Rule::Call(choice)),
-            _ => Err(Failure::usage("--as-written, --unambiguous and --as-original are choices, of which one can be taken")),
+            _ => Err(Failure::usage("use only one of --as-written, --unambiguous and --as-original")),
         }
     }
 
@@ -341,7 +343,7 @@ fn asked(words: Vec<OsString>, options: &Options) -> Result<Command, Failure> {
         return Ok(Command::Version);
     }
     match words.first().filter(|_| options.short_version) {
-        Some(name) => Err(Failure::usage(format!("-V is the version of vault, and no option of {}", shown(name.as_bytes())))),
+        Some(name) => Err(Failure::usage(format!("-V prints the version of vault; it is not an option of {}", shown(name.as_bytes())))),
         None => command(words, options),
     }
 }
@@ -363,7 +365,7 @@ fn args(options: Options, words: Vec<OsString>) -> Result<Args, Failure> {
         return Err(Failure::usage(FOR_A_PART));
     }
     if is_part && drive {
-        return Err(Failure::usage("--drive reads a file from its front to its end: it goes with neither --from nor --bytes"));
+        return Err(Failure::usage("--drive reads a file from start to end: it can't be combined with --from or --bytes"));
     }
     let args = Args { command, sectors, copy, drive, how, matching: options.matching()?, wait, style, span };
     if drive {
@@ -378,17 +380,19 @@ fn see_drive(args: &Args) -> Result<(), Failure> {
         return Err(Failure::usage(FOR_DRIVES));
     }
     if args.copy || args.wait.is_some() {
-        return Err(Failure::usage("--drive reads what is there now, a sector at a time: it goes with neither --copy nor --wait"));
+        return Err(Failure::usage("--drive reads what is there now, one sector at a time: it can't be combined with --copy or --wait"));
     }
     if args.how != How::default() {
-        return Err(Failure::usage("--drive opens as the original does: it goes with none of --highest, --maps and --checked"));
+        return Err(Failure::usage(
+            "--drive opens a disc by the original's rules: it can't be combined with --highest, --maps or --checked",
+        ));
     }
     Ok(())
 }
 
 fn seconds(word: Option<OsString>) -> Result<u32, Failure> {
     let number = word.as_ref().and_then(|word| word.to_str()).and_then(|word| word.parse().ok());
-    number.ok_or_else(|| Failure::usage("--wait needs N, a number of seconds"))
+    number.ok_or_else(|| Failure::usage("--wait needs a number of seconds"))
 }
 
 fn bytes(word: Option<OsString>, needs: &str) -> Result<u64, Failure> {
@@ -398,7 +402,7 @@ fn bytes(word: Option<OsString>, needs: &str) -> Result<u64, Failure> {
 
 fn icb(word: Option<OsString>) -> Result<Icb, Failure> {
     let icb = word.as_ref().and_then(|word| word.to_str()).and_then(Icb::parse);
-    icb.ok_or_else(|| Failure::usage("--icb needs BLOCK or BLOCK:REF, two numbers as ls -i shows them"))
+    icb.ok_or_else(|| Failure::usage("--icb needs BLOCK or BLOCK:REF, as ls -i shows them"))
 }
 
 /// A number of 1 to `most`.
@@ -432,18 +436,18 @@ fn command(words: Vec<OsString>, options: &Options) -> Result<Command, Failure> 
             let image = take(&mut words, &name, "IMAGE")?;
             Command::Ask { image, question: question(&name, &mut words, options)? }
         }
-        other => return Err(Failure::usage(format!("there is no command {}", shown(other)))),
+        other => return Err(Failure::usage(format!("unknown command {}", shown(other)))),
     };
     match words.next() {
         None => Ok(command),
-        Some(word) => Err(Failure::usage(format!("{} takes no more words, and {} follows", name.display(), shown(word.as_bytes())))),
+        Some(word) => Err(Failure::usage(format!("{} takes no more arguments, but {} follows", name.display(), shown(word.as_bytes())))),
     }
 }
 
 /// A survey of images, or the sum of rows.
 fn surveyed(files: Vec<OsString>, options: &Options) -> Result<Command, Failure> {
     let form = match (options.has("--json"), options.has("--rows")) {
-        (true, true) => return Err(Failure::usage("--rows writes lines for --total: it doesn't go with --json")),
+        (true, true) => return Err(Failure::usage("--rows writes lines for --total: it can't be combined with --json")),
         (true, false) => survey::Form::Document,
         (false, true) => survey::Form::Rows,
         (false, false) => survey::Form::Table,
@@ -453,7 +457,7 @@ fn surveyed(files: Vec<OsString>, options: &Options) -> Result<Command, Failure>
     }
     let is_bare = options.limit()? == Limit::Usual && options.how == How::default() && !options.has("--copy") && !options.sectors;
     if !is_bare || form == survey::Form::Rows {
-        return Err(Failure::usage("--total adds up rows, and looks at no image: of the options --json alone goes with it"));
+        return Err(Failure::usage("--total adds up rows and reads no image: --json is the only option it takes"));
     }
     Ok(Command::Total { rows: files, form })
 }
@@ -715,10 +719,10 @@ mod tests {
         let says = |line: &str| parsed(line).unwrap_err().says.unwrap();
         for line in ["tree a --levels 17", "tree --levels x a", "tree --levls=2 a", "--levels=0 tree a", "tree", "-V tree a", "tree -Rx a"]
         {
-            assert!(says(line).ends_with(" (`vault tree --help` says how)"), "{line} {}", says(line));
+            assert!(says(line).ends_with(" (see `vault tree --help`)"), "{line} {}", says(line));
         }
         for line in ["lable a", "--levls", "-x", "--limit 7"] {
-            assert!(says(line).ends_with(" (`vault --help` says how)"), "{line} {}", says(line));
+            assert!(says(line).ends_with(" (see `vault --help`)"), "{line} {}", says(line));
         }
     }
 

@@ -1,7 +1,7 @@
 //! Whether each descriptor of a disc is in place, and has the body that its tag has the CRC of.
 
 use crate::commands::Manner;
-use crate::disc::Disc;
+use crate::disc::OpenDisc;
 use crate::failure::Failure;
 use crate::limit::Limit;
 use crate::log::Log;
@@ -19,7 +19,7 @@ const TERMINATOR: u16 = 8;
 pub fn check(image: &[u8], manner: Manner, limit: Limit, name: &str, out: &mut impl Write, log: &mut Log) -> Result<(), Failure> {
     let (how, mut report, most) = (manner.how, Report::new(out, manner.style), limit.of(image.len() as u64));
     volume(image, &mut report)?;
-    let vault = match Disc::open(image, how, name, Rule::default(), log) {
+    let vault = match OpenDisc::open(image, how, name, Rule::default(), log) {
         Ok(disc) => disc.volume,
         Err(failure) => return report.refused(&failure).and(Err(failure)),
     };

@@ -2,7 +2,7 @@
 
 use crate::args::Question;
 use crate::check;
-use crate::disc::{Disc, Found, Volume};
+use crate::disc::{Found, OpenDisc, Volume};
 use crate::failure::{Failure, WRONG};
 use crate::file::Target;
 use crate::folder;
@@ -37,8 +37,8 @@ pub struct Manner {
 /// Answers a question on an image, which goes by `name`.
 pub fn ask(question: &Question, manner: Manner, image: &[u8], name: &OsStr, out: &mut impl Write, log: &mut Log) -> Result<(), Failure> {
     let (file, name, Manner { how, matching, style, span }) = (name, &shown(name.as_bytes()), manner);
-    let open = |log| Disc::open(image, how, name, matching, log);
-    let watched = |log| open(log).map(Disc::watch);
+    let open = |log| OpenDisc::open(image, how, name, matching, log);
+    let watched = |log| open(log).map(OpenDisc::watch);
     match question {
         Question::Probe => probe(image, out),
         Question::Label => {
@@ -83,13 +83,13 @@ pub fn line(out: &mut impl Write, text: &str) -> Result<(), Failure> {
 }
 
 /// What is wanted of a file.
-fn find<'a>(disc: &mut Disc<Counted<'a>>, wanted: &Wanted, span: Span) -> Result<Runs<'a>, Failure> {
+fn find<'a>(disc: &mut OpenDisc<Counted<'a>>, wanted: &Wanted, span: Span) -> Result<Runs<'a>, Failure> {
     let found = disc.find_file(wanted)?;
     runs::find(disc, &wanted.text(), found.icb, span)
 }
 
 /// A directory's entries, or a file's own.
-pub fn ls<V: Volume>(disc: &mut Disc<V>, wanted: &Wanted, style: Style, out: &mut impl Write) -> Result<(), Failure> {
+pub fn ls<V: Volume>(disc: &mut OpenDisc<V>, wanted: &Wanted, style: Style, out: &mut impl Write) -> Result<(), Failure> {
     let found = disc.find_listed(wanted)?;
     let entries = match found.entry {
         Some(entry) if !entry.is_directory => vec![entry],
@@ -120,7 +120,7 @@ pub fn standing(one: &VolumeDescriptor) -> String {
 }
 
 /// What the descriptors that prevail lead to.
-fn volume(disc: &mut Disc<Counted>, out: &mut impl Write) -> Result<(), Failure> {
+fn volume(disc: &mut OpenDisc<Counted>, out: &mut impl Write) -> Result<(), Failure> {
     let label = disc.label()?;
     let vault = disc.volume;
     say_volume(&label, vault.partition_start_sector(), vault.partition_number(), vault.root_directory_icb(), out)?;
@@ -135,7 +135,7 @@ pub fn say_volume(label: &str, start: u64, number: u16, root: LongAd, out: &mut 
     line(out, &format!("root     block {}, partition {}, {}, type {kind}", place.block, place.partition_ref, bytes(length)))
 }
 
-fn stat(disc: &mut Disc<Counted>, wanted: &Wanted, style: Style, out: &mut impl Write) -> Result<(), Failure> {
+fn stat(disc: &mut OpenDisc<Counted>, wanted: &Wanted, style: Style, out: &mut impl Write) -> Result<(), Failure> {
     let (found, path) = (disc.find(wanted)?, wanted.text());
     let asked = Asked::ReadFile(found.icb);
     let part = disc.count(&path, asked, "part", disc.volume.part(found.icb))?;
@@ -178,7 +178,7 @@ fn extents_json(vault: Counted, icb: LongAd, embedded: usize, extents: &[AllocEx
 }
 
 /// What `stat` prints without a path, as a document.
-fn descriptors_json(image: &[u8], how: How, disc: &mut Disc<Counted>, out: &mut impl Write) -> Result<(), Failure> {
+fn descriptors_json(image: &[u8], how: How, disc: &mut OpenDisc<Counted>, out: &mut impl Write) -> Result<(), Failure> {
     let label = disc.label()?;
     let maps = map_table(image, how).map_or(Json::Null, |table| maps::json(&table));
     Json::Object(vec![
@@ -205,7 +205,7 @@ pub fn descriptor_json(one: &VolumeDescriptor) -> Json {
 pub fn say_found(found: &Found, path: &[u8], out: &mut impl Write) -> io::Result<()> {
     let icb = found.icb;
     writeln!(out, "path     {}", shown(path))?;
-    let none = if path.starts_with(b"--icb") { "not known, it was asked for by its place" } else { "none, this is the root" };
+    let none = if path.starts_with(b"--icb") { "not known, it was given by its ICB" } else { "none, this is the root" };
     writeln!(out, "entry    {}", found.entry.as_ref().map_or(none.to_string(), listed))?;
     writeln!(out, "kind     {}", if found.is_directory { "directory" } else { "file" })?;
     let place = icb.location;

@@ -5,7 +5,7 @@
 
 use crate::bar::Count;
 use crate::commands::line;
-use crate::disc::Disc;
+use crate::disc::OpenDisc;
 use crate::failure::{Failure, STOPPED, UNREAD};
 use crate::image::Image;
 use crate::json::{Json, Rows};
@@ -38,7 +38,7 @@ struct Entry {
 
 /// An image that is compared.
 struct Side<'a, 'l> {
-    disc: Disc<'l, Counted<'a>>,
+    disc: OpenDisc<'l, Counted<'a>>,
     most: u64,
     /// The bytes of its paths, and how many entries it has.
     bytes: usize,
@@ -91,7 +91,7 @@ fn held<W: Write>([one, other]: &mut [Side; 2], mut found: Found<W>) -> Result<b
     drop(count);
     let (any, unread) = (found.end()?, one.unread + other.unread);
     if unread > 0 {
-        let says = format!("{unread} files and folders couldn't be compared");
+        let says = format!("{unread} files and folders could not be compared");
         return Err(Failure::new(UNREAD, format!("{} and {}: {says}", one.disc.name, other.disc.name)));
     }
     Ok(any)
@@ -108,7 +108,7 @@ fn places(entries: &[Entry]) -> HashMap<&str, VecDeque<usize>> {
 
 impl<'a, 'l> Side<'a, 'l> {
     fn open(image: &'a [u8], name: &'l str, taken: Taken, log: &'l mut Log) -> Result<Side<'a, 'l>, Failure> {
-        let disc = Disc::open(image, taken.how, name, Rule::default(), log)?;
+        let disc = OpenDisc::open(image, taken.how, name, Rule::default(), log)?;
         Ok(Side { most: taken.limit.of(disc.bytes), disc, bytes: 0, entries: 0, unread: 0 })
     }
 
@@ -157,7 +157,7 @@ impl<'a, 'l> Side<'a, 'l> {
     }
 
     fn again(&mut self, entry: &Entry) {
-        let says = "is a directory that another entry names too: what stands in it isn't compared again";
+        let says = "is a directory that another entry also names: its contents are not compared again";
         self.tell(Some(format!("{}: {} {says}", self.disc.name, quoted(&entry.path))));
     }
 
@@ -166,7 +166,7 @@ impl<'a, 'l> Side<'a, 'l> {
         self.entries += 1;
         self.bytes = self.bytes.saturating_add(entry.path.len() + entry.text.len());
         if self.bytes > MOST_BYTES {
-            let why = format!("the paths of all entries have more than {MOST_BYTES} bytes");
+            let why = format!("all paths together have more than {MOST_BYTES} bytes");
             return Err(Failure::new(STOPPED, format!("{}: {why}", self.disc.name)));
         }
         self.see()
@@ -278,7 +278,7 @@ mod tests {
         let mut other = bytes.clone();
         other[8999] ^= 1;
         let image = strandlodge::write(&[("a", &bytes[..]), ("b", &bytes), ("c", &other), ("d", &bytes[1..]), ("e", b"")]).unwrap();
-        let vault = strandlodge::Vault::open(&image).unwrap();
+        let vault = strandlodge::Disc::open(&image).unwrap();
         let runs = |name: &str| vault.runs(vault.lookup(name).unwrap()).unwrap();
         assert!(is_same(runs("a"), runs("b")) && is_same(runs("e"), runs("e")));
         assert!(!is_same(runs("a"), runs("c")) && !is_same(runs("a"), runs("d")) && !is_same(runs("e"), runs("a")));

@@ -18,7 +18,7 @@ use strandlodge::{
 };
 
 /// What is said of a descriptor that was taken all the same.
-const RUINED: &str = "has a wrong body, and is taken as it stands (--checked refuses it, and `vault check` lists all such descriptors)";
+const RUINED: &str = "fails its CRC check and was used anyway (--checked refuses it; `vault check` lists all such descriptors)";
 
 /// The file type of a directory's entry (ECMA-167 4/14.6.6).
 const DIRECTORY: u8 = 4;
@@ -205,7 +205,7 @@ impl Write for Front {
 }
 
 /// An opened disc with the name that it goes by in messages, and how names on it are matched. Every call is counted.
-pub struct Disc<'l, V> {
+pub struct OpenDisc<'l, V> {
     pub volume: V,
     pub log: &'l mut Log,
     pub name: &'l str,
@@ -224,10 +224,10 @@ pub struct Found {
     pub is_directory: bool,
 }
 
-impl<'a, 'l> Disc<'l, Counted<'a>> {
+impl<'a, 'l> OpenDisc<'l, Counted<'a>> {
     pub fn open(image: &'a [u8], how: How, name: &'l str, matching: Rule, log: &'l mut Log) -> Result<Self, Failure> {
         let volume = log.count("open", Counted::open_as(image, how)).map_err(|refused| maps::refused(image, how, name, refused))?;
-        Ok(Disc { volume, log, name, matching, bytes: image.len() as u64, checked: None })
+        Ok(OpenDisc { volume, log, name, matching, bytes: image.len() as u64, checked: None })
     }
 
     /// The same, for who takes a file: a descriptor with a wrong body on the way to it is said, though it is taken as it stands. What is looked at for that
@@ -257,7 +257,7 @@ impl<'a, 'l> Disc<'l, Counted<'a>> {
     }
 }
 
-impl<V: Volume> Disc<'_, V> {
+impl<V: Volume> OpenDisc<'_, V> {
     /// Notes the count of a call on what a path gave, and gives its value.
     pub fn count<T>(&mut self, path: &[u8], asked: Asked, call: &'static str, answer: strandlodge::Answered<T>) -> Result<T, Failure> {
         self.log.count(call, answer).map_err(|refused| self.refused(path, asked, refused))
@@ -284,7 +284,7 @@ impl<V: Volume> Disc<'_, V> {
             Asked::Show(_) => false,
         });
         if let Some(says) = failure.says.as_mut().filter(|_| is_there) {
-            *says += "; the disc was closed again, and by its descriptors of the highest number this is there, with --highest";
+            *says += "; the disc was closed again later: --highest finds it";
         }
         failure
     }
@@ -335,7 +335,7 @@ impl<V: Volume> Disc<'_, V> {
     pub fn find_listed(&mut self, wanted: &Wanted) -> Result<Found, Failure> {
         let found = self.find(wanted)?;
         if matches!(wanted, Wanted::Icb(_)) && !found.is_directory && self.volume.entry(found.icb).is_some() {
-            let says = "is a file, whose name isn't known here: `vault stat` shows it, and `vault cat` gives its bytes";
+            let says = "is a file, and an ICB has no name to list: use `vault stat` or `vault cat`";
             return Err(Failure::new(USAGE, format!("{}: {} {says}", self.name, quoted(&wanted.text()))));
         }
         Ok(found)
@@ -357,7 +357,7 @@ impl<V: Volume> Disc<'_, V> {
         };
         let entry = last.taken(self.matching).filter(|entry| entry.icb == icb && names(path).count() == steps.len());
         let Some(entry) = entry.cloned() else {
-            let says = format!("{}: {} changed while it was looked at: use --copy", self.name, quoted(path));
+            let says = format!("{}: {} changed while it was being read: use --copy", self.name, quoted(path));
             return Err(Failure::new(NO_IMAGE, says));
         };
         self.log.remarks.extend(steps.iter().filter_map(|step| step.remark(self.matching)));
@@ -383,7 +383,7 @@ impl<V: Volume> Disc<'_, V> {
     pub fn find_file(&mut self, wanted: &Wanted) -> Result<Found, Failure> {
         let found = self.find(wanted)?;
         if found.is_directory {
-            let says = "is a directory: `vault ls` lists it, and `vault get -r` takes all of it";
+            let says = "is a directory: list it with `vault ls`, or copy all of it with `vault get -r`";
             return Err(Failure::new(USAGE, format!("{}: {} {says}", self.name, quoted(&wanted.text()))));
         }
         Ok(found)

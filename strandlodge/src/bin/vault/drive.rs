@@ -3,7 +3,7 @@
 use crate::args::Question;
 use crate::bar::{Bar, Count};
 use crate::commands::{Manner, found_json, line, ls, say_found, say_volume};
-use crate::disc::{Disc, Volume};
+use crate::disc::{OpenDisc, Volume};
 use crate::failure::Failure;
 use crate::file::{PIECE, Target};
 use crate::folder;
@@ -48,12 +48,12 @@ pub fn ask(question: &Question, manner: Manner, name: &OsStr, out: &mut impl Wri
         }
         Question::GetTree { tree, folder } => folder::get(&mut disc, tree, Path::new(folder), name, out),
         Question::GetAll { .. } | Question::Probe | Question::Check { .. } | Question::Info => {
-            Err(Failure::usage("--drive isn't for this command"))
+            Err(Failure::usage("--drive doesn't work with this command"))
         }
     }
 }
 
-fn open<'l>(name: &OsStr, shown: &'l str, matching: Rule, log: &'l mut Log) -> Result<Disc<'l, CountedDrive<File>>, Failure> {
+fn open<'l>(name: &OsStr, shown: &'l str, matching: Rule, log: &'l mut Log) -> Result<OpenDisc<'l, CountedDrive<File>>, Failure> {
     let mut failed = None;
     let opened = CountedDrive::open(image::file(name)?).map_err(|unopened| {
         let refused = unopened.refused;
@@ -66,7 +66,7 @@ fn open<'l>(name: &OsStr, shown: &'l str, matching: Rule, log: &'l mut Log) -> R
     })?;
     let bytes = image::length(name).map_or(0, |length| length as u64);
     // No call of a drive checks bodies.
-    Ok(Disc { volume, log, name: shown, matching, bytes, checked: None })
+    Ok(OpenDisc { volume, log, name: shown, matching, bytes, checked: None })
 }
 
 /// Why a disc wasn't opened: which sector can't be had, or what there is in the last one.
@@ -80,13 +80,13 @@ fn unopened(name: &OsStr, shown: &str, mut failed: Unopened<File>) -> Failure {
 }
 
 /// The volume's name, which opening has kept: no sector is asked for.
-fn label(disc: &mut Disc<CountedDrive<File>>) -> Result<String, Failure> {
+fn label(disc: &mut OpenDisc<CountedDrive<File>>) -> Result<String, Failure> {
     let label = disc.volume.label().map_err(|refused| Failure::refused(disc.name, refused))?;
     Ok(label.value)
 }
 
 /// What was opened. Volume descriptors that don't prevail, and maps, are shown of an image.
-fn volume(disc: &mut Disc<CountedDrive<File>>, style: Style, out: &mut impl Write) -> Result<(), Failure> {
+fn volume(disc: &mut OpenDisc<CountedDrive<File>>, style: Style, out: &mut impl Write) -> Result<(), Failure> {
     let label = label(disc)?;
     let drive = &disc.volume;
     if style.is_json {
@@ -104,7 +104,7 @@ fn volume(disc: &mut Disc<CountedDrive<File>>, style: Style, out: &mut impl Writ
 }
 
 /// What a directory has of an entry, and its information length. What a read gives, and where that stands, is shown of an image.
-fn stat(disc: &mut Disc<CountedDrive<File>>, wanted: &Wanted, style: Style, out: &mut impl Write) -> Result<(), Failure> {
+fn stat(disc: &mut OpenDisc<CountedDrive<File>>, wanted: &Wanted, style: Style, out: &mut impl Write) -> Result<(), Failure> {
     let (found, path) = (disc.find(wanted)?, wanted.text());
     let sizes = disc.sizes(found.icb);
     if style.is_json {
@@ -120,7 +120,7 @@ fn stat(disc: &mut Disc<CountedDrive<File>>, wanted: &Wanted, style: Style, out:
 
 /// Copies a file, from a drive as its sectors arrive, and gives how many bytes it has.
 pub fn copy<V: Volume>(
-    disc: &mut Disc<V>,
+    disc: &mut OpenDisc<V>,
     path: &[u8],
     icb: LongAd,
     to: &mut impl Write,

@@ -23,13 +23,13 @@ pub const UNKNOWN: u8 = 70;
 pub const NO_OUTPUT: u8 = 74;
 
 /// What to try where a body is wrong.
-const TO_TRY: &str = "`vault check` says which descriptors are so, and without --checked they are taken as they stand";
+const TO_TRY: &str = "`vault check` lists the bad descriptors; without --checked they are used as they are";
 
 /// The last number of the answer table.
 const LAST: u8 = 16;
 
 /// Where usage is said.
-const HELP: &str = " (`vault --help` says how)";
+const HELP: &str = " (see `vault --help`)";
 
 /// An exit status, and the sentence that goes to standard error.
 #[derive(Debug)]
@@ -51,7 +51,7 @@ impl Failure {
     pub fn of_command(mut self, command: Option<&str>) -> Failure {
         if let (Some(command), Some(says)) = (command, self.says.as_mut().filter(|says| says.ends_with(HELP))) {
             says.truncate(says.len() - HELP.len());
-            *says += &format!(" (`vault {command} --help` says how)");
+            *says += &format!(" (see `vault {command} --help`)");
         }
         self
     }
@@ -103,7 +103,7 @@ impl Failure {
     pub fn output(error: io::Error) -> Failure {
         match error.kind() {
             io::ErrorKind::BrokenPipe => Failure { status: 0, says: None },
-            _ => Failure::new(NO_OUTPUT, format!("standard output can't be written: {error}")),
+            _ => Failure::new(NO_OUTPUT, format!("can't write to standard output: {error}")),
         }
     }
 
@@ -121,10 +121,7 @@ mod tests {
     fn the_number_is_the_status() {
         let failure = Failure::refused("a.img", Refused { why: Refusal::NoWork, sectors: 3 });
         assert_eq!(failure.status, 6);
-        assert_eq!(
-            failure.says.unwrap(),
-            "a.img: a directory, with those above it in a show, has more bytes than there is memory for (refusal 6)"
-        );
+        assert_eq!(failure.says.unwrap(), "a.img: not enough memory for a directory (in a show: together with those above it) (refusal 6)");
     }
 
     #[test]
@@ -132,7 +129,7 @@ mod tests {
         let failure = Failure::refused("a.img", Refused { why: Refusal::BadCrc, sectors: 3 });
         let says = failure.says.unwrap();
         assert_eq!(failure.status, 10);
-        assert!(says.starts_with("a.img: a descriptor's body isn't") && says.contains("(refusal 10); `vault check`"), "{says}");
+        assert!(says.starts_with("a.img: a descriptor fails its CRC check") && says.contains("(refusal 10); `vault check`"), "{says}");
     }
 
     /// 256 would be a status of 0, and 320 that of wrong usage.
@@ -141,7 +138,7 @@ mod tests {
         for number in [8, 256, 320] {
             let failure = Failure::refused("a.img", Refused { why: Refusal::Unknown(number), sectors: 3 });
             assert_eq!(failure.status, UNKNOWN);
-            assert_eq!(failure.says.unwrap(), format!("a.img: the archive answered with {number}, a number that isn't known here"));
+            assert_eq!(failure.says.unwrap(), format!("a.img: the archive gave the unknown answer {number}"));
         }
     }
 }

@@ -38,7 +38,7 @@ fn is_same(one: &OsStr, other: &OsStr) -> bool {
 /// The image must not be what is written.
 pub fn apart(image: &OsStr, file: &OsStr) -> Result<(), Failure> {
     if is_same(image, file) {
-        return Err(Failure::file(USAGE, file, "this is the image itself"));
+        return Err(Failure::file(USAGE, file, "this is the image itself: choose another file"));
     }
     Ok(())
 }
@@ -47,8 +47,8 @@ pub fn apart(image: &OsStr, file: &OsStr) -> Result<(), Failure> {
 pub fn see_folder(name: &OsStr) -> Result<(), Failure> {
     match fs::metadata(name) {
         Ok(there) if there.is_dir() => Ok(()),
-        Ok(_) => Err(Failure::file(NO_OUTPUT, name, "this is no folder: with -o name the one that the files are written to")),
-        Err(error) => Err(Failure::file(NO_OUTPUT, name, format!("the folder can't be written to: {error}"))),
+        Ok(_) => Err(Failure::file(NO_OUTPUT, name, "not a folder: -o needs the folder to write to")),
+        Err(error) => Err(Failure::file(NO_OUTPUT, name, format!("can't write to this folder: {error}"))),
     }
 }
 
@@ -64,15 +64,15 @@ impl<'a> Target<'a> {
     pub fn at(name: &'a OsStr) -> Result<Target<'a>, Failure> {
         let refused = |says: &str| Err(Failure::file(NO_OUTPUT, name, says));
         match fs::metadata(name) {
-            Ok(there) if there.is_dir() => return refused("this is a directory: name the file to be written"),
+            Ok(there) if there.is_dir() => return refused("this is a directory: name the file to write"),
             Ok(there) if is_output(&there) => return Ok(Target { name, place: None }),
-            Ok(there) if !there.is_file() || is_open(name) => return refused("this is no ordinary file: use `vault cat`"),
-            Err(_) if fs::symlink_metadata(name).is_ok() => return refused("this is a link that leads to nothing: name the file itself"),
+            Ok(there) if !there.is_file() || is_open(name) => return refused("not a regular file: use `vault cat`"),
+            Err(_) if fs::symlink_metadata(name).is_ok() => return refused("this is a broken link: name the file itself"),
             _ => {}
         }
         let place = fs::canonicalize(name).unwrap_or_else(|_| PathBuf::from(name));
         if place.file_name().is_none() {
-            return refused("this names no file");
+            return refused("this is not the name of a file");
         }
         Ok(Target { name, place: Some(place) })
     }
@@ -81,7 +81,7 @@ impl<'a> Target<'a> {
     pub fn fresh(name: &'a OsStr, force: bool, hint: &str) -> Result<Target<'a>, Failure> {
         let target = Target::at(name)?;
         if !force && target.place.as_ref().is_some_and(|place| fs::symlink_metadata(place).is_ok()) {
-            return Err(Failure::file(NO_OUTPUT, name, format!("there is a file of this name: it is replaced with --force alone{hint}")));
+            return Err(Failure::file(NO_OUTPUT, name, format!("this file exists: use --force to replace it{hint}")));
         }
         Ok(target)
     }
@@ -89,8 +89,8 @@ impl<'a> Target<'a> {
     /// The same where no link is followed: what is written stands in its folder, or isn't written.
     pub fn inside(name: &'a OsStr) -> Result<Target<'a>, Failure> {
         match fs::symlink_metadata(name) {
-            Ok(there) if there.is_symlink() => Err(Failure::file(NO_OUTPUT, name, "this is a link, which isn't followed here")),
-            Ok(there) if !there.is_file() => Err(Failure::file(NO_OUTPUT, name, "this is there, and is no ordinary file")),
+            Ok(there) if there.is_symlink() => Err(Failure::file(NO_OUTPUT, name, "this is a link, and links are not followed here")),
+            Ok(there) if !there.is_file() => Err(Failure::file(NO_OUTPUT, name, "this exists and is not a regular file")),
             _ => Ok(Target { name, place: Some(PathBuf::from(name)) }),
         }
     }
@@ -130,7 +130,7 @@ impl<'a> Target<'a> {
     /// Memory of `length` bytes, all zero, that is kept in a file beside this one. The file has no name any more, and goes with the map.
     pub fn space(&self, length: usize) -> Result<MapMut, Failure> {
         let Some(place) = &self.place else {
-            return Err(Failure::file(NO_OUTPUT, self.name, "a vault is written to a file, and not to standard output"));
+            return Err(Failure::file(NO_OUTPUT, self.name, "an image is written to a file, not to standard output"));
         };
         let (unfinished, file) =
             created(place, "space", fs::symlink_metadata(place).ok().as_ref()).map_err(|error| self.unwritten(error))?;
@@ -146,7 +146,7 @@ impl<'a> Target<'a> {
     pub fn unwritten(&self, error: io::Error) -> Failure {
         match self.place {
             None => Failure::output(error),
-            Some(_) => Failure::file(NO_OUTPUT, self.name, format!("the file can't be written: {error}")),
+            Some(_) => Failure::file(NO_OUTPUT, self.name, format!("can't write this file: {error}")),
         }
     }
 }

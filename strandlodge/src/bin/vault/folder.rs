@@ -5,7 +5,7 @@
 //! followed. Nothing is written over what the same run wrote (`store`).
 
 use crate::bar::{Bar, Count};
-use crate::disc::{Disc, Volume};
+use crate::disc::{OpenDisc, Volume};
 use crate::drive::{Drawn, copy};
 use crate::failure::{Failure, NO_OUTPUT, STOPPED, UNREAD};
 use crate::limit::{self, Limit};
@@ -88,7 +88,7 @@ impl Spot {
 }
 
 /// Writes what stands below each path, or all of the disc, to a folder.
-pub fn get<V: Volume>(disc: &mut Disc<V>, tree: &Tree, folder: &Path, image: &OsStr, out: &mut impl Write) -> Result<(), Failure> {
+pub fn get<V: Volume>(disc: &mut OpenDisc<V>, tree: &Tree, folder: &Path, image: &OsStr, out: &mut impl Write) -> Result<(), Failure> {
     let sums = tree.sums.as_ref().map(|file| Sums::new(file, image)).transpose()?;
     let Plan { items, mut missed, count, .. } = plan(disc, tree, folder)?;
     drop(count);
@@ -102,7 +102,7 @@ pub fn get<V: Volume>(disc: &mut Disc<V>, tree: &Tree, folder: &Path, image: &Os
 }
 
 /// Walks the disc.
-fn plan<V: Volume>(disc: &mut Disc<V>, tree: &Tree, folder: &Path) -> Result<Plan, Failure> {
+fn plan<V: Volume>(disc: &mut OpenDisc<V>, tree: &Tree, folder: &Path) -> Result<Plan, Failure> {
     let (taken, missed, most) = (HashSet::new(), Missed::default(), tree.limit.of(disc.bytes));
     let (items, count, is_portable) = (Vec::new(), Count::new("entries"), tree.is_portable);
     let mut plan = Plan { items, bytes: 0, taken, reads: 0, most, missed, count, is_portable };
@@ -131,12 +131,12 @@ fn plan<V: Volume>(disc: &mut Disc<V>, tree: &Tree, folder: &Path) -> Result<Pla
 
 impl Plan {
     /// Fails where too much was asked for, or will be.
-    fn see<V: Volume>(&self, disc: &Disc<V>) -> Result<(), Failure> {
-        limit::see(disc.name, self.most, disc.log.total().saturating_add(self.reads), "; nothing is written")
+    fn see<V: Volume>(&self, disc: &OpenDisc<V>) -> Result<(), Failure> {
+        limit::see(disc.name, self.most, disc.log.total().saturating_add(self.reads), "; nothing was written")
     }
 
     /// Notes an entry, and what stands below it.
-    fn add<V: Volume>(&mut self, disc: &mut Disc<V>, spot: Spot, entry: &DirEntry) -> Result<(), Failure> {
+    fn add<V: Volume>(&mut self, disc: &mut OpenDisc<V>, spot: Spot, entry: &DirEntry) -> Result<(), Failure> {
         let first = self.items.len();
         self.note(disc, spot, entry)?;
         match self.items.get(first).filter(|_| entry.is_directory) {
@@ -146,7 +146,7 @@ impl Plan {
     }
 
     /// Notes all that stands below a directory, each before what stands in it.
-    fn below<V: Volume>(&mut self, disc: &mut Disc<V>, spot: Spot, icb: LongAd) -> Result<(), Failure> {
+    fn below<V: Volume>(&mut self, disc: &mut OpenDisc<V>, spot: Spot, icb: LongAd) -> Result<(), Failure> {
         self.taken.extend(disc.volume.icb_sector(icb));
         let mut pending = vec![(spot, icb)];
         while let Some((spot, icb)) = pending.pop() {
@@ -166,7 +166,7 @@ impl Plan {
     }
 
     /// Notes the entries of a directory, and gives the directories among them.
-    fn entries<V: Volume>(&mut self, disc: &mut Disc<V>, spot: &Spot, entries: &[DirEntry]) -> Result<Vec<(Spot, LongAd)>, Failure> {
+    fn entries<V: Volume>(&mut self, disc: &mut OpenDisc<V>, spot: &Spot, entries: &[DirEntry]) -> Result<Vec<(Spot, LongAd)>, Failure> {
         let before = self.items.len();
         let names = safe::names(entries.iter().map(|entry| &*entry.name), self.is_portable);
         for (entry, name) in entries.iter().zip(&names) {
@@ -177,11 +177,11 @@ impl Plan {
     }
 
     /// Notes an entry, unless it is a directory that was come to already, or stands too deep.
-    fn note<V: Volume>(&mut self, disc: &mut Disc<V>, spot: Spot, entry: &DirEntry) -> Result<(), Failure> {
+    fn note<V: Volume>(&mut self, disc: &mut OpenDisc<V>, spot: Spot, entry: &DirEntry) -> Result<(), Failure> {
         let Spot { path, text, to, is_twin } = spot;
         self.bytes = self.bytes.saturating_add(path.len() + text.len() + to.as_os_str().len());
         if self.bytes > MOST_BYTES {
-            let why = format!("the paths of all entries have more than {MOST_BYTES} bytes: take a folder at a time; nothing is written");
+            let why = format!("all paths together have more than {MOST_BYTES} bytes: copy one folder at a time; nothing was written");
             return Err(Failure::new(STOPPED, format!("{}: {why}", disc.name)));
         }
         // A directory that is named again asks for nothing, and is told of.
@@ -189,13 +189,13 @@ impl Plan {
         self.see(disc)?;
         let about = |says: &str| format!("{}: {} {says}", disc.name, quoted(&path));
         if to.as_os_str().len() > DEEPEST {
-            let says = about("stands too deep to be written");
+            let says = about("is too deep to be written");
             self.missed.tell(Failure::new(NO_OUTPUT, says), disc);
             return Ok(());
         }
         let is_new = |sector| self.taken.insert(sector);
         if entry.is_directory && !disc.volume.icb_sector(entry.icb).is_none_or(is_new) {
-            let says = about("is a directory that another entry named before: it isn't taken again");
+            let says = about("is a directory that an earlier entry also names: it is not copied again");
             self.missed.tell(Failure::new(UNREAD, says), disc);
             return Ok(());
         }
@@ -215,7 +215,7 @@ impl Item {
 
 /// Makes the directories and writes the files, and gives where these are. What can't be written is told of, and the rest goes on.
 fn write<V: Volume>(
-    disc: &mut Disc<V>,
+    disc: &mut OpenDisc<V>,
     items: &[Item],
     mut store: Store,
     missed: &mut Missed,
@@ -255,7 +255,7 @@ fn write<V: Volume>(
 
 /// Writes one file; where that fails, again once those that wait have their names: they may be what there is no room for.
 fn tried<V: Volume>(
-    disc: &mut Disc<V>,
+    disc: &mut OpenDisc<V>,
     item: &Item,
     store: &mut Store,
     bar: &mut Bar,
@@ -272,9 +272,9 @@ fn tried<V: Volume>(
 }
 
 /// Writes one file.
-fn put<V: Volume>(disc: &mut Disc<V>, item: &Item, store: &mut Store, bar: &mut Bar) -> Result<Put, Failure> {
+fn put<V: Volume>(disc: &mut OpenDisc<V>, item: &Item, store: &mut Store, bar: &mut Bar) -> Result<Put, Failure> {
     store.file(&item.to, |file| {
-        let unwritten = |error| Failure::file(NO_OUTPUT, item.to.as_os_str(), format!("the file can't be written: {error}"));
+        let unwritten = |error| Failure::file(NO_OUTPUT, item.to.as_os_str(), format!("can't write this file: {error}"));
         copy(disc, &item.path, item.icb, &mut Drawn { to: file, bar }, unwritten)
     })
 }

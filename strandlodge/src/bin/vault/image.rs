@@ -102,22 +102,20 @@ fn piped(name: &OsStr) -> Result<Vec<u8>, Failure> {
 
 pub fn unopened(name: &OsStr, error: io::Error) -> Failure {
     match error.kind() {
-        io::ErrorKind::NotFound => Failure::file(NO_IMAGE, name, "there is no such file"),
-        io::ErrorKind::IsADirectory => Failure::file(NO_IMAGE, name, "this is a directory, and not the image of a disc"),
-        io::ErrorKind::NotSeekable => {
-            Failure::file(NO_IMAGE, name, "this is a pipe or the like, and no file or device: --copy reads it into memory")
-        }
-        _ => Failure::file(NO_IMAGE, name, format!("the image can't be opened: {error}")),
+        io::ErrorKind::NotFound => Failure::file(NO_IMAGE, name, "no such file"),
+        io::ErrorKind::IsADirectory => Failure::file(NO_IMAGE, name, "this is a directory, not a disc image"),
+        io::ErrorKind::NotSeekable => Failure::file(NO_IMAGE, name, "not a file or device (a pipe?): use --copy to read it into memory"),
+        _ => Failure::file(NO_IMAGE, name, format!("can't open the image: {error}")),
     }
 }
 
 fn uncopied(name: &OsStr, length: usize, error: io::Error) -> Failure {
     match error.kind() {
         io::ErrorKind::OutOfMemory => {
-            Failure::file(NO_IMAGE, name, format!("there is no memory for a copy of {length} bytes: without --copy a file is mapped"))
+            Failure::file(NO_IMAGE, name, format!("not enough memory to copy {length} bytes: without --copy, a file is mapped instead"))
         }
-        io::ErrorKind::UnexpectedEof => Failure::file(NO_IMAGE, name, "the image was cut short while it was copied"),
-        _ => Failure::file(NO_IMAGE, name, format!("the image can't be copied: {error}")),
+        io::ErrorKind::UnexpectedEof => Failure::file(NO_IMAGE, name, "the image was cut short while it was being copied"),
+        _ => Failure::file(NO_IMAGE, name, format!("can't copy the image: {error}")),
     }
 }
 

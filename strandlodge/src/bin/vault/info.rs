@@ -4,7 +4,7 @@
 //! integrity descriptor (ECMA-167 3/10.10, OSTA UDF 2.2.6). Nothing that is opened or read goes by it.
 
 use crate::commands::{descriptor_json, line, standing};
-use crate::disc::Disc;
+use crate::disc::OpenDisc;
 use crate::failure::Failure;
 use crate::json::Json;
 use crate::log::Log;
@@ -68,7 +68,7 @@ struct Partition {
 
 pub fn info(image: &[u8], how: How, name: &str, style: Style, out: &mut impl Write, log: &mut Log) -> Result<(), Failure> {
     let volume = Volume::of(image, how);
-    let opened = Disc::open(image, how, name, Rule::default(), log).and_then(|mut disc| disc.label());
+    let opened = OpenDisc::open(image, how, name, Rule::default(), log).and_then(|mut disc| disc.label());
     let sectors = image.len() as u64 / SECTOR_SIZE;
     // Where it can't be opened, what there is is printed all the same, and then why.
     let label = opened.as_ref().ok();

@@ -37,7 +37,7 @@ pub fn see(name: &str, most: u64, asked: u64, so: &str) -> Result<(), Failure> {
 
 /// What is said of an image that wants more: that it was stopped, what came of it, and what to do.
 pub fn stopped(name: &str, most: u64, so: &str) -> String {
-    let cure = "The disc may be made to do harm: --limit N sets another limit, --no-limit none.";
+    let cure = "The disc may be malicious. Use --limit N for another limit, or --no-limit for none.";
     format!("{name}: stopped after {most} sectors, the limit{so}. {cure}")
 }
 
@@ -55,7 +55,7 @@ mod tests {
     fn as_many_as_are_lent_may_be_asked_for() {
         assert!(see("a.img", 7, 7, "").is_ok() && see("a.img", u64::MAX, u64::MAX, "").is_ok());
         let failure = see("a.img", 7, 8, "; so it is").unwrap_err();
-        let says = "a.img: stopped after 7 sectors, the limit; so it is. The disc may be made to do harm: --limit N sets another limit, --no-limit none.";
+        let says = "a.img: stopped after 7 sectors, the limit; so it is. The disc may be malicious. Use --limit N for another limit, or --no-limit for none.";
         assert_eq!((failure.status, failure.says.as_deref()), (STOPPED, Some(says)));
     }
 }

@@ -57,7 +57,7 @@ impl Log {
     /// What is said at the end: the remarks, and how many more wrong bodies there are.
     pub fn said(&self) -> impl Iterator<Item = String> + '_ {
         let more = self.ruined.0.saturating_sub(NAMED);
-        let last = (more > 0).then(|| format!("{more} more paths have a descriptor with a wrong body: `vault check` lists them"));
+        let last = (more > 0).then(|| format!("{more} more paths have a descriptor that fails its CRC check: `vault check` lists them"));
         self.remarks.iter().cloned().chain(last)
     }
 

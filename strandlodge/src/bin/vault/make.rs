@@ -1,4 +1,4 @@
-//! `make`: a vault of some files.
+//! `make`: an image of some files.
 
 use crate::bar::Word;
 use crate::commands::line;
@@ -13,22 +13,22 @@ use std::os::unix::ffi::OsStrExt;
 use std::path::Path;
 use strandlodge::{Refusal, SECTOR_SIZE, write_staged, write_total};
 
-/// Said of an image that is there: it may be a file that was to go on the vault.
-const FIRST: &str = "; IMAGE, which is written, stands before the files";
+/// Said of an IMAGE that exists: it may be a file that was meant to go into the image.
+const FIRST: &str = "; the first argument, IMAGE, is the file to write";
 
-/// What a vault has at most: files, bytes of a name, and bytes of a file (docs/LAYOUT.md).
+/// What an image has at most: files, bytes of a name, and bytes of a file (docs/LAYOUT.md).
 const MOST_FILES: usize = 64;
 const LONGEST: usize = 127;
 const MOST_BYTES: u64 = 1_073_739_776;
 
-/// A file that goes on the vault, with the bytes that it had when it was opened.
+/// A file for the image, with the bytes that it had when it was opened.
 struct Source<'a> {
     path: &'a OsStr,
     file: File,
     length: u64,
 }
 
-/// The name that a file has on the vault: the last part of its path.
+/// The name that a file gets in the image: the last part of its path.
 fn name(path: &OsStr) -> &[u8] {
     Path::new(path).file_name().unwrap_or_default().as_bytes()
 }
@@ -36,22 +36,22 @@ fn name(path: &OsStr) -> &[u8] {
 impl Source<'_> {
     /// Fills `to`, which has the file's length.
     fn read(&mut self, to: &mut [u8]) -> Result<(), Failure> {
-        self.file.read_exact(to).map_err(|error| Failure::file(NO_IMAGE, self.path, format!("the file can't be read: {error}")))
+        self.file.read_exact(to).map_err(|error| Failure::file(NO_IMAGE, self.path, format!("can't read this file: {error}")))
     }
 }
 
 fn source<'a>(image: &OsStr, path: &'a OsString) -> Result<Source<'a>, Failure> {
     apart(image, path)?;
-    let unread = |error| Failure::file(NO_IMAGE, path, format!("the file can't be opened: {error}"));
+    let unread = |error| Failure::file(NO_IMAGE, path, format!("can't open this file: {error}"));
     let file = File::open(path).map_err(unread)?;
     let about = file.metadata().map_err(unread)?;
     if !about.is_file() {
-        return Err(Failure::file(NO_IMAGE, path, "this is no ordinary file, and a vault has files alone"));
+        return Err(Failure::file(NO_IMAGE, path, "not a regular file: an image can hold only files"));
     }
     Ok(Source { path, file, length: about.len() })
 }
 
-/// Writes a vault of these files to `image`, which is made, or replaced where that is forced, and prints how many sectors it has.
+/// Writes an image of these files to `image`, which is created, or replaced if that is forced, and prints how many sectors it has.
 pub fn make(image: &OsStr, files: &[OsString], force: bool, out: &mut impl Write) -> Result<(), Failure> {
     let target = Target::fresh(image, force, FIRST)?;
     let names: Vec<&[u8]> = files.iter().map(|file| name(file)).collect();
@@ -75,7 +75,7 @@ pub fn make(image: &OsStr, files: &[OsString], force: bool, out: &mut impl Write
     line(out, &made(image, files.len(), sectors))
 }
 
-/// What is said of a vault that was written.
+/// What is said of an image that was written.
 pub fn made(image: &OsStr, files: usize, sectors: u64) -> String {
     format!("{}: {files} file{}, {sectors} sectors", shown(image.as_bytes()), if files == 1 { "" } else { "s" })
 }
@@ -89,10 +89,10 @@ fn breaks(about: &OsStr, why: Refusal, rule: String) -> Failure {
     Failure::with_number(why, format!("{}: {rule}", shown(about.as_bytes())))
 }
 
-/// Why a vault isn't written, with the first file whose name is bad, or that of one before it.
+/// Why an image is not written, with the first file whose name is bad, or that of one before it.
 fn misnamed(image: &OsStr, files: &[OsString], names: &[&[u8]], why: Refusal) -> Failure {
     if why == Refusal::BadFiles {
-        return breaks(image, why, format!("these are {} files, and a vault has up to {MOST_FILES}", files.len()));
+        return breaks(image, why, format!("{} files are too many: an image holds up to {MOST_FILES}", files.len()));
     }
     let counts: Vec<usize> = (1..=names.len()).collect();
     let good = counts.partition_point(|n| write_total(&names[..*n], &[]) != Err(Refusal::BadName));
@@ -108,19 +108,19 @@ fn rule(name: &[u8], twin: Option<&OsStr>) -> String {
     let is_bad = |byte: &&u8| !(0x21..=0x7e).contains(*byte) || **byte == b'/';
     match (twin, name.iter().find(is_bad)) {
         (Some(twin), _) => {
-            format!("on a vault no two names are equal with ASCII case ignored, and {} has this one", shown(twin.as_bytes()))
+            format!("{} has the same name, ignoring ASCII case: names on an image must differ", shown(twin.as_bytes()))
         }
-        _ if name.is_empty() => "this path ends in no name, and a file on a vault has one".to_string(),
-        _ if name.len() > LONGEST => format!("the name has {} bytes, and on a vault up to {LONGEST}", name.len()),
-        (_, Some(byte)) => format!("the name has the byte {byte:02X}, and on a vault those from 21 to 7E without the slash"),
-        _ => "this is no name for a vault".to_string(),
+        _ if name.is_empty() => "this path does not end in a file name".to_string(),
+        _ if name.len() > LONGEST => format!("the name has {} bytes: an image takes up to {LONGEST}", name.len()),
+        (_, Some(byte)) => format!("the name contains the byte {byte:02X}: an image takes 21 to 7E without the slash"),
+        _ => "not a valid name on an image".to_string(),
     }
 }
 
 /// The same with the first that is too long.
 fn too_long(image: &OsStr, sources: &[Source], why: Refusal) -> Failure {
     match sources.iter().find(|source| write_total(&["a"], &[source.length]).is_err()) {
-        Some(long) => breaks(long.path, why, format!("the file has {}, and on a vault up to {MOST_BYTES}", bytes(long.length))),
+        Some(long) => breaks(long.path, why, format!("the file has {}: an image takes up to {MOST_BYTES}", bytes(long.length))),
         None => refused(image, why),
     }
 }

@@ -2,7 +2,7 @@
 
 use crate::bar::Bar;
 use crate::commands::line;
-use crate::disc::Disc;
+use crate::disc::OpenDisc;
 use crate::drive::Drawn;
 use crate::failure::{Failure, NO_OUTPUT, UNREAD, USAGE};
 use crate::file::apart;
@@ -35,21 +35,21 @@ pub struct Missed {
 
 impl Missed {
     /// Tells of one. That a file can't be written is the worse status.
-    pub fn tell<V>(&mut self, failure: Failure, disc: &mut Disc<V>) {
+    pub fn tell<V>(&mut self, failure: Failure, disc: &mut OpenDisc<V>) {
         self.files += 1;
         self.status = self.status.max(if failure.status == NO_OUTPUT { NO_OUTPUT } else { UNREAD });
         disc.log.remarks.extend(failure.says);
     }
 
     /// Looks at where one went, and tells of it where its own name was taken.
-    pub fn see<V>(&mut self, disc: &mut Disc<V>, path: &str, to: &Path, at: &Path, is_twin: bool) {
+    pub fn see<V>(&mut self, disc: &mut OpenDisc<V>, path: &str, to: &Path, at: &Path, is_twin: bool) {
         if !is_twin && at.file_name() == to.file_name() {
             return;
         }
         self.twins += 1;
         self.status = NO_OUTPUT;
-        let why = "its own name is another's here, as where case isn't told apart";
-        disc.log.remarks.push(format!("{}: \"{path}\" is written to {}, since {why}", disc.name, shown(at.as_os_str().as_bytes())));
+        let why = "its own name is taken there (does the file system ignore case?)";
+        disc.log.remarks.push(format!("{}: \"{path}\" is written to {}: {why}", disc.name, shown(at.as_os_str().as_bytes())));
     }
 
     /// How a command ends that had so many to write.
@@ -80,7 +80,7 @@ impl Lines {
     }
 
     /// Has all written to the disk; then those that wait take their names.
-    pub fn end<V>(&mut self, store: &mut Store, missed: &mut Missed, disc: &mut Disc<V>, out: &mut impl Write) -> Result<(), Failure> {
+    pub fn end<V>(&mut self, store: &mut Store, missed: &mut Missed, disc: &mut OpenDisc<V>, out: &mut impl Write) -> Result<(), Failure> {
         if self.held.is_empty() && self.written.is_empty() {
             return Ok(());
         }
@@ -107,7 +107,7 @@ impl Lines {
 
 /// Writes each file that a path gives to its own name, as the disc has it, in a folder, and prints a line for it. What can't be had is told of, and
 /// the rest goes on.
-pub fn get(disc: &mut Disc<Counted>, paths: &[Vec<u8>], folder: &Path, image: &OsStr, out: &mut impl Write) -> Result<(), Failure> {
+pub fn get(disc: &mut OpenDisc<Counted>, paths: &[Vec<u8>], folder: &Path, image: &OsStr, out: &mut impl Write) -> Result<(), Failure> {
     let (mut wanted, mut missed) = (Vec::new(), Missed::default());
     for path in paths {
         match find(disc, path, folder, image, &wanted) {
@@ -134,24 +134,24 @@ pub fn get(disc: &mut Disc<Counted>, paths: &[Vec<u8>], folder: &Path, image: &O
 }
 
 /// What a path gives, and where it goes: to a name that is neither the image's nor another path's.
-fn find<'p>(disc: &mut Disc<Counted>, path: &'p [u8], folder: &Path, image: &OsStr, others: &[Sought]) -> Result<Sought<'p>, Failure> {
+fn find<'p>(disc: &mut OpenDisc<Counted>, path: &'p [u8], folder: &Path, image: &OsStr, others: &[Sought]) -> Result<Sought<'p>, Failure> {
     let found = disc.find_file(&Wanted::Path(path.to_vec()))?;
     let name = found.entry.map(|entry| entry.name).unwrap_or_default();
     let to = folder.join(name);
     apart(image, to.as_os_str())?;
     if let Some(other) = others.iter().find(|other| other.to == to) {
-        let says = format!("{} would be written over {}, to {}", quoted(path), quoted(other.path), shown(to.as_os_str().as_bytes()));
+        let says = format!("{} and {} would both be written to {}", quoted(path), quoted(other.path), shown(to.as_os_str().as_bytes()));
         return Err(Failure::new(USAGE, format!("{}: {says}", disc.name)));
     }
     Ok(Sought { path, icb: found.icb, to })
 }
 
 /// Writes one file.
-fn put(disc: &mut Disc<Counted>, file: &Sought, store: &mut Store) -> Result<Put, Failure> {
+fn put(disc: &mut OpenDisc<Counted>, file: &Sought, store: &mut Store) -> Result<Put, Failure> {
     let runs = runs::find(disc, file.path, file.icb, Span::default())?;
     let (length, mut bar) = (runs.len(), Bar::new(runs.len()));
     store.file(&file.to, |to| {
-        let unwritten = |error| Failure::file(NO_OUTPUT, file.to.as_os_str(), format!("the file can't be written: {error}"));
+        let unwritten = |error| Failure::file(NO_OUTPUT, file.to.as_os_str(), format!("can't write this file: {error}"));
         runs::write(runs, &mut Drawn { to, bar: &mut bar }).map_err(|error| runs::lost(error, unwritten))?;
         Ok(length)
     })

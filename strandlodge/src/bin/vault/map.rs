@@ -136,7 +136,7 @@ pub fn copied(bytes: &[u8]) -> Vec<u8> {
 /// A mapped sector that can't be had: the drive can't read it, or the file was cut short after it was mapped.
 extern "C" fn gone(_: c_int) {
     signals::take_away();
-    let says = b"vault: the image can't be read any more: the drive gave no data, or the file was cut short\n";
+    let says = b"vault: can't read the image any more: the drive returned no data, or the file was cut short\n";
     // SAFETY: both may be called from a handler, and the bytes are there for good.
     unsafe {
         write(2, says.as_ptr(), says.len());
@@ -166,6 +166,6 @@ mod tests {
         std::fs::remove_file(&name).unwrap();
         let said = said.unwrap();
         assert_eq!(said.status.code(), Some(NO_IMAGE.into()));
-        assert!(String::from_utf8_lossy(&said.stderr).contains("vault: the image can't be read any more"));
+        assert!(String::from_utf8_lossy(&said.stderr).contains("vault: can't read the image any more"));
     }
 }

@@ -11,8 +11,8 @@ pub fn lines(table: &MapTable) -> Vec<String> {
         return vec!["maps     none".to_string()];
     }
     let why = match table {
-        _ if table.maps > MapTable::MOST => format!(": more than {} aren't read", MapTable::MOST),
-        _ if !table.is_whole() => ": they don't stand wholly in their table, or it in its sector".to_string(),
+        _ if table.maps > MapTable::MOST => format!(": more than {} are not supported", MapTable::MOST),
+        _ if !table.is_whole() => ": they are not completely inside their table, or it is not inside its sector".to_string(),
         _ => String::new(),
     };
     let head = format!("maps     {}, in {} bytes{why}", table.maps, table.length);
@@ -24,11 +24,11 @@ fn said(form: &MapForm) -> String {
     match form {
         MapForm::Plain { volume, number, start: Some(start) } => format!("volume {volume}, partition {number}, sector {start}"),
         MapForm::Plain { volume, number, start: None } => {
-            format!("volume {volume}, partition {number}: isn't read, since no partition has that number")
+            format!("volume {volume}, partition {number}: not supported, because no partition has that number")
         }
         MapForm::Other { kind, length, identifier } => {
             let name = if identifier.is_empty() { String::new() } else { format!(" ({})", shown(identifier)) };
-            format!("type {kind}{name}, {length} bytes: a form that isn't read")
+            format!("type {kind}{name}, {length} bytes: not supported")
         }
     }
 }
@@ -61,13 +61,10 @@ pub fn refused(image: &[u8], how: How, name: &str, refused: Refused) -> Failure 
     let mut failure = Failure::with_number(refused, format!("{name}: {}", diagnosis.what()));
     let mapped = || Counted::open_as(image, How { maps: true, ..how }).is_ok();
     if refused.why == Refusal::Unsupported && !how.maps && mapped() {
-        failure.says.iter_mut().for_each(|says| *says += "; its partition is found through its maps, with --maps");
+        failure.says.iter_mut().for_each(|says| *says += "; --maps opens it, through its partition maps");
     }
     if !how.highest && Counted::open_as(image, How { highest: true, ..how }).is_ok() {
-        failure
-            .says
-            .iter_mut()
-            .for_each(|says| *says += "; it was closed again, and opens by its descriptors of the highest number, with --highest");
+        failure.says.iter_mut().for_each(|says| *says += "; it was closed again later: --highest opens it");
     }
     failure.at(&diagnosis)
 }
@@ -90,15 +87,15 @@ mod tests {
             [
                 "maps     2, in 70 bytes",
                 "map      0, volume 1, partition 5, sector 288",
-                "map      1, type 2 (*UDF Virtual\\u{a}), 64 bytes: a form that isn't read",
+                "map      1, type 2 (*UDF Virtual\\u{a}), 64 bytes: not supported",
             ]
         );
-        let lost = "map      0, volume 1, partition 5: isn't read, since no partition has that number";
-        assert_eq!(table(5, 30, vec![plain(None)]), ["maps     5, in 30 bytes: more than 4 aren't read", lost]);
-        let cut = ": they don't stand wholly in their table, or it in its sector";
+        let lost = "map      0, volume 1, partition 5: not supported, because no partition has that number";
+        assert_eq!(table(5, 30, vec![plain(None)]), ["maps     5, in 30 bytes: more than 4 are not supported", lost]);
+        let cut = ": they are not completely inside their table, or it is not inside its sector";
         for (maps, length) in [(2, 11), (1, 1609), (4, u32::MAX)] {
             assert_eq!(table(maps, length, vec![]), [format!("maps     {maps}, in {length} bytes{cut}")]);
         }
-        assert_eq!(table(1, 1608, vec![other(9, "")])[1], "map      0, type 9, 64 bytes: a form that isn't read");
+        assert_eq!(table(1, 1608, vec![other(9, "")])[1], "map      0, type 9, 64 bytes: not supported");
     }
 }

@@ -51,10 +51,16 @@ pub fn read(typed: &[u8]) -> Result<Vec<u8>, String> {
     while let Some(at) = rest.iter().position(|byte| *byte == b'\\') {
         path.extend_from_slice(&rest[..at]);
         let (bytes, behind) = escape(&rest[at + 1..]).ok_or_else(|| {
-            format!("{}: a backslash on a PATH begins \\\\, \\u{{..}} or \\x.., as ls writes them; --raw takes PATH as it is", shown(typed))
+            format!(
+                "{}: in a PATH a backslash starts \\\\, \\u{{..}} or \\x.., as ls prints them; --raw takes PATH literally",
+                shown(typed)
+            )
         })?;
         if bytes == b"/" {
-            return Err(format!("{}: no PATH leads to a name with a slash in it: ls -i shows its place, for --icb", shown(typed)));
+            return Err(format!(
+                "{}: a PATH can't name an entry that has a slash in its name: use --icb with its place, from ls -i",
+                shown(typed)
+            ));
         }
         path.extend_from_slice(&bytes);
         rest = behind;
@@ -125,10 +131,10 @@ mod tests {
         for typed in
             ["\\", "a\\b", "\\n", "\\x", "\\x4", "\\xg0", "\\x+1", "\\u", "\\u{}", "\\u{41", "\\u{110000}", "\\u{d800}", "\\u{0000041}"]
         {
-            assert!(read(typed.as_bytes()).unwrap_err().contains("--raw takes PATH as it is"), "{typed}");
+            assert!(read(typed.as_bytes()).unwrap_err().contains("--raw takes PATH literally"), "{typed}");
         }
         for typed in ["a\\u{2f}b", "a\\x2fb"] {
-            assert!(read(typed.as_bytes()).unwrap_err().contains("for --icb"), "{typed}");
+            assert!(read(typed.as_bytes()).unwrap_err().contains("use --icb"), "{typed}");
         }
     }
 }

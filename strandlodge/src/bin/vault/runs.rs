@@ -2,7 +2,7 @@
 //! that is refused is refused before the first byte is written.
 
 use crate::bar::{Bar, Count};
-use crate::disc::{Disc, Volume};
+use crate::disc::{OpenDisc, Volume};
 use crate::drive::{Drawn, Metered};
 use crate::failure::{Failure, NO_IMAGE};
 use crate::file::{self, PIECE, Target};
@@ -40,13 +40,13 @@ pub fn wanted<'a>(volume: &Counted<'a>, icb: LongAd, span: Span) -> Answered<Run
 }
 
 /// The same, of what a path gave.
-pub fn find<'a>(disc: &mut Disc<Counted<'a>>, path: &[u8], icb: LongAd, span: Span) -> Result<Runs<'a>, Failure> {
+pub fn find<'a>(disc: &mut OpenDisc<Counted<'a>>, path: &[u8], icb: LongAd, span: Span) -> Result<Runs<'a>, Failure> {
     let runs = wanted(&disc.volume, icb, span);
     counted(disc, path, icb, runs)
 }
 
 /// Notes the count of what was asked of a file, and gives its value.
-pub fn counted<V: Volume, T>(disc: &mut Disc<V>, path: &[u8], icb: LongAd, answer: Answered<T>) -> Result<T, Failure> {
+pub fn counted<V: Volume, T>(disc: &mut OpenDisc<V>, path: &[u8], icb: LongAd, answer: Answered<T>) -> Result<T, Failure> {
     match disc.log.count("read_file", answer) {
         Err(answer) => Err(refused(disc, path, icb, answer)),
         Ok(read) => {
@@ -57,8 +57,8 @@ pub fn counted<V: Volume, T>(disc: &mut Disc<V>, path: &[u8], icb: LongAd, answe
 }
 
 /// Why a file isn't read. Here memory is no reason for 5: the file has more bytes than its image.
-pub fn refused<V: Volume>(disc: &mut Disc<V>, path: &[u8], icb: LongAd, refused: Refused) -> Failure {
-    let says = "the file has more bytes than its image, since its extents overlap; cat and get of one file take N of them with --bytes N";
+pub fn refused<V: Volume>(disc: &mut OpenDisc<V>, path: &[u8], icb: LongAd, refused: Refused) -> Failure {
+    let says = "the file is longer than its image, because its extents overlap; to read N bytes of it, use cat or get with --bytes N";
     match refused.why {
         Refusal::NoRoom => Failure::with_number(refused, format!("{}: {}: {says}", disc.name, quoted(path))),
         _ => disc.refused(path, Asked::ReadFile(icb), refused),
@@ -85,7 +85,7 @@ pub fn print(runs: Runs, out: &mut impl Write) -> Result<(), Failure> {
 /// A write that failed: for want of the image, or else as is said.
 pub fn lost(error: io::Error, unwritten: impl FnOnce(io::Error) -> Failure) -> Failure {
     if error.raw_os_error() == Some(FAULT) {
-        return Failure::new(NO_IMAGE, "the image can't be read any more: the drive gave no data, or the file was cut short");
+        return Failure::new(NO_IMAGE, "can't read the image any more: the drive returned no data, or the file was cut short");
     }
     unwritten(error)
 }
@@ -148,7 +148,7 @@ mod tests {
     fn a_writer_may_take_few_bytes_at_a_time() {
         let bytes: Vec<u8> = (0..5000u32).map(|i| (i % 251) as u8).collect();
         let image = strandlodge::write(&[("9", &bytes)]).unwrap();
-        let vault = strandlodge::Vault::open(&image).unwrap();
+        let vault = strandlodge::Disc::open(&image).unwrap();
         let runs = vault.runs(vault.lookup("9").unwrap()).unwrap();
         let mut few = Few(Vec::new(), false);
         write(runs.clone(), &mut few).unwrap();
@@ -166,11 +166,11 @@ mod tests {
         fs::write(&name, &image).unwrap();
         let file = File::options().read(true).write(true).open(&name).unwrap();
         let map = Map::new(&file, image.len()).unwrap();
-        let vault = strandlodge::Vault::open(&map[..]).unwrap();
+        let vault = strandlodge::Disc::open(&map[..]).unwrap();
         let runs = vault.runs(vault.lookup("9").unwrap()).unwrap();
         file.set_len(runs.places().next().unwrap().at + 50_000).unwrap();
         let failure = put(runs, &Target::at(to.as_os_str()).unwrap()).unwrap_err();
-        assert_eq!((failure.status, failure.says.unwrap().contains("the image can't be read any more")), (NO_IMAGE, true));
+        assert_eq!((failure.status, failure.says.unwrap().contains("can't read the image any more")), (NO_IMAGE, true));
         assert_eq!(fs::read_dir(&folder).unwrap().count(), 1);
         fs::remove_dir_all(&folder).unwrap();
     }

@@ -78,7 +78,7 @@ impl Unfinished {
             |place: &&AtomicPtr<c_char>| place.compare_exchange(ptr::null_mut(), name, Ordering::SeqCst, Ordering::SeqCst).is_ok();
         let Some(at) = UNFINISHED.iter().find(is_free) else {
             release(name);
-            return Err(io::Error::other("too many files are unfinished"));
+            return Err(io::Error::other("too many unfinished files"));
         };
         Ok(Unfinished { path, at, is_named: false })
     }

@@ -1,6 +1,6 @@
 //! How large a file is: what its entry says, what a read gives, and in how many extents it stands.
 
-use crate::disc::{Disc, Volume};
+use crate::disc::{OpenDisc, Volume};
 use crate::json::Json;
 use crate::style::bytes;
 use strandlodge::{LongAd, Refusal};
@@ -15,7 +15,7 @@ pub struct Sizes {
     pub extents: Option<u64>,
 }
 
-impl<V: Volume> Disc<'_, V> {
+impl<V: Volume> OpenDisc<'_, V> {
     /// The sectors of the calls are added up over all that is asked for.
     pub fn sizes(&mut self, icb: LongAd) -> Sizes {
         let information = self.volume.entry(icb).map(|entry| entry.information_length);

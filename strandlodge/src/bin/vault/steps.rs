@@ -7,7 +7,7 @@ use strandlodge::{DirEntry, Matching};
 const NAMED: usize = 8;
 
 /// What a choice does of which every remark speaks.
-const WRITTEN: &str = "--as-written takes the very name alone";
+const WRITTEN: &str = "--as-written accepts only the exact name";
 
 /// How names on a path are matched.
 #[derive(Debug, Clone, Copy, PartialEq, Eq, Default)]
@@ -74,16 +74,16 @@ impl<'p> Step<'p> {
         let matches = self.matches(rule);
         let (given, others) = matches.split_first()?;
         if others.is_empty() {
-            let says = format!("{} gives \"{}\", in another case", self.asked(), shown(given.name.as_bytes()));
+            let says = format!("{} matched \"{}\", which differs in case", self.asked(), shown(given.name.as_bytes()));
             // Of several none is taken by the command's own rule.
-            let more = if rule == Rule::Safe { "" } else { ", --unambiguous refuses where several match" };
+            let more = if rule == Rule::Safe { "" } else { ", --unambiguous refuses if several match" };
             return (!self.is_written(given)).then(|| says + &format!(" ({WRITTEN}{more})"));
         }
         // Of entries that all have the very name no choice gives another than the first.
         let is_told = !matches.iter().all(|entry| self.is_written(entry));
-        let cure = if is_told { WRITTEN } else { "--as-written doesn't tell them apart and --icb does" };
+        let cure = if is_told { WRITTEN } else { "--icb tells them apart, --as-written doesn't" };
         let (count, given, others) = (matches.len(), placed(given), listed(others));
-        Some(format!("{} gives {given}, the first of {count} that match, and not {others} ({cure}, --unambiguous refuses)", self.asked()))
+        Some(format!("{} matched {given}, the first of {count} that match, not {others} ({cure}, --unambiguous refuses)", self.asked()))
     }
 
     /// Which entries match, where that is more than one and none is taken.
@@ -217,25 +217,25 @@ mod tests {
     #[test]
     fn another_case_is_remarked() {
         for rule in [FIRST, ONLY] {
-            let says = "\"10.1A\" under \"SHOW\" gives \"10.1a\", in another case \
-                        (--as-written takes the very name alone, --unambiguous refuses where several match)";
+            let says = "\"10.1A\" under \"SHOW\" matched \"10.1a\", which differs in case \
+                        (--as-written accepts only the exact name, --unambiguous refuses if several match)";
             assert_eq!(step("10.1A", &["9", "10.1a"]).remark(rule).as_deref(), Some(says));
         }
-        let says = "\"10.1A\" under \"SHOW\" gives \"10.1a\", in another case (--as-written takes the very name alone)";
+        let says = "\"10.1A\" under \"SHOW\" matched \"10.1a\", which differs in case (--as-written accepts only the exact name)";
         assert_eq!(step("10.1A", &["9", "10.1a"]).remark(Rule::Safe).as_deref(), Some(says));
         assert_eq!(step("10.1A", &["9", "10.1a"]).remark(WRITTEN), None);
     }
 
     #[test]
     fn other_entries_that_match_are_remarked() {
-        let cure = "(--as-written takes the very name alone, --unambiguous refuses)";
+        let cure = "(--as-written accepts only the exact name, --unambiguous refuses)";
         for (name, entries) in [("a", ["A", "a"]), ("A", ["A", "a"])] {
             let says =
-                format!("\"{name}\" under \"SHOW\" gives \"A\" in block 1, the first of 2 that match, and not \"a\" in block 2 {cure}");
+                format!("\"{name}\" under \"SHOW\" matched \"A\" in block 1, the first of 2 that match, not \"a\" in block 2 {cure}");
             assert_eq!(step(name, &entries).remark(FIRST), Some(says));
         }
-        let cure = "(--as-written doesn't tell them apart and --icb does, --unambiguous refuses)";
-        let says = format!("\"a\" under \"SHOW\" gives \"a\" in block 2, the first of 2 that match, and not \"a\" in block 3 {cure}");
+        let cure = "(--icb tells them apart, --as-written doesn't, --unambiguous refuses)";
+        let says = format!("\"a\" under \"SHOW\" matched \"a\" in block 2, the first of 2 that match, not \"a\" in block 3 {cure}");
         assert_eq!(step("a", &["b", "a", "a"]).remark(FIRST).as_ref(), Some(&says));
         for rule in [WRITTEN, Rule::Safe] {
             assert_eq!(step("a", &["A", "a", "a"]).remark(rule).as_ref(), Some(&says));

@@ -70,17 +70,17 @@ impl Waiting {
 }
 
 fn unwritten(to: &Path, error: io::Error) -> Failure {
-    Failure::file(NO_OUTPUT, to.as_os_str(), format!("the file can't be written: {error}{}", cure(&error)))
+    Failure::file(NO_OUTPUT, to.as_os_str(), format!("can't write this file: {error}{}", cure(&error)))
 }
 
 fn unmade(to: &Path, error: io::Error) -> Failure {
-    Failure::file(NO_OUTPUT, to.as_os_str(), format!("the folder can't be made: {error}{}", cure(&error)))
+    Failure::file(NO_OUTPUT, to.as_os_str(), format!("can't create this folder: {error}{}", cure(&error)))
 }
 
 /// What to try where a file system doesn't take a name. exFAT in user space says of such a name that it isn't there.
 fn cure(error: &io::Error) -> &'static str {
     if matches!(error.kind(), io::ErrorKind::InvalidInput | io::ErrorKind::InvalidFilename | io::ErrorKind::NotFound) {
-        "; get -r --portable writes names that every file system takes"
+        "; try get -r --portable, which writes names that every file system accepts"
     } else {
         ""
     }
@@ -106,7 +106,7 @@ impl<'p> Store<'p> {
             can_link: system::can_link(),
             waiting: (0, 0),
         };
-        store.open(folder).map_err(|error| Failure::file(NO_OUTPUT, folder.as_os_str(), format!("the folder can't be read: {error}")))?;
+        store.open(folder).map_err(|error| Failure::file(NO_OUTPUT, folder.as_os_str(), format!("can't read this folder: {error}")))?;
         Ok(store)
     }
 
@@ -161,7 +161,7 @@ impl<'p> Store<'p> {
                     break;
                 }
                 if at == first {
-                    return Err(Failure::file(NO_OUTPUT, at.as_os_str(), "this is there, and is no folder"));
+                    return Err(Failure::file(NO_OUTPUT, at.as_os_str(), "this exists and is not a folder"));
                 }
             }
             match fs::create_dir(&at) {
@@ -274,13 +274,13 @@ impl<'p> Store<'p> {
     /// The old file of a name, and where it stands.
     fn old(&self, to: &Path) -> Result<(PathBuf, Metadata), Failure> {
         let target = if self.follows { Target::at(to.as_os_str())? } else { Target::inside(to.as_os_str())? };
-        let place = target.place().ok_or_else(|| Failure::file(NO_OUTPUT, to.as_os_str(), "this is no ordinary file"))?;
+        let place = target.place().ok_or_else(|| Failure::file(NO_OUTPUT, to.as_os_str(), "not a regular file"))?;
         let about = fs::symlink_metadata(place).map_err(|error| unwritten(to, error))?;
         if self.image == Some(identity(&about)) {
-            return Err(Failure::file(USAGE, to.as_os_str(), "this is the image itself"));
+            return Err(Failure::file(USAGE, to.as_os_str(), "this is the image itself: choose another file"));
         }
         if self.follows && self.written.contains(place) {
-            return Err(Failure::file(USAGE, to.as_os_str(), "this is the same file as one that was written before"));
+            return Err(Failure::file(USAGE, to.as_os_str(), "this is the same file as one already written"));
         }
         Ok((place.to_path_buf(), about))
     }
@@ -301,7 +301,7 @@ impl<'p> Store<'p> {
         self.waiting = (0, 0);
         for folder in self.synced.values() {
             system::sync(folder).map_err(|error| {
-                Failure::file(NO_OUTPUT, folder.as_os_str(), format!("what was written here isn't on the disk: {error}"))
+                Failure::file(NO_OUTPUT, folder.as_os_str(), format!("can't sync what was written here to disk: {error}"))
             })?;
         }
         Ok(())

@@ -33,7 +33,7 @@ impl<'a> Sums<'a> {
     /// Writes the sums of files that were written below a folder, by their paths there.
     pub fn write(&self, folder: &Path, written: &[PathBuf]) -> Result<(), Failure> {
         if standing(self.file) != self.before {
-            return Err(Failure::file(NO_OUTPUT, self.file, "a file of the disc was written here: the sums are not"));
+            return Err(Failure::file(NO_OUTPUT, self.file, "a file from the disc was written here, so the sums were not"));
         }
         let (mut text, mut rest) = (Vec::new(), written);
         while !rest.is_empty() {
@@ -60,12 +60,12 @@ fn sums(folder: &Path, names: &[&OsStr]) -> Result<Vec<u8>, Failure> {
     let mut tool = Command::new(TOOL);
     let said = tool.arg("--").args(names).current_dir(folder).stdin(Stdio::null()).output();
     let Output { status, stdout, stderr } = said.map_err(|error| match error.kind() {
-        io::ErrorKind::NotFound => Failure::new(NO_OUTPUT, format!("--sums needs {TOOL}, which is not installed here")),
-        _ => Failure::new(NO_OUTPUT, format!("{TOOL} can't be run: {error}")),
+        io::ErrorKind::NotFound => Failure::new(NO_OUTPUT, format!("--sums needs {TOOL}, which is not installed")),
+        _ => Failure::new(NO_OUTPUT, format!("can't run {TOOL}: {error}")),
     })?;
     if status.success() {
         return Ok(stdout);
     }
     let says = OsStr::from_bytes(stderr.split(|byte| *byte == b'\n').next().unwrap_or_default());
-    Err(Failure::file(NO_OUTPUT, says, format!("{TOOL} failed, and no sums are written")))
+    Err(Failure::file(NO_OUTPUT, says, format!("{TOOL} failed: no sums were written")))
 }

@@ -5,7 +5,7 @@
 
 use crate::bar::Line;
 use crate::commands::line;
-use crate::disc::Disc;
+use crate::disc::OpenDisc;
 use crate::failure::{Failure, NO_IMAGE, UNREAD, WRONG};
 use crate::image::Image;
 use crate::json::Json;
@@ -102,7 +102,7 @@ fn total(all: &[Surveyed]) -> Result<Figures, Failure> {
 
 /// Puts the rows of a file behind those before. A line that is no row refuses all: a sum without it would be wrong.
 fn read(file: &OsStr, all: &mut Vec<Surveyed>) -> Result<(), Failure> {
-    let unread = |error| Failure::file(NO_IMAGE, file, format!("the rows can't be read: {error}"));
+    let unread = |error| Failure::file(NO_IMAGE, file, format!("can't read the rows: {error}"));
     let mut rows = BufReader::new(std::fs::File::open(file).map_err(unread)?);
     for number in 1.. {
         let mut bytes = Vec::new();
@@ -110,7 +110,7 @@ fn read(file: &OsStr, all: &mut Vec<Surveyed>) -> Result<(), Failure> {
             break;
         }
         let one = str::from_utf8(&bytes).ok().and_then(Surveyed::of_row);
-        all.push(one.ok_or_else(|| Failure::file(WRONG, file, format!("line {number} is no whole row of `vault survey --rows`")))?);
+        all.push(one.ok_or_else(|| Failure::file(WRONG, file, format!("line {number} is not a complete row of `vault survey --rows`")))?);
     }
     Ok(())
 }
@@ -145,7 +145,7 @@ fn surveyed(name: &OsStr, taken: Taken) -> Surveyed {
 /// Why an image wasn't surveyed: its opening is gone over again, and then its tree.
 fn why_not(image: &[u8], how: How, name: &str, why: Refusal) -> Failure {
     let refused = Refused { why, sectors: 0 };
-    match Disc::open(image, how, name, Rule::default(), &mut Log::default()) {
+    match OpenDisc::open(image, how, name, Rule::default(), &mut Log::default()) {
         Ok(disc) => Failure::diagnosed(name, &disc.volume.diagnose(Asked::Show(LEVELS), &refused)),
         Err(failure) => failure,
     }

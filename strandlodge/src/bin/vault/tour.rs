@@ -1,8 +1,8 @@
-//! The tour of the sample show, and of a vault that is made.
+//! The tour of the sample show, and of an image that is made.
 
 use crate::args::Question;
 use crate::commands::{self, Manner};
-use crate::disc::Disc;
+use crate::disc::OpenDisc;
 use crate::failure::{Failure, NO_IMAGE, NO_OUTPUT};
 use crate::log::Log;
 use crate::make;
@@ -29,7 +29,7 @@ const LOWER: &[u8] = b"SHOW/10.1a";
 
 /// The sample show's image.
 pub fn sample() -> Result<Vec<u8>, Failure> {
-    sparse::expand(PACKED).ok_or_else(|| Failure::new(NO_IMAGE, "the sample show isn't packed as it should be"))
+    sparse::expand(PACKED).ok_or_else(|| Failure::new(NO_IMAGE, "the built-in sample show is damaged"))
 }
 
 pub fn give(out: &mut impl Write) -> Result<(), Failure> {
@@ -39,7 +39,7 @@ pub fn give(out: &mut impl Write) -> Result<(), Failure> {
     text(out, BEGIN)?;
     step(&image, Question::Label, Rule::Safe, "label show.img", out)?;
     step(&image, Question::Ls { wanted: Wanted::Path(DIRECTORY.into()) }, Rule::Safe, "ls show.img SHOW", out)?;
-    text(out, "Two cues have names that differ in case alone. They are two entries:\n\n")?;
+    text(out, "Two cues have names that differ only in case. They are two entries:\n\n")?;
     looks(&image, out)?;
     text(out, MATCHING)?;
     step(&image, cat(UPPER), Rule::Safe, "cat show.img SHOW/10.1A", out)?;
@@ -57,53 +57,53 @@ pub fn give(out: &mut impl Write) -> Result<(), Failure> {
 }
 
 const BEGIN: &str = "\
-A tour of a small show. `vault sample show.img` writes it to a file; then each
-line behind a $ can be typed. `vault --help` has all commands.
+A tour of a small show. To follow it, run `vault sample show.img`, then type
+the lines that start with $. `vault --help` lists all commands.
 
 ";
 
 const MATCHING: &str = "\
-A path gives the entry that has the very name, and each cue is had by its own:
+A path gives the entry with exactly that name, so each cue has its own path:
 
 ";
 
 const ANY_CASE: &str = "\
-Where no entry has the very name, the only one that has it in another case is
-given, with a remark. Of several none is given: the path is refused by 9.
+If no entry has exactly that name, but one has it in another case, you get that
+one, with a note. If several do, the path is refused (9).
 
 ";
 
 const ORIGINAL: &str = "\
-The original ignores ASCII case and takes the first entry. For a show this means:
-what a path gave may have another name than was asked for. --as-original does so:
+The original ignores ASCII case and takes the first entry, so you may get another
+cue than the one you asked for. --as-original does the same:
 
 ";
 
 const CHOICES: &str = "\
-There are two more choices: --as-written takes the very name alone, and
---unambiguous refuses a name that two entries match, one of them exactly:
+There are two more choices: --as-written takes only the exact name, and
+--unambiguous refuses a name that two entries match, even if one is exact:
 
 ";
 
 const CONSOLE: &str = "\
-A console's calls go by the original's rule, lookup and read_path, or by one that
-is chosen: lookup_as and read_path_as, with Matching::AsWritten or
+In the Rust crate, lookup and read_path follow the original's rule. To choose
+another, use lookup_as and read_path_as with Matching::AsWritten or
 Matching::Unambiguous.
 ";
 
 const MAKING: &str = "
-Files that are staged make a vault, a disc of one directory:
+You can also make an image from files. It has one directory:
 
 ";
 
-/// The files of the vault in the tour, and its image.
+/// The files of the image that the tour makes, and its name.
 const STAGED: [&str; 2] = ["9", "11"];
 const NEW: &str = "new.img";
 
-/// Two cues taken off the show, and a vault made of them; in memory, as everything here.
+/// Two cues taken off the show, and an image made of them; all in memory.
 fn made(image: &[u8], out: &mut impl Write) -> Result<(), Failure> {
     let mut log = Log::default();
-    let disc = Disc::open(image, How::default(), NAME, Rule::Safe, &mut log)?;
+    let disc = OpenDisc::open(image, How::default(), NAME, Rule::Safe, &mut log)?;
     let paths = STAGED.map(|name| format!("SHOW/{name}"));
     let cues = disc.volume.read_all(&paths).map_err(|refused| Failure::refused(NAME, refused))?;
     let cues = cues.value.into_iter().collect::<Result<Vec<_>, _>>().map_err(|why| Failure::refused(NAME, why))?;
@@ -112,10 +112,10 @@ fn made(image: &[u8], out: &mut impl Write) -> Result<(), Failure> {
         text(out, &format!("{path}: {} bytes, to ./{name}\n", cue.len()))?;
     }
     let files: Vec<(&str, &[u8])> = STAGED.iter().copied().zip(cues.iter().map(Vec::as_slice)).collect();
-    let vault = strandlodge::write(&files).map_err(|why| Failure::refused(NEW, why))?;
-    let says = make::made(OsStr::new(NEW), files.len(), vault.len() as u64 / SECTOR_SIZE);
+    let new = strandlodge::write(&files).map_err(|why| Failure::refused(NEW, why))?;
+    let says = make::made(OsStr::new(NEW), files.len(), new.len() as u64 / SECTOR_SIZE);
     text(out, &format!("\n$ vault make {NEW} {}\n{says}\n\n", STAGED.join(" ")))?;
-    step(&vault, Question::Ls { wanted: Wanted::Path(Vec::new()) }, Rule::Safe, &format!("ls {NEW}"), out)
+    step(&new, Question::Ls { wanted: Wanted::Path(Vec::new()) }, Rule::Safe, &format!("ls {NEW}"), out)
 }
 
 fn text(out: &mut impl Write, text: &str) -> Result<(), Failure> {
@@ -140,7 +140,7 @@ fn step(image: &[u8], question: Question, matching: Rule, typed: &str, out: &mut
 /// The last line of each of the two cues, read by the ICB of its entry.
 fn looks(image: &[u8], out: &mut impl Write) -> Result<(), Failure> {
     let mut log = Log::default();
-    let mut disc = Disc::open(image, How::default(), NAME, Rule::Safe, &mut log)?;
+    let mut disc = OpenDisc::open(image, How::default(), NAME, Rule::Safe, &mut log)?;
     let directory = disc.find_path(DIRECTORY)?.icb;
     for entry in disc.list(DIRECTORY, directory)?.iter().filter(|entry| entry.name.eq_ignore_ascii_case("10.1a")) {
         let cue = disc.read(DIRECTORY, entry.icb)?;

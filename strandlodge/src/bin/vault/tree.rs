@@ -1,12 +1,12 @@
 //! `tree` and `ls -R`: all that stands below a directory.
 //!
 //! A directory is listed at its turn, and nothing is kept but the listings on the way down: what is drawn is written at once, and it can stop at any
-//! entry. The order is that of a show (`Vault::show`), and so is what is refused; but a directory at the last level is drawn and not looked into, one that
+//! entry. The order is that of a show (`Disc::show`), and so is what is refused; but a directory at the last level is drawn and not looked into, one that
 //! can't be read is told of, and the rest goes on.
 
 use crate::bar::Count;
 use crate::commands::line;
-use crate::disc::{Disc, Volume};
+use crate::disc::{OpenDisc, Volume};
 use crate::failure::{Failure, STOPPED};
 use crate::json::{Json, Rows};
 use crate::limit::{self, Limit};
@@ -173,7 +173,7 @@ impl Seen {
 
 /// Writes all that stands below what is asked for. The paths below a place that was asked for begin there.
 pub fn show<V: Volume>(
-    disc: &mut Disc<V>,
+    disc: &mut OpenDisc<V>,
     wanted: &Wanted,
     form: Form,
     bounds: Bounds,
@@ -211,14 +211,14 @@ pub fn show<V: Volume>(
 }
 
 /// How it ends: well where all was shown.
-fn end<V: Volume>(disc: &mut Disc<V>, seen: &Seen, bounds: Bounds) -> Result<(), Failure> {
+fn end<V: Volume>(disc: &mut OpenDisc<V>, seen: &Seen, bounds: Bounds) -> Result<(), Failure> {
     let deep = too_deep(disc.name, seen, bounds);
     if seen.unlisted == 0 {
         return deep;
     }
     disc.log.remarks.extend(deep.err().and_then(|failure| failure.says));
     let many = counted(seen.unlisted, "directory", "directories");
-    Err(Failure::new(seen.status, format!("{}: {many} can't be listed, and the rest is shown", disc.name)))
+    Err(Failure::new(seen.status, format!("{}: {many} can't be listed; the rest is shown", disc.name)))
 }
 
 fn counted(n: u64, one: &str, more: &str) -> String {
@@ -226,7 +226,7 @@ fn counted(n: u64, one: &str, more: &str) -> String {
 }
 
 /// The entries of a directory.
-fn list<V: Volume>(disc: &mut Disc<V>, path: &[u8], icb: strandlodge::LongAd, seen: &mut Seen) -> Result<Vec<DirEntry>, Failure> {
+fn list<V: Volume>(disc: &mut OpenDisc<V>, path: &[u8], icb: strandlodge::LongAd, seen: &mut Seen) -> Result<Vec<DirEntry>, Failure> {
     let answer = disc.volume.read_directory(icb);
     seen.sectors = seen.sectors.saturating_add(log::sectors(&answer));
     see(disc, seen)?;
@@ -235,13 +235,13 @@ fn list<V: Volume>(disc: &mut Disc<V>, path: &[u8], icb: strandlodge::LongAd, se
 
 /// Fails where too much was asked for. An entry that is shown counts as one sector more, which on a sound disc it has: else a few sectors of
 /// directories would be millions of lines.
-fn see<V: Volume>(disc: &Disc<V>, seen: &Seen) -> Result<(), Failure> {
+fn see<V: Volume>(disc: &OpenDisc<V>, seen: &Seen) -> Result<(), Failure> {
     limit::see(disc.name, seen.most, disc.log.total().saturating_add(seen.sectors).saturating_add(seen.entries()), "")
 }
 
 /// Goes over the entries of the directory at a path, each before what stands under it.
 fn walk<V: Volume, W: Write>(
-    disc: &mut Disc<V>,
+    disc: &mut OpenDisc<V>,
     mut path: Path,
     entries: Vec<DirEntry>,
     bounds: Bounds,
@@ -302,9 +302,9 @@ fn too_deep(name: &str, seen: &Seen, bounds: Bounds) -> Result<(), Failure> {
         return Ok(());
     }
     let many = if seen.deep == 1 { "1 directory at level".to_string() } else { format!("{} directories at level", seen.deep) };
-    let first = if seen.deep == 1 { quoted(&seen.first) } else { format!("{} the first", quoted(&seen.first)) };
+    let first = if seen.deep == 1 { format!(": {}", quoted(&seen.first)) } else { format!("; the first is {}", quoted(&seen.first)) };
     let cure = if bounds.levels < Bounds::MOST_LEVELS { format!("; --levels {} shows more", bounds.levels + 1) } else { String::new() };
-    let says = format!("{name}: {many} {}, the last, not looked into: {first}", bounds.levels);
+    let says = format!("{name}: {many} {}, the last level, not looked into{first}", bounds.levels);
     let mut failure = Failure::with_number(Refusal::TooDeep, says);
     failure.says = failure.says.map(|says| says + &cure);
     Err(failure)

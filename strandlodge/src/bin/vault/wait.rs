@@ -40,7 +40,7 @@ pub fn until<T>(
         drop(image);
         if !growing.wait(missing)? {
             let says = refused.says.unwrap_or_default();
-            return Err(Failure::new(refused.status, format!("{says}; waited for {seconds} s: {}", state(growing.there, missing))));
+            return Err(Failure::new(refused.status, format!("{says}; waited {seconds} s: {}", state(growing.there, missing))));
         }
     }
 }
@@ -73,7 +73,7 @@ impl Growing<'_> {
     /// Of an image that shrinks nothing is known of what was seen of it.
     fn seen(&mut self, length: usize) -> Result<(), Failure> {
         if length < self.there {
-            let says = format!("the image shrank from {} bytes to {length}: it isn't one that is being copied to its end", self.there);
+            let says = format!("the image shrank from {} to {length} bytes: it is not being copied from front to back", self.there);
             return Err(Failure::file(NO_IMAGE, self.name, says));
         }
         self.there = length;
@@ -88,8 +88,8 @@ fn enough(there: usize, missing: Option<u64>) -> usize {
 }
 
 fn state(there: usize, missing: Option<u64>) -> String {
-    let what = missing.map_or("one that is asked for".to_string(), |sector| format!("sector {sector}"));
-    format!("{} sectors are there, and {what} isn't yet", there as u64 / SECTOR_SIZE)
+    let what = missing.map_or("a sector that is needed".to_string(), |sector| format!("sector {sector}"));
+    format!("{} sectors are there; {what} is not there yet", there as u64 / SECTOR_SIZE)
 }
 
 /// The sector for want of which the file that is asked for is refused by 1, where it can be named.
@@ -127,7 +127,7 @@ mod tests {
 
     #[test]
     fn what_is_there_is_said_in_sectors() {
-        assert_eq!(state(5000, Some(300)), "2 sectors are there, and sector 300 isn't yet");
-        assert_eq!(state(0, None), "0 sectors are there, and one that is asked for isn't yet");
+        assert_eq!(state(5000, Some(300)), "2 sectors are there; sector 300 is not there yet");
+        assert_eq!(state(0, None), "0 sectors are there; a sector that is needed is not there yet");
     }
 }
