@@ -53,7 +53,7 @@ enum Descriptor {
 }
 
 // How many bytes a descriptor of a kind takes.
-fn size_of(kind: u8) -> usize
+pub fn size_of(kind: u8) -> usize
     ensures { λ r. ⌜ r ≡ sizeOf kind ⌝ }
 {
     if kind == 0 {

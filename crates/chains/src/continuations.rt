@@ -23,9 +23,9 @@ pub enum NextArea {
 }
 
 // A continuation has a header at least, and at most this many bytes.
-const HEADER: u32 = 24;
+pub const HEADER: u32 = 24;
 
-const LONGEST: u32 = 1048576;
+pub const LONGEST: u32 = 1048576;
 
 // The area in `length` bytes from a sector on: the checks in order. Its sectors are one part of the image: nothing is copied.
 fn area_from(image: &[u8], check: bool, length: u32, first: Sector) -> NextArea

@@ -76,7 +76,9 @@ fn put_reply(reply: Reply, lengths: &mut [u64], answers: &mut [u32], i: usize)
     answers[i] = reply.answer as u32;
 }
 
-// Reads the item at a place into the room that is left, and puts its length and its answer into its places of the rows.
+// Reads the item at the place `p` of the list `paths` into the room that is left of `out`, and puts its length and its answer into its places of the
+// rows. Output and rows are those of the whole call. The rest is lent as for one path: `mount` is how the volume is read, `root` the ICB of its root directory,
+// and `work` room for the bytes of one directory at a time.
 fn read_item(
     image: &[u8],
     mount: Mount,

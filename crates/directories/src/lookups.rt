@@ -1,4 +1,6 @@
-// Paths looked up by a choice of matching, and files read by them. The work space is all zero on return from each.
+// Paths looked up by a choice of matching, and files read by them. Each call is lent the image, how its volume is read (`mount`), the ICB of the root
+// directory (`root`), the path, how its components are matched with names (`matching`), and room for the bytes of one directory at a time (`work`). The work
+// space is all zero on return from each but `read_reached`. A file's bytes go to `out`.
 ghost use mathlib.Core.Path.{_≡_};
 ghost use lib.ListN.{length, replicate};
 ghost use Rattle.disc.specs.Ran.{ran};

@@ -20,10 +20,10 @@ pub enum Resolved {
 }
 
 // The kind of an entry in which the file itself stands.
-const EMBEDDED: u8 = 3;
+pub const EMBEDDED: u8 = 3;
 
 // No more continuations than these are followed.
-pub(crate) const MOST_CONTINUATIONS: u8 = 32;
+pub const MOST_CONTINUATIONS: u8 = 32;
 
 // The cursor at the front of a file's chain.
 pub fn front_of(p: FilePlace) -> ChainCursor

@@ -84,8 +84,11 @@ fn open_level(image: &[u8], mount: Mount, icb: LongAd, p: ShowPlace, work: &mut 
     }
 }
 
-// Lists the directory at icb, whose entries have this level, and what stands under it. The bytes of the directories above it stand before
-// what is lent of the work space. What is left there is of no use to the caller. Where a place is lent the entries are tallied in it.
+// Lists the directory at `icb`, whose entries have this `level`, and what stands under it. `mount` is how the volume is read, `left` how many levels may
+// yet be listed, with this one, and `p` the place in the show before its first entry. `work` is room for its bytes and those of the directories
+// under it; those of the directories above stand before it. What is left there is of no use to the caller.
+// An empty slice chooses what is done: with an empty `out` no record is written and the call measures, with an empty `tally` nothing is tallied. Else `out`
+// is the output of the whole show, and `tally` a place of figures.
 pub(crate) fn list_level(
     image: &[u8],
     mount: Mount,

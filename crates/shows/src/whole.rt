@@ -30,7 +30,8 @@ use records::allocations::LongAd;
 // The most levels that can be asked for.
 pub const MOST_LEVELS: u32 = 16;
 
-// Goes over the tree from the directory at root once: what is written, and what is tallied, goes by what is lent.
+// Goes over the tree from the directory at root once. An empty slice chooses what is done: with an empty `out` it measures and writes nothing, with an empty
+// `tally` it tallies nothing.
 fn walk(
     image: &[u8],
     mount: Mount,

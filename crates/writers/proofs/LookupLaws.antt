@@ -20,7 +20,7 @@ use Rattle.names.specs.Names.{lower, asIs, sameName, isNamed}
 use Rattle.names.proofs.Promises.{same-reflexive, same-symmetric, same-lower}
 use Rattle.files.specs.Files.{fileBytes}
 use Rattle.listings.specs.Entries.{Entry, isSkipped, nameIn}
-use Rattle.listings.specs.Listings.{shown, records, listing, foldIn, answersTo, findIn}
+use Rattle.listings.specs.Listings.{entryRecord, records, listing, foldIn, answersTo, findIn}
 use Rattle.listings.specs.Paths.{front, behind, componentsFrom, components}
 use Rattle.listings.specs.declared.matchings.Matching.{Matching}
 use Rattle.listings.specs.declared.matchings.Matching.the-variants.{CaseIgnored, AsWritten, Unambiguous}
@@ -37,14 +37,14 @@ use Rattle.writers.specs.Vaults.{icbAt, listed}
 -- ---- the listing
 
 files-listed : (i o : ℕ) (names : List (List ℕ)) → areGood names ≡ true → records (fileEntries i o names) ≡ listed i names
-unfolding records shown isSkipped nameIn fileEntries listed
+unfolding records entryRecord isSkipped nameIn fileEntries listed
 files-listed i o [] g = refl
 files-listed i o (n ∷ ns) g =
     let q = good-cons n ns g in
     rw (plain-name n (q .plain), files-listed (i + 1) (o + identifierSize (length n)) ns (q .others))
 
 pub directory-listed : (check : Bool) (names : List (List ℕ)) → areGood names ≡ true → length names ≤ 64 → namesSize names ≤ 10752 → listing check (directory names) ≡ answered (listed 0 names)
-unfolding listing records shown isSkipped
+unfolding listing records entryRecord isSkipped
 directory-listed check names g h k = rw (directory-entries check names g h k) (ap answered (files-listed 0 40 names g))
 
 -- ---- the entry of a name
