@@ -53,7 +53,7 @@ enum Descriptor {
 }
 
 // The size of a descriptor: kind 0 is short_ad, 1 is long_ad, any other ext_ad.
-fn size_of(kind: u8) -> usize
+pub fn size_of(kind: u8) -> usize
     ensures { λ r. ⌜ r ≡ sizeOf kind ⌝ }
 {
     if kind == 0 {

@@ -23,9 +23,9 @@ pub enum NextArea {
 }
 
 // A continuation has at least its header, and at most LONGEST bytes.
-const HEADER: u32 = 24;
+pub const HEADER: u32 = 24;
 
-const LONGEST: u32 = 1048576;
+pub const LONGEST: u32 = 1048576;
 
 // The area in `length` bytes from sector `first` on, checked in the order of the rules. Its sectors are contiguous in
 // the image, so nothing is copied.

@@ -76,7 +76,8 @@ fn put_reply(reply: Reply, lengths: &mut [u64], answers: &mut [u32], i: usize)
     answers[i] = reply.answer as u32;
 }
 
-// Reads the item at a place into the room that is left, and stores its length and its answer in the rows.
+// Reads the item at the place `p` of the list `paths` into the room that is left of `out`, and stores its length and
+// its answer in the rows. `out` and the rows are those of the whole call; `work` holds one directory at a time.
 fn read_item(
     image: &[u8],
     mount: Mount,

@@ -1,5 +1,6 @@
-// Looks paths up by a choice of matching, and reads files by path. All but `read_reached` leave the work space all
-// zero.
+// Looks paths up by a choice of matching, and reads files by path. Each call is lent the image, its `mount`, the ICB of
+// the root directory, the path, and `work`, which holds one directory at a time. All but `read_reached` leave the work
+// space all zero.
 ghost use mathlib.Core.Path.{_≡_};
 ghost use lib.ListN.{length, replicate};
 ghost use Rattle.disc.specs.Ran.{ran};

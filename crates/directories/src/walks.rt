@@ -127,7 +127,7 @@ fn step(
     let icb = p.icb;
     let from = component_from(path, p.from);
     if path.len() <= from {
-        return stopped(0, icb, p.count, 0, 0);
+        return stopped(DONE, icb, p.count, 0, 0);
     }
     let end = component_end(path, from);
     if !p.directory {

@@ -28,7 +28,7 @@ use Rattle.drives.specs.Feeds.{Feed, naming, crowded, settledIn, crowded
 use Rattle.drives.specs.Feeds.Feed.{over, stop, name, hold, put, want}
 use Rattle.drives.specs.FileFeeds.{joined, chainFeed}
 use Rattle.drives.specs.Openings.{mostSectors}
-use Rattle.drives.specs.Readings.{extentsIn, areaOf, endingOf, carriedIn, padded, restOf, isRight, headed, namedIn, behindArea, feedOf, isWanting, leftOf, numberOf}
+use Rattle.drives.specs.Readings.{extentsIn, areaOf, endingOf, carriedIn, padded, restOf, isRight, headed, namedIn, behindArea, continuationPhase, feedOf, isWanting, leftOf, numberOf}
 use Rattle.drives.specs.inner.Scans.{Leads, Scans}
 use Rattle.drives.specs.inner.Turns.{Ends, quiet, ReadingStands}
 use Rattle.drives.specs.inner.Bodies.{isWrong, judged, finished, bodyBehind, behindBytes, inBody, partBehind, withParts, Parts, Lands}
@@ -133,7 +133,7 @@ in-body-none r row n at z h l =
 -- as the code makes it
 abbrev pub inPart : Reading → ℕ → ℕ → Reading
 inPart r at left = record {
-  phase = 2;
+  phase = continuationPhase;
   at = at;
   left = left;
   mount = r .mount;

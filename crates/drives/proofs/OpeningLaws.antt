@@ -42,7 +42,7 @@ use Rattle.volumes.specs.declared.sequences.Wanted.the-variants.{Any}
 use Rattle.volumes.specs.declared.openings.VolumeRecord.{VolumeRecord}
 use Rattle.volumes.specs.declared.openings.Opened.{Opened}
 use Rattle.drives.specs.Feeds.{lent, branch}
-use Rattle.drives.specs.Openings.{mountingFrom, scanning, scanFrom, behindSector, mostSectors, isWanting, wantedSector, openedTree, treeOf, behindWanted, OpeningStands, Fed}
+use Rattle.drives.specs.Openings.{mountingFrom, scanning, scanFrom, behindSector, mostSectors, anchorPhase, sequencePhase, fileSetPhase, openingOver, isWanting, wantedSector, openedTree, treeOf, behindWanted, OpeningStands, Fed}
 use Rattle.drives.specs.declared.openings.Opening.{Opening}
 
 -- ---- whether a sector is wanted
@@ -72,7 +72,7 @@ module _ (o : Opening) where
 
 -- as the code makes an end
 abbrev pub Ended : Opening → Opened → Type 0
-Ended r x = (r .phase ≡ 3) × (r .opened ≡ x)
+Ended r x = (r .phase ≡ openingOver) × (r .opened ≡ x)
 
 over-is : (r : Opening) {x : Opened} → Ended r x → treeOf r ≡ openedTree x
 unfolding treeOf
@@ -101,7 +101,7 @@ pub place-is : (phase at left : ℕ) (k : Kept) (n : ℕ) {x : Opened} → x ≡
     → record { phase = phase; at = at; left = left; kept = k; opened = x } ≡ place phase at left k n
 place-is phase at left k n e = rw e
 
-pub stands-anchor : (r : Opening) {k : Kept} → r ≡ place 0 256 0 k 0 → OpeningStands (opening usual) 0 r
+pub stands-anchor : (r : Opening) {k : Kept} → r ≡ place anchorPhase 256 0 k 0 → OpeningStands (opening usual) 0 r
 unfolding treeOf opening
 stands-anchor r e = rw e (record { tree = refl; says = refl })
 
@@ -143,7 +143,7 @@ module _ (k : Kept) (n : ℕ) (r : Opening) {a : ℕ} (e : a ≡ mountable k) wh
         let d = stands-nowhere m (Named (fileSetRef k)) (k .«file_set» .location .block) q h in
         stands-refused (mountingFrom k) n r Unsupported (l ∙ rw (← w, d)) refl g f
 
-    pub sequence-at : {s : Sector} → p ≡ At s → r ≡ place 2 (s .0) 0 k n → OpeningStands (mountingFrom k) n r
+    pub sequence-at : {s : Sector} → p ≡ At s → r ≡ place fileSetPhase (s .0) 0 k n → OpeningStands (mountingFrom k) n r
     unfolding treeOf
     sequence-at {s} h g =
         let l = leads-on (leads k) (sym e ∙ z) in
@@ -157,7 +157,7 @@ module _ (k : Kept) (n : ℕ) (r : Opening) {a : ℕ} (e : a ≡ mountable k) wh
 
 -- ---- in the sequence
 
-scan-place : (k : Kept) (at left n : ℕ) → at + left < mostSectors → OpeningStands (scanning k (suc left) at) n (place 1 at left k n)
+scan-place : (k : Kept) (at left n : ℕ) → at + left < mostSectors → OpeningStands (scanning k (suc left) at) n (place sequencePhase at left k n)
 unfolding treeOf scanning scan then
 scan-place k at left n h = record { tree = rw (lt-ltb (at + left) mostSectors h); says = refl }
 
@@ -173,9 +173,9 @@ module _ (n first c : ℕ) (r : Opening) {k : Kept} (e : k ≡ nothing) where
   pub begin-none : n ≡ 0 → OpeningStands (mountingFrom k) c r → OpeningStands (scanning nothing n first) c r
   begin-none z q = rw (z, scan-none nothing first) (rw e at q)
 
-  pub begin-some : (n ≡ 0 → ⊥) → n < 2 ^ 32 → first < 2 ^ 32 → r ≡ place 1 first (n - 1) k c → OpeningStands (scanning nothing n first) c r
+  pub begin-some : (n ≡ 0 → ⊥) → n < 2 ^ 32 → first < 2 ^ 32 → r ≡ place sequencePhase first (n - 1) k c → OpeningStands (scanning nothing n first) c r
   begin-some z l f q =
-      let q′ : r ≡ place 1 first (n - 1) nothing c = rw e at q in
+      let q′ : r ≡ place sequencePhase first (n - 1) nothing c = rw e at q in
       rw (one-less n z, ← q′) at (scan-place nothing first (n - 1) c (near n first l f))
     where
       near : (m a : ℕ) → m < 2 ^ 32 → a < 2 ^ 32 → a + (m - 1) < mostSectors
@@ -223,7 +223,7 @@ module _ (k : Kept) (n at : ℕ) where
     pub sector-last : t .going ≡ true → n ≡ 0 → OpeningStands (mountingFrom (t .kept)) c r → OpeningStands (behindSector k n at b) c r
     sector-last g z q = rw (turn-goes (saysIn false b) turn-usual g, z, scan-none (t .kept) (at + 1)) q
 
-    pub sector-next : t .going ≡ true → (n ≡ 0 → ⊥) → at + n < mostSectors → r ≡ place 1 (at + 1) (n - 1) (t .kept) c → OpeningStands (behindSector k n at b) c r
+    pub sector-next : t .going ≡ true → (n ≡ 0 → ⊥) → at + n < mostSectors → r ≡ place sequencePhase (at + 1) (n - 1) (t .kept) c → OpeningStands (behindSector k n at b) c r
     sector-next g z l q =
         rw (turn-goes (saysIn false b) turn-usual g)
         (rw (one-less n z, ← q) at (scan-place (t .kept) (at + 1) (n - 1) c (less at n l z)))

@@ -33,7 +33,7 @@ use Rattle.drives.specs.Feeds.{Feed, naming, crowded, settledIn, crowded
 use Rattle.drives.specs.Feeds.Feed.{over, stop, hold}
 use Rattle.drives.specs.FileFeeds.{extentFeed, extentsFeed, joined, namedBy, chainFeed}
 use Rattle.drives.specs.Openings.{mostSectors}
-use Rattle.drives.specs.Readings.{referenceIn, extentIn, extentsIn, endingOf, feedOf, isWanting, endTree, leftOf}
+use Rattle.drives.specs.Readings.{referenceIn, extentIn, extentsIn, endingOf, headerPhase, extentPhase, feedOf, isWanting, endTree, leftOf}
 use Rattle.drives.specs.inner.Turns.{Ends, quiet, ReadingStands, extentsBehind, Enters, EntersAt, continuing, nextOf, Chains, ContinuesAt}
 use Rattle.drives.specs.declared.scans.Scan.{Scan}
 use Rattle.drives.specs.declared.readings.Reading.{Reading}
@@ -80,7 +80,7 @@ one-less (suc n) h = omega arith
 -- a state in an extent, as the code makes it
 abbrev pub inExtent : Reading → ℕ → ℕ → ℕ → ℕ → Reading
 inExtent r at left size next = record {
-  phase = 3;
+  phase = extentPhase;
   at = at;
   left = left;
   mount = r .mount;
@@ -214,7 +214,7 @@ module _ (r : Reading) (row : List (List ℕ)) (from : ℕ) where
 
 abbrev pub atHeader : Reading → ℕ → ℕ → ℕ → Reading
 atHeader r at left size = record {
-  phase = 1;
+  phase = headerPhase;
   at = at;
   left = left;
   mount = r .mount;

@@ -11,6 +11,8 @@ use Rattle.records.specs.declared.allocations.LongAd.{LongAd}
 use Rattle.volumes.specs.Sequences.{nothing}
 use Rattle.volumes.specs.Openings.{noVolume}
 use Rattle.files.specs.Files.{entryMount}
+use Rattle.drives.specs.Openings.{anchorPhase}
+use Rattle.drives.specs.Readings.{entryPhase, readingOver}
 use Rattle.drives.specs.declared.openings.Opening.{Opening}
 use Rattle.drives.specs.declared.scans.Scan.{Scan}
 use Rattle.drives.specs.declared.readings.Body.{Body}
@@ -18,7 +20,7 @@ use Rattle.drives.specs.declared.readings.Reading.{Reading}
 
 -- before the anchor, which is in sector 256
 abbrev pub atAnchor : Opening
-atAnchor = record { phase = 0; at = 256; left = 0; kept = nothing; opened = record { answer = 0; count = 0; volume = noVolume } }
+atAnchor = record { phase = anchorPhase; at = 256; left = 0; kept = nothing; opened = record { answer = 0; count = 0; volume = noVolume } }
 
 -- nothing has been listed, and no continuation has begun to arrive
 abbrev pub emptyScan : Scan
@@ -30,7 +32,7 @@ emptyBody = record { tagged = false; headed = false; crc = 0; summed = 0; «body
 -- the sector of the entry is wanted; nothing is known yet but how it is read
 abbrev pub wantsEntry : Mount → ℕ → Reading
 wantsEntry m at = record {
-  phase = 0;
+  phase = entryPhase;
   at = at;
   left = 0;
   mount = m;
@@ -49,7 +51,7 @@ wantsEntry m at = record {
 -- a read that has ended: the phase and the answer are new
 abbrev pub endedWith : Reading → ℕ → Reading
 endedWith r number = record {
-  phase = 4;
+  phase = readingOver;
   at = r .at;
   left = r .left;
   mount = r .mount;

@@ -40,9 +40,22 @@ behindSector k n at b = scanFrom k n at (saysIn false b)
 abbrev pub mostSectors : ℕ
 mostSectors = 0x1000_0000_0000
 
--- a state that wants a sector: the anchor's (phase 0), one of the sequence with `left` behind it (1), or the file set descriptor's (2)
+-- the phases: the anchor's sector is wanted, one of the sequence with `left` behind it, or the file set descriptor's; and the one in which it has ended
+abbrev pub anchorPhase : ℕ
+anchorPhase = 0
+
+abbrev pub sequencePhase : ℕ
+sequencePhase = 1
+
+abbrev pub fileSetPhase : ℕ
+fileSetPhase = 2
+
+abbrev pub openingOver : ℕ
+openingOver = 3
+
+-- a state that wants a sector
 abbrev pub isWanting : Opening → Bool
-isWanting o = pick (ltb (o .phase) 3) (ltb (o .at + o .left) mostSectors) false
+isWanting o = pick (ltb (o .phase) openingOver) (ltb (o .at + o .left) mostSectors) false
 
 -- what is left of a state that has ended
 abbrev pub openedTree : Opened → Ask VolumeRecord
@@ -50,21 +63,21 @@ openedTree x = pick (eqb (x .answer) 0) (done (x .volume)) (refuse (refusalOf (x
 
 -- the sector that it wants
 abbrev pub wantedSector : Opening → ℕ
-wantedSector o = pick (isWanting o) (pick (eqb (o .phase) 0) 256 (o .at)) 0
+wantedSector o = pick (isWanting o) (pick (eqb (o .phase) anchorPhase) 256 (o .at)) 0
 
 unfoldable pub treeOf : Opening → Ask VolumeRecord
 treeOf o =
     pick (isWanting o)
-    (pick (eqb (o .phase) 0) (opening usual)
-    (pick (eqb (o .phase) 1) (scanning (o .kept) (suc (o .left)) (o .at))
+    (pick (eqb (o .phase) anchorPhase) (opening usual)
+    (pick (eqb (o .phase) sequencePhase) (scanning (o .kept) (suc (o .left)) (o .at))
     (fileSetAt false (o .kept) (plainMount false (o .kept)) (o .at))))
     (openedTree (o .opened))
 
 -- behind the sector that it wants
 abbrev pub behindWanted : Opening → List ℕ → Ask VolumeRecord
 behindWanted o b =
-    pick (eqb (o .phase) 0) (anchored usual (readAnchor false b))
-    (pick (eqb (o .phase) 1) (behindSector (o .kept) (o .left) (o .at) b)
+    pick (eqb (o .phase) anchorPhase) (anchored usual (readAnchor false b))
+    (pick (eqb (o .phase) sequencePhase) (behindSector (o .kept) (o .left) (o .at) b)
     (ended (volumeIn (plainMount false (o .kept)) (o .kept) (readFileSet false b))))
 
 -- ---- a step

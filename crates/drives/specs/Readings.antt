@@ -96,15 +96,31 @@ behindArea r es x = chainFeed (r .mount) (r .kind) (r .hops) (r .missing) (joine
 abbrev pub behindExtent : Reading → List (List ℕ) → ℕ → Feed
 behindExtent r row left = pick (leb left 0) over (extentsFeed (r .mount) (drop (r .next) (extentsIn row (r .scan .listed))) left)
 
--- by what it wants: the entry (phase 0), the first sector of a continuation (1), a further one (2), or one of an extent (3)
+-- the phases: the entry's sector is wanted, the first one of a continuation, a further one, or one of an extent; and the one in which it has ended
+abbrev pub entryPhase : ℕ
+entryPhase = 0
+
+abbrev pub headerPhase : ℕ
+headerPhase = 1
+
+abbrev pub continuationPhase : ℕ
+continuationPhase = 2
+
+abbrev pub extentPhase : ℕ
+extentPhase = 3
+
+abbrev pub readingOver : ℕ
+readingOver = 4
+
+-- by what it wants
 unfoldable pub feedOf : Reading → List (List ℕ) → Feed
 feedOf r row =
-    pick (eqb (r .phase) 0) (following (entryIn (isChecked (r .mount)) (r .at)) (entryFeed (r .mount)))
-    (pick (eqb (r .phase) 1)
+    pick (eqb (r .phase) entryPhase) (following (entryIn (isChecked (r .mount)) (r .at)) (entryFeed (r .mount)))
+    (pick (eqb (r .phase) headerPhase)
     (naming (namedBy (r .kind) (r .size) (extentsIn row (r .scan .listed)))
     (then (sectors (suc (r .left)) (r .at)) (λ s. areaIn (r .kind) (r .size) s (readAed (isChecked (r .mount)) s)))
     (behindArea r (extentsIn row (r .scan .listed))))
-    (pick (eqb (r .phase) 2)
+    (pick (eqb (r .phase) continuationPhase)
     (crowdedBy (r .scan .full)
     (naming (namedIn r row) (sectors (suc (r .left)) (r .at)) (λ more.
     headed (isChecked (r .mount)) (r .body) more
@@ -114,13 +130,13 @@ feedOf r row =
 -- a continuation's sectors hold all of its bytes; within one less than a whole descriptor is carried, and its sectors hold the rest of the area
 abbrev pub isSound : Reading → Bool
 isSound r =
-    pick (eqb (r .phase) 1) (leb (r .size) (2048 * (r .left + 1)))
-    (pick (eqb (r .phase) 2) (pick (ltb (r .scan .carried) (sizeOf (r .kind))) (leb (r .body .«area_left») (2048 * (r .left + 1))) false)
+    pick (eqb (r .phase) headerPhase) (leb (r .size) (2048 * (r .left + 1)))
+    (pick (eqb (r .phase) continuationPhase) (pick (ltb (r .scan .carried) (sizeOf (r .kind))) (leb (r .body .«area_left») (2048 * (r .left + 1))) false)
     true)
 
 -- a state that wants a sector: in one of these phases, at a place on a disc
 abbrev pub isWanting : Reading → Bool
-isWanting r = pick (ltb (r .phase) 4) (pick (ltb (r .at + r .left) mostSectors) (isSound r) false) false
+isWanting r = pick (ltb (r .phase) readingOver) (pick (ltb (r .at + r .left) mostSectors) (isSound r) false) false
 
 -- the sector that it wants
 abbrev pub wantedSector : Reading → ℕ

@@ -4,6 +4,7 @@ ghost use Prim.Native.Nat.{_+_, _-_, _<_, _≤_, _^_, min};
 ghost use lib.ListN.{length, take};
 ghost use Rattle.drives.specs.Readings.{putAt};
 ghost use Rattle.drives.specs.inner.Arrivals.{extentBehind, Arrives, filledBy, Nexts};
+use crate::phases::IN_EXTENT;
 use crate::readings::Reading;
 use crate::turns::find_extent;
 use crate::turns::over;
@@ -12,8 +13,6 @@ use disc::answers::NO_ROOM;
 use disc::counts::lesser;
 use disc::moves::copy;
 use disc::moves::least;
-
-const IN_EXTENT: u8 = 3;
 
 // Puts bytes behind those that were filled, as many as there is room for: how many that is.
 pub(crate) fn put(bytes: &[u8], out: &mut [u8], filled: usize) -> usize

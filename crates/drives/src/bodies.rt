@@ -9,6 +9,7 @@ ghost use Rattle.areas.specs.Areas.{sizeOf};
 ghost use Rattle.drives.specs.Feeds.{crowdedBy};
 ghost use Rattle.drives.specs.inner.Bodies.{isWrong, judged, bodyIn, bodyOf, bodyBehind, finished, inBody, headBehind, partBehind, Parts, Lands};
 ghost use Rattle.drives.specs.inner.Turns.{ReadingStands};
+use crate::phases::IN_CONTINUATION;
 use crate::readings::Body;
 use crate::readings::Reading;
 use crate::scans::Scan;
@@ -22,16 +23,12 @@ use disc::answers::DONE;
 use disc::answers::MALFORMED;
 use disc::moves::least;
 use records::bytes::le32;
+use tags::AED_ID;
 use tags::DescriptorTag;
 use tags::TagRead;
 
-const IN_CONTINUATION: u8 = 2;
-
 // The bytes of a sector.
 const SECTOR: usize = 2048;
-
-// The id of the header of an allocation extent, ECMA-167 4/14.5.
-const AED_ID: u16 = 258;
 
 // Whether a body that has arrived is wrong, where bodies are checked.
 fn is_wrong(check: bool, b: Body) -> bool

@@ -12,6 +12,7 @@ mod arrivals;
 mod bodies;
 mod located;
 pub mod openings;
+mod phases;
 pub mod readings;
 pub mod scans;
 mod turns;

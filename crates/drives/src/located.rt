@@ -20,12 +20,8 @@ use disc::answers::NO_ROOM;
 use disc::counts::lesser;
 use entries::file_entries::EntryRead;
 use entries::file_entries::FileEntry;
-
-// The kind of an entry in which the file itself stands.
-const EMBEDDED: u8 = 3;
-
-// No more continuations than these are followed.
-const MOST_CONTINUATIONS: u8 = 32;
+use files::resolves::EMBEDDED;
+use files::resolves::MOST_CONTINUATIONS;
 
 // Its descriptors are of this kind, and so many bytes are missing.
 fn of_entry(r: Reading, kind: u8, missing: u64, s: Scan) -> Reading

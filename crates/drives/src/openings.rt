@@ -1,11 +1,11 @@
 // The old opening, a sector at a time. The state is passed by value: it stands for a place in the opening's tree of questions, and a step takes one
 // branch of it.
 ghost use mathlib.Core.Path.{_≡_};
-ghost use mathlib.Core.Bool.{true, false};
+ghost use mathlib.Core.Bool.{true};
 ghost use Prim.Native.Nat.{_+_, _<_};
 ghost use Rattle.volumes.specs.Sequences.{nothing};
-ghost use Rattle.volumes.specs.Openings.{usual, opening, plainMount, anchored, noVolume};
-ghost use Rattle.drives.specs.Openings.{isWanting, wantedSector, mountingFrom, scanning, behindSector, behindWanted, Fed, OpeningStands};
+ghost use Rattle.volumes.specs.Openings.{usual, opening, anchored, noVolume};
+ghost use Rattle.drives.specs.Openings.{openingOver, isWanting, wantedSector, mountingFrom, scanning, behindSector, behindWanted, Fed, OpeningStands};
 ghost use Rattle.drives.specs.Beginnings.{atAnchor};
 use descriptors::anchors::AnchorRead;
 use descriptors::anchors::AnchorVolumeDescriptorPointer;
@@ -14,9 +14,9 @@ use disc::answers::IO;
 use disc::answers::UNSUPPORTED;
 use disc::counts::add_counts;
 use disc::places::Block;
-use disc::places::Mount;
 use disc::places::PartitionRef;
 use disc::places::Placed;
+use volumes::mounts::plain_mount;
 use volumes::openings::How;
 use volumes::openings::Opened;
 use volumes::openings::kept_answer;
@@ -30,17 +30,17 @@ use volumes::sequences::take_sector;
 // The anchor stands in this sector.
 const ANCHOR: u64 = 256;
 
-// The phases that want a sector, and the one that has ended.
-const AT_ANCHOR: u8 = 0;
+// The phases of an opening: what it wants, and the one in which it has ended.
+const WANTS_ANCHOR: u8 = 0;
 
-const IN_SEQUENCE: u8 = 1;
+const WANTS_SEQUENCE: u8 = 1;
 
-const AT_FILE_SET: u8 = 2;
+const WANTS_FILE_SET: u8 = 2;
 
-const OVER: u8 = 3;
+const OPENING_OVER: u8 = 3;
 
 // No run of sectors reaches beyond this.
-const MOST_SECTORS: u64 = 0x1000_0000_0000;
+pub(crate) const MOST_SECTORS: u64 = 0x1000_0000_0000;
 
 // An opening in progress.
 #[repr(C)]
@@ -74,29 +74,14 @@ fn wanting(phase: u8, at: u64, left: u32, kept: Kept, count: u64) -> Opening
 
 // The end.
 fn over(opened: Opened) -> Opening
-    ensures { λ r. ⌜ (r .phase ≡ 3) × (r .opened ≡ opened) ⌝ }
+    ensures { λ r. ⌜ (r .phase ≡ openingOver) × (r .opened ≡ opened) ⌝ }
 {
     Opening {
-        phase: OVER,
+        phase: OPENING_OVER,
         at: 0,
         left: 0,
         kept: nothing_kept(),
         opened,
-    }
-}
-
-// How the volume is read, by the partition that was kept.
-fn mount_of(kept: Kept) -> Mount
-    ensures { λ r. ⌜ r ≡ plainMount false kept ⌝ }
-{
-    Mount {
-        start: kept.partition_start,
-        partition: kept.partition_number,
-        checked: 0,
-        maps: 0,
-        volumes: [0; 4],
-        numbers: [0; 4],
-        starts: [0; 4],
     }
 }
 
@@ -109,10 +94,10 @@ fn behind_sequence(kept: Kept, count: u64) -> Opening
         return over(refused(answer, count));
     }
     let place = kept.file_set.location;
-    let mount = mount_of(kept);
+    let mount = plain_mount(false, kept);
     match mount.placed(PartitionRef::Named(place.partition_ref), Block(place.block)) {
         Placed::Nowhere => over(refused(UNSUPPORTED, count)),
-        Placed::At(sector) => wanting(AT_FILE_SET, sector.0, 0, kept, count),
+        Placed::At(sector) => wanting(WANTS_FILE_SET, sector.0, 0, kept, count),
     }
 }
 
@@ -124,7 +109,7 @@ fn begin_sequence(first: u32, n: u32, count: u64) -> Opening
     if n == 0 {
         return behind_sequence(kept, count);
     }
-    wanting(IN_SEQUENCE, first as u64, n - 1, kept, count)
+    wanting(WANTS_SEQUENCE, first as u64, n - 1, kept, count)
 }
 
 // Behind the anchor: its main sequence.
@@ -151,7 +136,7 @@ fn behind_sector(kept: Kept, at: u64, left: u32, b: &[u8], count: u64) -> Openin
         if left == 0 {
             return behind_sequence(next, count);
         }
-        return wanting(IN_SEQUENCE, at + 1, left - 1, next, count);
+        return wanting(WANTS_SEQUENCE, at + 1, left - 1, next, count);
     }
     if turn.answer != DONE {
         return over(refused(turn.answer, count));
@@ -165,14 +150,14 @@ impl Opening {
         ensures { λ r. ⌜ OpeningStands (opening usual) 0 r ⌝ }
         ensures { λ r. ⌜ r ≡ atAnchor ⌝ }
     {
-        wanting(AT_ANCHOR, ANCHOR, 0, nothing_kept(), 0)
+        wanting(WANTS_ANCHOR, ANCHOR, 0, nothing_kept(), 0)
     }
 
     // Whether a sector is wanted; else it has ended.
     pub fn is_wanting(self) -> bool
         ensures { λ r. ⌜ r ≡ isWanting self ⌝ }
     {
-        if OVER <= self.phase {
+        if OPENING_OVER <= self.phase {
             return false;
         }
         if MOST_SECTORS <= self.at {
@@ -188,7 +173,7 @@ impl Opening {
         if !self.is_wanting() {
             return 0;
         }
-        if self.phase == AT_ANCHOR {
+        if self.phase == WANTS_ANCHOR {
             return ANCHOR;
         }
         self.at
@@ -200,13 +185,13 @@ impl Opening {
         ensures { λ r. ⌜ OpeningStands (behindWanted self (now (sector .entry))) count r ⌝ }
     {
         let kept = self.kept;
-        if self.phase == AT_ANCHOR {
+        if self.phase == WANTS_ANCHOR {
             return behind_anchor(AnchorVolumeDescriptorPointer::parse(false, sector), count);
         }
-        if self.phase == IN_SEQUENCE {
+        if self.phase == WANTS_SEQUENCE {
             return behind_sector(kept, self.at, self.left, sector, count);
         }
-        over(volume_in(false, kept, mount_of(kept), sector, count))
+        over(volume_in(false, kept, plain_mount(false, kept), sector, count))
     }
 
     // A step: the bytes of the sector that is wanted are lent, or a slice of another length says that it can't be had.

@@ -12,10 +12,15 @@ use crate::arrivals::take_extent;
 use crate::bodies::take_head;
 use crate::bodies::take_part;
 use crate::located::take_entry;
+use crate::openings::MOST_SECTORS;
+use crate::phases::AT_ENTRY;
+use crate::phases::AT_HEADER;
+use crate::phases::IN_CONTINUATION;
+use crate::phases::OVER;
 use crate::scans::Scan;
 use crate::scans::begin;
-use crate::scans::size_of;
 use crate::turns::over;
+use areas::size_of;
 use disc::answers::DONE;
 use disc::answers::IO;
 use disc::answers::MALFORMED;
@@ -26,18 +31,6 @@ use disc::places::Mount;
 use disc::places::Placed;
 use records::allocations::LongAd;
 use volumes::openings::VolumeRecord;
-
-// The phases that want a sector, and the one that has ended.
-const AT_ENTRY: u8 = 0;
-
-const AT_HEADER: u8 = 1;
-
-const IN_CONTINUATION: u8 = 2;
-
-const OVER: u8 = 4;
-
-// No run of sectors reaches beyond this.
-const MOST_SECTORS: u64 = 0x1000_0000_0000;
 
 // A continuation that arrives in parts: what its header said, and what is still to come of its body and its area.
 #[repr(C)]

@@ -10,6 +10,7 @@ use areas::AdCursor;
 use areas::AdStep;
 use areas::AllocExtent;
 use areas::next_ad;
+use areas::size_of;
 use disc::places::PartitionRef;
 
 // A place in an area.
@@ -28,19 +29,6 @@ pub struct Scan {
     pub next_length: u32,
     pub next_block: u32,
     pub next_reference: u32,
-}
-
-// How many bytes a descriptor of a kind takes.
-pub(crate) fn size_of(kind: u8) -> usize
-    ensures { λ r. ⌜ r ≡ sizeOf kind ⌝ }
-{
-    if kind == 0 {
-        return 8;
-    }
-    if kind == 1 {
-        return 16;
-    }
-    20
 }
 
 // The reference of a number of the row.

@@ -7,8 +7,13 @@ ghost use Rattle.drives.specs.Feeds.{crowdedBy};
 ghost use Rattle.drives.specs.FileFeeds.{extentsFeed, chainFeed};
 ghost use Rattle.drives.specs.Readings.{extentsIn, endingOf};
 ghost use Rattle.drives.specs.inner.Turns.{Ends, ReadingStands, Enters, EntersAt, Chains, ContinuesAt};
+use crate::phases::AT_HEADER;
+use crate::phases::IN_EXTENT;
+use crate::phases::OVER;
 use crate::readings::Reading;
 use crate::scans::reference_in;
+use chains::continuations::HEADER;
+use chains::continuations::LONGEST;
 use disc::answers::DONE;
 use disc::answers::MALFORMED;
 use disc::answers::NO_SLOT;
@@ -18,18 +23,6 @@ use disc::moves::least;
 use disc::places::Block;
 use disc::places::Placed;
 use disc::places::Sector;
-
-// The phases that this file leads to.
-const AT_HEADER: u8 = 1;
-
-const IN_EXTENT: u8 = 3;
-
-const OVER: u8 = 4;
-
-// A continuation has a header at least, and at most this many bytes.
-const HEADER: u32 = 24;
-
-const LONGEST: u32 = 1048576;
 
 // What is to be done about an extent: it is passed over, or the read goes on so.
 pub(crate) struct ExtentTurn {

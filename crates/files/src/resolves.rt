@@ -20,10 +20,10 @@ pub enum Resolved {
 }
 
 // The kind of an entry that holds the file itself.
-const EMBEDDED: u8 = 3;
+pub const EMBEDDED: u8 = 3;
 
 // At most this many continuations are followed.
-pub(crate) const MOST_CONTINUATIONS: u8 = 32;
+pub const MOST_CONTINUATIONS: u8 = 32;
 
 // The cursor at the start of a file's chain.
 pub fn front_of(p: FilePlace) -> ChainCursor

@@ -41,8 +41,9 @@ fn lower(b: u8) -> u8
     b
 }
 
-// Most bytes that match are equal as they are, so the fold is looked at only where two differ.
-fn same_byte(fold: Fold, a: u8, b: u8) -> bool
+// Whether two bytes are equal under a fold. Most bytes that match are equal as they are, so the fold is looked at only
+// where two differ.
+pub fn same_byte(fold: Fold, a: u8, b: u8) -> bool
     ensures { λ r. ⌜ r ≡ eqb (foldOf fold a) (foldOf fold b) ⌝ }
 {
     if a == b {

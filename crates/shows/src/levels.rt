@@ -86,9 +86,10 @@ fn open_level(image: &[u8], mount: Mount, icb: LongAd, p: ShowPlace, work: &mut 
     }
 }
 
-// Lists the directory at icb, whose entries have this level, and what is under it. The directories above it are in
-// the work space before the part that is lent, which isn't cleared. If a place is lent, the entries are tallied in
-// it.
+// Lists the directory at `icb`, whose entries have this `level`, and what is under it. `left` is how many levels may
+// still be listed, this one included, and `p` the place in the show before its first entry. The directories above it
+// are in the work space before the part that is lent, which isn't cleared. An empty slice turns a task off: with an
+// empty `out` the call only measures, with an empty `tally` it tallies nothing.
 pub(crate) fn list_level(
     image: &[u8],
     mount: Mount,

@@ -30,8 +30,8 @@ use records::allocations::LongAd;
 // The most levels that can be asked for.
 pub const MOST_LEVELS: u32 = 16;
 
-// Goes over the tree once, from the directory at root. It writes if it is lent output, and tallies if it is lent a
-// place.
+// Goes over the tree once, from the directory at root. An empty slice turns a task off: with an empty `out` it only
+// measures, with an empty `tally` it tallies nothing.
 fn walk(
     image: &[u8],
     mount: Mount,

@@ -1,6 +1,7 @@
 // extent_ad, short_ad, lb_addr, long_ad, ext_ad and the header of an allocation extent.
 use crate::outputs::answered;
 use crate::outputs::refused;
+use disc::answers::DONE;
 use programs::words::end_line;
 use programs::words::number;
 use programs::words::number8;
@@ -62,7 +63,7 @@ fn show_lb_addr(r: LbAddrRead) {
 
 fn show_long(r: LongRead) {
     say(b"long_ad");
-    if r.answer != 0 {
+    if r.answer != DONE {
         answered(r.answer);
         return;
     }
@@ -77,7 +78,7 @@ fn show_long(r: LongRead) {
 
 fn show_ext(r: ExtRead) {
     say(b"ext_ad");
-    if r.answer != 0 {
+    if r.answer != DONE {
         answered(r.answer);
         return;
     }

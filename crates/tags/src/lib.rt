@@ -220,7 +220,7 @@ impl DescriptorTag {
 }
 
 // The header of an allocation extent, ECMA-167 4/14.5.
-const AED_ID: u16 = 258;
+pub const AED_ID: u16 = 258;
 
 const AED_SIZE: usize = 24;
 

@@ -10,6 +10,6 @@
 // The code scans the sequence again for that, and counts no sector.
 pub mod choices;
 pub mod labels;
-mod mounts;
+pub mod mounts;
 pub mod openings;
 pub mod sequences;

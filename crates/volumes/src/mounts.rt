@@ -69,7 +69,7 @@ fn number_of(check: bool) -> u32
 }
 
 // Without maps: by the partition that was kept, and with bodies checked or not.
-fn plain_mount(check: bool, kept: Kept) -> Mount
+pub fn plain_mount(check: bool, kept: Kept) -> Mount
     ensures { λ r. ⌜ r ≡ plainMount check kept ⌝ }
 {
     Mount {
@@ -197,7 +197,7 @@ fn table_answer(kept: Kept) -> u64
     if 2048 < 440 + kept.map_table_length as u64 {
         return MALFORMED;
     }
-    0
+    DONE
 }
 
 // By the starts of the maps: the partition of the file set's map is the mount's own.

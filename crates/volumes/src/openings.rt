@@ -130,7 +130,7 @@ pub fn kept_answer(kept: Kept) -> u64
     if kept.block_size != 2048 {
         return UNSUPPORTED;
     }
-    0
+    DONE
 }
 
 // The file set descriptor in a sector, `count` sectors having been asked for.

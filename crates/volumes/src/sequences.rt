@@ -146,24 +146,11 @@ fn take_primary(how: How, k: Kept, b: &[u8]) -> SectorTurn
         return goes_on(k);
     }
     let label = d.volume_identifier;
-    let file_set = k.file_set;
-    let maps = k.maps;
-    goes_on(Kept {
-        has_primary: true,
-        primary_sequence: number,
-        label,
-        has_partition: k.has_partition,
-        partition_sequence: k.partition_sequence,
-        partition_number: k.partition_number,
-        partition_start: k.partition_start,
-        has_logical: k.has_logical,
-        logical_sequence: k.logical_sequence,
-        block_size: k.block_size,
-        file_set,
-        map_table_length: k.map_table_length,
-        map_count: k.map_count,
-        maps,
-    })
+    let mut next = k;
+    next.has_primary = true;
+    next.primary_sequence = number;
+    next.label = label;
+    goes_on(next)
 }
 
 fn take_partition(how: How, wanted: Wanted, k: Kept, r: PartitionRead) -> SectorTurn
@@ -201,25 +188,17 @@ fn take_logical(how: How, k: Kept, b: &[u8]) -> SectorTurn
     if !is_taken(how, k.has_logical, k.logical_sequence, number) {
         return goes_on(k);
     }
-    let label = k.label;
     let file_set = d.file_set_descriptor_location;
     let maps = d.partition_maps;
-    goes_on(Kept {
-        has_primary: k.has_primary,
-        primary_sequence: k.primary_sequence,
-        label,
-        has_partition: k.has_partition,
-        partition_sequence: k.partition_sequence,
-        partition_number: k.partition_number,
-        partition_start: k.partition_start,
-        has_logical: true,
-        logical_sequence: number,
-        block_size: d.logical_block_size,
-        file_set,
-        map_table_length: d.map_table_length,
-        map_count: d.number_of_partition_maps,
-        maps,
-    })
+    let mut next = k;
+    next.has_logical = true;
+    next.logical_sequence = number;
+    next.block_size = d.logical_block_size;
+    next.file_set = file_set;
+    next.map_table_length = d.map_table_length;
+    next.map_count = d.number_of_partition_maps;
+    next.maps = maps;
+    goes_on(next)
 }
 
 // One sector of the sequence, by its id.

@@ -7,6 +7,7 @@
 // tools/writer_model.py computes what is expected, from the cases, docs/LAYOUT.md and the rules.
 ghost use Prim.Native.Nat.{_<_, _≤_};
 ghost use lib.ListN.{length};
+use disc::answers::DONE;
 use disc::moves::least;
 use disc::replies::Reply;
 use listings::matchings::Matching;
@@ -164,7 +165,7 @@ fn one(
     say_reply(b"total ", total(names, lengths));
     end_line();
     let reply = write_one(names, lengths, staging, image);
-    if reply.answer != 0 {
+    if reply.answer != DONE {
         return;
     }
     say_parts(image, bytes_of(reply.sectors, image.len()));

@@ -1,11 +1,12 @@
 -- The bodies that have a number stored into them. Assumes nothing.
 use mathlib.Core.Path.{_≡_, refl, sym, ap, _∙_}
 use mathlib.Core.List.{List, [], _∷_, _++_, append-assoc}
-use Prim.Native.Nat.{ℕ, zero, suc, _+_, _-_, _*_, _/_, _≤_, _<_}
+use Prim.Native.Nat.{ℕ, zero, suc, _+_, _-_, _*_, _/_, _%_, _≤_, _<_}
 use native.Mathlib.Nat.{add-sub-cancel-left}
 use native.Mathlib.Omega.{arith}
 use lib.ListN.{length, take, drop, set, replicate, length-append, length-replicate}
 use lib.Seq.{sets, sets-eq, take-append-add, drop-append-add}
+use lib.Pow.{field, mod-mod-pow}
 use lib.Dec.{eqb}
 use Rattle.disc.specs.Choice.{pick}
 use Rattle.disc.specs.Images.{sectorsFor}
@@ -114,11 +115,17 @@ stored4 d at a b c e =
     let r : at + 3 ≡ suc (suc (suc at)) = omega arith in
     rw (p, q, r)
 
-pub stored8 : (d : List ℕ) (at a b c e f g h k : ℕ)
-    → set (set (set (set (set (set (set (set d at a) (at + 1) b) (at + 2) c) (at + 3) e) (at + 4) f) (at + 5) g) (at + 6) h) (at + 7) k ≡ sets d at (a ∷ b ∷ c ∷ e ∷ f ∷ g ∷ h ∷ k ∷ [])
-stored8 d at a b c e f g h k =
+-- the low half of a number has its four lower bytes
+low-half : (n : ℕ) → le32 (n % 0x1_0000_0000) ≡ le32 n
+low-half n =
+    let p : n % 0x1_0000_0000 % 256 ≡ n % 256 = mod-mod-pow n 24 8 in
+    let q : n % 0x1_0000_0000 / 256 % 256 ≡ n / 256 % 256 = ap (λ x. x % 256) (field n 24 8) ∙ mod-mod-pow (n / 256) 16 8 in
+    let r : n % 0x1_0000_0000 / 65536 % 256 ≡ n / 65536 % 256 = ap (λ x. x % 256) (field n 16 16) ∙ mod-mod-pow (n / 65536) 8 8 in
+    let t : n % 0x1_0000_0000 / 16777216 % 256 ≡ n / 16777216 % 256 = ap (λ x. x % 256) (field n 8 24) ∙ mod-mod-pow (n / 16777216) 0 8 in
+    rw (p, q, r, t)
+
+pub stored-halves : (d : List ℕ) (at n : ℕ) {b c : List ℕ} → b ≡ sets d at (le32 (n % 0x1_0000_0000)) → c ≡ sets b (at + 4) (le32 (n / 0x1_0000_0000)) → c ≡ sets d at (le64 n)
+stored-halves d at n {b} e f =
     let p : at + 4 ≡ suc (suc (suc (suc at))) = omega arith in
-    let q : at + 5 ≡ suc (at + 4) = omega arith in
-    let r : at + 6 ≡ suc (at + 5) = omega arith in
-    let t : at + 7 ≡ suc (at + 6) = omega arith in
-    rw (stored4 d at a b c e, t, r, q, p)
+    let g : b ≡ sets d at (le32 n) = e ∙ ap (sets d at) (low-half n) in
+    f ∙ rw (g, p)

@@ -2,11 +2,12 @@
 ghost use mathlib.Core.Path.{_≡_};
 ghost use mathlib.Core.Bool.{true};
 ghost use Prim.Native.Nat.{_+_, _≤_, _<_};
-ghost use lib.Dec.{eqb};
 ghost use lib.ListN.{length, drop};
 ghost use Rattle.names.specs.Names.{lower, sameName};
 ghost use Rattle.writers.specs.Refusing.{namesIn, isPlain, isGood, isAmong, goodNames};
 ghost use Rattle.writers.specs.inner.Pours.{NameEnd, NameStop, Sized};
+use names::matching::Fold;
+use names::matching::same_byte;
 
 // Where the name that starts at `at` ends.
 pub(crate) fn name_end(names: &[u8], at: usize) -> usize
@@ -103,26 +104,6 @@ fn is_good(name: &[u8]) -> bool
     true
 }
 
-// A to Z as a to z.
-fn lower(b: u8) -> u8
-    ensures { λ r. ⌜ r ≡ lower b ⌝ }
-{
-    if b < 0x41 {
-        return b;
-    }
-    if b < 0x5b {
-        return b + 0x20;
-    }
-    b
-}
-
-// Whether two bytes are equal with ASCII case ignored.
-fn is_same_byte(a: u8, b: u8) -> bool
-    ensures { λ r. ⌜ r ≡ eqb (lower a) (lower b) ⌝ }
-{
-    lower(a) == lower(b)
-}
-
 // Whether two names are equal with ASCII case ignored.
 fn is_same(a: &[u8], b: &[u8]) -> bool
     ensures { λ r. ⌜ r ≡ sameName lower (now (a .entry)) (now (b .entry)) ⌝ }
@@ -132,7 +113,7 @@ fn is_same(a: &[u8], b: &[u8]) -> bool
     }
     let mut i = 0;
     while i < a.len() {
-        if !is_same_byte(a[i], b[i]) {
+        if !same_byte(Fold::Lower, a[i], b[i]) {
             return false;
         }
         i += 1;

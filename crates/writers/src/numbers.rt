@@ -22,13 +22,6 @@ pub(crate) fn put64(n: u64, out: &mut [u8], at: usize)
     requires { ⌜ at + 8 ≤ length (now out) ⌝ }
     ensures { λ _. ⌜ now (out .exit) ≡ sets (now (out .entry)) at (le64 n) ⌝ }
 {
-    out[at] = (n % 256) as u8;
-    out[at + 1] = (n / 256 % 256) as u8;
-    out[at + 2] = (n / 65536 % 256) as u8;
-    out[at + 3] = (n / 16777216 % 256) as u8;
-    let high = n / 0x1_0000_0000;
-    out[at + 4] = (high % 256) as u8;
-    out[at + 5] = (high / 256 % 256) as u8;
-    out[at + 6] = (high / 65536 % 256) as u8;
-    out[at + 7] = (high / 16777216 % 256) as u8;
+    put32((n % 0x1_0000_0000) as u32, out, at);
+    put32((n / 0x1_0000_0000) as u32, out, at + 4);
 }

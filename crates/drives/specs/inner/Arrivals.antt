@@ -14,7 +14,7 @@ use Rattle.files.specs.Files.{located}
 use Rattle.drives.specs.Feeds.{Feed, following, settledIn}
 use Rattle.drives.specs.Feeds.Feed.{over, put}
 use Rattle.drives.specs.FileFeeds.{extentFeed, entryFeed}
-use Rattle.drives.specs.Readings.{behindExtent, isWanting, Goes}
+use Rattle.drives.specs.Readings.{behindExtent, entryPhase, headerPhase, continuationPhase, isWanting, Goes}
 use Rattle.drives.specs.inner.Turns.{ReadingStands}
 use Rattle.drives.specs.inner.Bodies.{noBody, headBehind, partBehind}
 use Rattle.drives.specs.inner.Scans.{begun}
@@ -23,7 +23,7 @@ use Rattle.drives.specs.declared.readings.Reading.{Reading}
 -- before the entry's sector: nothing is known yet but where it stands and how it is read
 abbrev pub beginning : Mount → ℕ → Reading
 beginning m at = record {
-  phase = 0;
+  phase = entryPhase;
   at = at;
   left = 0;
   mount = m;
@@ -55,9 +55,9 @@ extentBehind r row b = put (take (r .missing) (take (r .size) b)) (bytesBehind r
 -- behind the sector that is wanted
 unfoldable pub wantedBehind : Reading → List (List ℕ) → List ℕ → Feed
 wantedBehind r row b =
-    pick (eqb (r .phase) 0) (entryBehind r (readEntry (isChecked (r .mount)) b) b)
-    (pick (eqb (r .phase) 1) (headBehind r row b)
-    (pick (eqb (r .phase) 2) (partBehind r row b)
+    pick (eqb (r .phase) entryPhase) (entryBehind r (readEntry (isChecked (r .mount)) b) b)
+    (pick (eqb (r .phase) headerPhase) (headBehind r row b)
+    (pick (eqb (r .phase) continuationPhase) (partBehind r row b)
     (extentBehind r row b)))
 
 -- with its bytes in the output

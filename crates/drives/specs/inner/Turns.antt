@@ -17,7 +17,7 @@ use Rattle.chains.specs.Chains.{areaFrom, nextArea}
 use Rattle.drives.specs.Feeds.{Feed, naming, Settled, settledIn}
 use Rattle.drives.specs.Feeds.Feed.{over, stop}
 use Rattle.drives.specs.FileFeeds.{extentFeed, extentsFeed, joined, namedBy, chainFeed}
-use Rattle.drives.specs.Readings.{referenceIn, extentIn, extentsIn, isWanting, leftOf, numberOf}
+use Rattle.drives.specs.Readings.{referenceIn, extentIn, extentsIn, readingOver, isWanting, leftOf, numberOf}
 use Rattle.drives.specs.Beginnings.{endedWith}
 use Rattle.drives.specs.declared.scans.Scan.{Scan}
 use Rattle.drives.specs.declared.readings.Reading.{Reading}
@@ -26,7 +26,7 @@ use Rattle.drives.specs.declared.turns.ExtentTurn.{ExtentTurn}
 -- a state that has ended
 pub record Ends (r : Reading) (number : ℕ) (r′ : Reading) : Type 0 where
   pub is : r′ ≡ endedWith r number
-  pub phase : r′ .phase ≡ 4
+  pub phase : r′ .phase ≡ readingOver
   pub answer : r′ .answer ≡ number
   pub count : r′ .count ≡ r .count
   pub length : r′ .length ≡ r .length

@@ -1,28 +1,13 @@
--- `writers::numbers::put64` meets its contract: eight stores. Assumes nothing.
+-- `writers::numbers::put64` meets its contract: its two halves are stored one behind the other. Assumes nothing.
 use borrow.Author.Needs.{needs}
-use Prim.Native.Nat.{_/_, _%_}
-use native.Mathlib.Omega.{arith}
-use lib.ListN.{length-set}
-use Rattle.writers.proofs.BodyLaws.{stored8}
+use Rattle.writers.proofs.BodyLaws.{stored-halves}
 use Rattle.writers.proofs.numbers.put64.Statement.{statement}
 use Rattle.writers.proofs.numbers.put64.Tie as tie
+
+ruleset halves = (stored-halves, needs)
 
 pub put64-spec : {M : Type 1} → statement M
 put64-spec =
     tie.close (tie.spec
-    (λ c. search needs) (λ c. search needs) (λ c. search needs) (λ c. search needs)
-    (λ c. simp length-set (omega arith))
-    (λ c. search needs) (λ c. search needs)
-    (λ c. simp length-set (omega arith))
-    (λ c. search needs) (λ c. search needs)
-    (λ c. simp length-set (omega arith))
-    (λ c. search needs) (λ c. search needs)
-    (λ c. simp length-set (omega arith))
-    (λ c. search needs) (λ c. search needs)
-    (λ c. simp length-set (omega arith))
-    (λ c. search needs) (λ c. search needs)
-    (λ c. simp length-set (omega arith))
-    (λ c. search needs) (λ c. search needs)
-    (λ c. simp length-set (omega arith))
-    (λ c. simp length-set)
-    (λ c. stored8 (c .args .out .now) (c .args .at) (c .args .n % 256) (c .args .n / 256 % 256) (c .args .n / 65536 % 256) (c .args .n / 16777216 % 256) (c .args .n / 0x1_0000_0000 % 256) (c .args .n / 0x1_0000_0000 / 256 % 256) (c .args .n / 0x1_0000_0000 / 65536 % 256) (c .args .n / 0x1_0000_0000 / 16777216 % 256)))
+    (λ c. search needs) (λ c κs. search needs) (λ c. search needs) (λ c. search needs) (λ c κs. search needs) (λ c. search needs)
+    (λ c. search halves))
