@@ -9,17 +9,17 @@ from .reached import FACE, order
 PATH = "docs/INDEX.md"
 HEAD = """# Index
 
-Made from the sources by `tools/index.py`; the gate fails where it isn't what they say. It has each call with its contract, each promise of PROMISES.md with
-the statements that are its proof, and behind these every definition that a contract or a statement reaches, once: who believes these definitions, and the
-toolchain, has no proof to read.
+`tools/index.py` makes this page from the sources, and the gate fails where the two differ. It lists each call with its contract, each promise of PROMISES.md
+with the statements that prove it, and then, once, every definition that a contract or a statement reaches. If you believe these definitions and the
+toolchain, you need to read no proof.
 
-A contract or a statement *reaches* the definitions that it names, those that these name, and so on. A theorem is reached by its statement alone, and so is
-what can't be unfolded. Of a definition by cases a contract reaches the cases alone that it can come to. A type is one that the code declares.
+A contract or a statement *reaches* the definitions that it names, those that these name, and so on. Of a theorem, and of what can't be unfolded, only the
+statement is reached. Of a definition by cases, a contract reaches only the cases that it can come to. A type is one that the code declares.
 """
 DEFINITIONS = """## The definitions
 
-Lowest crate first; of what has no comment the type is shown. The last column says which calls of the vault reach it. Where none does, it says which other
-calls do; where no call does, which promises.
+Lowest crate first. A definition without a comment is shown with its type. The last column says which calls of the vault reach it; if none does, which
+other calls do; and if no call does, which promises.
 """
 TYPES = ("struct", "enum")
 # How many calls of other crates, or promises, are named beside a definition.
