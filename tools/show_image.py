@@ -39,7 +39,8 @@ def volume(descriptor):
     return sealed(descriptor, 512 - 16)
 
 
-def show():
+def show(deep=False):
+    """The image. A deep one has in SHOW a further entry that is SHOW itself, so that a tree goes down as far as it may."""
     image = udf.Image("show", START + 16)
     root, directory, first = BLOCK + 1, BLOCK + 2, BLOCK + 3
     image.lay(udf.ANCHOR, volume(udf.anchor()))
@@ -56,6 +57,8 @@ def show():
         entries += identifier(directory, name, block)
         image.lay(START + block, sealed(entry(SHORT, short_ad(len(look), block + 1), len(look), location=block)))
         image.lay(START + block + 1, look)
+    if deep:
+        entries += identifier(directory, "AGAIN", directory, DIRECTORY)
     image.lay(START + directory, sealed(entry(EMBEDDED, entries, len(entries), location=directory)))
     return image.bytes
 

@@ -8,6 +8,9 @@
 
 enum { STACK = 1 << 15, PAINT = 0x5c };
 
+/* Work space for a directory at each of 16 levels. */
+static uint8_t space[16 * 512];
+
 static _Alignas(16) uint8_t stack[STACK];
 static uint8_t *entered;
 
@@ -40,16 +43,16 @@ CALL(vault_version, )
 CALL(vault_probe, DISC)
 CALL(vault_open, DISC, how)
 CALL(vault_label, DISC, how, out, room)
-CALL(vault_lookup, volume, DISC, PATH, matching, work, WORK)
-CALL(vault_failed, volume, DISC, PATH, matching, work, WORK, &at)
-CALL(vault_list, volume, DISC, icb, out, room, work, WORK)
-CALL(vault_show, volume, DISC, matching ? 16 : 1, VAULT_UNLIMITED, out, room, work, WORK)
+CALL(vault_lookup, volume, DISC, PATH, matching, space, sizeof space)
+CALL(vault_failed, volume, DISC, PATH, matching, space, sizeof space, &at)
+CALL(vault_list, volume, DISC, icb, out, room, space, sizeof space)
+CALL(vault_show, volume, DISC, matching ? 16 : 1, VAULT_UNLIMITED, out, room, space, sizeof space)
 CALL(vault_read, volume, DISC, icb, out, room)
 CALL(vault_part, volume, DISC, icb, &at)
 CALL(vault_extents, volume, DISC, icb, row, SLOTS)
 CALL(vault_runs, volume, DISC, icb, run, RUNS)
-CALL(vault_read_path, volume, DISC, PATH, matching, out, room, work, WORK)
-CALL(vault_read_all, volume, DISC, PATH, matching, out, room, lengths, 1, answers, 1, work, WORK)
+CALL(vault_read_path, volume, DISC, PATH, matching, out, room, space, sizeof space)
+CALL(vault_read_all, volume, DISC, PATH, matching, out, room, lengths, 1, answers, 1, space, sizeof space)
 /* A vault of one file, of as many bytes as there is room for; and without a whole sector for it. */
 CALL(vault_write_total, (const uint8_t *)"10.1A", 6, sizes, 1)
 CALL(vault_write, (const uint8_t *)"10.1A", 6, sizes, 1, out, OUT, vault, length < IMAGE ? SECTOR : sizeof vault)
@@ -69,7 +72,7 @@ CALL(vault_list_bytes, volume, AT_HAND, out, room)
 CALL(vault_match, volume, AT_HAND, PATH, matching)
 CALL(vault_next_component, PATH, 0)
 CALL(vault_measure, volume, DISC, icb)
-CALL(vault_survey, image, IMAGE, &(uint64_t){length}, 1, how, VAULT_UNLIMITED, figures, 2 * VAULT_FIGURES, work, WORK)
+CALL(vault_survey, image, IMAGE, &(uint64_t){length}, 1, how, VAULT_UNLIMITED, figures, 2 * VAULT_FIGURES, space, sizeof space)
 CALL(vault_survey_total, figures, 2 * VAULT_FIGURES, 1)
 
 static const struct {
