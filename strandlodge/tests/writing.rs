@@ -160,6 +160,13 @@ fn a_refused_vault_leaves_nothing_behind() {
     refuses(&["v.img", ".."], 13, "..: this path does not end in a file name (refusal 13)");
     refuses(&[&["v.img"], &all[..]].concat(), 14, "v.img: 65 files are too many: an image holds up to 64 (refusal 14)");
     refuses(&[&["v.img", "a b"], &all[..]].concat(), 13, "a b: ");
+    // Thousands are refused in an instant, and a name that two of them have is still found first.
+    let many: Vec<String> = (0..20_000).map(|i| format!("many-{i}")).collect();
+    let many: Vec<&str> = many.iter().map(String::as_str).collect();
+    let began = std::time::Instant::now();
+    refuses(&[&["v.img"], &many[..]].concat(), 14, "v.img: 20000 files are too many: an image holds up to 64 (refusal 14)");
+    refuses(&[&["v.img"], &many[..], &["MANY-7"]].concat(), 13, "vault: MANY-7: many-7 has the same name");
+    assert!(began.elapsed().as_secs() < 5, "{:?}", began.elapsed());
     let long = "long: the file has 1073739777 bytes: an image takes up to 1073739776 (refusal 14)";
     refuses(&["v.img", "a", "long"], 14, long);
     refuses(&["v.img", "a", "none"], 66, "none: can't open this file");

@@ -6,6 +6,7 @@ use crate::failure::{Failure, NO_IMAGE};
 use crate::file::{Target, apart};
 use crate::names::shown;
 use crate::style::bytes;
+use std::collections::HashMap;
 use std::ffi::{OsStr, OsString};
 use std::fs::File;
 use std::io::{Read, Write};
@@ -56,7 +57,10 @@ pub fn make(image: &OsStr, files: &[OsString], force: bool, out: &mut impl Write
     let target = Target::fresh(image, force, FIRST)?;
     let names: Vec<&[u8]> = files.iter().map(|file| name(file)).collect();
     // Before any is opened: of too many there may be more than can be open at once.
-    write_total(&names, &vec![0; names.len()]).map_err(|why| misnamed(image, files, &names, why))?;
+    if names.len() > MOST_FILES {
+        return Err(misnamed(files, &names).unwrap_or_else(|| too_many(image, files.len())));
+    }
+    write_total(&names, &vec![0; names.len()]).map_err(|why| misnamed(files, &names).unwrap_or_else(|| refused(image, why)))?;
     let mut sources = files.iter().map(|file| source(image, file)).collect::<Result<Vec<Source>, Failure>>()?;
     let lengths: Vec<u64> = sources.iter().map(|source| source.length).collect();
     let sectors = write_total(&names, &lengths).map_err(|why| too_long(image, &sources, why))?;
@@ -89,18 +93,19 @@ fn breaks(about: &OsStr, why: Refusal, rule: String) -> Failure {
     Failure::with_number(why, format!("{}: {rule}", shown(about.as_bytes())))
 }
 
-/// Why an image is not written, with the first file whose name is bad, or that of one before it.
-fn misnamed(image: &OsStr, files: &[OsString], names: &[&[u8]], why: Refusal) -> Failure {
-    if why == Refusal::BadFiles {
-        return breaks(image, why, format!("{} files are too many: an image holds up to {MOST_FILES}", files.len()));
-    }
-    let counts: Vec<usize> = (1..=names.len()).collect();
-    let good = counts.partition_point(|n| write_total(&names[..*n], &[]) != Err(Refusal::BadName));
-    let twin = |name: &[u8]| names[..good].iter().position(|other| other.eq_ignore_ascii_case(name)).map(|twin| &*files[twin]);
-    match files.get(good).zip(names.get(good)) {
-        Some((file, name)) => breaks(file, why, rule(name, twin(name))),
-        None => refused(image, why),
-    }
+fn too_many(image: &OsStr, files: usize) -> Failure {
+    breaks(image, Refusal::BadFiles, format!("{files} files are too many: an image holds up to {MOST_FILES}"))
+}
+
+/// The first file whose name is bad, or that of one before it. The refusal, 13, comes before that of too many files. One pass: the archive compares each
+/// pair of names, which of thousands takes seconds.
+fn misnamed(files: &[OsString], names: &[&[u8]]) -> Option<Failure> {
+    let mut seen: HashMap<Vec<u8>, &OsStr> = HashMap::new();
+    files.iter().zip(names).find_map(|(file, name)| {
+        let twin = seen.insert(name.to_ascii_lowercase(), file);
+        let bad = twin.is_some() || write_total(&[name], &[0]) == Err(Refusal::BadName);
+        bad.then(|| breaks(file, Refusal::BadName, rule(name, twin)))
+    })
 }
 
 /// Which rule a name breaks; `twin` is the file of an equal one.
