@@ -10,14 +10,35 @@
  * `part_at`, so they must not be null. If the image changes during a call, the result may match no state of the
  * image. The call still ends, with a number of the table, and stays inside the memory that it was lent.
  *
- * Stack use, measured on x86-64: on a tree of 16 levels, the most that they go down, vault_show takes less than 16
- * KB and vault_survey less than 19 KB. Any other call takes less than 3 KB.
+ * Stack: a call takes at most these bytes on x86-64, with bodies unchecked and checked. tools/stack.py measures
+ * them, on a tree of 16 levels where that matters. A call that the table doesn't name takes at most 512.
+ *
+ *     vault_open                   1,408    2,432
+ *     vault_label                  1,408    2,432
+ *     vault_lookup                 1,536    2,560
+ *     vault_failed                 1,408    2,560
+ *     vault_list                   1,280    2,176
+ *     vault_show                  14,336   15,488
+ *     vault_read                   1,024    1,920
+ *     vault_part                     512    1,536
+ *     vault_extents                  768    1,792
+ *     vault_runs                   1,536    2,048
+ *     vault_read_path              1,536    2,560
+ *     vault_read_all               1,536    2,688
+ *     vault_write                  2,560    2,560
+ *     vault_opening_step             768      768
+ *     vault_reading_step           2,304    2,304
+ *     vault_list_bytes               512    1,536
+ *     vault_match                    640    1,664
+ *     vault_measure                1,152    2,048
+ *     vault_survey                17,408   18,176
  *
  * Every call on an image except vault_probe returns an answer, one of the numbers named below, and a count: how many
  * sectors of 2,048 bytes it asked for. A call with an answer other than 0 is refused. It returns zeros in every
  * value except the count, and leaves `out` and the slots unchanged. (One exception: on VAULT_NOT_BLURAY,
  * vault_failed returns the component.) A call that is done writes the front of `out` and nothing after it. Every
- * call, refused or not, leaves `work` all zero.
+ * call, refused or not, leaves `work` all zero. It clears all of `work` for that, some 30 microseconds for each MiB:
+ * lend what the largest directory needs, and not more.
  *
  * The time of each call is bounded, whatever the image holds: it is proportional to what the table gives. A file's
  * descriptors are in its entry and in a chain of at most 32 continuations of 1 MiB, together at most 16,385 sectors.
