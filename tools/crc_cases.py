@@ -42,5 +42,5 @@ for text in b"\x01", b"\x80", b"\x00\x01", b"\x01\x00", b"\x80\x00", b"\x10\x21"
 line("anchor 96 3936", anchor(96, 3936), 0x9317)
 line("anchor 32 48", anchor(32, 48), 0xD701)
 pattern = bytes((i + 1 + i // 256 * 59) % 256 for i in range(4100))
-for n in 0, 1, 2, 255, 256, 257, 2031, 2032, 2048, 2049, 4100:
+for n in 0, 1, 2, 15, 16, 17, 18, 19, 20, 255, 256, 257, 2031, 2032, 2048, 2049, 4100:
     line(f"pattern {n}", pattern[:n])

@@ -1,4 +1,4 @@
-// Computes CRCs. Each line has the bytes, or how many of a pattern, and their CRC with the high byte first.
+// Runs the CRC, a line each: the bytes, or how many of a pattern, and their CRC, the high byte first.
 ghost use mathlib.Core.Path.{_≡_};
 ghost use lib.ListN.{length};
 use crcs::crc;
@@ -22,9 +22,8 @@ fn bytes(s: &[u8]) {
     say_crc(crc(s));
 }
 
-// Published values: no bytes; the example of ECMA-167 3/7.2.6; the check value of catalogues of CRCs, which call this
-// one CRC-16/XMODEM; two keys of Redis's documentation of CLUSTER KEYSLOT, whose slots, 11058 and 2515, are the CRC
-// modulo 16,384.
+// Published: no bytes; the example of ECMA-167 3/7.2.6; the check value of catalogues of CRCs, where this one is CRC-16/XMODEM; two keys of
+// Redis's documentation of CLUSTER KEYSLOT, whose slots, 11058 and 2515, are the CRC modulo 16,384.
 fn published() {
     bytes(b"");
     bytes(b"\x70\x6a\x77");
@@ -33,7 +32,7 @@ fn published() {
     bytes(b"hash_tag");
 }
 
-// One bit at either end of one byte and of two; the polynomial without its top bit and with it.
+// One bit, at the ends of a byte and of two: the polynomial, and what is left of its multiples.
 fn bits() {
     bytes(b"\x01");
     bytes(b"\x80");
@@ -44,8 +43,7 @@ fn bits() {
     bytes(b"\x01\x10\x21");
 }
 
-// The body of an anchor, 496 bytes: the main sequence has 16 sectors from `main` on, the reserve sequence 16 from
-// `reserve` on.
+// The body of an anchor in 496 bytes: the main sequence in 16 sectors from `main` on, the reserve sequence in as many from `reserve` on.
 fn anchor(main: u8, reserve: u16) {
     let mut body = [0u8; 496];
     body[1] = 0x80;
@@ -58,13 +56,13 @@ fn anchor(main: u8, reserve: u16) {
     say_crc(crc(&body));
 }
 
-// As mkudffs 2.3 and genisoimage 1.1.11 write it, with the CRCs 9317 and D701.
+// As mkudffs 2.3 and genisoimage 1.1.11 write it, which give it the CRCs 9317 and D701.
 fn anchors() {
     anchor(96, 3936);
     anchor(32, 48);
 }
 
-// Byte i is i + 1 + 59 (i div 256), modulo 256: each byte once, and then all of them again from another one on.
+// Byte i is i + 1 + 59 (i div 256), modulo 256: each byte once, and then each again from another one on.
 fn pattern() -> [u8; 4100]
     ensures { λ r. ⌜ 4100 ≡ length r ⌝ }
 {
@@ -84,11 +82,17 @@ fn first(n: usize) {
     say_crc(crc(front(&whole, n)));
 }
 
-// A tag is followed by at most 2,032 bytes in its sector; 2,049 and 4,100 bytes are longer than a sector.
+// From 16 bytes on four are taken at a time, and up to three are left. The most that stands behind a tag in its sector is 2,032 bytes.
 fn patterns() {
     first(0);
     first(1);
     first(2);
+    first(15);
+    first(16);
+    first(17);
+    first(18);
+    first(19);
+    first(20);
     first(255);
     first(256);
     first(257);

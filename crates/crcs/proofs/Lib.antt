@@ -3,5 +3,6 @@ pub mod XorLaws
 pub mod CrcLaws
 pub mod TableLaws
 pub mod LoopLaws
+pub mod FourLaws
 pub mod ChangeLaws
 pub mod Promises

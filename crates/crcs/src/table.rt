@@ -1,6 +1,5 @@
-// The remainder of each byte, indexed by the byte. The entries have 32 bits, like the register, so the loop truncates
-// nothing.
-pub(crate) const REMAINDERS: [u32; 256] = [
+// The remainder of each byte, at the byte's place.
+pub(crate) const REMAINDERS: [u16; 256] = [
     0x0000,
     0x1021,
     0x2042,

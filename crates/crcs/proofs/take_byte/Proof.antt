@@ -1,10 +1,10 @@
--- `crcs::take_byte` meets its contract: a step by a table that keeps the rule is a step by bits. Assumes nothing.
+-- `crcs::take_byte` meets its contract: the table is looked at inside, where the definition looks. Assumes nothing.
 use borrow.Author.Needs.{needs}
-use Rattle.crcs.proofs.TableLaws.{out-byte, out-fits, table-step}
+use Rattle.crcs.proofs.TableLaws.{out-byte, out-fits, byte-by}
 use Rattle.crcs.proofs.take_byte.Statement.{statement}
 use Rattle.crcs.proofs.take_byte.Tie as tie
 
-ruleset steps = (out-byte, out-fits, table-step, needs)
+ruleset steps = (out-byte, out-fits, byte-by, needs)
 
 pub take-byte-spec : {M : Type 1} → statement M
 take-byte-spec =
