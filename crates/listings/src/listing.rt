@@ -51,7 +51,7 @@ pub fn measure(check: bool, raw: &[u8]) -> ListingSize
 
 // Writes the records of the entries over out, each behind the one before. The entries are not checked again, so what is lent is the room
 // that was measured, and nothing behind it can be written, whatever the bytes are by now.
-pub(crate) fn put_entries(raw: &[u8], out: &mut [u8])
+fn put_entries(raw: &[u8], out: &mut [u8])
     ensures { λ _. ⌜ ((es : List Entry) → entries false (now (raw .entry)) ≡ answered es → length (records es) ≡ length (now (out .entry)) → now (out .exit) ≡ records es) ⌝ }
 {
     let mut n: usize = 0;

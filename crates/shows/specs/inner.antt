@@ -1,3 +1,4 @@
 -- What contracts below the face alone cite.
 pub mod Placings
 pub mod Turns
+pub mod Writes
