@@ -8,7 +8,8 @@ ghost use Rattle.crcs.specs.inner.Tables.{byteBy, bytesBy, fourBy, crcBy
 use crate::further::FURTHER;
 use crate::table::REMAINDERS;
 
-// The register c after the byte b: its low byte moves up, and its high byte, XORed with b, moves out and leaves its remainder.
+// The register c after the byte b: its low byte moves up; its high byte, XORed with b, moves out and leaves its
+// remainder.
 fn take_byte(t: &[u16; 256], c: u16, b: u8) -> u16
     ensures { λ r. ⌜ r ≡ byteBy (now (t .entry)) c b ⌝ }
 {
@@ -29,8 +30,8 @@ fn take_bytes(t: &[u16; 256], from: u16, s: &[u8]) -> u16
     c
 }
 
-// The register c after four bytes: both its bytes move out, each XORed with one of the four, and each of the four leaves its remainder with as many
-// zero bytes behind it as there are bytes behind it. So no lookup waits for another.
+// The register c after four bytes. Both its bytes move out, XORed with the first two. Each of the four leaves the
+// remainder of itself followed by as many zero bytes as it has bytes after it. No lookup waits for another.
 fn take_four(t: &[u16; 256], further: &[u16; 768], c: u16, b0: u8, b1: u8, b2: u8, b3: u8) -> u16
     ensures { λ r. ⌜ r ≡ fourBy (now (t .entry)) (now (further .entry)) c b0 b1 b2 b3 ⌝ }
 {
@@ -54,7 +55,7 @@ fn take_fours(t: &[u16; 256], further: &[u16; 768], from: u16, s: &[u8]) -> u16
     take_bytes(t, c, &s[i..])
 }
 
-// The CRC of s behind bytes that have the CRC `front`, by the one table.
+// The CRC of s, continued from `front`, by the first table alone.
 fn by_bytes(front: u16, s: &[u8]) -> u16
     ensures { λ r. ⌜ r ≡ crcFrom front (now (s .entry)) ⌝ }
 {
@@ -68,8 +69,8 @@ fn by_fours(front: u16, s: &[u8]) -> u16
     take_fours(&REMAINDERS, &FURTHER, front, s)
 }
 
-// The CRC of s behind bytes that have the CRC `front`: of all of them together, as they come in parts. Tables are stored on the stack where they are
-// lent, once for all bytes of s. Below 16 bytes storing the further ones, 1,536 bytes, takes longer than it saves.
+// The CRC of s, continued from `front`, the CRC of the bytes before it. Tables are stored on the stack where they are
+// lent, once for all bytes of s. Below 16 bytes, storing the further ones (1,536 bytes) takes longer than it saves.
 pub fn crc_behind(front: u16, s: &[u8]) -> u16
     ensures { λ r. ⌜ r ≡ crcFrom front (now (s .entry)) ⌝ }
 {

@@ -1,4 +1,3 @@
 -- Laws of file identifiers.
 pub mod IdentifierLaws
 pub mod GuardLaws
-pub mod FrontLaws

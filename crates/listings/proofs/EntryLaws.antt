@@ -2,13 +2,14 @@
 use mathlib.Core.Path.{_≡_, refl, sym, ap, _∙_}
 use mathlib.Core.Bool.{Bool, true, false, _||_, not}
 use mathlib.Core.List.{List, [], _∷_, _++_, append-nil, append-assoc}
+use mathlib.Core.Logic.{⊎-elim}
 use Prim.Native.Nat.{ℕ, _+_, _-_, _*_, _/_, _%_, _<_, _≤_, zero-le}
 use native.Mathlib.Nat.{add-sub-cancel-left}
 use native.Mathlib.Omega.{arith}
 use lib.Dec.{eqb}
 use lib.ListN.{length, take, drop, length-append, length-drop, drop-of-length-le}
 use lib.Seq.{take-all, drop-drop, drop-at, length-take-le, sets, length-sets, sets-eq}
-use borrow.Author.Tests.{eqb-true, eqb-false}
+use borrow.Author.Tests.{eqb-true, eqb-false, lt-ltb, le-ltb}
 use borrow.Rule.Slice.PartMut.{midOf, putMid}
 use Rattle.disc.specs.Choice.{pick}
 use Rattle.disc.specs.Refusals.{number}
@@ -19,6 +20,7 @@ use Rattle.disc.specs.declared.refusals.Refusal.the-variants.{Ambiguous}
 use Rattle.disc.specs.Moves.{over}
 use Rattle.disc.proofs.RefusalLaws.{refusal-numbered}
 use Rattle.disc.proofs.MoveLaws.{over-fits}
+use Rattle.disc.proofs.ImageLaws.{split}
 use Rattle.records.specs.Bytes.{byte, u16at, u32at, le16, le32, six}
 use Rattle.records.specs.Allocations.{encodeLong, longOf}
 use Rattle.records.proofs.Numbers.{le16-u16, le32-u32, u32-fits, raw-whole}
@@ -33,7 +35,8 @@ use Rattle.identifiers.specs.inner.Wholes.{Whole}
 use Rattle.identifiers.proofs.IdentifierLaws.{identifier-read, read-identifier}
 use Rattle.listings.specs.Entries.{Entry, entryOf, entryIn, entryRead, isSkipped, nameIn}
 use Rattle.listings.specs.Listings.{recordHead, entryRecord, foldFor, answersTo, unnamed}
-use Rattle.listings.specs.inner.Passes.{Recorded, Puts, icbIn, headIn, recordIn, settled, joinedOf, notedOf}
+use Rattle.listings.specs.inner.Passes.{seenOf, Recorded, Puts, icbIn, headIn, recordIn, settled, joinedOf, notedOf}
+use Rattle.listings.specs.declared.directory_entries.EntrySeen.{EntrySeen}
 use Rattle.listings.specs.declared.finds.Named.{Named}
 use Rattle.listings.specs.declared.matchings.Matching.{Matching}
 use Rattle.listings.specs.declared.matchings.Matching.the-variants.{CaseIgnored, AsWritten, Unambiguous}
@@ -50,7 +53,7 @@ tail-over a xs v ys h e =
     (rw (append-nil, ← append-assoc (take a xs) v) (sym (sets-eq v xs a h)))
 
 -- a text whose end was written first, and then its front
-front-over : (v w d : List ℕ) → length v + length w ≤ length d → over v (sets d (length v) w) ≡ over (v ++ w) d
+pub front-over : (v w d : List ℕ) → length v + length w ≤ length d → over v (sets d (length v) w) ≡ over (v ++ w) d
 front-over v w d h =
     let l : length v ≤ length (sets d (length v) w) = rw length-sets (omega arith) in
     let k : length (take (length v) d) ≡ length v = length-take-le (length v) d (omega arith) in
@@ -167,7 +170,7 @@ pub head-is : (directory : ℕ) (s : List ℕ) (n : ℕ) {r : List ℕ} → r �
 unfolding headIn
 head-is directory s n e = e
 
-head-long : (directory : ℕ) (s : List ℕ) (n : ℕ) → length (headIn directory s n) ≡ 21
+pub head-long : (directory : ℕ) (s : List ℕ) (n : ℕ) → length (headIn directory s n) ≡ 21
 unfolding headIn
 head-long directory s n = refl
 
@@ -210,67 +213,103 @@ module _ (s : List ℕ) (b : Bytes s) {e : Entry} (k : Known s e) where
       ∙ ap (λ (x : List ℕ). 0x44 ∷ 0x45 ∷ byte s 18 / 2 % 2 ∷ (x ++ le16 (f .«name_size»))) (ap encodeLong (k .whole .icb) ∙ icb-recorded s b)
       ∙ ap (λ (x : ℕ). headIn (byte s 18 / 2 % 2) s x) (sym z)
 
-  name-within : nameAt s + byte s 19 ≤ length s
-  name-within = omega (arith, k .whole .within, k .whole .from, k .whole .recorded)
+  left-out : isSkipped f ≡ true → (d : List ℕ) → Wrote (entryRecord e) d d 0
+  unfolding entryRecord
+  left-out h d = rw h (record { count = refl; bytes = sym (over-fits [] d (omega arith)) })
 
-  -- its marks
-  module _ {m : ℕ} (i : m ≡ byte s 18) {t : Bool} (u : t ≡ (bit 4 m || bit 8 m)) where
-    marked : t ≡ isSkipped f
-    marked = skipped-is f (rw (k .whole .characteristics, ← i) u)
+  module _ (h : isSkipped f ≡ false) where
+    -- its name, as the code cuts it out
+    abbrev name : List ℕ
+    name = written (nameOf (take (nameAt s + byte s 19 - nameAt s) (drop (nameAt s) s)))
 
-    left-out : t ≡ true → (d : List ℕ) → Wrote (entryRecord e) d d 0
-    unfolding entryRecord
-    left-out h d = rw (← marked, h) (record { count = refl; bytes = sym (over-fits [] d (omega arith)) })
+    name-there : nameIn e ≡ name
+    unfolding nameIn recordedName
+    name-there = rw (k .is, add-sub-cancel-left)
 
-    module _ (h : t ≡ false) {from n : ℕ} (a : from ≡ nameAt s) (l : n ≡ byte s 19) where
-      abbrev name : List ℕ
-      name = written (nameOf (take (from + n - from) (drop from s)))
+    pub record-is : entryRecord e ≡ recordIn (byte s 18) s name
+    unfolding entryRecord recordIn
+    record-is =
+        let z : length name ≡ f .«name_size» = rw (← name-there, k .is) (size-is (k .whole)) in
+        rw (h, name-there) (ap (λ (x : ℕ). recordHead (isDirectory f) (f .icb) x ++ name) z ∙ (λ j. head-bytes name z j ++ name))
 
-      name-there : nameIn e ≡ name
-      unfolding nameIn recordedName
-      name-there = rw (k .is, add-sub-cancel-left, a, l)
+    name-room : (d : List ℕ) → length (entryRecord e) ≤ length d → 21 + length name ≤ length d
+    unfolding recordIn
+    name-room d room =
+        let long : length (entryRecord e) ≡ 21 + length name = rw (record-is, length-append, head-long) in
+        omega (arith, long)
 
-      record-is : entryRecord e ≡ recordIn m s name
-      unfolding entryRecord recordIn
-      record-is =
-          let z : length name ≡ f .«name_size» = rw (← name-there, k .is) (size-is (k .whole)) in
-          rw (← marked, h, name-there, i) (ap (λ (x : ℕ). recordHead (isDirectory f) (f .icb) x ++ name) z ∙ (λ j. head-bytes name z j ++ name))
+-- ---- an entry that is looked at
 
-      name-room : (d : List ℕ) → length (entryRecord e) ≤ length d → 21 + length name ≤ length d
-      unfolding recordIn
-      name-room d room =
-          let long : length (entryRecord e) ≡ 21 + length name = rw (record-is, length-append, head-long) in
-          omega (arith, long)
+-- the returns of `look`
+module _ (s : List ℕ) {m from n : ℕ} (i : m ≡ byte s 18) (a : from ≡ nameAt s) (l : n ≡ byte s 19) where
+  end-is : from + n ≡ nameEnd s
+  unfolding nameEnd
+  end-is = rw (a, l)
+
+  pub look-past : length s < from + n → record { skipped = true; marks = m; from = 0; end = 0; next = length s } ≡ seenOf s
+  unfolding seenOf
+  look-past h = rw (lt-ltb (length s) (nameEnd s) (omega (arith, end-is)), i)
+
+  pub look-whole : from + n ≤ length s → {t : Bool} → t ≡ (bit 4 m || bit 8 m) → record { skipped = t; marks = m; from = from; end = from + n; next = (from + n + 3) / 4 * 4 } ≡ seenOf s
+  unfolding seenOf nextAt
+  look-whole h u = rw (u, le-ltb (length s) (nameEnd s) (omega (arith, end-is)), i, end-is, a)
+
+-- what is seen stays inside the bytes, whatever they are
+pub record Inside (s : List ℕ) (r : EntrySeen) : Type 0 where
+  pub further : 38 ≤ length s → 38 ≤ r .next
+  pub near : r .next ≤ length s + 3
+  pub order : r .from ≤ r .end
+  pub ends : r .end ≤ length s
+
+pub seen-inside : (s : List ℕ) {r : EntrySeen} → r ≡ seenOf s → Inside s r
+unfolding seenOf nextAt nameEnd nameAt
+seen-inside s e = rw e (⊎-elim
+    (λ (h : nameEnd s ≤ length s). rw (le-ltb (length s) (nameEnd s) h) (record { further = λ k. omega arith; near = omega arith; order = omega arith; ends = omega arith }))
+    (λ (h : length s < nameEnd s). rw (lt-ltb (length s) (nameEnd s) h) (record { further = λ k. k; near = omega arith; order = omega arith; ends = omega arith }))
+    (split (nameEnd s) (length s)))
+
+pub seen-order : (s : List ℕ) {r : EntrySeen} → r ≡ seenOf s → r .from ≤ r .end
+seen-order s e = seen-inside s e .order
+
+pub seen-ends : (s : List ℕ) {r : EntrySeen} → r ≡ seenOf s → r .end ≤ length s
+seen-ends s e = seen-inside s e .ends
+
+-- and of an entry that can be read it is what reading it says
+pub record Sees (s : List ℕ) (e : Entry) (r : EntrySeen) : Type 0 where
+  pub skips : r .skipped ≡ isSkipped (e .identifier)
+  pub marks : r .marks ≡ byte s 18
+  pub from : r .from ≡ nameAt s
+  pub end : r .end ≡ nameAt s + byte s 19
+  pub next : r .next ≡ nextAt s
+
+pub seen-known : (s : List ℕ) {r : EntrySeen} → r ≡ seenOf s → {e : Entry} → Known s e → Sees s e r
+unfolding seenOf nameEnd isSkipped
+seen-known s q {e} k =
+    let w : nameAt s + byte s 19 ≤ length s = omega (arith, k .whole .within, k .whole .from, k .whole .recorded) in
+    rw (q, le-ltb (length s) (nameEnd s) w)
+    (record { skips = rw (k .whole .characteristics); marks = refl; from = refl; end = refl; next = refl })
 
 -- ---- the returns of `put_entry`
 
-module _ (s : List ℕ) (b : Bytes s) {from n : ℕ} (a : from ≡ nameAt s) (l : n ≡ byte s 19) where
-  pub put-past : 38 ≤ length s → length s < from + n → (d : List ℕ) → Puts s d d (record { wrote = 0; next = length s })
-  put-past h past d =
-      record {
-        inside = zero-le;
-        further = omega arith;
-        near = omega arith;
-        next = λ e g. absurd (omega (arith, name-within s b (known false s b g)));
-        wrote = λ e g. absurd (omega (arith, name-within s b (known false s b g)));
-      }
+module _ (s : List ℕ) (b : Bytes s) (least : 38 ≤ length s) {r : EntrySeen} (q : r ≡ seenOf s) where
+  put-puts : {d d′ : List ℕ} {w : ℕ} → w ≤ length d → ((e : Entry) → entryRead false s ≡ answered e → length (entryRecord e) ≤ length d → Wrote (entryRecord e) d d′ w)
+      → Puts s d d′ (record { wrote = w; next = r .next })
+  put-puts i k =
+      let x = seen-inside s q in
+      record { inside = i; further = omega (arith, x .further least); near = x .near; next = λ e g. seen-known s q (known false s b g) .next; wrote = k }
 
-  next-is : (from + n + 3) / 4 * 4 ≡ nextAt s
-  unfolding nextAt nameEnd
-  next-is = rw (a, l)
+  pub put-left-out : r .skipped ≡ true → (d : List ℕ) → Puts s d d (record { wrote = 0; next = r .next })
+  put-left-out v d = put-puts zero-le (λ e g room. let k = known false s b g in left-out s b k (sym (seen-known s q k .skips) ∙ v) d)
 
-  put-puts : from + n ≤ length s → {d d′ : List ℕ} {w : ℕ} → w ≤ length d → ((e : Entry) → entryRead false s ≡ answered e → length (entryRecord e) ≤ length d → Wrote (entryRecord e) d d′ w)
-      → Puts s d d′ (record { wrote = w; next = (from + n + 3) / 4 * 4 })
-  unfolding nameAt
-  put-puts h i k = record { inside = i; further = omega (arith, a); near = omega arith; next = λ e g. next-is; wrote = k }
-
-  module _ (h : from + n ≤ length s) {m : ℕ} (i : m ≡ byte s 18) {t : Bool} (u : t ≡ (bit 4 m || bit 8 m)) where
-    pub put-left-out : t ≡ true → (d : List ℕ) → Puts s d d (record { wrote = 0; next = (from + n + 3) / 4 * 4 })
-    put-left-out v d = put-puts h zero-le (λ e g room. left-out s b (known false s b g) i u v d)
-
-    pub put-recorded : t ≡ false → {d d′ : List ℕ} {w : ℕ} → Recorded m s (written (nameOf (take (from + n - from) (drop from s)))) d d′ w
-        → Puts s d d′ (record { wrote = w; next = (from + n + 3) / 4 * 4 })
-    put-recorded v {d} w = put-puts h (w .inside) (λ e g room. rw (record-is s b (known false s b g) i u v a l) (w .wrote (name-room s b (known false s b g) i u v a l d room)))
+  pub put-recorded : r .skipped ≡ false → {d d′ : List ℕ} {w : ℕ} → Recorded (r .marks) s (written (nameOf (take (r .end - r .from) (drop (r .from) s)))) d d′ w
+      → Puts s d d′ (record { wrote = w; next = r .next })
+  put-recorded v {d} w =
+      put-puts (w .inside) (λ e g room.
+      let k = known false s b g in
+      let x = seen-known s q k in
+      let h : isSkipped (e .identifier) ≡ false = sym (x .skips) ∙ v in
+      let y = rw (x .marks, x .from, x .end) at w in
+      rw (record-is s b k h) (y .wrote (name-room s b k h d room)))
 
 -- ---- what is found with one more entry
 

@@ -2,7 +2,6 @@
 pub mod PathLaws
 pub mod EntryLaws
 pub mod WalkLaws
-pub mod ListedLaws
 pub mod Promises
 pub mod RecordLaws
 pub mod NamelessLaws

@@ -5,9 +5,8 @@ use mathlib.Core.List.{List, [], _∷_, _++_, append-nil, append-assoc}
 use Prim.Native.Nat.{ℕ, zero, suc, _+_, _-_, _*_, _<_, _≤_, _^_, zero-le}
 use native.Mathlib.Nat.{add-zero, zero-add, sub-zero}
 use native.Mathlib.Omega.{arith}
-use lib.ListN.{length, drop, length-drop, length-append, length-take, drop-of-length-le}
+use lib.ListN.{length, drop, length-drop, length-append, length-take}
 use lib.Seq.{drop-drop, getD-drop, take-all, sets}
-use lib.Dec.{lit<}
 use borrow.Author.Tests.{lt-ltb, le-ltb}
 use borrow.Rule.Slice.PartMut.{midOf, putMid, same-len-mid}
 use mir.Syntax.{w64}
@@ -68,10 +67,6 @@ front-end : (check : Bool) (s : List ℕ) → length s < 38 → entries check s 
 unfolding entries entriesFrom
 front-end check [] h = refl
 front-end check (b ∷ s) h = simp (lt-ltb _ _ h)
-
--- an entry behind which there is nothing
-pub alone : (check : Bool) (s : List ℕ) → 38 ≤ length s → {e : Entry} → entryRead check s ≡ answered e → length s ≤ nextAt s → entries check s ≡ answered (e ∷ [])
-alone check s h {e} g k = front-next check s h g ∙ rw (drop-of-length-le s k) (ap (inFront e) (front-end check [] (lit< tt)))
 
 -- ---- the same at `at`
 

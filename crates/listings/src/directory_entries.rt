@@ -9,7 +9,7 @@ ghost use Rattle.identifiers.specs.Identifiers.{bit};
 ghost use Rattle.identifiers.specs.inner.Wholes.{Whole};
 ghost use Rattle.listings.specs.Entries.{entryOf, isSkipped};
 ghost use Rattle.listings.specs.Listings.{answersTo};
-ghost use Rattle.listings.specs.inner.Passes.{Comes, Recorded, Puts, headIn};
+ghost use Rattle.listings.specs.inner.Passes.{seenOf, Comes, Recorded, Puts, headIn};
 use disc::moves::copy;
 use identifiers::FileIdentifierDescriptor;
 use identifiers::IdentifierRead;
@@ -60,31 +60,66 @@ pub(crate) fn record_size(f: FileIdentifierDescriptor) -> usize
     HEAD + f.name_size
 }
 
-// The record of the entry at the front of s, up to its name of n bytes. The ICB is copied as recorded.
-fn head(directory: u8, s: &[u8], n: usize) -> [u8; 21]
-    requires { ⌜ 36 ≤ length (now s) ⌝ }
+// What is seen of an entry: whether it is skipped, its characteristics, where its name starts and ends, and how far from
+// its start the next entry starts.
+pub struct EntrySeen {
+    pub skipped: bool,
+    pub marks: u8,
+    pub from: usize,
+    pub end: usize,
+    pub next: usize,
+}
+
+// Looks at the entry at the front of s, in a directory that was parsed before. Its tag and its name are not checked again, and each of its
+// fields is looked at once. Where the name ends past the bytes, they are not those that were parsed: it is skipped, and there is no next entry.
+pub fn look(s: &[u8]) -> EntrySeen
+    ensures { λ r. ⌜ r ≡ seenOf (now (s .entry)) ⌝ }
+{
+    let marks = byte_at(s, 18);
+    let from = name_at(s);
+    let end = from + byte_at(s, 19) as usize;
+    if s.len() < end {
+        return EntrySeen {
+            skipped: true,
+            marks,
+            from: 0,
+            end: 0,
+            next: s.len(),
+        };
+    }
+    EntrySeen {
+        skipped: is_left_out(marks),
+        marks,
+        from,
+        end,
+        next: (end + 3) / 4 * 4,
+    }
+}
+
+// The record of the entry at the front of s without its name, of n bytes. The ICB goes over as it is recorded. A show puts a level into it.
+pub fn record_head(directory: u8, s: &[u8], n: usize) -> [u8; 21]
     ensures { λ r. ⌜ r ≡ headIn directory (now (s .entry)) n ⌝ }
 {
     [
         0x44,
         0x45,
         directory,
-        s[20],
-        s[21],
-        s[22],
-        s[23],
-        s[24],
-        s[25],
-        s[26],
-        s[27],
-        s[28],
-        s[29],
-        s[30],
-        s[31],
-        s[32],
-        s[33],
-        s[34],
-        s[35],
+        byte_at(s, 20),
+        byte_at(s, 21),
+        byte_at(s, 22),
+        byte_at(s, 23),
+        byte_at(s, 24),
+        byte_at(s, 25),
+        byte_at(s, 26),
+        byte_at(s, 27),
+        byte_at(s, 28),
+        byte_at(s, 29),
+        byte_at(s, 30),
+        byte_at(s, 31),
+        byte_at(s, 32),
+        byte_at(s, 33),
+        byte_at(s, 34),
+        byte_at(s, 35),
         (n % 256) as u8,
         (n / 256 % 256) as u8,
     ]
@@ -94,7 +129,6 @@ fn head(directory: u8, s: &[u8], n: usize) -> [u8; 21]
 // first, since the head before it, of 21 bytes, has its length. A record without room is left out; one that was
 // measured has room.
 fn put_record(marks: u8, s: &[u8], recorded: &[u8], out: &mut [u8]) -> usize
-    requires { ⌜ 36 ≤ length (now s) ⌝ }
     ensures { λ r. ⌜ Recorded marks (now (s .entry)) (written (nameOf (now (recorded .entry)))) (now (out .entry)) (now (out .exit)) r ⌝ }
 {
     if out.len() < HEAD {
@@ -104,7 +138,7 @@ fn put_record(marks: u8, s: &[u8], recorded: &[u8], out: &mut [u8]) -> usize
     if out.len() - HEAD < n {
         return 0;
     }
-    let h = head(directory_bit(marks), s, n);
+    let h = record_head(directory_bit(marks), s, n);
     copy(&h, out);
     HEAD + n
 }
@@ -115,27 +149,19 @@ pub(crate) struct Put {
     pub next: usize,
 }
 
-// Writes the record of the entry at the front of s. Its tag and its name aren't checked again, and each of its fields
-// is looked at once. If the name ends past the bytes, they aren't those that were measured, and there is no next
-// entry.
+// Writes the record of the entry at the front of s, which is looked at without checking it again.
 pub(crate) fn put_entry(s: &[u8], out: &mut [u8]) -> Put
     requires { ⌜ 38 ≤ length (now s) ⌝ }
     ensures { λ r. ⌜ Puts (now (s .entry)) (now (out .entry)) (now (out .exit)) r ⌝ }
 {
-    let marks = byte_at(s, 18);
-    let from = name_at(s);
-    let end = from + byte_at(s, 19) as usize;
-    if s.len() < end {
-        return Put {
-            wrote: 0,
-            next: s.len(),
-        };
-    }
-    let next = (end + 3) / 4 * 4;
-    if is_left_out(marks) {
+    let e = look(s);
+    let next = e.next;
+    if e.skipped {
         return Put { wrote: 0, next };
     }
-    let wrote = put_record(marks, s, &s[from..end], out);
+    let from = e.from;
+    let end = e.end;
+    let wrote = put_record(e.marks, s, &s[from..end], out);
     Put { wrote, next }
 }
 

@@ -6,10 +6,10 @@
 // Nothing above `findIn` looks at the choice.
 //
 // `list` goes over the bytes twice. `measure` parses every entry, so that each refusal is known before a byte is written. `put_entries` writes, and
-// is lent only as much of the output as was measured. It checks nothing again and looks at each field once, so it stays inside what it was lent even
-// if the bytes have changed.
+// is lent only as much of the output as was measured. It checks nothing again and looks at each field once (`look`), so it stays inside what it was
+// lent even if the bytes have changed. A show goes over parsed entries by the same look. It writes its records itself, from the same head
+// (`record_head`): with a second caller, `put_entry` would no longer be compiled into the loop of a listing.
 pub mod directory_entries;
-pub mod entry_records;
 pub mod finds;
 pub mod listing;
 pub mod matchings;

@@ -49,9 +49,9 @@ pub fn measure(check: bool, raw: &[u8]) -> ListingSize
     }
 }
 
-// Writes the records of the entries to out, one after another. Nothing is checked again: out is the room that was
-// measured, so nothing after it can be written, whatever the bytes are by now.
-pub(crate) fn put_entries(raw: &[u8], out: &mut [u8])
+// Writes the records of the entries over out, one after another. The entries aren't checked again, so only the room
+// that was measured is lent: nothing after it can be written, whatever the bytes are by now.
+fn put_entries(raw: &[u8], out: &mut [u8])
     ensures { λ _. ⌜ ((es : List Entry) → entries false (now (raw .entry)) ≡ answered es → length (records es) ≡ length (now (out .entry)) → now (out .exit) ≡ records es) ⌝ }
 {
     let mut n: usize = 0;

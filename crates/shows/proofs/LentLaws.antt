@@ -30,7 +30,7 @@ use Rattle.figures.proofs.FigureLaws.{zero-holds, holds-sectors}
 use Rattle.shows.specs.Shows.{Node, nodesAt, mostLevels}
 use Rattle.shows.specs.Tallies.{ofFile, ofNode, ofNodes, readCounts, lentRead, readsWithin, Tally, tallyBy, tallyOf, treeTally, Tallied, tallied, Tallies, tallies}
 use Rattle.shows.specs.inner.Placings.{filePlaced, nodePlaced, eachPlaced}
-use Rattle.shows.specs.inner.Turns.{stoppedAt, startOf, behindBy, lent, Visited}
+use Rattle.shows.specs.inner.Turns.{stoppedAt, startOf, behindBy, Visited}
 use Rattle.shows.specs.declared.levels.ShowPlace.{ShowPlace}
 use Rattle.shows.proofs.ShowLaws.{tree-within}
 use Rattle.shows.proofs.VisitedLaws.{capped-within, capped-over, Answers, visited-answers}
@@ -137,8 +137,8 @@ module _ (d : Disc) (m : Mount) where
 
   -- ---- the whole tree, tallied in a place of zeros
 
-  module _ (root : LongAd) (most work : ℕ) {out out′ tally′ : List ℕ} {q : ShowPlace}
-      (s : Visited (nodePlaced d m most) (ran d (nodesAt m mostLevels 1 work root)) (startOf most) (lent out (replicate 80 0)) q (lent out′ tally′)) where
+  module _ (root : LongAd) (most work : ℕ) {tally′ : List ℕ} {q : ShowPlace}
+      (s : Visited (nodePlaced d m most) 0 (ran d (nodesAt m mostLevels 1 work root)) (startOf most) (replicate 80 0) q tally′) where
     abbrev N : Ran (List Node)
     N = ran d (nodesAt m mostLevels 1 work root)
 
@@ -151,18 +151,18 @@ module _ (d : Disc) (m : Mount) where
     -- it is refused
     tree-refused : (q .answer ≡ 0 → ⊥) → treeTally d m root most work ≡ record { answer = q .answer; figures = nothing }
     tree-refused n = ⊎-elim
-        (λ (h : reported (N .count) ≤ most). lent-tree h ∙ by (N .outcome) (s .says ∙ capped-within (startOf most) (N .count) (behindBy (startOf most) (N .outcome) (N .count)) (omega arith)))
+        (λ (h : reported (N .count) ≤ most). lent-tree h ∙ by (N .outcome) (s .says ∙ capped-within (startOf most) (N .count) (behindBy 0 (startOf most) (N .outcome) (N .count)) (omega arith)))
         (λ (h : most < reported (N .count)).
-        let f : q ≡ stoppedAt (number OverBudget) most = s .says ∙ capped-over (startOf most) (N .count) (behindBy (startOf most) (N .outcome) (N .count)) (omega arith) in
+        let f : q ≡ stoppedAt (number OverBudget) most = s .says ∙ capped-over (startOf most) (N .count) (behindBy 0 (startOf most) (N .outcome) (N .count)) (omega arith) in
         over-tree h ∙ rw f)
         (split (reported (N .count)) most)
       where
-        by : (o : Outcome (List Node)) → q ≡ behindBy (startOf most) o (N .count) → tallyBy d m (leftOf most (N .count)) o ≡ record { answer = q .answer; figures = nothing }
+        by : (o : Outcome (List Node)) → q ≡ behindBy 0 (startOf most) o (N .count) → tallyBy d m (leftOf most (N .count)) o ≡ record { answer = q .answer; figures = nothing }
         by (answered ns) f = absurd (n (ap (λ (x : ShowPlace). x .answer) f))
         by (refused why) f = rw f
 
     module _ (z : q .answer ≡ 0) where
-      a : Answers N (startOf most) q
+      a : Answers 0 N (startOf most) q
       a = visited-answers s z
 
       within : reported (N .count) ≤ most
@@ -239,12 +239,12 @@ module _ (d : Disc) (m : Mount) where
     pub tallied-none : {before : List ℕ} → (length before ≡ 80 → ⊥) → _≡_ {A = Tallied} (record { answer = 15; place = before }) (tallied d m root most work before)
     tallied-none {before} h = rw (ne-eqb (length before) 80 h)
 
-    module _ (before : List ℕ) (l : length before ≡ 80) {cleared out out′ tally′ : List ℕ} (e : cleared ≡ replicate (length before) 0) {q : ShowPlace}
-        (s : Visited (nodePlaced d m most) (ran d (nodesAt m mostLevels 1 work root)) (startOf most) (lent out cleared) q (lent out′ tally′)) where
+    module _ (before : List ℕ) (l : length before ≡ 80) {cleared tally′ : List ℕ} (e : cleared ≡ replicate (length before) 0) {q : ShowPlace}
+        (s : Visited (nodePlaced d m most) 0 (ran d (nodesAt m mostLevels 1 work root)) (startOf most) cleared q tally′) where
       zeros : cleared ≡ replicate 80 0
       zeros = e ∙ rw l
 
-      visited : Visited (nodePlaced d m most) (ran d (nodesAt m mostLevels 1 work root)) (startOf most) (lent out (replicate 80 0)) q (lent out′ tally′)
+      visited : Visited (nodePlaced d m most) 0 (ran d (nodesAt m mostLevels 1 work root)) (startOf most) (replicate 80 0) q tally′
       visited = rw zeros at s
 
       leaves : (t : Tally) → treeTally d m root most work ≡ t → _≡_ {A = Tallied} (record { answer = t .answer; place = row (t .figures) }) (tallied d m root most work before)

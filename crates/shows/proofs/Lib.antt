@@ -3,8 +3,10 @@ pub mod NodeLaws
 pub mod TreeLaws
 pub mod TallyLaws
 pub mod VisitedLaws
+pub mod TurnLaws
 pub mod LevelLaws
 pub mod LoopLaws
+pub mod WriteLaws
 pub mod ShowLaws
 pub mod GuardLaws
 pub mod MoreLaws

@@ -1,12 +1,12 @@
 -- A whole show: measured, and then written. Assumes nothing.
 use mathlib.Core.Path.{_≡_, refl, sym, ap, _∙_}
 use mathlib.Core.Bool.{Bool, true, false, _&&_}
-use mathlib.Core.List.{List, [], _∷_}
+use mathlib.Core.List.{List}
 use mathlib.Core.Logic.{⊎-elim}
 use Prim.Native.Nat.{ℕ, _+_, _-_, _*_, _≤_, _<_, _^_}
 use native.Mathlib.Nat.{sub-zero}
 use native.Mathlib.Omega.{arith}
-use lib.ListN.{length, length-append, length-take, length-drop}
+use lib.ListN.{length, length-take, length-drop}
 use lib.Dec.{leb}
 use borrow.Author.Tests.{le-leb, lt-leb}
 use borrow.Rule.Slice.PartMut.{midOf, putMid}
@@ -29,7 +29,8 @@ use Rattle.disc.proofs.ImageLaws.{split}
 use Rattle.disc.proofs.ReplyLaws.{reply-refused, reply-full, reply-done}
 use Rattle.records.specs.declared.allocations.LongAd.{LongAd}
 use Rattle.shows.specs.Shows.{Node, nodesAt, mostLevels, tree, nodeRecords, treeRecords}
-use Rattle.shows.specs.inner.Turns.{stoppedAt, startOf, behindBy, lent, Visited}
+use Rattle.shows.specs.inner.Turns.{stoppedAt, startOf, behindBy, Visited}
+use Rattle.shows.specs.inner.Writes.{Writes}
 use Rattle.shows.proofs.VisitedLaws.{capped-within, capped-over, Answers, visited-answers}
 use Rattle.shows.specs.declared.levels.ShowPlace.{ShowPlace}
 
@@ -95,32 +96,24 @@ module _ (d : Disc) (m : Mount) (w : ℕ) (root : LongAd) (levels most : ℕ) wh
     over-is : most < reported (R .count) → S ≡ overRun most
     over-is h = budgeted-ran d (treeRecords m levels w root) most ∙ rw (visited-is, lt-leb (reported (R .count)) most h)
 
-    -- ---- measured, lent no output
+    -- ---- measured
 
-    module _ {of : Node → List ℕ → List ℕ} (out ys : List ℕ) {q : ShowPlace} {tally tally₁ : List ℕ} (s : Visited of R (startOf most) (lent (midOf 0 (0 - 0) out) tally) q (lent ys tally₁)) (z : length (putMid 0 (0 - 0) out ys) ≡ length out) where
-      -- nothing was written
-      as-came : putMid 0 (0 - 0) out ys ≡ out
-      as-came = by ys z
-        where
-          by : (ys : List ℕ) → length (putMid 0 (0 - 0) out ys) ≡ length out → putMid 0 (0 - 0) out ys ≡ out
-          by [] z = refl
-          by (y ∷ more) z = absurd (omega (arith, length-append more out))
-
-      pub show-refused : (q .answer ≡ 0 → ⊥) → {reply : Reply} → reply ≡ record { answer = q .answer; count = q .count; length = 0 } → most < 2 ^ 64 → Replied NoRoom S out (putMid 0 (0 - 0) out ys) reply
-      show-refused n {reply} e b = rw as-came (⊎-elim
-          (λ (h : reported (R .count) ≤ most). rw (lent-is h) (by (R .outcome) (s .says ∙ capped-within (startOf most) (R .count) (behindBy (startOf most) (R .outcome) (R .count)) (omega arith))))
+    module _ {of : Node → List ℕ → List ℕ} (out : List ℕ) {q : ShowPlace} {tally tally₁ : List ℕ} (s : Visited of 0 R (startOf most) tally q tally₁) where
+      pub show-refused : (q .answer ≡ 0 → ⊥) → {reply : Reply} → reply ≡ record { answer = q .answer; count = q .count; length = 0 } → most < 2 ^ 64 → Replied NoRoom S out out reply
+      show-refused n {reply} e b = ⊎-elim
+          (λ (h : reported (R .count) ≤ most). rw (lent-is h) (by (R .outcome) (s .says ∙ capped-within (startOf most) (R .count) (behindBy 0 (startOf most) (R .outcome) (R .count)) (omega arith))))
           (λ (h : most < reported (R .count)).
-          let f : q ≡ stoppedAt (number OverBudget) most = s .says ∙ capped-over (startOf most) (R .count) (behindBy (startOf most) (R .outcome) (R .count)) (omega arith) in
+          let f : q ≡ stoppedAt (number OverBudget) most = s .says ∙ capped-over (startOf most) (R .count) (behindBy 0 (startOf most) (R .outcome) (R .count)) (omega arith) in
           rw (over-is h) (reply-refused OverBudget most most (omega arith) (e ∙ rw f)))
-          (split (reported (R .count)) most))
+          (split (reported (R .count)) most)
         where
-          by : (o : Outcome (List Node)) → q ≡ behindBy (startOf most) o (R .count) → Replied NoRoom (record { outcome = recordsIn o; count = R .count }) out out reply
+          by : (o : Outcome (List Node)) → q ≡ behindBy 0 (startOf most) o (R .count) → Replied NoRoom (record { outcome = recordsIn o; count = R .count }) out out reply
           by (answered ns) f = absurd (n (ap (λ (x : ShowPlace). x .answer) f))
           by (refused why) f = reply-refused why (R .count) (reported (0 + R .count)) (omega arith) (e ∙ rw f)
 
       module _ (g : q .answer ≡ 0) where
         -- the nodes that were measured
-        measured : Answers R (startOf most) q
+        measured : Answers 0 R (startOf most) q
         measured = visited-answers s g
 
         within : reported (R .count) ≤ most
@@ -140,20 +133,19 @@ module _ (d : Disc) (m : Mount) (w : ℕ) (root : LongAd) (levels most : ℕ) wh
         unfolding text
         texted = lent-is within ∙ rw (measured .are)
 
-        pub show-full : length (putMid 0 (0 - 0) out ys) < q .size → {a : ℕ} → a ≡ number NoRoom → {reply : Reply} → reply ≡ record { answer = a; count = q .count; length = 0 }
-            → Replied NoRoom S out (putMid 0 (0 - 0) out ys) reply
-        show-full h e f = rw (texted, as-came) (reply-full text (R .count) (q .count) (omega (arith, sizes, z)) counts (f ∙ rw e))
+        pub show-full : length out < q .size → {a : ℕ} → a ≡ number NoRoom → {reply : Reply} → reply ≡ record { answer = a; count = q .count; length = 0 } → Replied NoRoom S out out reply
+        show-full h e f = rw texted (reply-full text (R .count) (q .count) (omega (arith, sizes)) counts (f ∙ rw e))
 
         -- ---- written, lent what was measured
 
-        pub show-done : q .size ≤ length (putMid 0 (0 - 0) out ys) → length out * 1 < 2 ^ 63 → {w₁ : ℕ} → w₁ ≡ w → {q₂ : ShowPlace} {ys₂ tally₂ tally₃ : List ℕ}
-            → Visited of (ran d (nodesAt m levels 1 w₁ root)) (startOf most) (lent (midOf 0 (q .size - 0) (putMid 0 (0 - 0) out ys)) tally₂) q₂ (lent ys₂ tally₃)
-            → Replied NoRoom S out (putMid 0 (q .size - 0) (putMid 0 (0 - 0) out ys) ys₂) (record { answer = 0; count = q .count; length = q .size })
+        pub show-done : q .size ≤ length out → length out * 1 < 2 ^ 63 → {w₁ : ℕ} → w₁ ≡ w → {ys : List ℕ} {to : ℕ}
+            → Writes (ran d (nodesAt m levels 1 w₁ root)) 0 (midOf 0 (q .size - 0) out) ys to
+            → Replied NoRoom S out (putMid 0 (q .size - 0) out ys) (record { answer = 0; count = q .count; length = q .size })
         unfolding text
-        show-done h b e {q₂} {ys₂} {tally₂} {tally₃} v =
-            let t : Visited of R (startOf most) (lent (midOf 0 (q .size - 0) out) tally₂) q₂ (lent ys₂ tally₃) = rw (e, as-came) at v in
-            let i : q .size ≡ length text = omega (arith, sizes, z) in
-            let j : length text ≤ length out = omega (arith, z) in
+        show-done h b e {ys} {to} v =
+            let t : Writes R 0 (midOf 0 (q .size - 0) out) ys to = rw e at v in
+            let i : q .size ≡ length text = omega (arith, sizes) in
+            let j : length text ≤ length out = omega arith in
             let n : length (midOf 0 (q .size - 0) out) ≡ length text = simp (length-take, length-drop) (omega arith) in
-            let y : ys₂ ≡ text = t .puts (measured .ns) (measured .are) (measured .within) (omega (arith, n)) (omega (arith, n)) ∙ sets-whole text (midOf 0 (q .size - 0) out) (sym n) in
-            rw as-came (written text out texted i j counts y)
+            let y : ys ≡ text = t .puts (measured .ns) (measured .are) (omega (arith, n)) ∙ sets-whole text (midOf 0 (q .size - 0) out) (sym n) in
+            written text out texted i j counts y

@@ -72,5 +72,5 @@ module _ (d : Disc) (m : Mount) (most : ℕ) (icb : LongAd) where
     pub entry-directory : directory ≡ true → {t : List ℕ} → t ≡ withDirectory s → t ≡ entryPlaced d m most directory icb s
     entry-directory b e = e ∙ rw b
 
-    pub entry-file : directory ≡ false → {t : List ℕ} → t ≡ filePlaced d m most icb s → t ≡ entryPlaced d m most directory icb s
-    entry-file b e = e ∙ rw b
+    pub entry-file : directory ≡ false → {i : LongAd} → i ≡ icb → {t : List ℕ} → t ≡ filePlaced d m most i s → t ≡ entryPlaced d m most directory icb s
+    entry-file b f e = e ∙ rw (b, f)

@@ -1,14 +1,13 @@
--- Parts of the tree shown one behind another: places, records and figures. Assumes nothing.
+-- Parts of the tree visited one behind another: places, and figures. Assumes nothing.
 use mathlib.Core.Path.{_≡_, refl, sym, ap, _∙_}
 use mathlib.Core.Bool.{Bool, true, false}
 use mathlib.Core.List.{List, [], _∷_, _++_, append-nil, append-assoc}
 use mathlib.Core.Logic.{⊎-elim}
-use Prim.Native.Nat.{ℕ, _+_, _≤_, _<_}
+use Prim.Native.Nat.{ℕ, _+_, _-_, _≤_, _<_}
 use native.Mathlib.Nat.{zero-add}
 use native.Mathlib.Omega.{arith}
 use lib.ListN.{length, length-append}
 use lib.Dec.{leb}
-use lib.Seq.{sets, length-sets}
 use borrow.Author.Tests.{le-leb, lt-leb}
 use Rattle.disc.specs.Choice.{pick}
 use Rattle.disc.specs.Refusals.{number}
@@ -21,7 +20,6 @@ use Rattle.disc.specs.declared.refusals.Refusal.{Refusal}
 use Rattle.disc.specs.declared.refusals.Refusal.the-variants.{OverBudget}
 use Rattle.disc.proofs.ImageLaws.{split}
 use Rattle.disc.proofs.AskLaws.{then-then, then-done}
-use Rattle.disc.proofs.MoveLaws.{sets-append}
 use Rattle.disc.proofs.RanLaws.{ran-done, ran-then, never}
 use Rattle.disc.proofs.RefusalLaws.{refusal-numbered}
 use Rattle.records.specs.declared.allocations.LongAd.{LongAd}
@@ -29,7 +27,7 @@ use Rattle.identifiers.specs.Identifiers.{isDirectory}
 use Rattle.listings.specs.Entries.{Entry, isSkipped}
 use Rattle.shows.specs.Shows.{Node, under, nodesOf, nodeRecord, nodeRecords}
 use Rattle.shows.specs.inner.Placings.{eachPlaced}
-use Rattle.shows.specs.inner.Turns.{stoppedAt, Held, behindBy, cappedBy, Lent, Visited, turnOf}
+use Rattle.shows.specs.inner.Turns.{stoppedAt, Held, behindBy, cappedBy, Visited, turnOf}
 use Rattle.shows.specs.declared.levels.ShowPlace.{ShowPlace}
 
 -- ---- trees behind each other
@@ -138,96 +136,124 @@ capped-held p n {q} q′ e z = ⊎-elim
     (λ (h : p .most < reported (p .count + n)). absurd (refusal-numbered OverBudget (sym (ap (λ (x : ShowPlace). x .answer) (e ∙ capped-over p n q′ h)) ∙ z)))
     (split (reported (p .count + n)) (p .most))
 
--- ---- parts that are shown
+-- ---- the bytes that were counted before
 
--- nothing shown
-pub visited-none : {of : Node → List ℕ → List ℕ} {most : ℕ} {p : ShowPlace} → Held most p → {r : Ran (List Node)} → r ≡ told (answered []) → (l : Lent) {l′ : Lent} → (p .size ≤ length (l .out) → l′ .out ≡ l .out) → l′ .tally ≡ l .tally
-    → Visited of r p l p l′
+-- those of two parts
+sizes-joined : (p a b j k : ℕ) → j ≤ a → k ≤ b → reported (reported (p + (a - j)) + (b - k)) ≡ reported (p + (a + b - (j + k)))
+sizes-joined p a b j k h g =
+    let e : a + b - (j + k) ≡ (a - j) + (b - k) = omega arith in
+    rw e (added (a - j) (b - k))
+  where
+    added : (x y : ℕ) → reported (reported (p + x) + y) ≡ reported (p + (x + y))
+    added x y = omega arith
+
+-- and of a part whose bytes were counted when it began
+sizes-known : (p k n : ℕ) → k ≤ n → reported (reported (p + k) + (n - k)) ≡ reported (p + (n - 0))
+sizes-known p k n h =
+    let e : n - 0 ≡ k + (n - k) = omega arith in
+    rw e (added (n - k))
+  where
+    added : (x : ℕ) → reported (reported (p + k) + x) ≡ reported (p + (k + x))
+    added x = omega arith
+
+-- ---- parts that are visited
+
+-- nothing visited
+pub visited-none : {of : Node → List ℕ → List ℕ} {most : ℕ} {p : ShowPlace} → Held most p → {known : ℕ} → known ≡ 0 → {r : Ran (List Node)} → r ≡ told (answered []) → (l : List ℕ) → Visited of known r p l p l
 unfolding nodeRecords eachPlaced
-visited-none {p = p} h e l f g = rw e (record {
+visited-none {p = p} h k e l = rw (e, k) (record {
   says = same-place (h .going) (omega (arith, h .counted, h .bounded)) (omega (arith, h .sized)) refl ∙ sym (capped-none h _);
-  puts = λ ns k w room b. let z : ns ≡ [] = cc in rw z (f (omega arith));
-  tallied = λ ns k w. let z : ns ≡ [] = cc in rw z g;
+  knew = λ ns k w. omega arith;
+  tallied = λ ns k w. let z : ns ≡ [] = cc in rw z;
 })
 
--- one node shown
-pub visited-one : {of : Node → List ℕ → List ℕ} {most : ℕ} {p : ShowPlace} → Held most p → {n : Node} {r : Ran (List Node)} → r ≡ told (answered (n ∷ [])) → {z : ℕ} → z ≡ reported (p .size + length (nodeRecord n)) → {l l′ : Lent}
-    → (p .size + length (nodeRecord n) ≤ length (l .out) → l′ .out ≡ sets (l .out) (p .size) (nodeRecord n)) → l′ .tally ≡ of n (l .tally)
-    → Visited of r p l (record { answer = 0; count = p .count; size = z; most = p .most }) l′
+-- one node visited, of whose record all but one byte was counted before
+pub visited-one : {of : Node → List ℕ → List ℕ} {most : ℕ} {p : ShowPlace} → Held most p → {n : Node} {r : Ran (List Node)} → r ≡ told (answered (n ∷ [])) → {known : ℕ} → length (nodeRecord n) ≡ 1 + known
+    → {z : ℕ} → z ≡ reported (p .size + 1) → {l l′ : List ℕ} → l′ ≡ of n l → Visited of known r p l (record { answer = 0; count = p .count; size = z; most = p .most }) l′
 unfolding eachPlaced
-visited-one {of} {most} {p} h {n} e q f g = rw e (record {
-  says = same-place refl (omega (arith, h .counted, h .bounded)) (q ∙ rw (records-one n)) refl ∙ sym (capped-none h _);
-  puts = λ ns k v room b.
+visited-one {of} {most} {p} h {n} e {known} k q g = rw e (record {
+  says = same-place refl (omega (arith, h .counted, h .bounded)) (q ∙ more (length (nodeRecords (n ∷ []))) (ap length (records-one n) ∙ k)) refl ∙ sym (capped-none h _);
+  knew = λ ns i w.
       let z : ns ≡ n ∷ [] = cc in
-      let w : nodeRecords ns ≡ nodeRecord n = ap nodeRecords z ∙ records-one n in
-      rw w (f (rw w at room));
-  tallied = λ ns k v. let z : ns ≡ n ∷ [] = cc in rw z g;
+      rw z (omega (arith, ap length (records-one n)));
+  tallied = λ ns i w. let z : ns ≡ n ∷ [] = cc in rw z g;
 })
+  where
+    more : (x : ℕ) → x ≡ 1 + known → reported (p .size + 1) ≡ reported (p .size + (x - known))
+    more x e = let y : x - known ≡ 1 = omega arith in rw y
 
 -- refused
-pub visited-refused : {of : Node → List ℕ → List ℕ} {p : ShowPlace} (why : Refusal) (n : ℕ) {r : Ran (List Node)} → r ≡ record { outcome = refused why; count = n } → {q : ShowPlace}
-    → q ≡ cappedBy p n (stoppedAt (number why) (reported (p .count + n))) → {l l′ : Lent} → Visited of r p l q l′
-visited-refused why n e f = rw e (record { says = f; puts = λ ns k. never k; tallied = λ ns k. never k })
+pub visited-refused : {of : Node → List ℕ → List ℕ} {p : ShowPlace} (why : Refusal) (n : ℕ) {known : ℕ} {r : Ran (List Node)} → r ≡ record { outcome = refused why; count = n } → {q : ShowPlace}
+    → q ≡ cappedBy p n (stoppedAt (number why) (reported (p .count + n))) → {l l′ : List ℕ} → Visited of known r p l q l′
+visited-refused why n e f = rw e (record { says = f; knew = λ ns k. never k; tallied = λ ns k. never k })
 
 -- it wants more sectors than it may ask for
-pub visited-over : {of : Node → List ℕ → List ℕ} {r : Ran (List Node)} {p : ShowPlace} → p .most < reported (p .count + r .count) → {q : ShowPlace} → q ≡ stoppedAt (number OverBudget) (p .most) → {l l′ : Lent}
-    → Visited of r p l q l′
-visited-over {r = r} {p} h e = record {
-  says = e ∙ sym (capped-over p (r .count) (behindBy p (r .outcome) (r .count)) h);
-  puts = λ ns k w. absurd (omega (arith, w));
+pub visited-over : {of : Node → List ℕ → List ℕ} {known : ℕ} {r : Ran (List Node)} {p : ShowPlace} → p .most < reported (p .count + r .count) → {q : ShowPlace} → q ≡ stoppedAt (number OverBudget) (p .most) → {l l′ : List ℕ}
+    → Visited of known r p l q l′
+visited-over {known = known} {r} {p} h e = record {
+  says = e ∙ sym (capped-over p (r .count) (behindBy known p (r .outcome) (r .count)) h);
+  knew = λ ns k w. absurd (omega (arith, w));
   tallied = λ ns k w. absurd (omega (arith, w));
 }
 
 -- ---- a place that isn't refused
 
--- what was shown to come to it
-pub record Answers (r : Ran (List Node)) (p q : ShowPlace) : Type 0 where
+-- what was visited to come to it
+pub record Answers (known : ℕ) (r : Ran (List Node)) (p q : ShowPlace) : Type 0 where
   pub ns : List Node
   pub are : r .outcome ≡ answered ns
   pub within : reported (p .count + r .count) ≤ p .most
-  pub place : q ≡ record { answer = 0; count = reported (p .count + r .count); size = reported (p .size + length (nodeRecords ns)); most = p .most }
+  pub place : q ≡ record { answer = 0; count = reported (p .count + r .count); size = reported (p .size + (length (nodeRecords ns) - known)); most = p .most }
 
-pub visited-answers : {of : Node → List ℕ → List ℕ} {r : Ran (List Node)} {p : ShowPlace} {l : Lent} {q : ShowPlace} {l′ : Lent} → Visited of r p l q l′ → q .answer ≡ 0 → Answers r p q
-visited-answers {r = r} {p} {q = q} s z =
-    let w = capped-held p (r .count) (behindBy p (r .outcome) (r .count)) (s .says) z in
-    by w (r .outcome) refl (s .says ∙ capped-within p (r .count) (behindBy p (r .outcome) (r .count)) w)
+pub visited-answers : {of : Node → List ℕ → List ℕ} {known : ℕ} {r : Ran (List Node)} {p : ShowPlace} {l : List ℕ} {q : ShowPlace} {l′ : List ℕ} → Visited of known r p l q l′ → q .answer ≡ 0 → Answers known r p q
+visited-answers {known = known} {r} {p} {q = q} s z =
+    let w = capped-held p (r .count) (behindBy known p (r .outcome) (r .count)) (s .says) z in
+    by w (r .outcome) refl (s .says ∙ capped-within p (r .count) (behindBy known p (r .outcome) (r .count)) w)
   where
-    by : reported (p .count + r .count) ≤ p .most → (o : Outcome (List Node)) → r .outcome ≡ o → q ≡ behindBy p o (r .count) → Answers r p q
+    by : reported (p .count + r .count) ≤ p .most → (o : Outcome (List Node)) → r .outcome ≡ o → q ≡ behindBy known p o (r .count) → Answers known r p q
     by w (answered ns) f e = record { ns = ns; are = f; within = w; place = e }
     by w (refused why) f e = absurd (refusal-numbered why (sym (ap (λ (x : ShowPlace). x .answer) e) ∙ z))
 
-pub visited-held : {of : Node → List ℕ → List ℕ} {r : Ran (List Node)} {p : ShowPlace} {l : Lent} {q : ShowPlace} {l′ : Lent} → p .most ≤ 0xffff_ffff_ffff_ffff → Visited of r p l q l′ → q .answer ≡ 0 → Held (p .most) q
+pub visited-held : {of : Node → List ℕ → List ℕ} {known : ℕ} {r : Ran (List Node)} {p : ShowPlace} {l : List ℕ} {q : ShowPlace} {l′ : List ℕ} → p .most ≤ 0xffff_ffff_ffff_ffff → Visited of known r p l q l′ → q .answer ≡ 0 → Held (p .most) q
 visited-held b s z = let a = visited-answers s z in rw (a .place) (record { going = refl; lends = refl; counted = a .within; bounded = b; sized = omega arith })
 
--- a part shown behind n sectors that were read for it
-pub visited-after : {of : Node → List ℕ → List ℕ} {r : Ran (List Node)} {p p₁ : ShowPlace} (n : ℕ) → p₁ ≡ record { answer = 0; count = reported (p .count + n); size = p .size; most = p .most } → {l : Lent} {q : ShowPlace} {l′ : Lent}
-    → Visited of r p₁ l q l′ → Visited of (record { outcome = r .outcome; count = n + r .count }) p l q l′
-visited-after {of} {r} {p} n e {l} {q} {l′} s =
-    let t : Visited of r behind l q l′ = rw e at s in
+-- a part visited behind n sectors that were read for it, and with so many of its bytes counted
+pub visited-after : {of : Node → List ℕ → List ℕ} {r : Ran (List Node)} {p p₁ : ShowPlace} (n known : ℕ) → p₁ ≡ record { answer = 0; count = reported (p .count + n); size = reported (p .size + known); most = p .most } → {l : List ℕ} {q : ShowPlace} {l′ : List ℕ}
+    → Visited of known r p₁ l q l′ → Visited of 0 (record { outcome = r .outcome; count = n + r .count }) p l q l′
+visited-after {of} {r} {p} n known e {l} {q} {l′} s =
     record {
-      says = t .says ∙ ap (λ c. pick (leb c (p .most)) (behindBy behind (r .outcome) (r .count)) (stoppedAt (number OverBudget) (p .most))) sum ∙ ap (cappedBy p (n + r .count)) (by (r .outcome));
-      puts = λ ns h w. t .puts ns h (omega (arith, sum));
+      says = t .says ∙ ap (λ c. pick (leb c (p .most)) (behindBy known behind (r .outcome) (r .count)) (stoppedAt (number OverBudget) (p .most))) sum ∙ capped;
+      knew = λ ns h w. omega arith;
       tallied = λ ns h w. t .tallied ns h (omega (arith, sum));
     }
   where
     behind : ShowPlace
-    behind = record { answer = 0; count = reported (p .count + n); size = p .size; most = p .most }
+    behind = record { answer = 0; count = reported (p .count + n); size = reported (p .size + known); most = p .most }
+
+    t : Visited of known r behind l q l′
+    t = rw e at s
 
     sum : reported (reported (p .count + n) + r .count) ≡ reported (p .count + (n + r .count))
     sum = omega arith
 
-    by : (o : Outcome (List Node)) → behindBy behind o (r .count) ≡ behindBy p o (n + r .count)
-    by (answered ns) = same-place refl sum refl refl
-    by (refused why) = same-place refl sum refl refl
+    by : (o : Outcome (List Node)) → r .outcome ≡ o → reported (p .count + (n + r .count)) ≤ p .most → behindBy known behind o (r .count) ≡ behindBy 0 p o (n + r .count)
+    by (answered ns) f w = same-place refl sum (sizes-known (p .size) known (length (nodeRecords ns)) (t .knew ns f (omega (arith, sum)))) refl
+    by (refused why) f w = same-place refl sum refl refl
+
+    capped : cappedBy p (n + r .count) (behindBy known behind (r .outcome) (r .count)) ≡ cappedBy p (n + r .count) (behindBy 0 p (r .outcome) (n + r .count))
+    capped = ⊎-elim
+        (λ (w : reported (p .count + (n + r .count)) ≤ p .most). ap (cappedBy p (n + r .count)) (by (r .outcome) refl w))
+        (λ (w : p .most < reported (p .count + (n + r .count))). capped-over p (n + r .count) _ w ∙ sym (capped-over p (n + r .count) _ w))
+        (split (reported (p .count + (n + r .count))) (p .most))
 
 -- ---- one part behind another
 
-module _ {of : Node → List ℕ → List ℕ} {r : Ran (List Node)} {p : ShowPlace} {l : Lent} {q : ShowPlace} {l₁ : Lent} (s : Visited of r p l q l₁) where
+module _ {of : Node → List ℕ → List ℕ} {known : ℕ} {r : Ran (List Node)} {p : ShowPlace} {l : List ℕ} {q : ShowPlace} {l₁ : List ℕ} (s : Visited of known r p l q l₁) where
   -- the first is refused, or wants too many sectors
-  pub joined-stops : (k : Ran (List Node)) → (q .answer ≡ 0 → ⊥) → Visited of (joined r k) p l q l₁
-  joined-stops k n = ⊎-elim
-      (λ (w : reported (p .count + r .count) ≤ p .most). by w (r .outcome) (s .says ∙ capped-within p (r .count) (behindBy p (r .outcome) (r .count)) w))
-      (λ (w : p .most < reported (p .count + r .count)). visited-over (omega (arith, more (r .outcome) (k .outcome))) (s .says ∙ capped-over p (r .count) (behindBy p (r .outcome) (r .count)) w))
+  pub joined-stops : (k : Ran (List Node)) → (q .answer ≡ 0 → ⊥) → {both : ℕ} → Visited of both (joined r k) p l q l₁
+  joined-stops k n {both} = ⊎-elim
+      (λ (w : reported (p .count + r .count) ≤ p .most). by w (r .outcome) (s .says ∙ capped-within p (r .count) (behindBy known p (r .outcome) (r .count)) w))
+      (λ (w : p .most < reported (p .count + r .count)). visited-over (omega (arith, more (r .outcome) (k .outcome))) (s .says ∙ capped-over p (r .count) (behindBy known p (r .outcome) (r .count)) w))
       (split (reported (p .count + r .count)) (p .most))
     where
       more : (o o′ : Outcome (List Node)) → r .count ≤ onward o (r .count) (λ a. onward o′ (k .count) (λ b. told (answered (a ++ b)))) .count
@@ -235,53 +261,70 @@ module _ {of : Node → List ℕ → List ℕ} {r : Ran (List Node)} {p : ShowPl
       more (answered a) (refused why) = omega arith
       more (refused why) o′ = omega arith
 
-      by : reported (p .count + r .count) ≤ p .most → (o : Outcome (List Node)) → q ≡ behindBy p o (r .count) → Visited of (onward o (r .count) (λ a. followed k (λ b. told (answered (a ++ b))))) p l q l₁
+      by : reported (p .count + r .count) ≤ p .most → (o : Outcome (List Node)) → q ≡ behindBy known p o (r .count) → Visited of both (onward o (r .count) (λ a. followed k (λ b. told (answered (a ++ b))))) p l q l₁
       by w (answered a) e = absurd (n (ap (λ (x : ShowPlace). x .answer) e))
       by w (refused why) e = visited-refused why (r .count) refl (e ∙ sym (capped-within p (r .count) (stoppedAt (number why) (reported (p .count + r .count))) w))
 
-  module _ {k : Ran (List Node)} {q′ : ShowPlace} {l₂ : Lent} (t : Visited of k q l₁ q′ l₂) where
+  module _ {more : ℕ} {k : Ran (List Node)} {q′ : ShowPlace} {l₂ : List ℕ} (t : Visited of more k q l₁ q′ l₂) where
     -- the first is answered, and its place is the second's start
     module _ (a : List Node) (f : r .outcome ≡ answered a) (within : reported (p .count + r .count) ≤ p .most)
-        (lends : q .most ≡ p .most) (counts : q .count ≡ reported (p .count + r .count)) (sizes : q .size ≡ reported (p .size + length (nodeRecords a))) where
-      second : (n : ℕ) → n ≡ r .count + k .count → q′ ≡ cappedBy p n (behindBy q (k .outcome) (k .count))
+        (lends : q .most ≡ p .most) (counts : q .count ≡ reported (p .count + r .count)) (sizes : q .size ≡ reported (p .size + (length (nodeRecords a) - known))) where
+      second : (n : ℕ) → n ≡ r .count + k .count → q′ ≡ cappedBy p n (behindBy more q (k .outcome) (k .count))
       second n e =
           let c : reported (q .count + k .count) ≡ reported (p .count + n) = omega (arith, counts) in
           t .says ∙ rw (c, lends)
 
-      both : {b : List Node} → k .outcome ≡ answered b → Visited of (record { outcome = answered (a ++ b); count = r .count + (k .count + 0) }) p l q′ l₂
-      both {b} h =
-          let w : length (nodeRecords (a ++ b)) ≡ length (nodeRecords a) + length (nodeRecords b) = rw (records-joined a b, length-append) in
-          let c : r .count + (k .count + 0) ≡ r .count + k .count = omega arith in
-          let v : behindBy q (k .outcome) (k .count) ≡ behindBy p (answered (a ++ b)) (r .count + (k .count + 0)) =
-          ap (λ o. behindBy q o (k .count)) h ∙ same-place refl (omega (arith, counts)) (omega (arith, sizes)) lends in
-          record {
-            says = second (r .count + (k .count + 0)) c ∙ ap (cappedBy p (r .count + (k .count + 0))) v;
-            puts = λ ns g i room m.
-                let z : ns ≡ a ++ b = cc in
-                let zl : length (nodeRecords ns) ≡ length (nodeRecords (a ++ b)) = rw z in
-                let x : l₁ .out ≡ sets (l .out) (p .size) (nodeRecords a) = s .puts a f within (omega arith) m in
-                let xl : length (l₁ .out) ≡ length (l .out) = rw x (length-sets (l .out) (p .size) (nodeRecords a)) in
-                let u : reported (q .count + k .count) ≤ q .most = omega (arith, counts, lends) in
-                let y : l₂ .out ≡ sets (l₁ .out) (q .size) (nodeRecords b) = t .puts b h u (omega (arith, sizes)) (omega arith) in
-                let e : q .size ≡ p .size + length (nodeRecords a) = omega (arith, sizes) in
-                let j : sets (l₁ .out) (q .size) (nodeRecords b) ≡ sets (l .out) (p .size) (nodeRecords (a ++ b)) = rw (e, x, records-joined a b) (sym (sets-append (nodeRecords a) (nodeRecords b) (l .out) (p .size))) in
-                y ∙ j ∙ ap (λ m. sets (l .out) (p .size) (nodeRecords m)) (sym z);
-            tallied = λ ns g i.
-                let z : ns ≡ a ++ b = cc in
-                let u : reported (q .count + k .count) ≤ q .most = omega (arith, counts, lends) in
-                t .tallied b h u ∙ rw (z, s .tallied a f within) (sym (placed-joined of a b (l .tally)));
-          }
+      module _ {b : List Node} (h : k .outcome ≡ answered b) where
+        abbrev n : ℕ
+        n = r .count + (k .count + 0)
 
-      goes-on : Visited of (joined r k) p l q′ l₂
+        long : length (nodeRecords (a ++ b)) ≡ length (nodeRecords a) + length (nodeRecords b)
+        long = rw (records-joined a b, length-append)
+
+        enough : reported (p .count + n) ≤ p .most → reported (q .count + k .count) ≤ q .most
+        enough i = omega (arith, counts, lends)
+
+        first-knew : known ≤ length (nodeRecords a)
+        first-knew = s .knew a f within
+
+        second-knew : reported (p .count + n) ≤ p .most → more ≤ length (nodeRecords b)
+        second-knew i = t .knew b h (enough i)
+
+        behind-both : reported (p .count + n) ≤ p .most → behindBy more q (k .outcome) (k .count) ≡ behindBy (known + more) p (answered (a ++ b)) n
+        behind-both i =
+            let z : reported (reported (p .size + (length (nodeRecords a) - known)) + (length (nodeRecords b) - more)) ≡ reported (p .size + (length (nodeRecords (a ++ b)) - (known + more))) =
+            rw long (sizes-joined (p .size) (length (nodeRecords a)) (length (nodeRecords b)) known more first-knew (second-knew i)) in
+            ap (λ o. behindBy more q o (k .count)) h ∙ same-place refl (omega (arith, counts)) (rw sizes z) lends
+
+        both-say : q′ ≡ cappedBy p n (behindBy (known + more) p (answered (a ++ b)) n)
+        both-say =
+            let c : n ≡ r .count + k .count = omega arith in
+            second n c ∙ ⊎-elim
+            (λ (i : reported (p .count + n) ≤ p .most). ap (cappedBy p n) (behind-both i))
+            (λ (i : p .most < reported (p .count + n)). capped-over p n _ i ∙ sym (capped-over p n _ i))
+            (split (reported (p .count + n)) (p .most))
+
+        both : Visited of (known + more) (record { outcome = answered (a ++ b); count = n }) p l q′ l₂
+        both = record {
+          says = both-say;
+          knew = λ ns g i.
+              let z : ns ≡ a ++ b = cc in
+              rw z (omega (arith, long, first-knew, second-knew i));
+          tallied = λ ns g i.
+              let z : ns ≡ a ++ b = cc in
+              t .tallied b h (enough i) ∙ rw (z, s .tallied a f within) (sym (placed-joined of a b l));
+        }
+
+      goes-on : Visited of (known + more) (joined r k) p l q′ l₂
       goes-on = rw f (by (k .outcome) refl)
         where
-          by : (o : Outcome (List Node)) → k .outcome ≡ o → Visited of (after (r .count) (onward o (k .count) (λ b. told (answered (a ++ b))))) p l q′ l₂
+          by : (o : Outcome (List Node)) → k .outcome ≡ o → Visited of (known + more) (after (r .count) (onward o (k .count) (λ b. told (answered (a ++ b))))) p l q′ l₂
           by (answered b) h = both h
           by (refused why) h =
               visited-refused why (r .count + k .count) refl
-              (second (r .count + k .count) refl ∙ ap (cappedBy p (r .count + k .count)) (ap (λ o. behindBy q o (k .count)) h ∙ ap (stoppedAt (number why)) (omega (arith, counts))))
+              (second (r .count + k .count) refl ∙ ap (cappedBy p (r .count + k .count)) (ap (λ o. behindBy more q o (k .count)) h ∙ ap (stoppedAt (number why)) (omega (arith, counts))))
 
-    pub joined-goes : q .answer ≡ 0 → Visited of (joined r k) p l q′ l₂
+    pub joined-goes : q .answer ≡ 0 → Visited of (known + more) (joined r k) p l q′ l₂
     joined-goes g =
         let x = visited-answers s g in
         goes-on (x .ns) (x .are) (x .within) (ap (λ (y : ShowPlace). y .most) (x .place)) (ap (λ (y : ShowPlace). y .count) (x .place)) (ap (λ (y : ShowPlace). y .size) (x .place))

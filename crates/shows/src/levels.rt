@@ -1,13 +1,13 @@
-// `list_level` and `handle_entry` call each other, with fewer levels left each time.
+// The first pass of a show, and the only one of a tally: the visitor of a directory and that of an entry, which call each other with the
+// levels left falling.
 ghost use mathlib.Core.Path.{_≡_};
-ghost use Prim.Native.Nat.{_+_, _-_, _≤_};
+ghost use Prim.Native.Nat.{ℕ, _+_, _-_, _≤_};
 ghost use lib.ListN.{length, take};
 ghost use Rattle.disc.specs.Ran.{ran};
 ghost use Rattle.disc.specs.Images.{disc};
 ghost use Rattle.shows.specs.Shows.{nodesAt};
-ghost use Rattle.shows.specs.inner.Turns.{stoppedAt, Held, lent, Visited, Opens, Handles};
+ghost use Rattle.shows.specs.inner.Turns.{stoppedAt, Held, Visited, Opens, Handles};
 ghost use Rattle.shows.specs.inner.Placings.{nodePlaced};
-use crate::nodes::put_node;
 use crate::tallies::tally_entry;
 use directories::spaces::read_directory;
 use disc::answers::DONE;
@@ -15,12 +15,14 @@ use disc::counts::add_counts;
 use disc::places::Mount;
 use disc::refusals::Refusal;
 use identifiers::LEAST_SIZE;
+use identifiers::marks_directory;
+use listings::directory_entries::look;
 use listings::listing::measure;
 use records::allocations::LongAd;
+use records::allocations::long_at;
 
-// A place in a show: the answer; the sectors and the record bytes of the tree before it, both capped at 2^64 - 1; and
-// how many sectors the show may ask for. The next record goes at `size` in the output, if it has room there: lent no
-// output, the recursion measures.
+// A place in a show: the answer, and of the tree before it the sectors and the bytes of its records, both held at 2^64 - 1. `most` is how many
+// sectors the show may ask for.
 pub(crate) struct ShowPlace {
     pub answer: u64,
     pub count: u64,
@@ -40,7 +42,8 @@ fn stopped(answer: u64, count: u64) -> ShowPlace
     }
 }
 
-// A directory that was read and parsed: the place before its first entry, and how many bytes it has.
+// A directory that was read and parsed: the place before its first entry, and how many bytes it has. Of its records the place has counted
+// what a listing has of them, so that no name is measured at an entry's turn.
 struct OpenedLevel {
     place: ShowPlace,
     length: usize,
@@ -79,30 +82,26 @@ fn open_level(image: &[u8], mount: Mount, icb: LongAd, p: ShowPlace, work: &mut 
         place: ShowPlace {
             answer: DONE,
             count,
-            size: p.size,
+            size: add_counts(p.size, parsed.size as u64),
             most: p.most,
         },
         length,
     }
 }
 
-// Lists the directory at `icb`, whose entries have this `level`, and what is under it. `left` is how many levels may
-// still be listed, this one included, and `p` the place in the show before its first entry. The directories above it
-// are in the work space before the part that is lent, which isn't cleared. An empty slice turns a task off: with an
-// empty `out` the call only measures, with an empty `tally` it tallies nothing.
-pub(crate) fn list_level(
+// Visits the directory at icb and what stands under it. The bytes of the directories above it stand before what is lent of the work space.
+// What is left there is of no use to the caller. Where a place is lent the entries are tallied in it.
+pub(crate) fn visit_level(
     image: &[u8],
     mount: Mount,
     icb: LongAd,
-    level: u8,
     left: u8,
     p: ShowPlace,
     work: &mut [u8],
-    out: &mut [u8],
     tally: &mut [u64],
 ) -> ShowPlace
-    requires { ⌜ (level + left ≤ 17) × Held (p .most) p ⌝ }
-    ensures { λ q. ⌜ Visited (nodePlaced (disc (now (image .entry))) mount (p .most)) (ran (disc (now (image .entry))) (nodesAt mount left level (length (now (work .entry))) icb)) p (lent (now (out .entry)) (now (tally .entry))) q (lent (now (out .exit)) (now (tally .exit))) ⌝ }
+    requires { ⌜ Held (p .most) p ⌝ }
+    ensures { λ q. ⌜ ((level : ℕ) → Visited (nodePlaced (disc (now (image .entry))) mount (p .most)) 0 (ran (disc (now (image .entry))) (nodesAt mount left level (length (now (work .entry))) icb)) p (now (tally .entry)) q (now (tally .exit))) ⌝ }
 {
     if left == 0 {
         return stopped(Refusal::TooDeep.number(), p.count);
@@ -116,7 +115,7 @@ pub(crate) fn list_level(
     }
     let mut at: usize = 0;
     while at + LEAST_SIZE <= n {
-        let t = handle_entry(image, mount, n, at, level, below, q, work, out, tally);
+        let t = visit_entry(image, mount, n, at, below, q, work, tally);
         q = t.place;
         if q.answer != DONE {
             return q;
@@ -132,31 +131,24 @@ struct EntryTurn {
     next: usize,
 }
 
-// The turn of the entry at `at` in the directory whose bytes are the first n of the work space: its record, then what
-// is under it, which is read into the work space after those bytes.
-fn handle_entry(
+// The turn of the entry at `at` in the directory whose bytes are the first n of the work space, all of them parsed. Its
+// record has one byte more than a listing's, the level. What is under it comes before the next entry, and is read into
+// the work space after those bytes.
+fn visit_entry(
     image: &[u8],
     mount: Mount,
     n: usize,
     at: usize,
-    level: u8,
     left: u8,
     p: ShowPlace,
     work: &mut [u8],
-    out: &mut [u8],
     tally: &mut [u64],
 ) -> EntryTurn
-    requires { ⌜ (at + 38 ≤ n) × (n ≤ length (now work)) × (level + left ≤ 16) × Held (p .most) p ⌝ }
-    ensures { λ t. ⌜ Handles (disc (now (image .entry))) mount left level (take n (now (work .entry))) (length (now (work .entry)) - n) at p (lent (now (out .entry)) (now (tally .entry))) t (lent (now (out .exit)) (now (tally .exit))) ⌝ }
+    requires { ⌜ (at + 38 ≤ n) × (n ≤ length (now work)) × Held (p .most) p ⌝ }
+    ensures { λ t. ⌜ Handles (disc (now (image .entry))) mount left (take n (now (work .entry))) (length (now (work .entry)) - n) at p (now (tally .entry)) t (now (tally .exit)) ⌝ }
     ensures { λ _. ⌜ take n (now (work .exit)) ≡ take n (now (work .entry)) ⌝ }
 {
-    let e = put_node(level, p.size, &work[at..n], out);
-    if e.answer != DONE {
-        return EntryTurn {
-            place: stopped(e.answer, p.count),
-            next: n,
-        };
-    }
+    let e = look(&work[at..n]);
     let next = at + e.next;
     if e.skipped {
         return EntryTurn { place: p, next };
@@ -164,28 +156,18 @@ fn handle_entry(
     let behind = ShowPlace {
         answer: DONE,
         count: p.count,
-        size: add_counts(p.size, e.size),
+        size: add_counts(p.size, 1),
         most: p.most,
     };
-    tally_entry(image, mount, e.directory, e.icb, p.most, tally);
-    if !e.directory {
+    let directory = marks_directory(e.marks);
+    tally_entry(image, mount, directory, &work[at..n], p.most, tally);
+    if !directory {
         return EntryTurn {
             place: behind,
             next,
         };
     }
-    let icb = e.icb;
-    let deeper = level + 1;
-    let place = list_level(
-        image,
-        mount,
-        icb,
-        deeper,
-        left,
-        behind,
-        &mut work[n..],
-        out,
-        tally,
-    );
+    let icb = long_at(&work[at..n], 20);
+    let place = visit_level(image, mount, icb, left, behind, &mut work[n..], tally);
     EntryTurn { place, next }
 }

@@ -1,74 +1,69 @@
-// One entry of a directory in a show: what the tree takes from it, and its record.
-ghost use mathlib.Core.Path.{_≡_};
+// One entry of a directory in a show: its record, written in its place.
 ghost use Prim.Native.Nat.{_≤_};
 ghost use lib.ListN.{length};
-ghost use Rattle.shows.specs.inner.Turns.{seenBy, Marked, Noted};
-use disc::answers::DONE;
-use disc::counts::add_counts;
+ghost use Rattle.names.specs.Names.{nameOf, written};
+ghost use Rattle.shows.specs.inner.Writes.{Leveled, NodePuts};
 use disc::moves::copy;
-use identifiers::FileIdentifierDescriptor;
-use identifiers::IdentifierRead;
-use listings::directory_entries::is_skipped;
-use listings::entry_records::put_listed;
-use records::allocations::LongAd;
+use identifiers::directory_bit;
+use identifiers::marks_directory;
+use listings::directory_entries::look;
+use listings::directory_entries::record_head;
+use names::dstrings::put_name;
 
-// The size of a record before its name: a listing's 21 bytes, and the level.
-const HEAD: u64 = 22;
+// What a record has before its name: that of a listing, and the level.
+const HEAD: usize = 22;
 
-// What the tree takes from an entry: whether it is skipped, whether it is a directory, the size of its record, and
-// how far from its start the next entry starts.
-pub(crate) struct EntrySeen {
-    pub answer: u64,
-    pub skipped: bool,
+// Writes the record of the entry at the front of s over the front of out, and returns its length. First the name; then,
+// from the second byte on, a listing's head; and over its mark the mark with the level. A record without room is left
+// out; none that was measured is.
+fn put_record(level: u8, marks: u8, s: &[u8], recorded: &[u8], out: &mut [u8]) -> usize
+    ensures { λ r. ⌜ Leveled level marks (now (s .entry)) (written (nameOf (now (recorded .entry)))) (now (out .entry)) (now (out .exit)) r ⌝ }
+{
+    if out.len() < HEAD {
+        return 0;
+    }
+    let n = put_name(recorded, &mut out[HEAD..]);
+    if out.len() - HEAD < n {
+        return 0;
+    }
+    let h = record_head(directory_bit(marks), s, n);
+    copy(&h, &mut out[1..]);
+    let mark = [0x44, 0x45, level];
+    copy(&mark, out);
+    HEAD + n
+}
+
+// How many bytes were written for an entry, whether they are a directory's record, and how far from its start the next
+// entry starts.
+pub(crate) struct NodePut {
+    pub wrote: usize,
     pub directory: bool,
-    pub icb: LongAd,
-    pub size: u64,
     pub next: usize,
 }
 
-fn seen(r: IdentifierRead) -> EntrySeen
-    ensures { λ e. ⌜ e ≡ seenBy r ⌝ }
+// Writes the record of the entry at the front of s over the front of out. The entry isn't checked again. A directory
+// whose record has no room isn't reported as one: only directories with a written record are read, so what was measured
+// bounds their number, whatever the image holds by then.
+pub(crate) fn put_node(level: u8, s: &[u8], out: &mut [u8]) -> NodePut
+    requires { ⌜ 38 ≤ length (now s) ⌝ }
+    ensures { λ r. ⌜ NodePuts level (now (s .entry)) (now (out .entry)) (now (out .exit)) r ⌝ }
 {
-    let f = r.descriptor;
-    let icb = f.icb;
-    EntrySeen {
-        answer: r.answer,
-        skipped: is_skipped(f),
-        directory: f.is_directory(),
-        icb,
-        size: add_counts(HEAD, f.name_size as u64),
-        next: f.total_size,
-    }
-}
-
-// Reads the entry at the front of s and writes its record to the front of out if it has room: the listing's record a
-// byte further on, and over its mark the mark with the level.
-fn put_marked(level: u8, s: &[u8], out: &mut [u8]) -> EntrySeen
-    requires { ⌜ 1 ≤ length (now out) ⌝ }
-    ensures { λ e. ⌜ Marked level (now (s .entry)) (now (out .entry)) (now (out .exit)) e ⌝ }
-{
-    let e = seen(put_listed(s, &mut out[1..]));
-    if e.answer != DONE {
-        return e;
-    }
+    let e = look(s);
+    let next = e.next;
     if e.skipped {
-        return e;
+        return NodePut {
+            wrote: 0,
+            directory: false,
+            next,
+        };
     }
-    if (out.len() as u64) < e.size {
-        return e;
+    let from = e.from;
+    let end = e.end;
+    let marks = e.marks;
+    let wrote = put_record(level, marks, s, &s[from..end], out);
+    NodePut {
+        wrote,
+        directory: marks_directory(marks) & (0 < wrote),
+        next,
     }
-    let mark = [0x44, 0x45, level];
-    copy(&mark, out);
-    e
-}
-
-// The same, after the first `from` bytes of out.
-pub(crate) fn put_node(level: u8, from: u64, s: &[u8], out: &mut [u8]) -> EntrySeen
-    ensures { λ e. ⌜ Noted level from (now (s .entry)) (now (out .entry)) (now (out .exit)) e ⌝ }
-{
-    if (out.len() as u64) <= from {
-        return seen(FileIdentifierDescriptor::parse(false, s));
-    }
-    let at = from as usize;
-    put_marked(level, s, &mut out[at..])
 }

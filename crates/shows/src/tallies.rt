@@ -1,6 +1,7 @@
 // What an entry of the tree adds to the figures of its image.
 ghost use mathlib.Core.Path.{_≡_};
 ghost use Rattle.disc.specs.Images.{disc};
+ghost use Rattle.records.specs.Allocations.{longOf};
 ghost use Rattle.shows.specs.inner.Placings.{filePlaced, entryPlaced};
 use disc::places::Mount;
 use figures::PLACE;
@@ -9,6 +10,7 @@ use figures::add_file;
 use figures::sectors_in;
 use files::sizes::size_file;
 use records::allocations::LongAd;
+use records::allocations::long_at;
 
 // Adds the file at icb, and what reading it comes to. Once the reads have asked for more than `most` sectors, no more
 // are made: the image is over its budget, whatever the others come to.
@@ -23,16 +25,16 @@ fn tally_file(image: &[u8], mount: Mount, icb: LongAd, most: u64, tally: &mut [u
     add_file(tally, r.answer, r.length, s.extents, r.count, s.hops);
 }
 
-// Adds an entry: a directory, or the file at its ICB. If no place is lent, nothing is tallied.
+// The entry at the front of s: a directory, or the file at its ICB, which is looked at for that alone. Lent no place, nothing is tallied.
 pub(crate) fn tally_entry(
     image: &[u8],
     mount: Mount,
     directory: bool,
-    icb: LongAd,
+    s: &[u8],
     most: u64,
     tally: &mut [u64],
 )
-    ensures { λ _. ⌜ now (tally .exit) ≡ entryPlaced (disc (now (image .entry))) mount most directory icb (now (tally .entry)) ⌝ }
+    ensures { λ _. ⌜ now (tally .exit) ≡ entryPlaced (disc (now (image .entry))) mount most directory (longOf (now (s .entry)) 20) (now (tally .entry)) ⌝ }
 {
     if tally.len() != PLACE {
         return;
@@ -41,5 +43,5 @@ pub(crate) fn tally_entry(
         add_directory(tally);
         return;
     }
-    tally_file(image, mount, icb, most, tally);
+    tally_file(image, mount, long_at(s, 20), most, tally);
 }

@@ -9,10 +9,11 @@ ghost use Rattle.disc.specs.Replies.{Replied};
 ghost use Rattle.disc.specs.declared.refusals.Refusal.the-variants.{NoRoom};
 ghost use Rattle.shows.specs.Shows.{nodesAt, treeRecords};
 ghost use Rattle.shows.specs.inner.Placings.{nodePlaced};
-ghost use Rattle.shows.specs.inner.Turns.{startOf, lent, Visited};
+ghost use Rattle.shows.specs.inner.Turns.{startOf, Visited};
 ghost use Rattle.shows.specs.Tallies.{tallied, tallies};
 use crate::levels::ShowPlace;
-use crate::levels::list_level;
+use crate::levels::visit_level;
+use crate::writing::write_level;
 use disc::answers::BAD_SHELF;
 use disc::answers::DONE;
 use disc::answers::OVER_BUDGET;
@@ -30,8 +31,7 @@ use records::allocations::LongAd;
 // The most levels that can be asked for.
 pub const MOST_LEVELS: u32 = 16;
 
-// Goes over the tree once, from the directory at root. An empty slice turns a task off: with an empty `out` it only
-// measures, with an empty `tally` it tallies nothing.
+// Goes over the tree from the directory at root once: it meets every refusal, measures, and tallies where a place is lent.
 fn walk(
     image: &[u8],
     mount: Mount,
@@ -39,11 +39,9 @@ fn walk(
     levels: u8,
     most: u64,
     work: &mut [u8],
-    out: &mut [u8],
     tally: &mut [u64],
 ) -> ShowPlace
-    requires { ⌜ levels ≤ 16 ⌝ }
-    ensures { λ q. ⌜ Visited (nodePlaced (disc (now (image .entry))) mount most) (ran (disc (now (image .entry))) (nodesAt mount levels 1 (length (now (work .entry))) root)) (startOf most) (lent (now (out .entry)) (now (tally .entry))) q (lent (now (out .exit)) (now (tally .exit))) ⌝ }
+    ensures { λ q. ⌜ Visited (nodePlaced (disc (now (image .entry))) mount most) 0 (ran (disc (now (image .entry))) (nodesAt mount levels 1 (length (now (work .entry))) root)) (startOf most) (now (tally .entry)) q (now (tally .exit)) ⌝ }
 {
     let start = ShowPlace {
         answer: DONE,
@@ -51,11 +49,11 @@ fn walk(
         size: 0,
         most,
     };
-    list_level(image, mount, root, 1, levels, start, work, out, tally)
+    visit_level(image, mount, root, levels, start, work, tally)
 }
 
-// Goes over the tree twice, and counts sectors once. Lent no output, it meets every refusal and measures; lent what
-// was measured, it writes, and nothing after that can be written, whatever the image holds by then.
+// Goes over the tree twice and counts its sectors once. The first pass meets every refusal and measures. The second is
+// lent what was measured and writes it: nothing after that can be written, whatever the image holds by then.
 fn show_within(
     image: &[u8],
     mount: Mount,
@@ -69,16 +67,7 @@ fn show_within(
     ensures { λ r. ⌜ Replied NoRoom (ran (disc (now (image .entry))) (budgeted most (treeRecords mount levels (length (now (work .entry))) root))) (now (out .entry)) (now (out .exit)) r ⌝ }
 {
     let mut none = [0u64; 1];
-    let measured = walk(
-        image,
-        mount,
-        root,
-        levels,
-        most,
-        work,
-        &mut out[0..0],
-        &mut none[0..0],
-    );
+    let measured = walk(image, mount, root, levels, most, work, &mut none[0..0]);
     if measured.answer != DONE {
         return refusal(measured.answer, measured.count);
     }
@@ -86,16 +75,7 @@ fn show_within(
         return refusal(Refusal::NoRoom.number(), measured.count);
     }
     let size = measured.size as usize;
-    walk(
-        image,
-        mount,
-        root,
-        levels,
-        most,
-        work,
-        &mut out[0..size],
-        &mut none[0..0],
-    );
+    write_level(image, mount, root, 1, levels, 0, work, &mut out[0..size]);
     Reply {
         answer: DONE,
         count: measured.count,
@@ -159,18 +139,8 @@ fn tally_within(
         return BAD_SHELF;
     }
     clear_figures(tally);
-    let mut none = [0u8; 1];
     let levels = MOST_LEVELS as u8;
-    let visited = walk(
-        image,
-        mount,
-        root,
-        levels,
-        most,
-        work,
-        &mut none[0..0],
-        tally,
-    );
+    let visited = walk(image, mount, root, levels, most, work, tally);
     if visited.answer != DONE {
         clear_figures(tally);
         return visited.answer;

@@ -15,7 +15,7 @@ use Rattle.crcs.specs.Crcs.{eightBits, remainder}
 pub record Remainders (t : List ℕ) : Type 0 where
   pub at : (b : ℕ) → b < 256 → getD t b 0 ≡ remainder b
 
--- The further tables u, three of 256 behind the table t: each entry is eight bits on from the one that stands 256 places before it.
+-- The further tables u, three of 256 entries after the table t: each entry is eight bits on from the one that stands 256 places before it.
 pub record Further (t u : List ℕ) : Type 0 where
   pub long : length t ≡ 256
   pub at : (i : ℕ) → i < 768 → getD u i 0 ≡ eightBits (getD (t ++ u) i 0)
@@ -36,7 +36,7 @@ unfoldable pub bytesBy : List ℕ → ℕ → List ℕ → ℕ
 bytesBy t c [] = c
 bytesBy t c (b ∷ s) = bytesBy t (byteBy t c b) s
 
--- after four bytes: both bytes of the register meet one, and each leaves what the table has that is as many bytes on as stand behind it
+-- after four bytes: both bytes of the register meet one, and each leaves the entry of the table that is as many bytes further on as follow it
 unfoldable pub fourBy : List ℕ → List ℕ → ℕ → ℕ → ℕ → ℕ → ℕ → ℕ
 fourBy t u c b0 b1 b2 b3 =
     bitXor (bitXor (getD u (512 + bitXor (c / 256) b0) 0) (getD u (256 + bitXor (c % 256) b1) 0)) (bitXor (getD u b2 0) (getD t b3 0))

@@ -1,25 +1,25 @@
 -- What the passes over a directory's bytes report.
 use Prim.Native.Nat.{ℕ, _+_, _-_, _/_, _%_, _≤_}
 use mathlib.Core.Path.{_≡_}
-use mathlib.Core.Bool.{Bool, true, false, not}
+use mathlib.Core.Bool.{Bool, true, false, _||_, not}
 use mathlib.Core.List.{List, [], _∷_, _++_}
 use lib.ListN.{length, take, drop}
-use lib.Dec.{eqb, leb}
+use lib.Dec.{eqb, ltb}
 use Rattle.disc.specs.Choice.{pick}
 use Rattle.disc.specs.Refusals.{number}
 use Rattle.disc.specs.Ask.{Outcome}
-use Rattle.disc.specs.Moves.{over}
 use Rattle.disc.specs.Ask.Outcome.{answered, refused}
 use Rattle.disc.specs.declared.refusals.Refusal.{Refusal}
 use Rattle.disc.specs.declared.refusals.Refusal.the-variants.{Ambiguous}
 use Rattle.records.specs.Bytes.{byte, six, le16}
 use Rattle.names.specs.Names.{Wrote}
-use Rattle.identifiers.specs.Identifiers.{nextAt, isDirectory}
+use Rattle.identifiers.specs.Identifiers.{nameAt, nameEnd, nextAt, bit, isDirectory}
 use Rattle.identifiers.specs.inner.Wholes.{Whole}
 use Rattle.identifiers.specs.declared.FileIdentifierDescriptor.{FileIdentifierDescriptor}
 use Rattle.identifiers.specs.declared.IdentifierRead.{IdentifierRead}
 use Rattle.listings.specs.Entries.{Entry, entryOf, entryRead, inFront, entries}
 use Rattle.listings.specs.Listings.{entryRecord, records, foldIn, answersTo, unnamed}
+use Rattle.listings.specs.declared.directory_entries.EntrySeen.{EntrySeen}
 use Rattle.listings.specs.declared.directory_entries.Put.{Put}
 use Rattle.listings.specs.declared.finds.Named.{Named}
 use Rattle.listings.specs.declared.listing.ListingSize.{ListingSize}
@@ -49,6 +49,14 @@ pub record Comes (check : Bool) (raw : List ℕ) (at : ℕ) (r : IdentifierRead)
   pub good : r .answer ≡ 0 → GoodAt check raw at (r .descriptor)
   pub bad : (r .answer ≡ 0 → ⊥) → BadAt check raw at (r .answer)
 
+-- ---- the entry at the front of s, looked at without checking it again
+
+-- one whose name ends past the bytes is skipped, and behind it there is none
+unfoldable pub seenOf : List ℕ → EntrySeen
+seenOf s =
+    pick (ltb (length s) (nameEnd s)) (record { skipped = true; marks = byte s 18; from = 0; end = 0; next = length s })
+    (record { skipped = bit 4 (byte s 18) || bit 8 (byte s 18); marks = byte s 18; from = nameAt s; end = nameEnd s; next = nextAt s })
+
 -- ---- a record
 
 -- its head: the ICB's bytes as they are recorded, the name's length n
@@ -75,11 +83,6 @@ pub record Puts (s before after : List ℕ) (r : Put) : Type 0 where
   pub near : r .next ≤ length s + 3
   pub next : (e : Entry) → entryRead false s ≡ answered e → r .next ≡ nextAt s
   pub wrote : (e : Entry) → entryRead false s ≡ answered e → length (entryRecord e) ≤ length before → Wrote (entryRecord e) before after (r .wrote)
-
--- the memory lent to an entry, with the record over its front where the entry can be read and the record fits
-unfoldable pub listedOver : Outcome Entry → List ℕ → List ℕ
-listedOver (answered e) lent = pick (leb (length (entryRecord e)) (length lent)) (over (entryRecord e) lent) lent
-listedOver (refused why) lent = lent
 
 -- ---- all entries
 

@@ -13,7 +13,7 @@ returns c =
     let headed = copied .before .before .before in
     let fits = headed .before .before in
     let named = fits .before .before .before in
-    record-put _ _ _ _ (named .put-name .ensures) (search needs) (named .before .before .if1 .left) (fits .if2 .left) (headed .before .directory-bit .ensures) (headed .head .ensures) (copied .copy .ensures)
+    record-put _ _ _ _ (named .put-name .ensures) (search needs) (named .before .before .if1 .left) (fits .if2 .left) (headed .before .directory-bit .ensures) (headed .record-head .ensures) (copied .copy .ensures)
 
 pub put-record-spec : {M : Type 1} → statement M
 put-record-spec =

@@ -19,12 +19,12 @@ bad c =
 
 good : tie.Need-returns-4
 good c =
-    let measured = c .before .before in
+    let measured = c .before .before .before in
     let checked = measured .before .before .before in
     let within = checked .before .before in
     let read = within .before .before .before .before .before .before in
     open-good _ _ _ _ _ (read .read-directory .ensures) _ (within .before .before .before .add-counts .ensures) (within .before .if1 .left) (checked .before .if2 .left)
-    (checked .is-checked .ensures) (measured .measure .ensures) (c .if3 .left) (reads-room (read .read-directory .ensures))
+    (checked .is-checked .ensures) (measured .measure .ensures) (c .before .if3 .left) (reads-room (read .read-directory .ensures)) (c .add-counts2 .ensures)
 
 pub open-level-spec : {M : Type 1} → statement M
 open-level-spec =
@@ -33,5 +33,5 @@ open-level-spec =
     (λ c κs. search needs) (λ c. search needs) (λ c. search opens) (λ c κs. search needs) (λ c. search needs) (λ c. search needs)
     (λ c. search opens) (λ c κs. search needs) (λ c κs. search needs) (λ c. search needs)
     bad
-    (λ c. search needs)
+    (λ c κs. search needs) (λ c. search needs)
     good)

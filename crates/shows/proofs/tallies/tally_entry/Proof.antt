@@ -10,5 +10,5 @@ tally-entry-spec =
     (λ c. search (entry-none, needs))
     (λ c κs. search needs) (λ c. search needs)
     (λ c. search (entry-directory, needs))
-    (λ c κs. search needs) (λ c. search needs)
+    (λ c κs. search needs) (λ c κs. search needs) (λ c. search needs)
     (λ c. search (entry-file, needs)))
