@@ -1,4 +1,6 @@
 // Runs the cases for areas of allocation descriptors. Each line has the question and the answer.
+#![tactic(auto)]
+
 use areas::{AdContinuation, AdCursor, AdEnding, AdStep, AllocExtent, ending_of, next_ad};
 use programs::words::{number, number8, number32, say, say_bytes, say_partition, say_refusal};
 

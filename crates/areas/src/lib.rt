@@ -1,4 +1,6 @@
 // Areas of allocation descriptors, read where they stand by a cursor that is passed by value.
+#![tactic(auto)]
+
 ghost use Rattle.std.specs.Prelude.{◌≡◌};
 ghost use Rattle.records.specs.Allocations.{short_of, long_of, ext_of};
 ghost use Rattle.areas.specs.Areas.{size_of, descriptor_of, short_descriptor, long_descriptor, ext_descriptor, descriptor_at, next_of, area_at};
@@ -8,7 +10,7 @@ use disc::refusals::Refusal;
 use records::allocations::{ext_at, long_at, short_at};
 
 // `length` is the effective length: an ext_ad's information length, otherwise the stored length.
-#[derive(Drop)]
+#[derive(Clone, Copy)]
 pub struct AllocExtent {
     pub length: u32,
     pub extent_type: u8,
@@ -17,7 +19,7 @@ pub struct AllocExtent {
 }
 
 // Where the next area is.
-#[derive(Drop)]
+#[derive(Clone, Copy)]
 pub struct AdContinuation {
     pub length: u32,
     pub block: Block,
@@ -25,13 +27,13 @@ pub struct AdContinuation {
 }
 
 // `left` bytes of descriptors are left, from `at` on.
-#[derive(Drop)]
+#[derive(Clone, Copy)]
 pub struct AdCursor {
     pub at: usize,
     pub left: usize,
 }
 
-#[derive(Drop)]
+#[derive(Clone, Copy)]
 pub enum AdStep {
     Extent(AllocExtent, AdCursor),
     Continuation(AdContinuation),
@@ -40,7 +42,7 @@ pub enum AdStep {
 }
 
 // How an area ends.
-#[derive(Drop)]
+#[derive(Clone, Copy)]
 pub enum AdEnding {
     End,
     Continuation(AdContinuation),
@@ -48,7 +50,7 @@ pub enum AdEnding {
 }
 
 // What one descriptor says.
-#[derive(Drop)]
+#[derive(Clone, Copy)]
 enum Descriptor {
     Stop,
     Data(AllocExtent),

@@ -4,6 +4,8 @@
 //
 // A file that is cut off, or has a number that means nothing, is refused with a line that says where. The rest of it
 // isn't asked.
+#![tactic(auto)]
+
 mod calls;
 mod lines;
 mod queries;
@@ -210,7 +212,7 @@ fn ask_queries(
 
 // Offsets in an image's record: the end of its name; start and end of the packed image, of the volumes made by hand
 // and of the queries.
-#[derive(Drop)]
+#[derive(Clone, Copy)]
 struct Record {
     name: usize,
     image: usize,

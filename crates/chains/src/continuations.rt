@@ -9,7 +9,7 @@ use disc::refusals::Refusal;
 use tags::{AedRead, AllocationExtentDescriptor};
 
 // Where the area is, its size and the sectors asked for; or a refusal and the sectors asked for.
-#[derive(Drop)]
+#[derive(Clone, Copy)]
 pub enum NextArea {
     Found {
         at: usize,

@@ -5,7 +5,7 @@ use crate::cursors::{ChainCursor, ChainStep, advance};
 use disc::counts::add_counts;
 use disc::places::Mount;
 
-#[derive(Drop)]
+#[derive(Clone, Copy)]
 pub struct Counted {
     pub extents: u64,
     pub hops: u8,

@@ -9,14 +9,14 @@ use disc::places::{Mount, Placed, Sector};
 use records::bytes::le32;
 
 // `left` bytes of descriptors are left from `at` on; `hops` more areas may follow.
-#[derive(Drop)]
+#[derive(Clone, Copy)]
 pub struct ChainCursor {
     pub at: usize,
     pub left: usize,
     pub hops: u8,
 }
 
-#[derive(Drop)]
+#[derive(Clone, Copy)]
 pub enum ChainStep {
     Takes(AllocExtent, ChainCursor),
     Hops(ChainCursor),

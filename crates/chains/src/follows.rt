@@ -8,7 +8,7 @@ use disc::places::Mount;
 use disc::refusals::Refusal;
 
 // The sectors asked for to follow a chain; with a refusal, if there was one.
-#[derive(Drop)]
+#[derive(Clone, Copy)]
 pub enum Chain {
     Whole(u64),
     Refused(Refusal, u64),

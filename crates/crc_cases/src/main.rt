@@ -1,4 +1,6 @@
 // Runs the CRC, a line each: the bytes, or how many of a pattern, and their CRC, the high byte first.
+#![tactic(auto)]
+
 ghost use Rattle.std.specs.Prelude.{◌≡◌, length};
 
 use crcs::crc;

@@ -1,4 +1,6 @@
 // The CRC of a descriptor's body, from a table of 256 remainders, and four bytes at a time with three further tables.
+#![tactic(auto)]
+
 mod further;
 mod table;
 

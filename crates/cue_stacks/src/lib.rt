@@ -7,5 +7,7 @@
 // work space is cleared once, at the end.
 //
 // The definition `stacked` recurses on the items. It takes what a path comes to as a function, so nothing here knows what a directory is.
+#![tactic(auto)]
+
 pub mod items;
 pub mod stacks;

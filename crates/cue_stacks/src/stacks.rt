@@ -19,7 +19,7 @@ use records::allocations::LongAd;
 
 // A place among the items. While `going`, the next item starts at `from`. Those before it took `places` places of the
 // rows, `filled` bytes of the output and `count` sectors.
-#[derive(Drop)]
+#[derive(Clone, Copy)]
 struct ItemPlace {
     going: bool,
     from: usize,

@@ -1,5 +1,7 @@
 // Runs the cases for the volume's descriptors. Each line has what was read, its id, its size, the byte that was
 // changed, and the answer.
+#![tactic(auto)]
+
 use descriptors::anchors::{AnchorRead, AnchorVolumeDescriptorPointer};
 use descriptors::file_sets::FileSetDescriptor;
 use descriptors::logicals::LogicalVolumeDescriptor;

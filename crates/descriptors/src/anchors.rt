@@ -13,14 +13,14 @@ const ID: u16 = 2;
 const SIZE: usize = 32;
 
 #[repr(C)]
-#[derive(Drop)]
+#[derive(Clone, Copy)]
 pub struct AnchorVolumeDescriptorPointer {
     pub tag: DescriptorTag,
     pub main_volume_descriptor_sequence: ExtentAd,
     pub reserve_volume_descriptor_sequence: ExtentAd,
 }
 
-#[derive(Drop)]
+#[derive(Clone, Copy)]
 pub enum AnchorRead {
     Read(AnchorVolumeDescriptorPointer),
     Refused(Refusal),

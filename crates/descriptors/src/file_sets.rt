@@ -15,7 +15,7 @@ const ID: u16 = 256;
 const SIZE: usize = 416;
 
 #[repr(C)]
-#[derive(Drop)]
+#[derive(Clone, Copy)]
 pub struct FileSetDescriptor {
     pub tag: DescriptorTag,
     pub root_directory_icb: LongAd,
@@ -23,7 +23,7 @@ pub struct FileSetDescriptor {
 
 // An enum can hold no array, so this has an answer number, and zeros on a refusal.
 #[repr(C)]
-#[derive(Drop)]
+#[derive(Clone, Copy)]
 pub struct FileSetRead {
     pub answer: u64,
     pub descriptor: FileSetDescriptor,

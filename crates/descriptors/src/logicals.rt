@@ -21,7 +21,7 @@ const SIZE: usize = 440;
 
 // The identifier is the label field as recorded.
 #[repr(C)]
-#[derive(Drop)]
+#[derive(Clone, Copy)]
 pub struct LogicalVolumeDescriptor {
     pub tag: DescriptorTag,
     pub volume_descriptor_sequence_number: u32,
@@ -38,7 +38,7 @@ pub struct LogicalVolumeDescriptor {
 
 // An enum can hold no array, so this has an answer number, and zeros on a refusal.
 #[repr(C)]
-#[derive(Drop)]
+#[derive(Clone, Copy)]
 pub struct LogicalRead {
     pub answer: u64,
     pub descriptor: LogicalVolumeDescriptor,

@@ -14,7 +14,7 @@ const SIZE: usize = 196;
 
 // The start and the length are in logical sectors.
 #[repr(C)]
-#[derive(Drop)]
+#[derive(Clone, Copy)]
 pub struct PartitionDescriptor {
     pub tag: DescriptorTag,
     pub volume_descriptor_sequence_number: u32,
@@ -24,7 +24,7 @@ pub struct PartitionDescriptor {
     pub partition_length: u32,
 }
 
-#[derive(Drop)]
+#[derive(Clone, Copy)]
 pub enum PartitionRead {
     Read(PartitionDescriptor),
     Refused(Refusal),

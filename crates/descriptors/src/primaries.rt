@@ -19,7 +19,7 @@ const SIZE: usize = 56;
 
 // The volume identifier is the label field as recorded.
 #[repr(C)]
-#[derive(Drop)]
+#[derive(Clone, Copy)]
 pub struct PrimaryVolumeDescriptor {
     pub tag: DescriptorTag,
     pub volume_descriptor_sequence_number: u32,
@@ -29,7 +29,7 @@ pub struct PrimaryVolumeDescriptor {
 
 // An enum can hold no array, so this has an answer number, and zeros on a refusal.
 #[repr(C)]
-#[derive(Drop)]
+#[derive(Clone, Copy)]
 pub struct PrimaryRead {
     pub answer: u64,
     pub descriptor: PrimaryVolumeDescriptor,

@@ -5,7 +5,7 @@ ghost use Rattle.descriptors.specs.Recognition.{identified, nsr, other, identity
 
 use records::bytes::byte_at;
 
-#[derive(Drop)]
+#[derive(Clone, Copy)]
 pub enum Structure {
     // BEA01.
     Beginning,

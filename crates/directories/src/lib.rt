@@ -6,6 +6,8 @@
 //
 // The tree `seek_path` recurses on the path's components, each of which knows where it starts. A component that isn't there is one of its answers and
 // not a refusal, so the call for the component that failed is the same walk.
+#![tactic(auto)]
+
 pub mod listed;
 pub mod lookups;
 pub mod spaces;

@@ -22,7 +22,7 @@ use records::allocations::LongAd;
 
 // The answer, the count of sectors, and the ICB that a path names.
 #[repr(C)]
-#[derive(Drop)]
+#[derive(Clone, Copy)]
 pub struct Found {
     // A number of the table.
     pub answer: u64,

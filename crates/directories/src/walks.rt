@@ -17,7 +17,7 @@ use listings::paths::{component_end, component_from};
 use records::allocations::{LongAd, no_long};
 
 // A component's entry in a directory, and how many sectors it took to find it.
-#[derive(Drop)]
+#[derive(Clone, Copy)]
 pub struct Entered {
     pub entry: Named,
     pub count: u64,
@@ -25,7 +25,7 @@ pub struct Entered {
 
 // A place on the walk along a path. While `going`, the first component from `from` on is looked for at `icb`. At the
 // end there is the answer, and a component that wasn't found is from `from` to `end`.
-#[derive(Drop)]
+#[derive(Clone, Copy)]
 pub struct PathPlace {
     pub going: bool,
     pub answer: u64,

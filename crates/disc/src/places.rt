@@ -3,15 +3,15 @@
 ghost use Rattle.std.specs.Prelude.{◌≡◌};
 ghost use Rattle.disc.specs.Places.{sector_of, is_mapped, mapped_start, start_for, icb_start, crossing, start_by, icb_placed, at_entry, is_checked, StandsIn, BlockStands};
 
-#[derive(Drop)]
+#[derive(Clone, Copy)]
 pub struct Block(pub u32);
 
 // The sum of two 32-bit numbers can pass 2^32, so a sector's number has 64 bits.
-#[derive(Drop)]
+#[derive(Clone, Copy)]
 pub struct Sector(pub u64);
 
 // The partition that a descriptor names: a short_ad names none.
-#[derive(Drop)]
+#[derive(Clone, Copy)]
 pub enum PartitionRef {
     Unnamed,
     Named(u16),
@@ -20,7 +20,7 @@ pub enum PartitionRef {
 // How a volume is read: where its partition starts, the partition's number, whether descriptors are checked, and the
 // partition maps that resolve references, if any.
 #[repr(C)]
-#[derive(Drop)]
+#[derive(Clone, Copy)]
 pub struct Mount {
     // The sector where the partition starts; for a volume with maps, the file set's partition.
     pub start: u32,
@@ -38,14 +38,14 @@ pub struct Mount {
 }
 
 // Where the partition that a reference names starts, if it is one of this volume.
-#[derive(Drop)]
+#[derive(Clone, Copy)]
 pub(crate) enum Start {
     In(u32),
     Foreign,
 }
 
 // Where a block stands: in a sector, or nowhere on this volume.
-#[derive(Drop)]
+#[derive(Clone, Copy)]
 pub enum Placed {
     At(Sector),
     Nowhere,

@@ -7,7 +7,7 @@ use crate::answers::{
     NOT_BLURAY, OVER_BUDGET, TOO_DEEP, TOO_MANY, UNSUPPORTED,
 };
 
-#[derive(Drop)]
+#[derive(Clone, Copy)]
 pub enum Refusal {
     // A sector that was asked for isn't wholly inside the image.
     Io,

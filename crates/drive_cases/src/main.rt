@@ -9,6 +9,8 @@
 // same with one sector of the list denied, each in turn. A denied sector is a slice of 0, 2,047 or 2,049 bytes.
 //
 // tools/drive_model.py computes what is expected, from the images and the rules.
+#![tactic(auto)]
+
 ghost use Rattle.std.specs.Prelude.{◌≡◌, ◌<◌, ◌≤◌, length};
 
 use disc::moves::least;
@@ -73,7 +75,7 @@ fn lent(image: &[u8], sector: u64, i: usize, denied: usize) -> &[u8] {
 // ---- opening
 
 // What an opening says: the volume by its partition and by sums of its root and its label.
-#[derive(Drop)]
+#[derive(Clone, Copy)]
 struct OpenSaid {
     answer: u64,
     count: u64,
@@ -108,7 +110,7 @@ fn is_same_volume(a: OpenSaid, b: OpenSaid) -> bool {
 }
 
 // How an opening ended, and the sum of what it wanted.
-#[derive(Drop)]
+#[derive(Clone, Copy)]
 struct OpenWalk {
     opening: Opening,
     list: u64,
@@ -190,7 +192,7 @@ fn say_flag(is_so: bool, word: &[u8]) {
 // ---- reading
 
 // A query: how the volume is read, the ICB, and the room of the output.
-#[derive(Drop)]
+#[derive(Clone, Copy)]
 struct Question {
     volume: VolumeRecord,
     icb: LongAd,
@@ -198,7 +200,7 @@ struct Question {
 }
 
 // What a read says, and what it leaves in the memory that is lent.
-#[derive(Drop)]
+#[derive(Clone, Copy)]
 struct Said {
     answer: u64,
     count: u64,
@@ -238,7 +240,7 @@ fn is_kept(out: &[u8], from: usize) -> bool {
 }
 
 // How a read ended, and the sum of what it wanted.
-#[derive(Drop)]
+#[derive(Clone, Copy)]
 struct ReadWalk {
     reading: Reading,
     list: u64,
@@ -271,7 +273,7 @@ fn is_same_place(r: Reading, x: Reading) -> bool {
 }
 
 // How a read ended, what one more step made of it, and the sum of what it wanted.
-#[derive(Drop)]
+#[derive(Clone, Copy)]
 struct Ended {
     reading: Reading,
     more: Reading,

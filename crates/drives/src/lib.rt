@@ -8,6 +8,8 @@
 // `located` takes the entry's sector. `scans` takes an area byte by byte, since a descriptor may stand across two sectors. `bodies` takes a
 // continuation and keeps what its header says until all of its sectors have come. `arrivals` puts an extent's bytes into the output, and `turns`
 // says where a read goes on.
+#![tactic(auto)]
+
 mod arrivals;
 mod bodies;
 mod located;

@@ -31,7 +31,7 @@ pub(crate) const MOST_SECTORS: u64 = 0x1000_0000_0000;
 
 // An opening in progress.
 #[repr(C)]
-#[derive(Drop)]
+#[derive(Clone, Copy)]
 pub struct Opening {
     // What is wanted: 0, the anchor; 1, a sector of the sequence; 2, the file set descriptor. To find out whether the
     // opening has ended, call is_wanting; don't look at the phase: a state made by hand may have ended in any phase.

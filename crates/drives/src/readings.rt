@@ -23,7 +23,7 @@ use volumes::openings::VolumeRecord;
 
 // A continuation that arrives in parts: what its header said, and what is still to come of its body and its area.
 #[repr(C)]
-#[derive(Drop)]
+#[derive(Clone, Copy)]
 pub struct Body {
     // The tag is valid.
     pub tagged: bool,
@@ -39,7 +39,7 @@ pub struct Body {
 
 // A read in progress.
 #[repr(C)]
-#[derive(Drop)]
+#[derive(Clone, Copy)]
 pub struct Reading {
     // What is wanted: 0, the file entry; 1, the first sector of a continuation; 2, a further one; 3, a sector of an
     // extent. To find out whether the read has ended, call is_wanting; don't look at the phase: a state made by hand

@@ -9,7 +9,7 @@ use disc::places::PartitionRef;
 
 // A place in an area.
 #[repr(C)]
-#[derive(Drop)]
+#[derive(Clone, Copy)]
 pub struct Scan {
     // The number of places of the row that hold extents.
     pub listed: usize,

@@ -15,7 +15,7 @@ use disc::moves::least;
 use disc::places::{Block, Placed, Sector};
 
 // What is to be done about an extent: it is passed over, or the read goes on so.
-#[derive(Drop)]
+#[derive(Clone, Copy)]
 pub(crate) struct ExtentTurn {
     pub skips: bool,
     pub reading: Reading,

@@ -16,6 +16,8 @@
 // extents of the file wait in the row, however many there are. A sector names at most 256, and the first `scan.listed`
 // slots are in use: before a step, lengthen the row if fewer than 256 are left. The row may move, as with realloc, and
 // its new slots may hold anything. packaging/window.c does all of this.
+#![tactic(auto)]
+
 ghost use Rattle.std.specs.Prelude.{◌≡◌};
 ghost use Rattle.volumes.specs.Openings.{usual, opening};
 ghost use Rattle.listings.specs.Listings.{matching_of};

@@ -18,7 +18,7 @@ const EXTENDED_ID: u16 = 266;
 const EXTENDED_SIZE: usize = 216;
 
 // The object size: a plain entry has none.
-#[derive(Drop)]
+#[derive(Clone, Copy)]
 pub enum ObjectSize {
     Recorded(u64),
     Absent,
@@ -26,7 +26,7 @@ pub enum ObjectSize {
 
 // `area_at` and `area_length` say where the area of allocation descriptors, or the embedded file, is in the bytes
 // given.
-#[derive(Drop)]
+#[derive(Clone, Copy)]
 pub struct FileEntry {
     pub tag: DescriptorTag,
     pub icb_tag: IcbTag,
@@ -47,14 +47,14 @@ pub struct FileEntry {
     pub area_length: usize,
 }
 
-#[derive(Drop)]
+#[derive(Clone, Copy)]
 pub enum EntryRead {
     Read(FileEntry),
     Refused(Refusal),
 }
 
 // The fields from 64 on, where the two forms differ. The attributes start at `prefix`.
-#[derive(Drop)]
+#[derive(Clone, Copy)]
 struct EntryTail {
     prefix: usize,
     logical_blocks_recorded: u64,

@@ -7,7 +7,7 @@ use records::allocations::LbAddr;
 use records::bytes::{byte_at, le16, le32};
 
 #[repr(C)]
-#[derive(Drop)]
+#[derive(Clone, Copy)]
 pub struct IcbTag {
     pub prior_recorded_entries: u32,
     pub strategy_type: u16,
@@ -19,7 +19,7 @@ pub struct IcbTag {
     pub flags: u16,
 }
 
-#[derive(Drop)]
+#[derive(Clone, Copy)]
 pub enum IcbTagRead {
     Read(IcbTag),
     Refused(Refusal),

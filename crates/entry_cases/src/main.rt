@@ -1,5 +1,7 @@
 // Runs the cases for ICB tags, file entries and file identifiers. Each line has the question and the answer, field by
 // field in the order of the record.
+#![tactic(auto)]
+
 use disc::moves::copy;
 use entries::file_entries::{EntryRead, FileEntry, ObjectSize};
 use entries::icb_tags::{IcbTag, IcbTagRead};

@@ -1,4 +1,6 @@
 // Figures over files, directories and images, in the places of a lent row: each figure is two numbers, itself, held at 2^64 - 1, and whether it is over that.
+#![tactic(auto)]
+
 ghost use Rattle.std.specs.Prelude.{◌≡◌, ◌++◌, ◌+◌, ◌*◌, ◌≤◌, max, min, length, get_or, take, drop, replicate};
 ghost use Rattle.std.proofs.lemmas.List.Edits.{sets};
 ghost use Rattle.figures.specs.Figures.{summed, greater, places_added, sums, total_of, totaled, total_answer};

@@ -12,7 +12,7 @@ use disc::refusals::Refusal;
 
 // What extents come to: their bytes, the sectors asked for, how many extents were begun, and the cursor after the
 // last of them.
-#[derive(Drop)]
+#[derive(Clone, Copy)]
 pub(crate) struct Sizes {
     pub size: u64,
     pub count: u64,
@@ -21,7 +21,7 @@ pub(crate) struct Sizes {
 }
 
 // The sizes, or a refusal and the sectors asked for.
-#[derive(Drop)]
+#[derive(Clone, Copy)]
 pub(crate) enum Measured {
     Sized(Sizes),
     Refused(Refusal, u64),

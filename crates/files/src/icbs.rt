@@ -11,7 +11,7 @@ use records::allocations::LongAd;
 
 // The kind of its descriptors, its information length, and where its area of descriptors, or the file itself, is in
 // the image.
-#[derive(Drop)]
+#[derive(Clone, Copy)]
 pub struct FilePlace {
     pub kind: u8,
     pub information: u64,
@@ -20,7 +20,7 @@ pub struct FilePlace {
 }
 
 // A refusal has the sectors asked for with it.
-#[derive(Drop)]
+#[derive(Clone, Copy)]
 pub enum PlaceRead {
     Found(FilePlace),
     Refused(Refusal, u64),

@@ -7,6 +7,8 @@
 // written nothing.
 //
 // The tree `file_bytes` knows no passes: it asks for each sector in turn. The laws in proofs/ say that both come to the same.
+#![tactic(auto)]
+
 pub mod extents;
 pub mod icbs;
 pub mod pieces;

@@ -12,14 +12,14 @@ use disc::refusals::Refusal;
 
 // What an extent gives: where it is in the image, the sectors read and the bytes; or a refusal and the sectors asked
 // for.
-#[derive(Drop)]
+#[derive(Clone, Copy)]
 pub(crate) enum Piece {
     Held { from: u64, sectors: u64, bytes: u64 },
     Refused(Refusal, u64),
 }
 
 // What one turn of the walk along a chain gives.
-#[derive(Drop)]
+#[derive(Clone, Copy)]
 pub enum Turn {
     Piece {
         from: u64,

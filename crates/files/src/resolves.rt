@@ -11,7 +11,7 @@ use records::allocations::LongAd;
 
 // The file is embedded in its entry; or in the extents of its chain, which was followed to its end; or refused. The
 // number is the sectors asked for.
-#[derive(Drop)]
+#[derive(Clone, Copy)]
 pub enum Resolved {
     Embedded(FilePlace),
     Chained(FilePlace, u64),

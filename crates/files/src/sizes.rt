@@ -19,7 +19,7 @@ use disc::replies::{Reply, refusal};
 use records::allocations::LongAd;
 
 // The reply of a read with room enough, the extents of the whole chain, and the continuations followed.
-#[derive(Drop)]
+#[derive(Clone, Copy)]
 pub struct FileSizes {
     pub reply: Reply,
     pub extents: u64,
@@ -28,7 +28,7 @@ pub struct FileSizes {
 
 // A file measured as far as a read goes: the reply, the extents begun, the cursor after them, and how the entry's
 // descriptors are read.
-#[derive(Drop)]
+#[derive(Clone, Copy)]
 struct Weighing {
     reply: Reply,
     visits: u64,

@@ -1,4 +1,6 @@
 // The example of docs/GUIDE.md: opens the image on standard input, which is kept sparse, looks cue 10.1A up and prints it.
+#![tactic(auto)]
+
 use listings::matchings::Matching;
 use programs::lent::{front, mebibyte};
 use programs::words::{end_line, say, say_refused};

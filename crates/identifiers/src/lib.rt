@@ -1,4 +1,6 @@
 // File identifiers: one entry of a directory.
+#![tactic(auto)]
+
 ghost use Rattle.std.specs.Prelude.{◌≡◌, ◌+◌, ◌/◌, ◌%◌, ◌<◌};
 ghost use Rattle.disc.specs.Ask.Outcome.{refused};
 ghost use Rattle.identifiers.specs.Identifiers.{name_at, identifier_of, identifier_sized, identifier_named, read_identifier, identifier_read, bit, is_deleted, is_directory, is_parent};
@@ -20,7 +22,7 @@ pub const LEAST_SIZE: usize = 38;
 // An entry of a directory (id 257). Its name, a d-string of `name_length` bytes, is at `name_at`; as UTF-8 it has
 // `name_size` bytes. The next entry starts `total_size` bytes further.
 #[repr(C)]
-#[derive(Drop)]
+#[derive(Clone, Copy)]
 pub struct FileIdentifierDescriptor {
     pub tag: DescriptorTag,
     pub file_version_number: u16,
@@ -35,7 +37,7 @@ pub struct FileIdentifierDescriptor {
 
 // An enum can hold no array, so this has an answer number, and zeros on a refusal.
 #[repr(C)]
-#[derive(Drop)]
+#[derive(Clone, Copy)]
 pub struct IdentifierRead {
     pub answer: u64,
     pub descriptor: FileIdentifierDescriptor,

@@ -5,6 +5,8 @@
 // a listing by value, which has the reply of the whole call and the next extent to store; `further` is the listing without its front. `file_words`
 // and `file_rows` are one loop each that stores the front, as four numbers or as a record. The laws of that loop (proofs/ListLaws.antt,
 // Storing.antt) speak of what a slot holds, so both cite the same ones. `file_runs` is built in the same way, over `plan_runs`.
+#![tactic(auto)]
+
 pub mod lists;
 pub mod parts;
 pub mod runs;

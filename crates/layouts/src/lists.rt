@@ -20,7 +20,7 @@ use records::allocations::LongAd;
 
 // An extent, as a slot of the extent list gives it.
 #[repr(C)]
-#[derive(Drop)]
+#[derive(Clone, Copy)]
 pub struct Extent {
     // The effective length: how many bytes of its file are in the extent.
     pub length: u32,
@@ -34,7 +34,7 @@ pub struct Extent {
 
 // A list under way: the reply of the whole call, the next extent to store, the cursor after it, and how the entry's
 // descriptors are read.
-#[derive(Drop)]
+#[derive(Clone, Copy)]
 struct Listing {
     reply: Reply,
     mount: Mount,

@@ -20,7 +20,7 @@ use records::allocations::LongAd;
 
 // A run, as a slot gives it: a number of bytes of the image, from a place on.
 #[repr(C)]
-#[derive(Drop)]
+#[derive(Clone, Copy)]
 pub struct Run {
     // The offset of its first byte in the image.
     pub at: u64,
@@ -29,7 +29,7 @@ pub struct Run {
 }
 
 // How many runs there are, and the sectors asked for; or a refusal and the sectors asked for.
-#[derive(Drop)]
+#[derive(Clone, Copy)]
 enum RunCount {
     Counted(u64, u64),
     Refused(Refusal, u64),
@@ -37,7 +37,7 @@ enum RunCount {
 
 // A list under way: the reply of the whole call, the next run to store, the cursor after it, and the bytes still
 // wanted.
-#[derive(Drop)]
+#[derive(Clone, Copy)]
 struct Running {
     reply: Reply,
     mount: Mount,

@@ -56,7 +56,7 @@ pub(crate) fn record_size(f: FileIdentifierDescriptor) -> usize
 
 // What is seen of an entry: whether it is skipped, its characteristics, where its name starts and ends, and how far from
 // its start the next entry starts.
-#[derive(Drop)]
+#[derive(Clone, Copy)]
 pub struct EntrySeen {
     pub skipped: bool,
     pub marks: u8,
@@ -139,7 +139,7 @@ fn put_record(marks: u8, s: &[u8], recorded: &[u8], out: &mut [u8]) -> usize
 }
 
 // How many bytes were written for an entry, and how far from its start the next one starts.
-#[derive(Drop)]
+#[derive(Clone, Copy)]
 pub(crate) struct Put {
     pub wrote: usize,
     pub next: usize,

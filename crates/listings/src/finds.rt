@@ -14,7 +14,7 @@ use records::allocations::{LongAd, no_long};
 
 // The ICB of an entry, and whether it is a directory. Zeros if no entry has the name, or if the directory is refused.
 #[repr(C)]
-#[derive(Drop)]
+#[derive(Clone, Copy)]
 pub struct Named {
     // A number of the table; 0 also if no entry has the name.
     pub answer: u64,

@@ -9,6 +9,8 @@
 // is lent only as much of the output as was measured. It checks nothing again and looks at each field once (`look`), so it stays inside what it was
 // lent even if the bytes have changed. A show goes over parsed entries by the same look. It writes its records itself, from the same head
 // (`record_head`): with a second caller, `put_entry` would no longer be compiled into the loop of a listing.
+#![tactic(auto)]
+
 pub mod directory_entries;
 pub mod finds;
 pub mod listing;

@@ -15,7 +15,7 @@ use disc::replies::{Reply, refusal};
 use identifiers::LEAST_SIZE;
 
 // How many bytes the listing takes; 0 if the directory is refused.
-#[derive(Drop)]
+#[derive(Clone, Copy)]
 pub struct ListingSize {
     pub answer: u64,
     pub size: usize,

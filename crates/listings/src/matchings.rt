@@ -13,7 +13,7 @@ pub const AS_WRITTEN: u32 = 1;
 // ASCII case is ignored, and a component that two or more entries match is refused.
 pub const UNAMBIGUOUS: u32 = 2;
 
-#[derive(Drop)]
+#[derive(Clone, Copy)]
 pub enum Matching {
     CaseIgnored,
     AsWritten,

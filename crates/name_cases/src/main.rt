@@ -1,5 +1,7 @@
 // Runs the cases for names: d-strings and d-string fields as UTF-8, outputs with too little room, and matching. Each
 // line has what was asked, its bytes in hex, and the answer: a name's size and bytes.
+#![tactic(auto)]
+
 ghost use Rattle.std.specs.Prelude.{◌≤◌, length};
 
 use names::dstrings::{NameSize, name_size, put_name};

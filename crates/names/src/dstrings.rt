@@ -12,14 +12,14 @@ use disc::refusals::Refusal;
 use disc::replies::{Reply, refusal};
 
 // How many bytes of UTF-8 a recorded name has.
-#[derive(Drop)]
+#[derive(Clone, Copy)]
 pub enum NameSize {
     Size(usize),
     Refused(Refusal),
 }
 
 // The form of a d-string: empty, in units of this many bytes, or bad.
-#[derive(Drop)]
+#[derive(Clone, Copy)]
 pub(crate) enum Form {
     Empty,
     Units(usize),

@@ -14,7 +14,7 @@ use disc::refusals::Refusal;
 use disc::replies::{Reply, refusal};
 
 // How long the d-string of a field is.
-#[derive(Drop)]
+#[derive(Clone, Copy)]
 enum FieldLength {
     Length(usize),
     TooLong,

@@ -10,14 +10,14 @@ use crate::units::{surrogate, unit};
 use disc::moves::least;
 
 // Whether all that was compared is the same, and how far into the component that is.
-#[derive(Drop)]
+#[derive(Clone, Copy)]
 pub(crate) struct NamePlace {
     same: bool,
     at: usize,
 }
 
 // How a byte is folded before it is compared.
-#[derive(Drop)]
+#[derive(Clone, Copy)]
 pub enum Fold {
     // A to Z as a to z: ASCII case is ignored.
     Lower,

@@ -1,4 +1,6 @@
 // The probe of the volume recognition sequence.
+#![tactic(auto)]
+
 ghost use Rattle.std.specs.Prelude.{◌≡◌, true, false};
 ghost use Rattle.probes.specs.Probes.{probed};
 ghost use Rattle.probes.specs.Inner.Steps.{step_of};
@@ -8,7 +10,7 @@ use disc::images::{held_from, sector_at};
 use disc::places::Sector;
 
 // What the sectors looked at so far tell: whether a BEA01 and an NSR were among them, and the answer once there is one.
-#[derive(Drop)]
+#[derive(Clone, Copy)]
 pub struct Seen {
     pub going: bool,
     pub answer: bool,

@@ -1,4 +1,6 @@
 // Runs the cases for one sector of the recognition sequence. Each line has its first bytes and what it is.
+#![tactic(auto)]
+
 use descriptors::recognition::{Structure, structure_of};
 use programs::words::{say, say_bytes};
 

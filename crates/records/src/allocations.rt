@@ -8,13 +8,13 @@ use disc::answers::{DONE, MALFORMED};
 use disc::refusals::Refusal;
 
 #[repr(C)]
-#[derive(Drop)]
+#[derive(Clone, Copy)]
 pub struct ExtentAd {
     pub length: u32,
     pub location: u32,
 }
 
-#[derive(Drop)]
+#[derive(Clone, Copy)]
 pub enum ExtentRead {
     Read(ExtentAd),
     Refused(Refusal),
@@ -64,14 +64,14 @@ impl ExtentAd {
 }
 
 #[repr(C)]
-#[derive(Drop)]
+#[derive(Clone, Copy)]
 pub struct ShortAd {
     pub length: u32,
     pub extent_type: u8,
     pub block_location: u32,
 }
 
-#[derive(Drop)]
+#[derive(Clone, Copy)]
 pub enum ShortRead {
     Read(ShortAd),
     Refused(Refusal),
@@ -126,7 +126,7 @@ impl ShortAd {
 
 // A block of a partition.
 #[repr(C)]
-#[derive(Drop)]
+#[derive(Clone, Copy)]
 pub struct LbAddr {
     // Counted from the partition's start.
     pub block: u32,
@@ -134,7 +134,7 @@ pub struct LbAddr {
     pub partition_ref: u16,
 }
 
-#[derive(Drop)]
+#[derive(Clone, Copy)]
 pub enum LbAddrRead {
     Read(LbAddr),
     Refused(Refusal),
@@ -170,7 +170,7 @@ impl LbAddr {
 
 // The place of something on the disc, such as the ICB of a file or a directory.
 #[repr(C)]
-#[derive(Drop)]
+#[derive(Clone, Copy)]
 pub struct LongAd {
     // In bytes; below 2^30 if it was read from a disc.
     pub length: u32,
@@ -184,7 +184,7 @@ pub struct LongAd {
 
 // An enum can hold no array, so this has an answer number, and zeros on a refusal.
 #[repr(C)]
-#[derive(Drop)]
+#[derive(Clone, Copy)]
 pub struct LongRead {
     pub answer: u64,
     pub ad: LongAd,
@@ -281,7 +281,7 @@ impl LongAd {
 }
 
 #[repr(C)]
-#[derive(Drop)]
+#[derive(Clone, Copy)]
 pub struct ExtAd {
     pub length: u32,
     pub extent_type: u8,
@@ -293,7 +293,7 @@ pub struct ExtAd {
 }
 
 #[repr(C)]
-#[derive(Drop)]
+#[derive(Clone, Copy)]
 pub struct ExtRead {
     pub answer: u64,
     pub ad: ExtAd,

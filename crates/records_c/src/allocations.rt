@@ -13,52 +13,52 @@ use records::allocations::{
 
 // An array can't be returned to C by value, a struct that holds one can.
 #[repr(C)]
-#[derive(Drop)]
+#[derive(Clone, Copy)]
 pub struct ExtentBytes {
     pub bytes: [u8; 8],
 }
 
 #[repr(C)]
-#[derive(Drop)]
+#[derive(Clone, Copy)]
 pub struct ShortBytes {
     pub bytes: [u8; 8],
 }
 
 #[repr(C)]
-#[derive(Drop)]
+#[derive(Clone, Copy)]
 pub struct AddressBytes {
     pub bytes: [u8; 6],
 }
 
 #[repr(C)]
-#[derive(Drop)]
+#[derive(Clone, Copy)]
 pub struct LongBytes {
     pub bytes: [u8; 16],
 }
 
 #[repr(C)]
-#[derive(Drop)]
+#[derive(Clone, Copy)]
 pub struct ExtBytes {
     pub bytes: [u8; 20],
 }
 
 // An enum can't cross: the number and the value, zeros where it is a refusal.
 #[repr(C)]
-#[derive(Drop)]
+#[derive(Clone, Copy)]
 pub struct ExtentAnswer {
     pub answer: u64,
     pub value: ExtentAd,
 }
 
 #[repr(C)]
-#[derive(Drop)]
+#[derive(Clone, Copy)]
 pub struct ShortAnswer {
     pub answer: u64,
     pub value: ShortAd,
 }
 
 #[repr(C)]
-#[derive(Drop)]
+#[derive(Clone, Copy)]
 pub struct AddressAnswer {
     pub answer: u64,
     pub value: LbAddr,

@@ -12,7 +12,7 @@ use names::fields::write_field;
 
 // The answer, and how many bytes were written; 0 if it is a refusal.
 #[repr(C)]
-#[derive(Drop)]
+#[derive(Clone, Copy)]
 pub struct Written {
     pub answer: u64,
     pub length: u64,

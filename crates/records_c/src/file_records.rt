@@ -14,7 +14,7 @@ use records::allocations::LbAddr;
 use tags::{DescriptorTag, no_tag};
 
 #[repr(C)]
-#[derive(Drop)]
+#[derive(Clone, Copy)]
 pub struct IcbTagAnswer {
     pub answer: u64,
     pub value: IcbTag,
@@ -57,7 +57,7 @@ pub extern "C" fn records_parse_icb_tag(bytes: &[u8]) -> IcbTagAnswer
 // `bytes` from `area_at` on. It is inside `bytes`, and is not looked at here. The object size, an enum in the entry, is
 // passed as a bool and a number.
 #[repr(C)]
-#[derive(Drop)]
+#[derive(Clone, Copy)]
 pub struct EntryFields {
     pub tag: DescriptorTag,
     pub icb_tag: IcbTag,
@@ -83,7 +83,7 @@ pub struct EntryFields {
 }
 
 #[repr(C)]
-#[derive(Drop)]
+#[derive(Clone, Copy)]
 pub struct EntryAnswer {
     pub answer: u64,
     pub value: EntryFields,

@@ -14,26 +14,26 @@ use disc::places::{Block, Sector};
 use tags::{AedRead, AllocationExtentDescriptor, DescriptorTag, TagRead, no_tag};
 
 #[repr(C)]
-#[derive(Drop)]
+#[derive(Clone, Copy)]
 pub struct TagBytes {
     pub bytes: [u8; 16],
 }
 
 #[repr(C)]
-#[derive(Drop)]
+#[derive(Clone, Copy)]
 pub struct AedBytes {
     pub bytes: [u8; 24],
 }
 
 #[repr(C)]
-#[derive(Drop)]
+#[derive(Clone, Copy)]
 pub struct TagAnswer {
     pub answer: u64,
     pub value: DescriptorTag,
 }
 
 #[repr(C)]
-#[derive(Drop)]
+#[derive(Clone, Copy)]
 pub struct AedAnswer {
     pub answer: u64,
     pub value: AllocationExtentDescriptor,

@@ -12,6 +12,8 @@
 // `bytes`; the call stays inside the memory that it was lent, and writes nothing past the length that it returns.
 //
 // The numbers are those of vault.h. Used here: RECORDS_DONE, RECORDS_MALFORMED, RECORDS_NO_ROOM.
+#![tactic(auto)]
+
 pub mod allocations;
 pub mod dstrings;
 pub mod file_records;

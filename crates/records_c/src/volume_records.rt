@@ -17,14 +17,14 @@ use records::allocations::ExtentAd;
 use tags::no_tag;
 
 #[repr(C)]
-#[derive(Drop)]
+#[derive(Clone, Copy)]
 pub struct AnchorAnswer {
     pub answer: u64,
     pub value: AnchorVolumeDescriptorPointer,
 }
 
 #[repr(C)]
-#[derive(Drop)]
+#[derive(Clone, Copy)]
 pub struct PartitionAnswer {
     pub answer: u64,
     pub value: PartitionDescriptor,

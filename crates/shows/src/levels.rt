@@ -20,7 +20,7 @@ use records::allocations::{LongAd, long_at};
 
 // A place in a show: the answer, and of the tree before it the sectors and the bytes of its records, both held at 2^64 - 1. `most` is how many
 // sectors the show may ask for.
-#[derive(Drop)]
+#[derive(Clone, Copy)]
 pub(crate) struct ShowPlace {
     pub answer: u64,
     pub count: u64,
@@ -42,7 +42,7 @@ fn stopped(answer: u64, count: u64) -> ShowPlace
 
 // A directory that was read and parsed: the place before its first entry, and how many bytes it has. Of its records the place has counted
 // what a listing has of them, so that no name is measured at an entry's turn.
-#[derive(Drop)]
+#[derive(Clone, Copy)]
 struct OpenedLevel {
     place: ShowPlace,
     length: usize,
@@ -126,7 +126,7 @@ pub(crate) fn visit_level(
 }
 
 // The place after an entry and what is under it, and where the next entry of its directory starts.
-#[derive(Drop)]
+#[derive(Clone, Copy)]
 struct EntryTurn {
     place: ShowPlace,
     next: usize,

@@ -15,6 +15,8 @@
 //
 // The definition (specs/Shows.antt) knows no passes: `nodes_at` and `nodes_of` answer a list of entries with their levels, and `node_records` makes
 // bytes of it. What is proved of the first pass is `Visited` (specs/inner/Turns.antt), and of the second `Writes` (specs/inner/Writes.antt).
+#![tactic(auto)]
+
 pub mod levels;
 pub mod nodes;
 pub mod tallies;

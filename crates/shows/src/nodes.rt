@@ -33,7 +33,7 @@ fn put_record(level: u8, marks: u8, s: &[u8], recorded: &[u8], out: &mut [u8]) -
 
 // How many bytes were written for an entry, whether they are a directory's record, and how far from its start the next
 // entry starts.
-#[derive(Drop)]
+#[derive(Clone, Copy)]
 pub(crate) struct NodePut {
     pub wrote: usize,
     pub directory: bool,

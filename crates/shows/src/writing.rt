@@ -46,7 +46,7 @@ pub(crate) fn write_level(
 }
 
 // Where the records of an entry and of what stands under it end, and where the next entry of its directory starts.
-#[derive(Drop)]
+#[derive(Clone, Copy)]
 struct WriteTurn {
     to: usize,
     next: usize,

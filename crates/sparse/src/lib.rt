@@ -2,6 +2,8 @@
 //
 // A packed image is, with numbers of 32 bits, little-endian: the image's length, the number of runs, and then each run: where in the
 // image it stands, how many bytes it has, and those bytes. Every other byte of the image is 0.
+#![tactic(auto)]
+
 ghost use Rattle.std.specs.Prelude.{◌≡◌};
 ghost use Rattle.records.specs.Bytes.{u32at};
 ghost use Rattle.sparse.specs.Runs.{laid, run_end, laid_runs, Expanded};

@@ -4,6 +4,8 @@
 // `zero`: the work space came back all zero. Row and work space are lent full of A5.
 //
 // tools/survey_model.py computes what is expected, from the shelves and the rules.
+#![tactic(auto)]
+
 ghost use Rattle.std.specs.Prelude.{◌≡◌, ◌<◌, ◌≤◌, length};
 
 use disc::answers::DONE;

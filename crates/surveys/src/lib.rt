@@ -7,6 +7,8 @@
 //
 // The figures are defined as true numbers. In a place each is a number held at 2^64 - 1 and a mark; `Holds` says that a place has given figures in
 // it. That adding in a place agrees with adding true numbers is proved once, in `figures`.
+#![tactic(auto)]
+
 ghost use Rattle.std.specs.Prelude.{◌≡◌, ◌*◌, ◌≤◌, length, leb};
 ghost use Rattle.disc.specs.Images.{disc};
 ghost use Rattle.disc.specs.Budgets.{budgeted};

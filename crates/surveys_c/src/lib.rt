@@ -3,6 +3,8 @@
 // The figures of an image, or of the shelf, are one place in a row of 64-bit numbers: a struct vault_figures of
 // VAULT_FIGURES numbers. Pass the row's address and its length in numbers. Figures are exact; one that exceeds 2^64 - 1
 // is given as 2^64 - 1 and marked as over.
+#![tactic(auto)]
+
 ghost use Rattle.std.specs.Prelude.{◌≡◌};
 ghost use Rattle.figures.specs.Figures.{total_answer, totaled};
 ghost use Rattle.volumes.specs.Choices.{how_of, choice_of};
@@ -17,7 +19,7 @@ pub const VAULT_FIGURES: usize = PLACE;
 
 // A figure.
 #[repr(C)]
-#[derive(Drop)]
+#[derive(Clone, Copy)]
 pub struct Figure {
     // At most 2^64 - 1.
     pub number: u64,
@@ -28,7 +30,7 @@ pub struct Figure {
 // The figures of an image or of a shelf. Files and directories are those that vault_show lists at 16 levels, each
 // counted once for each path. The root is not counted.
 #[repr(C)]
-#[derive(Drop)]
+#[derive(Clone, Copy)]
 pub struct Figures {
     // Files found, including those that can't be read.
     pub files: Figure,

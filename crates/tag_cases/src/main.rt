@@ -1,4 +1,6 @@
 // Runs tags and small records, good ones and refused ones: one line for each case.
+#![tactic(auto)]
+
 mod outputs;
 mod small_records;
 mod tag_bytes;

@@ -1,4 +1,6 @@
 // Prints the descriptor tag at the front of standard input, of which at most 2,048 bytes are read.
+#![tactic(auto)]
+
 use disc::refusals::Refusal;
 use programs::words::{end_line, number, say, say_decimal, say_named};
 use tags::{DescriptorTag, TagRead};

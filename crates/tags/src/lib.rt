@@ -7,6 +7,8 @@
 // A call with the check is the call without it, except for refusal 10. To prove that, one tree stands for both calls, with a mark wherever a
 // descriptor is parsed (`disc` specs/Marks.antt). Without the marks it is the one call (`plain`); with each mark tested it is the other (`guarded`).
 // `Guards` says that two trees are such a pair, and the GuardLaws of each crate build it along the definitions.
+#![tactic(auto)]
+
 pub mod heads;
 
 ghost use Rattle.std.specs.Prelude.{◌≡◌, ◌++◌, ◌+◌, ◌%◌, ◌≤◌, ◌<◌, length};
@@ -22,7 +24,7 @@ use records::bytes::{le16, le32};
 
 // The id is a number. Parsing accepts only the ids above.
 #[repr(C)]
-#[derive(Drop)]
+#[derive(Clone, Copy)]
 pub struct DescriptorTag {
     pub id: u16,
     pub descriptor_version: u16,
@@ -32,7 +34,7 @@ pub struct DescriptorTag {
     pub location: u32,
 }
 
-#[derive(Drop)]
+#[derive(Clone, Copy)]
 pub enum TagRead {
     Read(DescriptorTag),
     Refused(Refusal),
@@ -209,14 +211,14 @@ pub const AED_ID: u16 = 258;
 const AED_SIZE: usize = 24;
 
 #[repr(C)]
-#[derive(Drop)]
+#[derive(Clone, Copy)]
 pub struct AllocationExtentDescriptor {
     pub tag: DescriptorTag,
     pub previous_allocation_extent_location: u32,
     pub length_of_allocation_descriptors: u32,
 }
 
-#[derive(Drop)]
+#[derive(Clone, Copy)]
 pub enum AedRead {
     Header(AllocationExtentDescriptor),
     NoHeader(Refusal),

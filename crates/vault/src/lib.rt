@@ -7,5 +7,7 @@
 // promises has a module of its own.
 //
 // To add a call, add a constructor, a line of `spec`, and a line in each table.
+#![tactic(auto)]
+
 pub mod paths;
 pub mod volume;

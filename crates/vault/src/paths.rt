@@ -6,7 +6,7 @@ use listings::paths::{component_end, component_from};
 
 // The place of a component in a path.
 #[repr(C)]
-#[derive(Drop)]
+#[derive(Clone, Copy)]
 pub struct Component {
     // Its offset in the path.
     pub at: usize,

@@ -22,7 +22,7 @@ use volumes::openings::{How, Opened, VolumeRecord, open_volume};
 
 // An opened volume: what opening found, with the calls on it.
 #[repr(C)]
-#[derive(Drop)]
+#[derive(Clone, Copy)]
 pub struct Volume(pub VolumeRecord);
 
 impl Volume {

@@ -65,6 +65,8 @@
 //
 // You may pass any volume and any ICB, even one made by hand. Fields are not masked: a length of 2^30 counts as
 // non-zero.
+#![tactic(auto)]
+
 ghost use Rattle.std.specs.Prelude.{◌≡◌};
 ghost use Rattle.layouts.specs.Calls.{words_of};
 ghost use Rattle.listings.specs.Listings.{matching_of};

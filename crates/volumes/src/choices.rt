@@ -14,7 +14,7 @@ pub const MAPS: u32 = 2;
 pub const HIGHEST: u32 = 4;
 
 // The choices, or that a bit is of none.
-#[derive(Drop)]
+#[derive(Clone, Copy)]
 pub enum Choice {
     Known(How),
     Unknown,

@@ -8,6 +8,8 @@
 // The tree `opening` has the same parts. Its `scan` answers the list of the parsed descriptors, and `kept_of` folds that list, so which sectors are
 // asked for is defined apart from which descriptor counts. With maps the same list is folded again for each map, with one partition number wanted.
 // The code scans the sequence again for that, and counts no sector.
+#![tactic(auto)]
+
 pub mod choices;
 pub mod labels;
 pub mod mounts;

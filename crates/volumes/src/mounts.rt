@@ -12,21 +12,21 @@ use disc::places::Mount;
 use records::bytes::{byte_at, le16};
 
 // The answer number, and how the volume is read: zeros where it is a refusal.
-#[derive(Drop)]
+#[derive(Clone, Copy)]
 pub(crate) struct MountRead {
     pub answer: u64,
     pub mount: Mount,
 }
 
 // Where the partition of a map starts, if it is one that is read.
-#[derive(Drop)]
+#[derive(Clone, Copy)]
 pub(crate) struct MapStart {
     pub good: bool,
     pub start: u32,
 }
 
 // The same of every map, zeros behind them.
-#[derive(Drop)]
+#[derive(Clone, Copy)]
 pub(crate) struct MapStarts {
     pub good: bool,
     pub starts: [u32; 4],

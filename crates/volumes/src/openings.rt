@@ -17,7 +17,7 @@ use records::allocations::{LongAd, no_long};
 
 // The choices that are made on opening. Which descriptors count leaves no trace in the volume's record, which is what came out; that bodies are
 // checked and the maps stay in the record's mount.
-#[derive(Drop)]
+#[derive(Clone, Copy)]
 pub struct How {
     // Of several descriptors of one kind the one with the highest sequence number counts, the later of equals; else the last one does. The start of a map's
     // partition is by the partition descriptors of its number alone.
@@ -43,7 +43,7 @@ impl How {
 
 // An opened volume. It holds no pointers: you can copy it, keep it, or make one by hand.
 #[repr(C)]
-#[derive(Drop)]
+#[derive(Clone, Copy)]
 pub struct VolumeRecord {
     // How it is read.
     pub mount: Mount,
@@ -55,7 +55,7 @@ pub struct VolumeRecord {
 
 // The answer, the count of sectors, and the volume.
 #[repr(C)]
-#[derive(Drop)]
+#[derive(Clone, Copy)]
 pub struct Opened {
     // A number of the table.
     pub answer: u64,

@@ -18,7 +18,7 @@ use records::bytes::le16;
 
 // What is kept of the three descriptors between sectors, each with its volume descriptor sequence number.
 #[repr(C)]
-#[derive(Drop)]
+#[derive(Clone, Copy)]
 pub struct Kept {
     pub has_primary: bool,
     pub primary_sequence: u32,
@@ -38,7 +38,7 @@ pub struct Kept {
 }
 
 // Which partition descriptors count.
-#[derive(Drop)]
+#[derive(Clone, Copy)]
 pub enum Wanted {
     Any,
     // Those of one partition number.
@@ -46,7 +46,7 @@ pub enum Wanted {
 }
 
 // What one sector of the sequence comes to: the scan goes on or is over, or is refused.
-#[derive(Drop)]
+#[derive(Clone, Copy)]
 pub struct SectorTurn {
     pub going: bool,
     pub answer: u64,
@@ -54,7 +54,7 @@ pub struct SectorTurn {
 }
 
 // What a scan comes to.
-#[derive(Drop)]
+#[derive(Clone, Copy)]
 pub struct Scanned {
     pub answer: u64,
     pub count: u64,

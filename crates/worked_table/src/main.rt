@@ -1,4 +1,6 @@
 // Runs the thirteen cases of the worked table: a line for each. `proofs/Table.antt` proves them of the definitions.
+#![tactic(auto)]
+
 use areas::{AdContinuation, AdCursor, AdEnding, ending_of};
 use disc::refusals::Refusal;
 use names::dstrings::{NameSize, name_size, put_name};

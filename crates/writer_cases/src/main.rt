@@ -5,6 +5,8 @@
 // staging area is 7 k + k / 2,048, modulo 256. Last, a disc is written and compared with data/written.
 //
 // tools/writer_model.py computes what is expected, from the cases, docs/LAYOUT.md and the rules.
+#![tactic(auto)]
+
 ghost use Rattle.std.specs.Prelude.{◌<◌, ◌≤◌, length};
 
 use disc::answers::DONE;

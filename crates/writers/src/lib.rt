@@ -8,6 +8,8 @@
 // specs/Layout.antt has the image as a list of bytes, in the order of docs/LAYOUT.md, and specs/Refusing.antt the whole call (`writes`). The
 // contract of a piece says that its bytes stand at a place, so what was poured is that list. Tag, CRC and equal names are the reader's own
 // definitions, which keeps the proof short that the reader reads the image.
+#![tactic(auto)]
+
 mod bodies;
 pub mod contents;
 pub mod namings;
@@ -29,7 +31,7 @@ use disc::refusals::Refusal;
 
 // The answer, and how many sectors the image has; 0 if the call was refused.
 #[repr(C)]
-#[derive(Drop)]
+#[derive(Clone, Copy)]
 pub struct WriteReply {
     pub answer: u64,
     pub sectors: u64,
