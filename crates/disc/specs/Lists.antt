@@ -1,6 +1,6 @@
 -- Lists of sectors: which are missing, and what a second call asks for after a first.
 use Rattle.std.specs.Prelude.{false, ◌||◌, Bool, [], List, ◌∷◌, ◌++◌, ◌≡◌, ℕ, ◌*◌, ◌+◌, ◌<◌, leb, ltb, take, drop, length}
-use Rattle.disc.specs.Ask.{Ask, Disc, asked, Outcome, given, outcome}
+use Rattle.disc.specs.Ask.{Ask, Disc, asked, Outcome, given}
 use Rattle.disc.specs.Ask.Outcome.{answered, refused}
 use Rattle.disc.specs.Choice.{pick}
 use Rattle.disc.specs.Images.{held_from}

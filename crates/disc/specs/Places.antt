@@ -6,7 +6,6 @@ use Rattle.disc.specs.Ask.{Ask}
 use Rattle.disc.specs.Ask.Ask.{refuse}
 use Rattle.disc.specs.declared.refusals.Refusal.TheVariants.{Unsupported}
 use Rattle.disc.specs.declared.places.Mount.{Mount}
-use Rattle.disc.specs.declared.places.Sector.{Sector}
 use Rattle.disc.specs.declared.places.PartitionRef.{PartitionRef}
 use Rattle.disc.specs.declared.places.PartitionRef.TheVariants.{Unnamed, Named}
 use Rattle.disc.specs.declared.places.Start.{Start}
