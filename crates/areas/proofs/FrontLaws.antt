@@ -1,7 +1,7 @@
 -- Of an area the first descriptor, where its bytes stand in a list of their own, and the rest. Assumes nothing.
 use mathlib.Core.Path.{◌≡◌, refl, ap, sym, ◌∙◌}
-use mathlib.Core.List.{List, [], ◌∷◌, ◌++◌}
-use Prim.Native.Nat.{ℕ, ◌+◌, ◌-◌, ◌<◌, ◌≤◌}
+use mathlib.Core.List.{List, ◌++◌}
+use Prim.Native.Nat.{ℕ, ◌+◌, ◌-◌}
 use native.Mathlib.Nat.{zero-add}
 use native.Mathlib.Omega.{arith}
 use lib.ListN.{length, get_or, take, length-append, get_or-append}
@@ -12,7 +12,6 @@ use Rattle.disc.specs.declared.refusals.Refusal.TheVariants.{Unsupported}
 use Rattle.areas.specs.declared.AllocExtent.{AllocExtent}
 use Rattle.areas.specs.declared.AdContinuation.{AdContinuation}
 use Rattle.areas.specs.declared.AdCursor.{AdCursor}
-use Rattle.areas.specs.declared.AdStep.{AdStep}
 use Rattle.areas.specs.declared.AdStep.TheVariants.{Extent, Continuation as GoesOn, End as Ends, Refused as Refuses}
 use Rattle.areas.specs.declared.AdEnding.TheVariants.{End, Continuation, Refused}
 use Rattle.areas.specs.declared.Descriptor.{Descriptor}

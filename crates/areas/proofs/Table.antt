@@ -4,7 +4,7 @@ use mathlib.Core.List.{List, [], ◌∷◌}
 use mathlib.Core.Option.{none, some}
 use Prim.Native.Nat.{ℕ}
 use Rattle.disc.specs.declared.places.PartitionRef.TheVariants.{Named}
-use Rattle.areas.specs.Areas.{size_of, descriptor_of, continuation, descriptor_at, ended, descriptors, area_at, next_of}
+use Rattle.areas.specs.Areas.{size_of, descriptor_of, continuation, descriptor_at, descriptors, area_at, next_of}
 use Rattle.areas.specs.Answers.{step_answer, ending_answer}
 
 abbrev pub seventh : List ℕ

@@ -13,7 +13,7 @@ pub returns-then-s-at : goal.returns-then-s-at
 returns-then-s-at c = search nexts
 
 pub overflow_add-result : goal.overflow_add-result
-overflow_add-result c = omega (arith, small_size _ TODO_c.before.before.before.before.before.before.type_size.ensures)
+overflow_add-result c = omega (arith, small_size _ c.size_of-size.ensures)
 
 pub returns-in-Stop : goal.returns-in-Stop
 returns-in-Stop c = search nexts
