@@ -1,5 +1,5 @@
 -- An ICB tag and an entry by their fields, each as the call that read it ensures. Assumes nothing.
-use Prim.Native.Nat.{ℕ, ◌+◌, ◌*◌, ◌%◌, ◌<◌}
+use Prim.Native.Nat.{ℕ, ◌+◌, ◌%◌, ◌<◌}
 use mathlib.Core.Path.{◌≡◌}
 use mathlib.Core.List.{List}
 use Rattle.records.specs.Bytes.{byte, u16at, u32at, u64at}
