@@ -1,10 +1,10 @@
 -- Following a chain leaves one result, by its number and count what the run of the chain's tree comes to; and so does counting what is left of it. Assumes nothing.
-use mathlib.Core.Path.{◌≡◌, refl, ap, sym, ◌∙◌}
+use mathlib.Core.Path.{◌≡◌, ap, sym, ◌∙◌}
 use mathlib.Core.List.{List}
 use Prim.Native.Nat.{ℕ, ◌+◌}
 use native.Mathlib.Omega.{arith}
 use Rattle.disc.specs.Ask.{Outcome}
-use Rattle.disc.specs.Ask.Outcome.{answered, refused}
+use Rattle.disc.specs.Ask.Outcome.{refused}
 use Rattle.disc.specs.Ran.{Ran}
 use Rattle.disc.specs.Replies.{answer_of}
 use Rattle.disc.specs.declared.places.Mount.{Mount}

@@ -1,0 +1,36 @@
+-- `chains::cursors::advance` meets its contract: each step of the area's cursor is a case of `step_of`. Assumes nothing.
+use borrow.Author.Rules.{rules}
+use Rattle.chains.proofs.WalkLaws.{advance-end, advance-refused, advance-takes, advance-hops}
+use Rattle.chains.proofs.cursors.advance.Goals as goal
+
+ruleset advances = (advance-end, advance-refused, advance-takes, advance-hops, rules)
+
+pub next_ad-requires : goal.next_ad-requires
+next_ad-requires c = search advances
+
+pub enum_told-1 : goal.enum_told-1
+enum_told-1 c = search advances
+
+pub enum_told-in-Refused : goal.enum_told-in-Refused
+enum_told-in-Refused c = search advances
+
+pub enum_known-e : goal.enum_known-e
+enum_known-e c = search advances
+
+pub enum_known-a : goal.enum_known-a
+enum_known-a c = search advances
+
+pub hop-requires : goal.hop-requires
+hop-requires c = search advances
+
+pub returns-in-End : goal.returns-in-End
+returns-in-End c = search advances
+
+pub returns-in-Refused : goal.returns-in-Refused
+returns-in-Refused c = search advances
+
+pub returns-in-Extent : goal.returns-in-Extent
+returns-in-Extent c = search advances
+
+pub returns-in-Continuation : goal.returns-in-Continuation
+returns-in-Continuation c = search advances
