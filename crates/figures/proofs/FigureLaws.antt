@@ -28,7 +28,7 @@ added-wide {f} g w =
 pub added_to-wide : {f : Figures} (gs : List Figures) → Wide f → Wide (added_to f gs)
 unfolding added_to
 added_to-wide [] w = w
-added_to-wide (g ∷ gs) w = added_to-wide gs (added-wide g w)
+added_to-wide {f = f} (g ∷ gs) w = added_to-wide {f = added f g} gs (added-wide g w)
 
 pub added_to-append : (f : Figures) (gs hs : List Figures) → added_to f (gs ++ hs) ≡ added_to (added_to f gs) hs
 unfolding added_to

@@ -4,9 +4,7 @@ use Rattle.figures.proofs.AddLaws.{no-file}
 use Rattle.figures.proofs.add_file.Goals as goal
 
 pub returns-then-place-ne-PLACE : goal.returns-then-place-ne-PLACE
-returns-then-place-ne-PLACE c = let a = c.args in
-    no-file c.if-place-ne-PLACE.true (min a.answer 16) a.bytes a.extents a.sectors a.chain
+returns-then-place-ne-PLACE c = let a = c.args in no-file c.if-place-ne-PLACE.true (min a.answer 16) a.bytes a.extents a.sectors a.chain
 
 pub returns : goal.returns
-returns c = let sizes = TODO_c.before.before in
-    rw (← sizes.before.before.lesser.ensures) sizes.add-sizes.ensures
+returns c = rw (← c.lesser-under.ensures) c.add_sizes.ensures

@@ -7,6 +7,4 @@ pub returns-then-place-ne-PLACE : goal.returns-then-place-ne-PLACE
 returns-then-place-ne-PLACE c = no-image c.if-place-ne-PLACE.true (min c.args.answer 16)
 
 pub returns : goal.returns
-returns c = let added = TODO_c.before.before in
-    let under = added.before.before.lesser.ensures in
-    rw (← under) (image-placed _ _ added.before.before.before.if1.false added.add-sum.ensures)
+returns c = let under = c.lesser-under.ensures in rw (← under) (image-placed _ _ c.if-place-ne-PLACE.false c.add_sum.ensures)

@@ -1,6 +1,5 @@
 -- `figures::add_place` meets its contract: each pair in turn, and the longer chain. Assumes nothing.
 use borrow.Author.Rules.{rules}
-use Prim.Native.Nat.{◌-◌}
 use Rattle.figures.proofs.TotalLaws.{adding-starts, adding-reads, adding-next, chain-room, chain-reads, adding-ends}
 use Rattle.figures.proofs.add_place.Goals as goal
 
@@ -52,9 +51,7 @@ pub loop-k-smaller : goal.loop-k-smaller
 loop-k-smaller c = search adds
 
 pub loop-k-preserved : goal.loop-k-preserved
-loop-k-preserved c = let summed = TODO_c.before.before in
-    let here = summed.before.before.before.before.before in
-    adding-next here.loop.invariant (search rules) summed.add-sum.ensures
+loop-k-preserved c = adding-next c.loop-k.invariant (search rules) c.add_sum.ensures
 
 pub overflow_add-chain : goal.overflow_add-chain
 overflow_add-chain c = search adds

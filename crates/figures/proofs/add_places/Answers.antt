@@ -1,6 +1,5 @@
 -- `figures::add_places` meets its contract: each place in turn. Assumes nothing.
 use borrow.Author.Rules.{rules}
-use Prim.Native.Nat.{◌-◌}
 use Rattle.figures.proofs.TotalLaws.{totaling-starts, totaling-room, totaling-next, totaling-ends}
 use Rattle.figures.proofs.add_places.Goals as goal
 

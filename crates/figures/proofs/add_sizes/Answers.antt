@@ -4,11 +4,4 @@ use Rattle.figures.proofs.AddLaws.{file-placed}
 use Rattle.figures.proofs.add_sizes.Goals as goal
 
 pub returns : goal.returns
-returns c = let chain = TODO_c.before.before in
-    let answer = chain.before.before.before.before in
-    let sectors = answer.before.before.before.before in
-    let extents = sectors.before.before.before.before in
-    let bytes = extents.before.before.before.before in
-    let files = bytes.before.before.before.before in
-    let start = files.before.before.before in
-    file-placed _ _ _ _ _ _ start.requires.0 (search rules) (search rules) (search rules) (search rules) files.add-sum.ensures bytes.add-sum2.ensures extents.add-sum3.ensures sectors.add-sum4.ensures answer.add-sum5.ensures chain.add-longer.ensures
+returns c = file-placed _ _ _ _ _ _ c.requires.0 (search rules) (search rules) (search rules) (search rules) c.add_sum.ensures c.add_sum-2.ensures c.add_sum-3.ensures c.add_sum-4.ensures c.add_sum-5.ensures c.add_longer.ensures

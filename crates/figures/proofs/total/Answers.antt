@@ -9,7 +9,4 @@ pub returns-then-places-n : goal.returns-then-places-n
 returns-then-places-n c = (search totals, search totals)
 
 pub returns : goal.returns
-returns c = let added = TODO_c.before.before in
-    let cleared = added.before.before.before.before in
-    let start = cleared.before.before.before.before in
-    (search totals, total-done start.args.places.now start.args.n (search rules) cleared.clear-figures.ensures added.add-places.ensures)
+returns c = (search totals, total-done c.args.places.now c.args.n (search rules) c.clear_figures.ensures c.add_places.ensures)

@@ -1,0 +1,12 @@
+-- `listings::directory_entries::is_skipped` meets its contract: either of two bits. Assumes nothing.
+use borrow.Author.Rules.{rules}
+use Rattle.listings.proofs.EntryLaws.{skipped-is}
+use Rattle.listings.proofs.directory_entries.is_skipped.Goals as goal
+
+ruleset skips = (skipped-is, rules)
+
+pub is_left_out-requires : goal.is_left_out-requires
+is_left_out-requires c = search skips
+
+pub returns : goal.returns
+returns c = search skips
