@@ -28,10 +28,9 @@ use Rattle.listings.specs.Entries.{Entry}
 use Rattle.listings.specs.Listings.{find_in, unnamed, named_of}
 use Rattle.listings.specs.Paths.{Component, front, behind, components_from, components, slashes}
 use Rattle.listings.specs.declared.finds.Named.{Named}
-use Rattle.listings.proofs.PathLaws.{behind-slashes, front-is, slashes-long, no-more-slashes, first-component, front-some, component-within}
+use Rattle.listings.proofs.PathLaws.{behind-slashes, front-is, no-more-slashes, first-component, front-some, component-within}
 use Rattle.directories.specs.Directories.{directory_bytes}
 use Rattle.directories.specs.Lookups.{Sought, entering, or_lost, seeking, seek_path, icb_of, found_to, lost_of}
-use Rattle.directories.specs.Lookups.Sought.{lost}
 use Rattle.directories.specs.Inner.Spaces.{reply_to, Reads}
 use Rattle.directories.specs.Inner.Walks.{entered_of, stopped_at, lost_at, beyond_of, End, end_of, leads_to, On, steps_left, Steps, Walks}
 use Rattle.directories.specs.declared.lookups.Found.{Found}

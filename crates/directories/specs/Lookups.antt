@@ -4,7 +4,6 @@ use Rattle.std.proofs.Math.Option.{Option, none, some}
 use Rattle.disc.specs.Replies.{answer_of}
 use Rattle.disc.specs.declared.places.Mount.{Mount}
 use Rattle.disc.specs.Places.{is_checked}
-use Rattle.disc.specs.Refusals.{number}
 use Rattle.disc.specs.Counts.{reported}
 use Rattle.disc.specs.Ask.{Ask, Outcome, then, ended, and_then}
 use Rattle.disc.specs.Ask.Ask.{done}
