@@ -245,3 +245,7 @@ stores-next f image l₀ d₀ s h e t = record { whole = λ r p. store-next f im
 pub words-end : (image : List ℕ) (r : Ran (List AllocExtent)) (l₀ : Listing) (d₀ : List (List ℕ)) → Planned image r (length d₀) l₀
     → {d : List (List ℕ)} {l : Listing} {n i : ℕ} → Stores fields_of image l₀ d₀ d l n i → n ≤ i → Listed words_of r d₀ d l.reply
 words-end image r l₀ d₀ p s h = store-ends fields_of image r d₀ (s.whole r p) h
+
+pub rows-end : (image : List ℕ) (r : Ran (List AllocExtent)) (l₀ : Listing) (d₀ : List Extent) → Planned image r (length d₀) l₀
+    → {d : List Extent} {l : Listing} {n i : ℕ} → Stores (λ e. e) image l₀ d₀ d l n i → n ≤ i → Listed extent_of r d₀ d l.reply
+rows-end image r l₀ d₀ p s h = store-ends (λ e. e) image r d₀ (s.whole r p) h

@@ -1,5 +1,5 @@
 -- What the passes over a file's runs report: for the contracts of private functions.
-use Rattle.std.specs.Prelude.{ℕ, ◌+◌, ◌≤◌, min, ◌≡◌, List, [], ◌∷◌, length}
+use Rattle.std.specs.Prelude.{ℕ, min, ◌≡◌, List, [], ◌∷◌}
 use Rattle.disc.specs.Ask.{Outcome}
 use Rattle.disc.specs.Ask.Outcome.{answered, refused}
 use Rattle.disc.specs.Ran.{Ran, ran, after}
@@ -11,7 +11,7 @@ use Rattle.disc.specs.declared.replies.Reply.{Reply}
 use Rattle.areas.specs.declared.AllocExtent.{AllocExtent}
 use Rattle.chains.specs.Inner.Walks.{left}
 use Rattle.chains.specs.declared.cursors.ChainCursor.{ChainCursor}
-use Rattle.files.specs.Inner.Passes.{Came, sized}
+use Rattle.files.specs.Inner.Passes.{Came}
 use Rattle.files.specs.Inner.Passes.Came.{comes, stops}
 use Rattle.files.specs.Inner.Wholes.{front_of}
 use Rattle.files.specs.declared.icbs.FilePlace.{FilePlace}

@@ -57,4 +57,4 @@ pub loop-why-smaller : goal.loop-why-smaller
 loop-why-smaller c = search counts
 
 pub loop-why-preserved : goal.loop-why-preserved
-loop-why-preserved c = count_next _ _ _ _ _ _ _ _ _ c.loop-why.invariant c.next_piece.ensures c.sectors-1.given.1 c.lesser-runs.ensures c.add_counts-count.ensures (search rules)
+loop-why-preserved c = count_next _ _ _ _ _ _ _ _ _ c.loop-why.invariant c.next_piece.ensures c.in-Piece.is c.lesser-runs.ensures c.add_counts-count.ensures (search rules)

@@ -1,5 +1,4 @@
 -- `layouts::runs::file_runs` meets its contract: what is stored and what is left to store are all there is. Assumes nothing.
-use Prim.Native.Nat.{◌-◌}
 use borrow.Author.Rules.{rules}
 use Rattle.layouts.proofs.RunListLaws.{stores-start, stores-end, stores-slot, stores-long, stores-below, stores-adds, stores-next}
 use Rattle.layouts.proofs.runs.file_runs.Goals as goal
