@@ -1,0 +1,39 @@
+use borrow.Author.Rules.{rules}
+use Rattle.drives.proofs.BodyLaws.{part-lands, part_held, scans-carry, part-ready}
+use Rattle.drives.proofs.bodies.take_part.Goals as goal
+
+ruleset parts = (part-lands, part_held, scans-carry, rules)
+ruleset helds = (part_held)
+
+pub overflow_cast-body : goal.overflow_cast-body
+overflow_cast-body c = search parts
+
+pub least-end-requires : goal.least-end-requires
+least-end-requires c = search parts
+
+pub slice_bounds-take_bytes-count : goal.slice_bounds-take_bytes-count
+slice_bounds-take_bytes-count c = search parts
+
+pub slice_bounds-take_bytes-start : goal.slice_bounds-take_bytes-start
+slice_bounds-take_bytes-start c = search parts
+
+pub slice_bounds-take_bytes-end : goal.slice_bounds-take_bytes-end
+slice_bounds-take_bytes-end c = search parts
+
+pub take_bytes-listed-requires : goal.take_bytes-listed-requires
+take_bytes-listed-requires c = search parts
+
+pub body_behind-behind-requires : goal.body_behind-behind-requires
+body_behind-behind-requires c = search parts
+
+pub with_parts-x-requires : goal.with_parts-x-requires
+with_parts-x-requires c = search parts
+
+pub further-requires : goal.further-requires
+further-requires c = TODO_let pre = c.before.before.before.before.before.before.before.before.before.before.before.before.requires in part-ready _ _ _ _ TODO_c.before.with-parts.ensures pre.1 (scans-carry _ _ _ _ _ _ TODO_c.before.before.before.before.take-bytes.ensures) (TODO_let e = c.before.before.body-behind.ensures in let h = pre.3 in search helds)
+
+pub shape_of-row : goal.shape_of-row
+shape_of-row c = search parts
+
+pub returns : goal.returns
+returns c = part-lands _ _ _ _ _ _ TODO_c.before.before.before.before.before.before.before.before.before.before.before.before.before.requires.0 TODO_c.before.before.before.body-behind.ensures TODO_c.before.before.before.before.before.before.before.before.least.ensures TODO_c.before.before.before.before.before.take-bytes.ensures _ _ TODO_c.before.before.with-parts.ensures.is c.further.ensures

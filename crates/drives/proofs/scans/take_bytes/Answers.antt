@@ -1,0 +1,31 @@
+-- `drives::scans::take_bytes` meets its contract: what is taken and what is yet to come lead to what all of it leads to. Assumes nothing.
+use Prim.Native.Nat.{◌-◌}
+use borrow.Author.Rules.{rules}
+use Rattle.drives.proofs.ScanLaws.{along-starts, along-fits, along-long, along-next, along-ends}
+use Rattle.drives.proofs.scans.take_bytes.Goals as goal
+
+ruleset along = (along-starts, along-fits, along-long, along-next, along-ends, rules)
+
+pub loop-i-init : goal.loop-i-init
+loop-i-init c = search along
+
+pub bounds-bytes-i : goal.bounds-bytes-i
+bounds-bytes-i c = search along
+
+pub take_byte-s-requires : goal.take_byte-s-requires
+take_byte-s-requires c = search along
+
+pub overflow_add-i : goal.overflow_add-i
+overflow_add-i c = search along
+
+pub loop-i-smaller : goal.loop-i-smaller
+loop-i-smaller c = search along
+
+pub loop-i-preserved : goal.loop-i-preserved
+loop-i-preserved c = search along
+
+pub shape_of-row : goal.shape_of-row
+shape_of-row c = search along
+
+pub returns : goal.returns
+returns c = search along
