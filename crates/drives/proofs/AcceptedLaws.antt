@@ -55,7 +55,8 @@ free-slots {A} d lost slots room gs (put b f) h e = by (leb (length b) room) e (
     by : (t : Bool) → pick t (short_of d lost slots (room - length b) gs f) of_room ≡ of_slots → (short_of d lost slots (room - length b) gs f ≡ of_slots → A) → A
     by true e ih = ih e
     by false e ih = absurd (let z : ◌≡◌ {A = ℕ} 0 1 = cc in omega arith)
-free-slots {A} d lost slots room gs (want s k) h e = by (d s) e (λ b g. free-slots d lost _ _ _ (k b) (h b) g)
+free-slots {A} d lost slots room gs (want s k) h e =
+    by (d s) e (λ b g. free-slots d lost (slots + (first_of gs).slots) (room + (first_of gs).room) (behind_first gs) (k b) (h b) g)
   where
     after : List ℕ → Short
     after b = short_of d lost (slots + (first_of gs).slots) (room + (first_of gs).room) (behind_first gs) (k b)

@@ -1,28 +1,26 @@
 -- Laws of bytes that reach the output as their sector arrives. Assumes nothing.
 use mathlib.Core.Path.{◌≡◌, refl, ap, sym, ◌∙◌}
 use mathlib.Core.Bool.{Bool, true, false}
-use mathlib.Core.List.{List, [], ◌∷◌, ◌++◌, append-nil, append_assoc}
-use Prim.Native.Nat.{ℕ, zero, suc, ◌+◌, ◌-◌, ◌*◌, ◌<◌, ◌≤◌, ◌^◌, min}
+use mathlib.Core.List.{List, [], ◌++◌, append-nil}
+use Prim.Native.Nat.{ℕ, zero, suc, ◌+◌, ◌-◌, ◌<◌, ◌≤◌, min}
 use native.Mathlib.Nat.{add-zero}
 use native.Mathlib.Omega.{arith}
-use lib.ListN.{length, take, drop, length-append, length-take, length-drop, take-append-drop, drop_of_length-le}
+use lib.ListN.{length, take, drop, length-take, length-drop, take-append-drop, drop_of_length-le}
 use borrow.Rule.Slice.PartMut.{mid_of, put_mid}
 use lib.Seq.{take_all, take-take, drop-drop, length-take-le}
-use lib.Dec.{eqb, ltb, leb}
-use borrow.Author.Tests.{lt-ltb, eq-eqb, ne_eqb, lt-leb, le-leb, leb-true, leb-false}
+use lib.Dec.{eqb, leb}
+use borrow.Author.Tests.{lt-leb, le-leb, leb-true, leb-false}
 use Rattle.disc.specs.Choice.{pick}
 use Rattle.disc.proofs.PickLaws.{pick-both}
 use Rattle.disc.specs.Moves.{over as over_front}
-use Rattle.disc.specs.Refusals.{number}
 use Rattle.disc.specs.Ask.{then}
 use Rattle.disc.specs.Images.{sectors}
-use Rattle.disc.specs.declared.refusals.Refusal.{Refusal}
 use Rattle.disc.specs.declared.refusals.Refusal.TheVariants.{NoRoom}
 use Rattle.drives.specs.Feeds.{Feed, following, naming, settled_in}
-use Rattle.drives.specs.Feeds.Feed.{over, put}
+use Rattle.drives.specs.Feeds.Feed.{over}
 use Rattle.drives.specs.FileFeeds.{extent_feed, extents_feed}
 use Rattle.drives.specs.Openings.{most_sectors}
-use Rattle.drives.specs.Readings.{extents_in, behind_extent, feed_of, is_wanting, left_of, number_of, put_at, Goes}
+use Rattle.drives.specs.Readings.{extents_in, behind_extent, feed_of, put_at}
 use Rattle.drives.specs.Inner.Turns.{Ends, ReadingStands, extents_behind}
 use Rattle.drives.specs.Inner.Bodies.{Lands}
 use Rattle.drives.specs.Inner.Arrivals.{bytes_behind, extent_behind, Arrives, filled_by, Nexts}

@@ -1,34 +1,33 @@
 -- Laws of a continuation whose sectors come one at a time: what they come to is what all of them joined come to. Assumes nothing.
-use mathlib.Core.Path.{◌≡◌, refl, ap, sym, ◌∙◌, fun_ext}
+use mathlib.Core.Path.{◌≡◌, refl, ap, sym, ◌∙◌}
 use mathlib.Core.Bool.{Bool, true, false, not, ◌&&◌, ◌||◌}
 use mathlib.Core.List.{List, [], ◌∷◌, ◌++◌, append-nil, append_assoc}
 use Prim.Native.Nat.{ℕ, zero, suc, ◌+◌, ◌-◌, ◌*◌, ◌<◌, ◌≤◌, min}
 use native.Mathlib.Omega.{arith}
-use lib.ListN.{length, take, drop, replicate, length-append, length-take, length-drop}
-use lib.Seq.{take_all, take-nil, take-append-le, take-append-add, drop-append-le, take-take}
+use lib.ListN.{length, take, replicate, length-append, length-take}
+use lib.Seq.{take_all, take-append-le, take-append-add}
 use lib.Dec.{eqb, ltb, leb}
 use borrow.Author.Tests.{lt-ltb, le-ltb, lt-leb, le-leb, leb-true, leb-false, eqb-true}
 use Rattle.disc.specs.Choice.{pick}
 use Rattle.disc.specs.Refusals.{number}
-use Rattle.disc.specs.Ask.{Ask, then}
-use Rattle.disc.specs.Ask.Ask.{done, refuse, ask}
+use Rattle.disc.specs.Ask.{then}
 use Rattle.disc.specs.Images.{sectors}
 use Rattle.disc.specs.Places.{is_checked}
 use Rattle.disc.specs.declared.places.Mount.{Mount}
 use Rattle.disc.specs.declared.refusals.Refusal.{Refusal}
-use Rattle.disc.specs.declared.refusals.Refusal.TheVariants.{Malformed, BadCrc, NoSlot}
+use Rattle.disc.specs.declared.refusals.Refusal.TheVariants.{Malformed, BadCrc}
 use Rattle.crcs.specs.Crcs.{crc_from}
 use Rattle.crcs.proofs.Promises.{from-joined}
 use Rattle.areas.specs.declared.AllocExtent.{AllocExtent}
 use Rattle.areas.specs.declared.AdEnding.{AdEnding}
 use Rattle.areas.specs.declared.AdEnding.TheVariants.{End, Continuation, Refused}
-use Rattle.areas.specs.Areas.{size_of, Area, ended, area_at}
+use Rattle.areas.specs.Areas.{size_of, ended, area_at}
 use Rattle.areas.proofs.AreaLaws.{area-end}
 use Rattle.drives.specs.Feeds.{Feed, naming, crowded, settled_in, crowded_by}
 use Rattle.drives.specs.Feeds.Feed.{over, stop, name, hold, put, want}
 use Rattle.drives.specs.FileFeeds.{joined, chain_feed}
 use Rattle.drives.specs.Openings.{most_sectors}
-use Rattle.drives.specs.Readings.{extents_in, area_of, ending_of, carried_in, padded, rest_of, is_right, headed, named_in, behind_area, continuation_phase, feed_of, is_wanting, left_of, number_of}
+use Rattle.drives.specs.Readings.{extents_in, area_of, ending_of, carried_in, padded, rest_of, is_right, named_in, continuation_phase, feed_of, left_of, number_of}
 use Rattle.drives.specs.Inner.Scans.{Leads, Scans}
 use Rattle.drives.specs.Inner.Turns.{Ends, quiet, ReadingStands}
 use Rattle.drives.specs.Inner.Bodies.{is_wrong, judged, finished, body_behind, behind_bytes, in_body, part_behind, with_parts, Parts, Lands}

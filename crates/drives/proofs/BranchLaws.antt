@@ -1,13 +1,12 @@
 -- The branch that a lent sector takes of a read's tree is what the code makes of the sector, and one that can't be had ends it by 1. Assumes nothing.
-use mathlib.Core.Path.{◌≡◌, refl, ap, sym, ◌∙◌, fun_ext}
+use mathlib.Core.Path.{◌≡◌, refl, ap, ◌∙◌}
 use mathlib.Core.Bool.{Bool, true, false}
 use mathlib.Core.List.{List, ◌++◌}
-use Prim.Native.Nat.{ℕ, ◌+◌, ◌-◌}
-use lib.ListN.{length}
+use Prim.Native.Nat.{ℕ, ◌+◌}
 use lib.Dec.{eqb, ltb}
 use Rattle.disc.specs.Choice.{pick}
 use Rattle.disc.specs.Ask.{Ask, then}
-use Rattle.disc.specs.Ask.Ask.{done, refuse, ask}
+use Rattle.disc.specs.Ask.Ask.{done, refuse}
 use Rattle.disc.specs.Ask.Held.{holds, lacks}
 use Rattle.disc.specs.Images.{sectors}
 use Rattle.disc.specs.Places.{is_checked}
@@ -23,7 +22,7 @@ use Rattle.drives.specs.Feeds.{Feed, following, naming, crowded, crowded_by, fed
 use Rattle.drives.specs.Feeds.Feed.{over, stop, name, hold, put, want}
 use Rattle.drives.specs.FileFeeds.{extent_feed}
 use Rattle.drives.specs.FileFeeds.{named_by}
-use Rattle.drives.specs.Readings.{padded, rest_of, extents_in, headed, named_in, behind_area, feed_of, is_wanting, left_of}
+use Rattle.drives.specs.Readings.{extents_in, named_in, behind_area, feed_of, is_wanting, left_of}
 use Rattle.drives.specs.Inner.Bodies.{behind_bytes, head_behind, part_behind}
 use Rattle.drives.specs.Inner.Arrivals.{entry_behind, bytes_behind, extent_behind, wanted_behind}
 use Rattle.drives.specs.declared.readings.Reading.{Reading}

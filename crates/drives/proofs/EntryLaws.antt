@@ -1,15 +1,13 @@
 -- Laws of the file entry's sector: the file itself, or the front of its chain. Assumes nothing.
 use mathlib.Core.Path.{◌≡◌, refl, ap, sym, ◌∙◌}
-use mathlib.Core.Bool.{Bool, true, false}
-use mathlib.Core.List.{List, [], ◌∷◌, ◌++◌, append-nil}
+use mathlib.Core.Bool.{Bool, false}
+use mathlib.Core.List.{List, [], append-nil}
 use Prim.Native.Nat.{ℕ, ◌+◌, ◌-◌, ◌<◌, ◌≤◌, ◌^◌, min}
 use native.Mathlib.Nat.{add-zero}
 use native.Mathlib.Omega.{arith}
 use lib.ListN.{length, take, drop, length-take, length-drop}
 use lib.Seq.{take_all, length-take-le}
-use lib.Dec.{eqb, leb}
 use borrow.Author.Tests.{eq-eqb, ne_eqb, lt-leb, le-leb}
-use Rattle.disc.specs.Choice.{pick}
 use Rattle.disc.specs.Refusals.{number}
 use Rattle.disc.specs.declared.refusals.Refusal.{Refusal}
 use Rattle.disc.specs.declared.refusals.Refusal.TheVariants.{NoRoom}
@@ -21,10 +19,10 @@ use Rattle.entries.specs.declared.file_entries.EntryRead.{EntryRead}
 use Rattle.entries.specs.declared.file_entries.EntryRead.TheVariants.{Read, Refused}
 use Rattle.entries.proofs.EntryLaws.{read-entry}
 use Rattle.chains.specs.Chains.{most_continuations}
-use Rattle.drives.specs.Feeds.{Feed, following, crowded_by, settled_in}
-use Rattle.drives.specs.Feeds.Feed.{over, stop, put}
-use Rattle.drives.specs.FileFeeds.{joined, chain_feed, entry_feed}
-use Rattle.drives.specs.Readings.{extents_in, area_of, ending_of, rest_of, put_at, Goes}
+use Rattle.drives.specs.Feeds.{following, crowded_by, settled_in}
+use Rattle.drives.specs.Feeds.Feed.{stop}
+use Rattle.drives.specs.FileFeeds.{chain_feed, entry_feed}
+use Rattle.drives.specs.Readings.{extents_in, area_of, ending_of, rest_of, put_at}
 use Rattle.drives.specs.Inner.Scans.{begun, Scans}
 use Rattle.drives.specs.Inner.Turns.{Ends, ReadingStands}
 use Rattle.drives.specs.Inner.Bodies.{Lands}

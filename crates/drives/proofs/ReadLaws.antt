@@ -1,22 +1,19 @@
 -- Laws of a read's start, of its step, and of the row that is zeroed. Assumes nothing.
 use mathlib.Core.Path.{◌≡◌, refl, ap, sym, ◌∙◌}
 use mathlib.Core.Bool.{Bool, true, false}
-use mathlib.Core.List.{List, [], ◌++◌, append-nil}
-use mathlib.Core.Option.{Option, none, some}
-use Prim.Native.Nat.{ℕ, suc, ◌+◌, ◌-◌, ◌<◌, ◌≤◌, ◌^◌}
+use mathlib.Core.List.{List, append-nil}
+use Prim.Native.Nat.{ℕ, suc, ◌+◌, ◌-◌, ◌<◌, ◌≤◌}
 use native.Mathlib.Nat.{add-zero, zero-add, sub-zero}
 use native.Mathlib.Numerals.{add-one}
 use native.Mathlib.Omega.{arith}
-use lib.ListN.{length, drop, replicate, set, drop_of_length-le, length-set, length-replicate}
+use lib.ListN.{length, replicate, set, drop_of_length-le, length-set, length-replicate}
 use lib.Seq.{sets, sets-eq}
-use lib.Dec.{eqb, ltb}
 use borrow.Author.Tests.{lt-ltb, eq-eqb, ne_eqb}
 use Rattle.disc.specs.Choice.{pick}
 use Rattle.disc.specs.Counts.{reported}
 use Rattle.disc.specs.Refusals.{number}
 use Rattle.disc.specs.Ask.Ask.{refuse}
-use Rattle.disc.specs.Ask.Held.{holds, lacks}
-use Rattle.disc.specs.Places.{icb_placed, at_entry, is_checked, StandsIn}
+use Rattle.disc.specs.Places.{icb_placed, StandsIn}
 use Rattle.disc.specs.declared.places.Mount.{Mount}
 use Rattle.disc.specs.declared.places.Sector.{Sector}
 use Rattle.disc.specs.declared.places.Placed.{Placed}
@@ -26,12 +23,11 @@ use Rattle.disc.specs.declared.refusals.Refusal.TheVariants.{Io, Malformed, Unsu
 use Rattle.disc.proofs.PickLaws.{not-both}
 use Rattle.disc.proofs.PlaceLaws.{in-nowhere, in-at, in-low, entry-checked}
 use Rattle.records.specs.declared.allocations.LongAd.{LongAd}
-use Rattle.files.specs.Files.{entry_in, entry_at, entry_mount}
-use Rattle.drives.specs.Feeds.{Feed, following, lent, fed_by, Settled, settled_in}
-use Rattle.drives.specs.Feeds.Feed.{stop}
-use Rattle.drives.specs.FileFeeds.{entry_feed, file_feed}
+use Rattle.files.specs.Files.{entry_at, entry_mount}
+use Rattle.drives.specs.Feeds.{following, lent, fed_by, Settled, settled_in}
+use Rattle.drives.specs.FileFeeds.{file_feed}
 use Rattle.drives.specs.Openings.{most_sectors}
-use Rattle.drives.specs.Readings.{feed_of, is_wanting, end_tree, left_of, number_of, put_at, Goes, zeroed, Same, Fed, Starts}
+use Rattle.drives.specs.Readings.{feed_of, is_wanting, left_of, Goes, zeroed, Fed, Starts}
 use Rattle.drives.specs.Inner.Turns.{Ends}
 use Rattle.drives.specs.Inner.Bodies.{head_behind, part_behind}
 use Rattle.drives.specs.Inner.Arrivals.{beginning, entry_behind, bytes_behind, extent_behind, wanted_behind, Arrives}

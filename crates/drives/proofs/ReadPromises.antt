@@ -13,7 +13,7 @@
 --   discs that agree on the sectors wanted give the same list, answer, count and bytes                    agreed-alike
 --   every read ends, from whatever state                                                                  EndPromises read-ends, read-walks
 use mathlib.Core.Path.{◌≡◌, refl, ap, sym, ◌∙◌}
-use mathlib.Core.Bool.{true, false}
+use mathlib.Core.Bool.{false}
 use mathlib.Core.List.{List, [], ◌++◌}
 use Prim.Native.Nat.{ℕ, ◌+◌, ◌/◌, ◌≤◌}
 use native.Mathlib.Nat.{zero-add, sub-zero}

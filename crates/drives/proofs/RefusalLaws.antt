@@ -1,6 +1,6 @@
 -- Which refusals a file's read says by itself: 1, 2, 4, and 10 where bodies are checked. So 5 and 7 are given exactly when lent memory is short. Assumes
 -- nothing.
-use mathlib.Core.Path.{◌≡◌, refl, sym, subst, ◌∙◌}
+use mathlib.Core.Path.{◌≡◌, refl, sym, subst}
 use mathlib.Core.Bool.{Bool, true, false}
 use mathlib.Core.List.{List, [], ◌∷◌, ◌++◌}
 use mathlib.Core.Option.{Option, none, some}
@@ -12,7 +12,7 @@ use Rattle.disc.specs.Choice.{pick}
 use Rattle.disc.specs.Refusals.{number}
 use Rattle.disc.specs.Ask.{Disc, Held, Ask, given, then}
 use Rattle.disc.specs.Ask.Held.{holds, lacks}
-use Rattle.disc.specs.Ask.Ask.{done, refuse, ask}
+use Rattle.disc.specs.Ask.Ask.{done, refuse}
 use Rattle.disc.specs.Images.{sectors, sectors_for}
 use Rattle.disc.specs.Places.{placed, icb_placed, is_checked, standing as placing}
 use Rattle.disc.specs.declared.places.Mount.{Mount}
@@ -36,9 +36,9 @@ use Rattle.entries.specs.declared.file_entries.EntryRead.TheVariants.{Read, Refu
 use Rattle.entries.proofs.EntryLaws.{read-entry-refused}
 use Rattle.chains.specs.Chains.{area_in, next_area, area_from}
 use Rattle.files.specs.Files.{Located, located, entry_at, entry_mount, is_embedded}
-use Rattle.drives.specs.Feeds.{Feed, End as Ending, following, naming, end_of}
+use Rattle.drives.specs.Feeds.{Feed, following, naming, end_of}
 use Rattle.drives.specs.Feeds.Feed.{over, stop, name, hold, put, want}
-use Rattle.drives.specs.Feeds.End.{answers, refuses}
+use Rattle.drives.specs.Feeds.End.{refuses}
 use Rattle.drives.specs.FileFeeds.{extent_feed, standing, extents_feed, named_by, chain_feed, entry_feed, file_feed}
 use Rattle.drives.proofs.SettleLaws.{naming-then}
 use Rattle.drives.proofs.BranchLaws.{area-alone}

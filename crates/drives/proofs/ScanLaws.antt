@@ -1,17 +1,14 @@
 -- Laws of an area whose bytes come one at a time: each place leads to what the whole area gives. Assumes nothing.
 use mathlib.Core.Path.{◌≡◌, refl, ap, sym, ◌∙◌}
 use mathlib.Core.Bool.{Bool, true, false, ◌||◌}
-use mathlib.Core.List.{List, [], ◌∷◌, ◌++◌, map, map-append, append-nil, append_assoc}
-use mathlib.Core.Logic.{⊎_elim}
-use Prim.Native.Nat.{ℕ, zero, suc, ◌+◌, ◌-◌, ◌<◌, ◌≤◌, min}
-use native.Mathlib.Nat.{add-zero, zero-add}
+use mathlib.Core.List.{List, [], ◌∷◌, ◌++◌, map, map-append, append_assoc}
+use Prim.Native.Nat.{ℕ, suc, ◌+◌, ◌<◌, ◌≤◌}
 use native.Mathlib.Numerals.{add-one}
 use native.Mathlib.Omega.{arith}
-use lib.ListN.{length, get_or, take, drop, set, replicate, length-append, length-take, length-set, length-replicate, get_or-append, drop_of_length-le}
-use lib.Seq.{get_or-take, get_or-append-add, take-suc-set, drop-cons, length-take-le, append_snoc, take_all}
-use lib.Dec.{eqb, ltb}
-use borrow.Author.Tests.{lt-ltb, le-ltb, eq-eqb, ne_eqb}
-use Rattle.disc.specs.Choice.{pick}
+use lib.ListN.{length, get_or, take, drop, set, length-append, length-set, drop_of_length-le}
+use lib.Seq.{take-suc-set, drop-cons, take_all}
+use lib.Dec.{ltb}
+use borrow.Author.Tests.{lt-ltb, le-ltb, ne_eqb}
 use Rattle.disc.proofs.PickLaws.{not-both}
 use Rattle.disc.specs.declared.places.PartitionRef.{PartitionRef}
 use Rattle.disc.specs.declared.places.PartitionRef.TheVariants.{Unnamed, Named}
@@ -23,11 +20,10 @@ use Rattle.areas.specs.declared.AdCursor.{AdCursor}
 use Rattle.areas.specs.declared.AdStep.{AdStep}
 use Rattle.areas.specs.declared.AdStep.TheVariants.{Extent, Continuation as GoesOn, End as Ends, Refused as Refuses}
 use Rattle.areas.specs.declared.AdEnding.TheVariants.{End, Continuation, Refused}
-use Rattle.areas.specs.Areas.{size_of, extent, Area, ended, area_at, next_of}
+use Rattle.areas.specs.Areas.{size_of, Area, ended, next_of}
 use Rattle.areas.proofs.AreaLaws.{some_size, small_size}
 use Rattle.areas.proofs.FrontLaws.{front-extent, front-continuation, front-end, front-refused}
-use Rattle.drives.specs.FileFeeds.{joined}
-use Rattle.drives.specs.Readings.{reference_in, extent_in, extents_in, area_of, ending_of, carried_in, rest_of}
+use Rattle.drives.specs.Readings.{reference_in, extent_in, extents_in, area_of, carried_in, rest_of}
 use Rattle.drives.specs.Inner.Scans.{Alike, Leads, Scans, Stores, Closes, Continues, WholeWith, Whole}
 use Rattle.drives.specs.Inner.Scans.Alike.{same, lost}
 use Rattle.drives.specs.declared.scans.Scan.{Scan}

@@ -1,7 +1,7 @@
 -- Laws of what arrives before the next sector is wanted, and of calls whose sectors name extents. Assumes nothing.
-use mathlib.Core.Path.{◌≡◌, refl, ap, sym, ◌∙◌, fun_ext}
+use mathlib.Core.Path.{◌≡◌, refl, ap, ◌∙◌, fun_ext}
 use mathlib.Core.Bool.{Bool, true, false, ◌||◌}
-use mathlib.Core.List.{List, [], ◌∷◌, ◌++◌}
+use mathlib.Core.List.{List, ◌++◌}
 use Prim.Native.Nat.{ℕ, ◌+◌, ◌-◌}
 use lib.ListN.{length, take}
 use lib.Dec.{ltb, leb}
@@ -9,7 +9,7 @@ use Rattle.disc.specs.Choice.{pick}
 use Rattle.disc.specs.Ask.{Ask, then}
 use Rattle.disc.specs.Ask.Ask.{done, refuse, ask}
 use Rattle.disc.specs.declared.refusals.Refusal.TheVariants.{Malformed, BadCrc, NoRoom}
-use Rattle.drives.specs.Feeds.{Feed, following, naming, crowded, crowded_by, Settled, settled_behind, settled_in, Grown, first_of, behind_first, within}
+use Rattle.drives.specs.Feeds.{Feed, following, naming, crowded, crowded_by, settled_behind, settled_in, Grown, first_of, behind_first, within}
 use Rattle.drives.specs.Feeds.Feed.{over, stop, name, hold, put, want}
 use Rattle.drives.specs.Inner.Turns.{quiet}
 

@@ -1,15 +1,14 @@
 -- Where the parts of the image stand on the disc that it is. Assumes nothing.
-use mathlib.Core.Path.{◌≡◌, refl, ap, sym, ◌∙◌}
+use mathlib.Core.Path.{◌≡◌, refl, ap, ◌∙◌}
 use mathlib.Core.List.{List, [], ◌∷◌, ◌++◌, append_assoc}
-use Prim.Native.Nat.{ℕ, zero, suc, ◌+◌, ◌-◌, ◌*◌, ◌/◌, ◌≤◌, ◌<◌}
+use Prim.Native.Nat.{ℕ, zero, suc, ◌+◌, ◌*◌, ◌≤◌, ◌<◌}
 use native.Mathlib.Omega.{arith}
-use lib.ListN.{length, get_or, take, drop, replicate, length-append, length-replicate}
+use lib.ListN.{length, get_or, take, drop, length-append}
 use lib.Seq.{take_at, drop_at, drop-append-add, take-append_seam}
-use lib.Dec.{lit<}
 use Rattle.disc.specs.Ask.Held.{holds}
 use Rattle.disc.specs.Images.{disc}
 use Rattle.disc.proofs.ImageLaws.{held}
-use Rattle.writers.specs.Layout.{zeros, joined, blanks, sector}
+use Rattle.writers.specs.Layout.{joined, blanks}
 
 -- every one of them has 2,048 bytes
 unfoldable pub Whole : List (List ℕ) → Type 0

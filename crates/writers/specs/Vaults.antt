@@ -7,7 +7,6 @@ use Rattle.records.specs.declared.allocations.LongAd.{LongAd}
 use Rattle.tags.specs.Tags.{in_place, read_tag}
 use Rattle.tags.specs.declared.DescriptorTag.{DescriptorTag}
 use Rattle.tags.specs.declared.TagRead.TheVariants.{Read}
-use Rattle.volumes.specs.Sequences.Parsed.{partition}
 use Rattle.volumes.specs.declared.openings.How.{How}
 use Rattle.volumes.specs.declared.openings.VolumeRecord.{VolumeRecord}
 use Rattle.listings.specs.Listings.{record_head}

@@ -1,5 +1,5 @@
 -- What a sector leads to once it has arrived: for the contracts of private functions.
-use Rattle.std.specs.Prelude.{ℕ, ◌+◌, ◌-◌, ◌≤◌, ◌≡◌, true, false, List, [], ◌++◌, length, take, drop, eqb, leb}
+use Rattle.std.specs.Prelude.{ℕ, ◌+◌, ◌-◌, ◌≤◌, ◌≡◌, true, false, List, length, take, eqb, leb}
 use Rattle.disc.specs.Choice.{pick}
 use Rattle.disc.specs.Places.{is_checked}
 use Rattle.disc.specs.declared.places.Mount.{Mount}

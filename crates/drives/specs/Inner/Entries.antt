@@ -1,6 +1,5 @@
 -- Behind the file entry's sector: what the private functions say.
-use Rattle.std.specs.Prelude.{ℕ, ◌+◌, ◌≤◌, min, ◌≡◌, List, length, take, drop}
-use Rattle.disc.specs.Ask.Ask.{done}
+use Rattle.std.specs.Prelude.{ℕ, ◌+◌, List}
 use Rattle.entries.specs.declared.file_entries.FileEntry.{FileEntry}
 use Rattle.chains.specs.Chains.{most_continuations}
 use Rattle.files.specs.Files.{Located}

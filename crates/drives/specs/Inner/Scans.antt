@@ -1,6 +1,6 @@
 -- An area whose bytes come one at a time: what the private functions say.
 use Rattle.std.specs.Prelude.{ℕ, ◌<◌, ◌≤◌, ◌≡◌, Bool, true, false, ◌||◌, List, ◌∷◌, ◌++◌, length, take, replicate, ltb}
-use Rattle.areas.specs.Areas.{Area, size_of}
+use Rattle.areas.specs.Areas.{size_of}
 use Rattle.areas.specs.declared.AllocExtent.{AllocExtent}
 use Rattle.areas.specs.declared.AdContinuation.{AdContinuation}
 use Rattle.areas.specs.declared.AdEnding.TheVariants.{Continuation}

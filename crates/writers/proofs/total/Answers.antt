@@ -25,7 +25,7 @@ pub returns-then-not-are_files : goal.returns-then-not-are_files
 returns-then-not-are_files c = search own
 
 pub blocks_of-requires : goal.blocks_of-requires
-blocks_of-requires c = good-few c.args.names.now c.args.lengths.now c.are_files.ensures (not-false _ c.if-not-are_files.false)
+blocks_of-requires c = good-few c.args.names.now c.args.lengths.now c.are_files.ensures c.if-not-are_files.false
 
 pub overflow_add-result : goal.overflow_add-result
 overflow_add-result c = search own

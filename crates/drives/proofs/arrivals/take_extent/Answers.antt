@@ -26,7 +26,7 @@ pub put-k-requires : goal.put-k-requires
 put-k-requires c = search extents
 
 pub filled_by-x-requires : goal.filled_by-x-requires
-filled_by-x-requires c = (c.put-k.ensures.0.1, (let u = c.put-k.ensures.0.0 in let q = c.lesser-n.ensures in search extents))
+filled_by-x-requires c = (c.put-k.ensures.value.1, (let u = c.put-k.ensures.value.0 in let q = c.lesser-n.ensures in search extents))
 
 pub over-requires : goal.over-requires
 over-requires c = search extents
@@ -35,13 +35,13 @@ pub shape_of-out-then-k-n : goal.shape_of-out-then-k-n
 shape_of-out-then-k-n c = search extents
 
 pub returns-then-k-n : goal.returns-then-k-n
-returns-then-k-n c = extent-full _ _ _ _ c.requires.0 c.lesser-here.ensures c.lesser-n.ensures c.put-k.ensures.0.0 _ _ c.filled_by-x.ensures _ c.put-k.ensures.1 c.if-k-n.true c.over.ensures
+returns-then-k-n c = extent-full _ _ _ _ c.requires.0 c.lesser-here.ensures c.lesser-n.ensures c.put-k.ensures.value.0 _ _ c.filled_by-x.ensures _ c.put-k.ensures.out_after c.if-k-n.true c.over.ensures
 
 pub next_sector-requires : goal.next_sector-requires
-next_sector-requires c = (c.requires.1, c.lesser-here.ensures, (let l = c.requires.0 in let e = c.lesser-here.ensures in let q = c.lesser-n.ensures in let u = c.put-k.ensures.0.0 in let h = c.if-k-n.false in let f = c.filled_by-x.ensures in search extents))
+next_sector-requires c = (c.requires.1, c.lesser-here.ensures, (let l = c.requires.0 in let e = c.lesser-here.ensures in let q = c.lesser-n.ensures in let u = c.put-k.ensures.value.0 in let h = c.if-k-n.false in let f = c.filled_by-x.ensures in search extents))
 
 pub shape_of-out : goal.shape_of-out
 shape_of-out c = search extents
 
 pub returns : goal.returns
-returns c = extent-arrives _ _ _ _ c.requires.0 c.lesser-here.ensures c.lesser-n.ensures c.put-k.ensures.0.0 _ _ c.filled_by-x.ensures _ c.put-k.ensures.1 c.if-k-n.false c.next_sector.ensures
+returns c = extent-arrives _ _ _ _ c.requires.0 c.lesser-here.ensures c.lesser-n.ensures c.put-k.ensures.value.0 _ _ c.filled_by-x.ensures _ c.put-k.ensures.out_after c.if-k-n.false c.next_sector.ensures

@@ -4,6 +4,7 @@ use Rattle.drives.proofs.HeadLaws.{head-lands, head-held, head-begins}
 use Rattle.drives.proofs.bodies.take_head.Goals as goal
 
 ruleset heads = (head-begins, scans-carry, rules)
+
 ruleset helds = (head-held)
 
 pub parse-requires : goal.parse-requires
@@ -40,10 +41,10 @@ pub with_parts-x-requires : goal.with_parts-x-requires
 with_parts-x-requires c = search heads
 
 pub further-requires : goal.further-requires
-further-requires c = TODO_let pre = b.before.before.before.before.before.before.before.before.before.before.requires in part-ready _ _ _ _ TODO_c.before.with-parts.ensures pre.1 (scans-carry _ _ _ _ _ _ TODO_b.take-bytes.ensures) (TODO_let e = b.before.before.before.before.before.before.body-in.ensures in let h = pre.2 in search helds)
+further-requires c = part-ready _ _ _ _ c.with_parts-x.ensures c.requires.1 (scans-carry _ _ _ _ _ _ c.take_bytes-listed.ensures) (let e = c.body_in-body.ensures in let h = c.requires.2 in search helds)
 
 pub shape_of-row : goal.shape_of-row
 shape_of-row c = search heads
 
 pub returns : goal.returns
-returns c = head-lands _ _ _ _ _ TODO_b.before.before.before.before.before.before.before.before.before.before.requires.0 TODO_b.before.before.before.before.before.before.before.parse.ensures TODO_b.before.before.before.before.before.before.body-in.ensures TODO_b.before.before.before.before.before.le32.ensures TODO_b.before.before.before.before.front_of.ensures TODO_b.before.before.before.begin.ensures TODO_b.take-bytes.ensures _ _ TODO_c.before.before.with-parts.ensures.is c.further.ensures
+returns c = head-lands _ _ _ _ _ c.requires.0 c.parse.ensures c.body_in-body.ensures c.le32.ensures c.front_of-n.ensures c.begin.ensures c.take_bytes-listed.ensures _ _ c.with_parts-x.ensures.is c.further.ensures

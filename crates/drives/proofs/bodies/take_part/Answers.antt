@@ -3,6 +3,7 @@ use Rattle.drives.proofs.BodyLaws.{part-lands, part_held, scans-carry, part-read
 use Rattle.drives.proofs.bodies.take_part.Goals as goal
 
 ruleset parts = (part-lands, part_held, scans-carry, rules)
+
 ruleset helds = (part_held)
 
 pub overflow_cast-body : goal.overflow_cast-body
@@ -30,10 +31,10 @@ pub with_parts-x-requires : goal.with_parts-x-requires
 with_parts-x-requires c = search parts
 
 pub further-requires : goal.further-requires
-further-requires c = TODO_let pre = c.before.before.before.before.before.before.before.before.before.before.before.before.requires in part-ready _ _ _ _ TODO_c.before.with-parts.ensures pre.1 (scans-carry _ _ _ _ _ _ TODO_c.before.before.before.before.take-bytes.ensures) (TODO_let e = c.before.before.body-behind.ensures in let h = pre.3 in search helds)
+further-requires c = part-ready _ _ _ _ c.with_parts-x.ensures c.requires.1 (scans-carry _ _ _ _ _ _ c.take_bytes-listed.ensures) (let e = c.body_behind-behind.ensures in let h = c.requires.3 in search helds)
 
 pub shape_of-row : goal.shape_of-row
 shape_of-row c = search parts
 
 pub returns : goal.returns
-returns c = part-lands _ _ _ _ _ _ TODO_c.before.before.before.before.before.before.before.before.before.before.before.before.before.requires.0 TODO_c.before.before.before.body-behind.ensures TODO_c.before.before.before.before.before.before.before.before.least.ensures TODO_c.before.before.before.before.before.take-bytes.ensures _ _ TODO_c.before.before.with-parts.ensures.is c.further.ensures
+returns c = part-lands _ _ _ _ _ _ c.requires.0 c.body_behind-behind.ensures c.least-end.ensures c.take_bytes-listed.ensures _ _ c.with_parts-x.ensures.is c.further.ensures

@@ -25,12 +25,10 @@ pub shape_of-row-then-size_of-i : goal.shape_of-row-then-size_of-i
 shape_of-row-then-size_of-i c = search bytes
 
 pub returns-then-size_of-i : goal.returns-then-size_of-i
-returns-then-size_of-i c = let z = c.if-s-ne0.false in TODO_let e = c.before.before.before.before.type_size.ensures in
-    let h = c.if-size_of-i.true in byte-whole _ _ _ _ c.requires z (search rules) (omega arith) _ _ c.take_descriptor.ensures
+returns-then-size_of-i c = let z = c.if-s-ne0.false in let e = c.size_of.ensures in let h = c.if-size_of-i.true in byte-whole _ _ _ _ c.requires z (search rules) (omega arith) _ _ c.take_descriptor.ensures
 
 pub overflow_add-r : goal.overflow_add-r
 overflow_add-r c = search bytes
 
 pub returns : goal.returns
-returns c = let z = c.if-s-ne0.false in TODO_let e = c.before.type_size.ensures in
-    let h = c.if-size_of-i.false in byte-carried _ _ _ _ c.requires z (search rules) _ (omega arith) refl refl refl refl refl
+returns c = let z = c.if-s-ne0.false in let e = c.size_of.ensures in let h = c.if-size_of-i.false in byte-carried _ _ _ _ c.requires z (search rules) _ (omega arith) refl refl refl refl refl

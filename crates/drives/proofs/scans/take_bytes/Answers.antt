@@ -1,5 +1,4 @@
 -- `drives::scans::take_bytes` meets its contract: what is taken and what is yet to come lead to what all of it leads to. Assumes nothing.
-use Prim.Native.Nat.{◌-◌}
 use borrow.Author.Rules.{rules}
 use Rattle.drives.proofs.ScanLaws.{along-starts, along-fits, along-long, along-next, along-ends}
 use Rattle.drives.proofs.scans.take_bytes.Goals as goal

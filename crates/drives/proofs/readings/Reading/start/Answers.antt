@@ -21,8 +21,7 @@ pub shape_of-row-then-icb-eq0 : goal.shape_of-row-then-icb-eq0
 shape_of-row-then-icb-eq0 c = search starts
 
 pub returns-then-icb-eq0 : goal.returns-then-icb-eq0
-returns-then-icb-eq0 c = let z = c.clear_row.ensures in TODO_let f = c.before.before.before.before.at_entry_lem.ensures in
-    let l = c.if-icb-eq0.true in let b = c.before-then-icb-eq0.ensures in let p = c.over.ensures in search starts
+returns-then-icb-eq0 c = let z = c.clear_row.ensures in let f = c.at_entry-of_entry.ensures in let l = c.if-icb-eq0.true in let b = c.before-then-icb-eq0.ensures in let p = c.over.ensures in search starts
 
 pub icb_placed-requires : goal.icb_placed-requires
 icb_placed-requires c = search starts
@@ -46,12 +45,10 @@ pub shape_of-row-in-Nowhere : goal.shape_of-row-in-Nowhere
 shape_of-row-in-Nowhere c = search starts
 
 pub returns-in-Nowhere : goal.returns-in-Nowhere
-returns-in-Nowhere c = let z = c.clear_row.ensures in TODO_let f = c.before.before.before.before.before.before.before.at_entry_lem.ensures in
-    let l = c.if-icb-eq0.false in let q = c.icb_placed.ensures in let b = c.before-in-Nowhere.ensures in let p = c.over-in-Nowhere.ensures in search starts
+returns-in-Nowhere c = let z = c.clear_row.ensures in let f = c.at_entry-of_entry.ensures in let l = c.if-icb-eq0.false in let q = c.icb_placed.ensures in let b = c.before-in-Nowhere.ensures in let p = c.over-in-Nowhere.ensures in search starts
 
 pub shape_of-row-in-At : goal.shape_of-row-in-At
 shape_of-row-in-At c = search starts
 
 pub returns-in-At : goal.returns-in-At
-returns-in-At c = let z = c.clear_row.ensures in TODO_let f = c.before.before.before.before.before.before.before.at_entry_lem.ensures in
-    let l = c.if-icb-eq0.false in let q = c.icb_placed.ensures in let b = c.before-in-At.ensures in search starts
+returns-in-At c = let z = c.clear_row.ensures in let f = c.at_entry-of_entry.ensures in let l = c.if-icb-eq0.false in let q = c.icb_placed.ensures in let b = c.before-in-At.ensures in search starts

@@ -28,7 +28,7 @@ pub returns-then-sector-ne2048 : goal.returns-then-sector-ne2048
 returns-then-sector-ne2048 c = let e = c.is_wanting.ensures in let h = c.if-not-is_wanting.false in let q = c.add_counts.ensures in let l = c.if-sector-ne2048.true in let z = c.clear_row.ensures in let p = c.over.ensures in search steps
 
 pub taken-x-requires : goal.taken-x-requires
-taken-x-requires c = let e = c.is_wanting.ensures in let h = c.if-not-is_wanting.false in (search rules, sym e ∙ search (h, not-false))
+taken-x-requires c = let e = c.is_wanting.ensures in let h = c.if-not-is_wanting.false in (search rules, sym e ∙ h)
 
 pub clear_ended-requires : goal.clear_ended-requires
 clear_ended-requires c = search steps
@@ -40,4 +40,4 @@ pub shape_of-out : goal.shape_of-out
 shape_of-out c = search steps
 
 pub returns : goal.returns
-returns c = let e = c.is_wanting.ensures in let h = c.if-not-is_wanting.false in let q = c.add_counts.ensures in let l = c.if-sector-ne2048.false in let p = c.taken-x.ensures in let z = c.clear_ended.ensures in read_taken _ _ _ _ e (not-false _ h) q _ _ l _ (search rules) (search rules) p _ z
+returns c = let e = c.is_wanting.ensures in let h = c.if-not-is_wanting.false in let q = c.add_counts.ensures in let l = c.if-sector-ne2048.false in let p = c.taken-x.ensures in let z = c.clear_ended.ensures in read_taken _ _ _ _ e h q _ _ l _ (search rules) (search rules) p _ z
