@@ -19,7 +19,7 @@ use Rattle.disc.specs.Ask.Ask.{done, refuse, ask}
 use Rattle.disc.specs.Ask.Outcome.{answered, refused}
 use Rattle.disc.specs.Budgets.{budgeted}
 use Rattle.disc.proofs.BudgetLaws.{budgeted-guards}
-use Rattle.disc.specs.Ran.{Ran, ran, after, onward, followed}
+use Rattle.disc.specs.Ran.{Ran, ran, onward, followed}
 use Rattle.disc.specs.Replies.{Replied}
 use Rattle.disc.specs.declared.places.Mount.{Mount}
 use Rattle.disc.specs.declared.refusals.Refusal.{Refusal}

@@ -13,7 +13,7 @@ use borrow.Rule.Slice.PartMut.{mid_of, put_mid}
 use Rattle.disc.specs.Choice.{pick}
 use Rattle.disc.specs.Refusals.{number}
 use Rattle.disc.specs.Counts.{reported}
-use Rattle.disc.specs.Ask.{Disc, Outcome, outcome, and_then}
+use Rattle.disc.specs.Ask.{Disc, Outcome, and_then}
 use Rattle.disc.specs.Ask.Ask.{refuse}
 use Rattle.disc.specs.Ask.Outcome.{answered, refused}
 use Rattle.disc.specs.Ran.{Ran, ran}

@@ -1,5 +1,5 @@
 -- What each figure of an image is, where its opening and its tree are answered: a number of nodes, a sum over them, or the greatest. RULES 16.4 and 16.7. Assumes nothing.
-use mathlib.Core.Path.{◌≡◌, refl}
+use mathlib.Core.Path.{◌≡◌}
 use mathlib.Core.Bool.{true}
 use mathlib.Core.List.{List}
 use Prim.Native.Nat.{ℕ}
