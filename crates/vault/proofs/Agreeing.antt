@@ -2,7 +2,7 @@
 -- the second and the third answer has one ICB; where no two names of the directories on the path are equal with ASCII case ignored, the first and the
 -- third give the same, and the second gives the same or is refused by 3. And 9 is given exactly when several entries match. Assumes nothing.
 use mathlib.Core.Path.{◌≡◌, refl, ap, sym, ◌∙◌}
-use mathlib.Core.Bool.{true, false}
+use mathlib.Core.Bool.{true}
 use mathlib.Core.List.{List}
 use mathlib.Core.Logic.{◌⊎◌, inl, inr}
 use Prim.Native.Nat.{ℕ}

@@ -1,6 +1,6 @@
 -- RULES 3.23 to 3.25 of opening: the volume that it answers says that it is checked, and is that of an opening without the check otherwise. Assumes nothing.
 use mathlib.Core.Path.{◌≡◌, refl, ap, ◌∙◌}
-use mathlib.Core.Bool.{Bool, true, false}
+use mathlib.Core.Bool.{Bool}
 use mathlib.Core.List.{List}
 use Prim.Native.Nat.{ℕ}
 use borrow.Author.Tests.{ne_eqb}

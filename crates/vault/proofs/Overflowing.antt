@@ -2,7 +2,6 @@
 -- one is to be found, and the directory reads, without another refusal, as more bytes than the work space has. Those before it fit, for they were
 -- walked. Assumes nothing.
 use mathlib.Core.Path.{◌≡◌, refl}
-use mathlib.Core.Bool.{true}
 use mathlib.Core.List.{List}
 use mathlib.Core.Logic.{inl}
 use Prim.Native.Nat.{ℕ}

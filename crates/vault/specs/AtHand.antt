@@ -1,5 +1,5 @@
 -- A directory and a path at hand: components in turn, and a step of a lookup.
-use Rattle.std.specs.Prelude.{◌||◌, Bool, ◌&&◌, List, [], ◌∷◌, ◌≡◌, ℕ, ◌+◌, ◌<◌, eqb, length, take, drop}
+use Rattle.std.specs.Prelude.{◌||◌, Bool, ◌&&◌, List, [], ◌∷◌, ◌≡◌, ℕ, ◌+◌, ◌<◌, eqb, take, drop}
 use Rattle.disc.specs.Ask.{Disc}
 use Rattle.disc.specs.Ask.Outcome.{answered, refused}
 use Rattle.disc.specs.Choice.{pick}
