@@ -1,0 +1,12 @@
+-- `records_c::allocations::records_parse_short_ad` meets its contract: each arm is a case of `short_answer`. Assumes nothing.
+use borrow.Author.Rules.{rules}
+use Rattle.records_c.proofs.AnswerLaws.{short-yes, short-no}
+use Rattle.records_c.proofs.allocations.records_parse_short_ad.Goals as goal
+
+ruleset arms = (short-yes, short-no, rules)
+
+pub returns-in-Read : goal.returns-in-Read
+returns-in-Read c = search arms
+
+pub returns-in-Refused : goal.returns-in-Refused
+returns-in-Refused c = search arms

@@ -1,0 +1,12 @@
+-- `vault_c::vault_label` meets its contract: the number is known, or not. Assumes nothing.
+use borrow.Author.Rules.{rules}
+use Rattle.vault_c.proofs.ChoiceLaws.{label-unknown, label-known}
+use Rattle.vault_c.proofs.vault_label.Goals as goal
+
+ruleset choices = (label-unknown, label-known, rules)
+
+pub returns-in-Unknown : goal.returns-in-Unknown
+returns-in-Unknown c = search choices
+
+pub returns-in-Known : goal.returns-in-Known
+returns-in-Known c = search choices
