@@ -7,8 +7,7 @@ use native.Mathlib.Omega.{arith}
 use native.Mathlib.Nat.{sub-zero}
 use lib.ListN.{length, take}
 use lib.Seq.{take_all}
-use Rattle.programs.proofs.lent.front.Statement.{statement}
-use Rattle.programs.proofs.lent.front.Tie as tie
+use Rattle.programs.proofs.lent.front.Goals as goal
 
 all_of : (s : List ℕ) (n : ℕ) → length s < n → s ≡ take n s
 all_of s n h = sym (take_all n s (omega arith))
@@ -18,7 +17,17 @@ from-0 s n = rw sub-zero
 
 ruleset fronts = (all_of, from-0, rules)
 
-pub front-spec : {M : Type 1} → statement M
-front-spec =
-    tie.close (tie.spec
-    (λ c. search fronts) (λ c. search fronts) (λ c. search fronts) (λ c. search fronts) (λ c. search fronts))
+pub returns-then-s-n : goal.returns-then-s-n
+returns-then-s-n c = search fronts
+
+pub slice_bounds-result-count : goal.slice_bounds-result-count
+slice_bounds-result-count c = search fronts
+
+pub slice_bounds-result-start : goal.slice_bounds-result-start
+slice_bounds-result-start c = search fronts
+
+pub slice_bounds-result-end : goal.slice_bounds-result-end
+slice_bounds-result-end c = search fronts
+
+pub returns : goal.returns
+returns c = search fronts
