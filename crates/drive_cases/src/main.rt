@@ -25,6 +25,8 @@ use programs::words::{end_line, say, say_answer, say_named};
 use records::allocations::{LongAd, long_at, no_long};
 use records::bytes::{le16, le32};
 use sparse::expand;
+use std::fs;
+use std::os::fd::AsRawFd;
 use volumes::openings::{How, Opened, VolumeRecord, open_volume};
 
 // More than the sectors of any list here.
@@ -575,15 +577,12 @@ fn images_space() -> [u8; 262144]
     [0; 262144]
 }
 
-fn main() {
-    let fd = os::open_read(b"images");
-    if fd < 0 {
-        os::fail(b"images");
-        return;
-    }
+fn main(rt: HostRuntime) -> std::io::Result<()> {
+    let file = fs::open(&rt, "images")?;
     let mut all = images_space();
-    let n = io::read_full(fd, &mut all);
+    let n = io::read_full(file.as_raw_fd(), &mut all);
     let mut image = two_mebibytes();
     let mut out = io::large_buffer();
     run_all(&all[..n], &mut image, &mut out);
+    Ok(())
 }

@@ -10,7 +10,9 @@ ghost use Rattle.programs.specs.Lent.{all_zero};
 use crate::lent::{is_zero, wide};
 use disc::places::PartitionRef;
 use disc::refusals::Refusal;
-use libc::STDOUT_FILENO;
+
+// The descriptor that is standard output.
+const STDOUT_FILENO: i32 = 1;
 
 pub fn say(text: &[u8]) -> usize
     ensures { result ≡ length text.now }

@@ -16,6 +16,8 @@ use programs::lent::{fill, mebibyte, part};
 use programs::words::{end_line, number, say, say_named, say_zero};
 use records::bytes::{le16, le32, le64};
 use sparse::expand;
+use std::fs;
+use std::os::fd::AsRawFd;
 use surveys::survey;
 use volumes::choices::chosen;
 
@@ -243,15 +245,12 @@ fn run_all(all: &[u8], shelf: &mut [u8], work: &mut [u8]) {
     }
 }
 
-fn main() {
-    let fd = os::open_read(b"shelves");
-    if fd < 0 {
-        os::fail(b"shelves");
-        return;
-    }
+fn main(rt: HostRuntime) -> std::io::Result<()> {
+    let file = fs::open(&rt, "shelves")?;
     let mut all = mebibyte();
-    let n = io::read_full(fd, &mut all);
+    let n = io::read_full(file.as_raw_fd(), &mut all);
     let mut shelf = three_mebibytes();
     let mut work = io::large_buffer();
     run_all(&all[..n], &mut shelf, &mut work);
+    Ok(())
 }

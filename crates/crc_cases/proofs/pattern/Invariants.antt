@@ -1,0 +1,11 @@
+-- `crc_cases::pattern` meets its contract: storing a byte keeps the length. Assumes nothing.
+use mathlib.Core.Path.{◌≡◌}
+use Prim.Native.Nat.{◌-◌}
+use lib.ListN.{length}
+use Rattle.crc_cases.proofs.pattern.Given as goal
+
+abbrev pub invariant-loop-i : goal.invariant-loop-i
+invariant-loop-i l = 4100 ≡ length l.made
+
+abbrev pub decreases-loop-i : goal.decreases-loop-i
+decreases-loop-i l = 4100 - l.i
