@@ -43,7 +43,7 @@ class Function:
     gives: str  # "" for nothing
     about: list
     where: str
-    exported: bool = False  # #[no_mangle]
+    exported: bool = False  # #[unsafe(no_mangle)]
 
 
 @dataclass
@@ -125,7 +125,7 @@ def read_function(text, at, marks, about, where):
             raise Unread(f"{where}: a parameter that has no type: {piece}")
         takes.append((word.strip(), tight(type)))
     gives = re.match(r"\s*->\s*([^{]*?)\s*(?:\brequires\b|\bensures\b|\{)", text[end:])
-    return Function(name[1], takes, tight(gives[1]) if gives else "", about, where, "#[no_mangle]" in marks)
+    return Function(name[1], takes, tight(gives[1]) if gives else "", about, where, "#[unsafe(no_mangle)]" in marks)
 
 
 def read_struct(text, at, marks, about, where):

@@ -14,7 +14,7 @@ TRIED = (
     ("pub fn f<'a>(a: &'a mut u64) {\n}\n", True),
     ("impl S {\n    pub fn f(\n        self,\n        a: u8,\n    ) -> S {\n        self\n    }\n}\n", True),
     ("pub fn f(a: u8) -> u8\n    requires { a < 2 }\n    ensures { result ≡ record { x = a } }\n{\n    a\n}\n", True),
-    ("#[no_mangle]\npub extern \"C\" fn f(a: &[u8]) -> bool {\n    true\n}\n", True),
+    ("#[unsafe(no_mangle)]\npub extern \"C\" fn f(a: &[u8]) -> bool {\n    true\n}\n", True),
     ("pub fn f(a: u8)\n    requires { a < 2 }\n{\n}\n", True),
     ("pub fn f(a: u8) -> u8\n    ensures { result ≡ record { x = a } }\n{\n    g(a)\n}\n", False),
     ("pub fn f(a: &[u8]) {\n    say(a);\n}\n", True),
