@@ -142,8 +142,8 @@ def take_item(source, text, at, line, marks, about, where):
     """Keeps what a line declares, if it declares something that can cross."""
     if held := re.match(r"(?:pub )?mod (\w+);", line):
         source.mods.append(held[1])
-    elif held := re.match(r"(?:pub )?use (.+);", line):
-        source.uses.update(read_uses(held[1]))
+    elif held := re.match(r"(?:pub )?use ([^;]+);", text[at:]):
+        source.uses.update(read_uses(re.sub(r"\s+", " ", held[1])))
     elif held := re.match(r"(pub )?const (\w+): (\w+) = (.+);", line):
         source.constants[held[2]] = Constant(held[2], held[3], held[4], about, where, bool(held[1]))
     elif line.startswith("pub struct "):
