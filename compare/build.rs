@@ -186,7 +186,7 @@ fn archives() -> Option<Vec<PathBuf>> {
         let archive = folder.join(format!("lib{name}.a"));
         println!("cargo::rerun-if-changed={}", archive.display());
         if !archive.exists() {
-            println!("cargo::error={} is missing: make it with `rt staticlib {name}` in the repository's root", archive.display());
+            println!("cargo::error={} is missing: make it with `tools/archives proved` in the repository's root", archive.display());
             return None;
         }
         found.push(archive);
@@ -231,9 +231,9 @@ fn port(root: &Path, archives: &[PathBuf], out: &Path) {
     println!("cargo::rerun-if-env-changed=COMPARE_PORT");
     println!("cargo::rerun-if-changed={}", source.display());
     println!("cargo::rerun-if-changed={}", root.join("include").display());
-    let kit = Path::new(&said("rt", &["doc"])).parent().unwrap().join("..");
-    let own = kit.join("on").join(said("uname", &["-m"]));
-    let tools = own.join("toolchain");
+    let page = said("rt", &["doc"]);
+    let kit = Path::new(&page).parent().unwrap();
+    let tools = kit.join("toolchain");
     // The kit has no headers: stdint.h and its like are the machine's compiler's.
     let headers = said("cc", &["-print-file-name=include"]);
     let (object, program) = (out.join("port.o"), out.join("port"));
@@ -249,7 +249,7 @@ fn port(root: &Path, archives: &[PathBuf], out: &Path) {
         .arg("-o")
         .arg(&object));
     println!("cargo::rerun-if-env-changed=COMPARE_FLAGS");
-    run(Command::new(own.join("bin/rattle-link"))
+    run(Command::new(kit.join("bin/rattle-link"))
         .args(["--target", "x86_64-unknown-linux-gnu", "--toolchain"])
         .arg(&tools)
         .arg("-o")

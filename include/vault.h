@@ -1,6 +1,6 @@
 /* vault.h: Reads UDF discs (ECMA-167, OSTA UDF) from memory, and writes disc images to memory, for C.
  *
- * Link target/staticlib/libvault_c.a, which `rt staticlib vault_c` makes from the proved sources. To read straight
+ * Link target/staticlib/libvault_c.a, which `tools/archives proved` makes from the proved sources. To read straight
  * from a drive, link libdrives_c.a; for surveys, libsurveys_c.a. Both are made in the same way. Each call has the
  * contract of the call that it passes on, of crate vault, writers, drives, figures or surveys.
  *

@@ -13,7 +13,7 @@ fn main() {
     let target = |what: &str| env::var(format!("CARGO_CFG_TARGET_{what}")).unwrap_or_default();
     if (target("ARCH").as_str(), target("OS").as_str()) == ("x86_64", "linux") && !archive.exists() {
         println!(
-            "cargo::error={} is missing: run `./vault --build` in the root of the repository, or `rt staticlib records_c` there",
+            "cargo::error={} is missing: run `./vault --build` in the root of the repository",
             archive.display()
         );
     }

@@ -1,14 +1,17 @@
-"""The toolchain's own compiler, linker and loader, as ./run and compare/build.rs use them: its programs and archives are x86-64 code, which is compiled
-on every machine, and where that is another is run under the toolchain's emulator."""
+"""The toolchain's own compiler, linker and loader, as ./run and compare/build.rs use them, and its gate over copies of crates. Its programs and archives are
+x86-64 code, and so is the toolchain."""
 import functools
-import os
 import pathlib
 import re
+import shutil
 import subprocess
 
 ROOT = pathlib.Path(__file__).resolve().parents[1]
 STRICT = ["-Wall", "-Wextra", "-Werror", "-pedantic", "-I", str(ROOT / "include")]
 TARGET = "x86_64-unknown-linux-gnu"
+# What a crate's proof reads; and what a program is run on.
+PARTS = ("src", "specs", "proofs")
+RUN_ON = ("stdin", "stdout", "args", "status", "data")
 
 
 class Failed(Exception):
@@ -26,51 +29,86 @@ def did(*words, **more):
 
 @functools.cache
 def kit():
-    return pathlib.Path(did("rt", "doc").decode().strip()).parents[1]
-
-
-def own():
-    """What the kit has for this machine."""
-    return kit() / "on" / os.uname().machine
+    return pathlib.Path(did("rt", "doc").decode().strip()).parent
 
 
 def linked(source, archives, program, language=("-std=c11",), headers=()):
     """Compiles a C source and links it with archives, as rt links a program. The kit has no headers: stdint.h and its like are cc's. Headers of the
     repository may be others than its own, in a folder."""
-    tools, object = own() / "toolchain", f"{program}.o"
+    tools, object = kit() / "toolchain", f"{program}.o"
     system = did("cc", "-print-file-name=include").decode().strip()
     plain = [*language, "-O1", "-fPIE", "-ffreestanding", "-nostdinc", "-isystem", system]
     first = [word for folder in headers for word in ("-I", folder)]
     did(tools / "bin/clang", "-target", TARGET, *plain, *first, *STRICT, "-c", source, "-o", object)
-    did(own() / "bin/rattle-link", "--target", TARGET, "--toolchain", tools, "-o", program, object, *archives)
+    did(kit() / "bin/rattle-link", "--target", TARGET, "--toolchain", tools, "-o", program, object, *archives)
 
 
 def ran(program, input=b"", words=(), **more):
     """What a program writes to its standard output, given this on its standard input, and these words."""
-    tools = own() / "toolchain"
-    emulator = tools / "bin/qemu-x86_64"
-    front = [emulator] if emulator.exists() else []
-    return did(*front, tools / "lib/ld-linux-x86-64.so.2", "--library-path", tools / "lib", program, *words, input=input, **more)
+    tools = kit() / "toolchain"
+    return did(tools / "lib/ld-linux-x86-64.so.2", "--library-path", tools / "lib", program, *words, input=input, **more)
 
 
-def below(crate):
-    """The crates of the repository that a crate stands on, itself or by way of another, lowest first, by crates.txt."""
-    lines, found = dict(re.findall(r"^(\w+):(.*)$", (ROOT / "crates.txt").read_text(), re.M)), []
+def depends(root=ROOT):
+    """What each crate of the repository depends on, by crates.txt."""
+    lines = re.findall(r"^(\w+)[^:#\n]*:([^#\n]*)", (root / "crates.txt").read_text(), re.M)
+    return {name: said.split() for name, said in lines}
+
+
+def below(*crates, root=ROOT):
+    """These crates and those of the repository that they stand on, themselves or by way of another, lowest first."""
+    lines, found = depends(root), []
 
     def visit(name):
-        for one in lines[name].split():
-            if one not in found:
-                visit(one)
-                found.append(one)
+        if name not in found:
+            for one in lines[name]:
+                if one in lines:
+                    visit(one)
+            found.append(name)
 
-    visit(crate)
+    for crate in crates:
+        visit(crate)
     return found
 
 
-def unproved(crate, source, crates, archive):
-    """An archive of a crate's source that isn't proved, over the crates in a folder: what `rt staticlib` makes of one that is. The program of the
-    kit that does it is the one that `rt try` runs."""
-    over = dict.fromkeys(below("vault_c") + below("drives_c") + below("surveys_c"))
-    libraries = [f"std={kit()}/libs/std/src/lib.rt", *(f"{name}={crates}/{name}/src/lib.rt" for name in over)]
-    words = [word for library in libraries for word in ("--lib", library)]
-    did(own() / "bin/rattle-cases", "--toolchain", own() / "toolchain", "--staticlib", archive, source, "--crate-name", crate, *words)
+def copied(crates, to, root=ROOT):
+    """A repository of some crates and all that they stand on, as they now are, in a folder; it has their tests, their programs and no edits."""
+    wanted = below(*crates, root=root)
+    (to / ".git").mkdir(parents=True)
+    lines = [line for line in (root / "crates.txt").read_text().splitlines() if re.match(r"\w+", line) and re.match(r"\w+", line)[0] in wanted]
+    (to / "crates.txt").write_text("\n".join(lines) + "\n")
+    for crate in wanted:
+        for part in (*PARTS, *RUN_ON):
+            source, there = root / "crates" / crate / part, to / "crates" / crate / part
+            if source.is_dir():
+                shutil.copytree(source, there, symlinks=True)
+            elif source.exists():
+                there.parent.mkdir(parents=True, exist_ok=True)
+                shutil.copyfile(source, there)
+    return wanted
+
+
+def gate(repository, tell=lambda line: None):
+    """Runs `rt ci` on a repository that isn't this one: the status, and what was said, of which each line is told as it comes. What an earlier run on this
+    machine proved of the same files, the gate's own among them, is taken from there, as rt ever takes it."""
+    said = []
+    with subprocess.Popen(["rt", "ci"], cwd=repository, stdout=subprocess.PIPE, stderr=subprocess.STDOUT, stdin=subprocess.DEVNULL) as run:
+        for line in run.stdout:
+            said.append(line.decode(errors="replace"))
+            tell(said[-1].rstrip("\n"))
+    return run.returncode, "".join(said)
+
+
+def archive(repository, crate, to):
+    """Compiles the archive of a static library over the libraries that `rt ci` proved in that repository and left there; the compiler checks the crate
+    itself once more, and compiles no other than what is proved."""
+    under = [one for one in below(crate, root=repository) if one != crate]
+    rlib = {one: repository / f"crates/{one}/out/rlib/{one}.rlib" for one in under}
+    words = [kit() / "bin/rattle", "build", "--crate-name", crate, "src/lib.rt", "--extern", f"std={kit()}/rlibs/std.rlib", "-L", f"dependency={kit()}/rlibs"]
+    for one in depends(repository)[crate]:
+        words += ["--extern", f"{one}={rlib.get(one, kit() / f'rlibs/{one}.rlib')}"]
+    for one in under:
+        words += ["-L", f"dependency={rlib[one].parent}"]
+    words += ["--antt-project", kit() / "rattle/logic/antt-project.json", "--logic-built", kit() / "logic_built", "--links", f"{crate}="]
+    words += ["--crate-type", "staticlib", "--toolchain", kit() / "toolchain", "--backend", "llvm", "-o", to]
+    did(*words, cwd=repository / "crates" / crate)

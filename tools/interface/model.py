@@ -332,7 +332,7 @@ class Maker:
     def call(self, source, function):
         try:
             if not function.exported:
-                raise Unread("it has no #[no_mangle]")
+                raise Unread("it has no #[unsafe(no_mangle)]")
             if not function.name.startswith(self.prefix + "_"):
                 raise Unread(f"its name doesn't begin with {self.prefix}_")
             takes = [(name, self.taken(source, name, type)) for name, type in function.takes]

@@ -43,7 +43,7 @@ class Function:
     gives: str  # "" for nothing
     about: list
     where: str
-    exported: bool = False  # #[no_mangle]
+    exported: bool = False  # #[unsafe(no_mangle)]
 
 
 @dataclass
@@ -125,7 +125,7 @@ def read_function(text, at, marks, about, where):
             raise Unread(f"{where}: a parameter that has no type: {piece}")
         takes.append((word.strip(), tight(type)))
     gives = re.match(r"\s*->\s*([^{]*?)\s*(?:\brequires\b|\bensures\b|\{)", text[end:])
-    return Function(name[1], takes, tight(gives[1]) if gives else "", about, where, "#[no_mangle]" in marks)
+    return Function(name[1], takes, tight(gives[1]) if gives else "", about, where, "#[unsafe(no_mangle)]" in marks)
 
 
 def read_struct(text, at, marks, about, where):
@@ -142,8 +142,8 @@ def take_item(source, text, at, line, marks, about, where):
     """Keeps what a line declares, if it declares something that can cross."""
     if held := re.match(r"(?:pub )?mod (\w+);", line):
         source.mods.append(held[1])
-    elif held := re.match(r"(?:pub )?use (.+);", line):
-        source.uses.update(read_uses(held[1]))
+    elif held := re.match(r"(?:pub )?use ([^;]+);", text[at:]):
+        source.uses.update(read_uses(re.sub(r"\s+", " ", held[1])))
     elif held := re.match(r"(pub )?const (\w+): (\w+) = (.+);", line):
         source.constants[held[2]] = Constant(held[2], held[3], held[4], about, where, bool(held[1]))
     elif line.startswith("pub struct "):

@@ -28,8 +28,8 @@ FAULTS = (
     ("a choice that is another", CHOICES, r"CHECKED: u32 = 1", "CHECKED: u32 = 2"),
     ("a field that is gone", OPENINGS, r"    pub label: \[u8; 32\],\n", ""),
     ("an array of another length", OPENINGS, r"pub label: \[u8; 32\]", "pub label: [u8; 33]"),
-    ("a struct without C's layout", PLACES, r"#\[repr\(C\)\]\npub struct Mount", "pub struct Mount"),
-    ("a call without its name", VAULT, r"#\[no_mangle\]\n(pub extern \"C\" fn vault_open)", r"\1"),
+    ("a struct without C's layout", PLACES, r"#\[repr\(C\)\]\n(#\[derive\(Clone, Copy\)\]\npub struct Mount)", r"\1"),
+    ("a call without its name", VAULT, r"#\[unsafe\(no_mangle\)\]\n(pub extern \"C\" fn vault_open)", r"\1"),
     ("a call that is gone", VAULT, r"pub extern \"C\" fn vault_probe", "pub fn vault_probe"),
     ("a call that isn't public", VAULT, r"pub extern \"C\" fn vault_probe", 'extern "C" fn vault_probe'),
     ("memory that is written", VAULT, r"fn vault_probe\(image: &\[u8\]\)", "fn vault_probe(image: &mut [u8])"),
@@ -59,12 +59,12 @@ pub const APART: u32 = 2;
 pub const FAR: u64 = APART << 40;
 
 // Reads many.
-#[no_mangle]
+#[unsafe(no_mangle)]
 pub extern "C" fn vault_ask_many<'a>(
     volume: Volume, paths: &'a [u8], matching: u32, wide: u64, narrow: u16, lengths: &mut [u64], answers: &mut [u32], at: &mut u32, only: &[u16],
     triples: &mut [[u64; 3]],
 )
-    ensures { λ _. ⌜ wide ≡ wide ⌝ }
+    ensures { wide ≡ wide }
 {
 }
 """
@@ -125,7 +125,7 @@ def to_come(there, made):
     path = there / VAULT
     path.write_text(path.read_text(encoding="utf-8") + TO_COME, encoding="utf-8")
     planted(there / PLACES, r"    pub checked: u32,\n", IN_THE_MOUNT)
-    planted(there / PLACES, r"\npub struct Block", "\nconst FEW: usize = 2 * 2;\n\npub struct Block")
+    planted(there / PLACES, r"\n(#\[derive\(Clone, Copy\)\]\npub struct Block)", r"\nconst FEW: usize = 2 * 2;\n\n\1")
     files = made(there)
     header = re.sub(r"\s+", " ", files["include/vault.h"])
     missed = [line for line in EXPECTED if line not in header]

@@ -3,10 +3,10 @@ import re
 from dataclasses import dataclass
 
 from interface.source import Unread, closing, pieces, tight
-from pinned.terms import LOOSE, conjuncts, equation, imports, opened, read, split, words
+from pinned.terms import LOOSE, conjuncts, equation, imports, opened, plain, read, split, words
 
 PUBLIC = re.compile(r'^[ \t]*pub (?:extern "C" )?fn (\w+)\s*(?:<[^>]*>)?\(', re.M)
-CLAUSE = re.compile(r"\s*(requires|ensures)\s*\{")
+CLAUSE = re.compile(r"\s*(requires|ensures)(?:\s+\w+)?\s*\{")
 RESULT = "the result"
 
 
@@ -37,59 +37,61 @@ class Function:
         return ({RESULT} if self.gives else set()) | {name for name, type in self.takes if type.startswith("&mut ")}
 
     def says(self):
-        """Each thing that the contract says, with the name that it has for the result."""
+        """Each thing that the contract says."""
         for kind, text in self.clauses:
             if kind == "ensures":
-                if not (held := re.fullmatch(r"\s*λ (\w+)\. ⌜(.*)⌝\s*", text, re.S)):
-                    raise Unread(f"{self.where}: {self.name}: an `ensures` that isn't understood")
-                yield from ((held[1], said) for said in conjuncts(read(held[2])))
+                yield from conjuncts(read(text))
 
     def pinned(self):
         """The results that an equation gives, by a term in which no result is."""
         found = set()
-        for result, said in self.says():
+        for said in self.says():
             sides = equation(said)
-            if sides and self.is_given(sides[1], result):
-                found |= told(sides[0], result) or set()
+            if sides and self.is_given(sides[1]):
+                found |= told(sides[0]) or set()
         fields = {name.partition(".")[2] for name in found if name.startswith(RESULT + ".")}
         if fields and fields >= set(self.structs.get(self.gives, [None])):
             found.add(RESULT)
         return found & self.results()
 
-    def is_given(self, term, result):
+    def is_given(self, term):
         """Whether a term says a value: no result is in it, and it names something, where there is something to name."""
         used = set(words(term))
         named = [word for word in used if re.match(r"[^\W\d]|«", word) and word not in ("record", "true", "false")]
-        return not used & {result, ".exit"} and bool(named or not self.takes)
+        return not any(map(is_left, used)) and bool(named or not self.takes)
 
     def relations(self):
         """What the contract says by a definition, where each result in it stands by itself."""
-        for result, said in self.says():
+        for said in self.says():
             if not said or said[0] not in self.known or any(item in LOOSE or str(item).startswith(".") for item in said):
                 continue
-            at = {place: told((item,), result) for place, item in enumerate(said[1:])}
+            at = {place: told((item,)) for place, item in enumerate(said[1:])}
             results = {place: left.pop() for place, left in at.items() if left and len(left) == 1}
             others = [item for place, item in enumerate(said[1:]) if place not in results]
-            if results and not set(words(others)) & {result, ".exit"}:
+            if results and not any(map(is_left, words(others))):
                 yield Relation(said[0], said[1:], results)
 
 
-def told(term, result):
+def is_left(word):
+    """Whether a word is of what a call leaves: the result, or memory as it is then."""
+    first, *others = word.split(".")
+    return first == "result" or "new" in others
+
+
+def told(term):
     """The results that a side of an equation is made of; None where it is anything else."""
     term = opened(term)
-    if term == (result,) or term == ("now", result):
-        return {RESULT}
-    if len(term) != 2:
-        return None
-    front, behind = term
-    if front == result and isinstance(behind, str) and behind.startswith("."):
-        return {RESULT + behind.replace("«", "").replace("»", "")}
-    if front == "now" and isinstance(behind, tuple) and len(behind) == 3 and behind[2] == ".exit":
-        return {behind[1].strip("«»")}
-    if front == "record" and isinstance(behind, tuple):
-        fields = [told(part[2:], result) for part in split(behind[1:], ";") if part]
+    if len(term) == 2 and term[0] == "record" and isinstance(term[1], tuple):
+        fields = [told(part[2:]) for part in split(term[1][1:], ";") if part]
         return set().union(*fields) if fields and None not in fields else None
-    return None
+    if len(term) != 1 or not isinstance(term[0], str):
+        return None
+    first, *others = map(plain, term[0].split("."))
+    if first == "result" and others in ([], ["now"]):
+        return {RESULT}
+    if first == "result" and len(others) == 1 and others[0] not in ("old", "new"):
+        return {f"{RESULT}.{others[0]}"}
+    return {first} if others == ["new"] else None
 
 
 def owners(text):

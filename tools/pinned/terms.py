@@ -73,11 +73,15 @@ def is_instance(pattern, item, free, held, same):
     return isinstance(item, tuple) and len(pattern) == len(item) and all(is_instance(*both, free, held, same) for both in zip(pattern, item))
 
 
+def plain(name):
+    """A name without the marks of an escaped one."""
+    return name.strip("«»")
+
+
 def imports(text):
-    """The names that `use` brings in, each with its whole name. A crate has one name from inside and from outside."""
+    """The names that `use` brings in, each with its whole name."""
     found = {}
     for path, names in re.findall(r"^(?:ghost )?use ([^\s{;]+)\.\{([^}]*)\}", text, re.M):
-        path = re.sub(r"^Rattle·(\w+)·(?:specs|proofs)\.", r"Rattle·\1.", path)
         for name in names.split(","):
             whole, _, known = name.strip().partition(" as ")
             found[known or whole] = f"{path}.{whole}"

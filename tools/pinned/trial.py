@@ -13,151 +13,153 @@ TRIED = (
     ("pub fn f(a: &mut [u8]) {\n}\n", True),
     ("pub fn f<'a>(a: &'a mut u64) {\n}\n", True),
     ("impl S {\n    pub fn f(\n        self,\n        a: u8,\n    ) -> S {\n        self\n    }\n}\n", True),
-    ("pub fn f(a: u8) -> u8\n    requires { ⌜ a < 2 ⌝ }\n    ensures { λ r. ⌜ r ≡ record { x = a } ⌝ }\n{\n    a\n}\n", True),
-    ("#[no_mangle]\npub extern \"C\" fn f(a: &[u8]) -> bool {\n    true\n}\n", True),
-    ("pub fn f(a: u8)\n    requires { ⌜ a < 2 ⌝ }\n{\n}\n", True),
-    ("pub fn f(a: u8) -> u8\n    ensures { λ r. ⌜ r ≡ record { x = a } ⌝ }\n{\n    g(a)\n}\n", False),
+    ("pub fn f(a: u8) -> u8\n    requires { a < 2 }\n    ensures { result ≡ record { x = a } }\n{\n    a\n}\n", True),
+    ("#[unsafe(no_mangle)]\npub extern \"C\" fn f(a: &[u8]) -> bool {\n    true\n}\n", True),
+    ("pub fn f(a: u8)\n    requires { a < 2 }\n{\n}\n", True),
+    ("pub fn f(a: u8) -> u8\n    ensures { result ≡ record { x = a } }\n{\n    g(a)\n}\n", False),
     ("pub fn f(a: &[u8]) {\n    say(a);\n}\n", True),
-    ("pub fn f(a: &[u8])\n    ensures { λ _. ⌜ g a ≡ g a ⌝ }\n{\n    say(a);\n}\n", True),
-    ("fn f(a: u8) -> u8\n    requires { ⌜ a < 2 ⌝ }\n{\n    a\n}\n", False),
+    ("pub fn f(a: &[u8])\n    ensures { g a ≡ g a }\n{\n    say(a);\n}\n", True),
+    ("fn f(a: u8) -> u8\n    requires { a < 2 }\n{\n    a\n}\n", False),
     ("pub(crate) fn f(a: u8) -> u8 {\n    a\n}\n", False),
     ("// pub fn f(a: u8) -> u8 {\npub struct S(pub u8);\n", False),
-    ("pub fn f(a: u8) -> u8\n    ensures { r. ⌜ r ≡ g a ⌝ }\n{\n    a\n}\n", True),
+    ("pub fn f(a: u8) -> u8\n    ensures { λ r. ⌜ r ≡ g a ⌝ }\n{\n    a\n}\n", True),
 )
 # What a call says of itself, and whether it leaves more than one result: `f` is lent `a` and may write `out`.
 LENT = "pub fn f(a: &[u8], out: &mut [u8]) -> u64\n{}{{\n    0\n}}\n"
 SAID_OF_LENT = (
-    (["record { reply = r; out = now (out .exit) } ≡ g (now (a .entry)) (now (out .entry))"], False),
-    (["r ≡ g (now (a .entry))", "now (out .exit) ≡ h (now (a .entry))"], False),
-    (["(r ≡ g (now (a .entry))) × (now (out .exit) ≡ h (now (a .entry))) × (r < 5)"], False),
-    (["r ≡ g (now (a .entry))"], True),
-    (["now (out .exit) ≡ h (now (a .entry))"], True),
-    (["r ≡ g (now (out .exit))", "now (out .exit) ≡ h (now (a .entry))"], True),
-    (["r ≡ g (now (a .entry))", "now (out .exit) ≡ now (out .exit)"], True),
-    (["r ≡ g (now (a .entry))", "now (out .exit) ≡ h r"], True),
-    (["r ≡ g (now (a .entry))", "now (out .entry) ≡ h (now (a .entry))"], True),
-    (["r ≡ g (now (a .entry))", "length (now (out .exit)) ≡ length (now (out .entry))"], True),
-    (["record { reply = r } ≡ g (now (a .entry))"], True),
-    (["record { reply = r; out = now (out .entry) } ≡ g (now (a .entry))"], True),
-    (["record { reply = r; out = h (now (out .exit)) } ≡ g (now (a .entry))"], True),
-    (["Rel (now (a .entry)) (now (out .exit)) r"], True),
+    (["record { reply = result; out = out.new } ≡ g a.now out.old"], False),
+    (["result ≡ g a.now", "out.new ≡ h a.now"], False),
+    (["(result ≡ g a.now) × (out.new ≡ h a.now) × (result < 5)"], False),
+    (["result ≡ g a.now"], True),
+    (["out.new ≡ h a.now"], True),
+    (["result ≡ g out.new", "out.new ≡ h a.now"], True),
+    (["result ≡ g a.now", "out.new ≡ out.new"], True),
+    (["result ≡ g a.now", "out.new ≡ h result"], True),
+    (["result ≡ g a.now", "out.old ≡ h a.now"], True),
+    (["result ≡ g a.now", "length out.new ≡ length out.old"], True),
+    (["record { reply = result } ≡ g a.now"], True),
+    (["record { reply = result; out = out.old } ≡ g a.now"], True),
+    (["record { reply = result; out = h out.new } ≡ g a.now"], True),
+    (["Rel a.now out.new result"], True),
 )
 # The same of a function that takes a number and gives one, or a struct of two fields.
 PLAIN = "pub struct S {{\n    pub answer: u64,\n    pub some_value: u64,\n}}\n\npub fn f({}) -> {}\n{}{{\n    0\n}}\n"
 SAID_OF_PLAIN = (
-    ("a: u64", "u64", ["r ≡ g a"], False),
-    ("a: u64", "u64", ["r ≡ a"], False),
-    ("a: u64", "u64", ["(r ≡ g a) × (r < 5)"], False),
-    ("", "u64", ["r ≡ 11"], False),
-    ("a: &[u8]", "&[u8]", ["now r ≡ take 4 (now (a .entry))"], False),
-    ("a: u64", "S", ["record { number = r .answer; value = r .«some_value» } ≡ g a"], False),
-    ("a: u64", "S", ["r .answer ≡ g a", "r .«some_value» ≡ h a"], False),
+    ("a: u64", "u64", ["result ≡ g a"], False),
+    ("a: u64", "u64", ["result ≡ a"], False),
+    ("a: u64", "u64", ["(result ≡ g a) × (result < 5)"], False),
+    ("", "u64", ["result ≡ 11"], False),
+    ("a: &[u8]", "&[u8]", ["result.now ≡ take 4 a.now"], False),
+    ("a: u64", "S", ["record { number = result.answer; value = result.«some_value» } ≡ g a"], False),
+    ("a: u64", "S", ["result.answer ≡ g a", "result.«some_value» ≡ h a"], False),
     ("a: u64", "u64", ["0 ≡ 0"], True),
-    ("a: u64", "u64", ["r ≡ r"], True),
-    ("a: u64", "u64", ["r ≡ r + 0"], True),
+    ("a: u64", "u64", ["result ≡ result"], True),
+    ("a: u64", "u64", ["result ≡ result + 0"], True),
     ("a: u64", "u64", ["g a ≡ g a"], True),
-    ("a: u64", "u64", ["r ≡ 11"], True),
-    ("a: u64", "bool", ["r ≡ true"], True),
-    ("a: u64", "S", ["r ≡ record { answer = 0; «some_value» = 0 }"], True),
-    ("a: u64", "u64", ["r < 5"], True),
-    ("a: u64", "u64", ["g r ≡ g a"], True),
-    ("a: u64", "[u8; 4]", ["4 ≡ length r"], True),
-    ("a: u64", "u64", ["(r ≡ g a) ⊎ (r ≡ h a)"], True),
-    ("a: u64", "u64", ["r ≡ g a ⊎ r ≡ h a"], True),
-    ("a: u64", "u64", ["a ≡ 1 → r ≡ g a"], True),
-    ("a: u64", "u64", ["(x : ℕ) → r ≡ g x → P x"], True),
-    ("a: u64", "u64", ["Fewest 10 1 a r"], True),
-    ("a: u64", "S", ["r .answer ≡ g a"], True),
-    ("a: u64", "S", ["record { number = r .answer; value = r .answer } ≡ g a"], True),
-    ("a: u64", "Other", ["r .answer ≡ g a", "r .«some_value» ≡ h a"], True),
+    ("a: u64", "u64", ["result ≡ 11"], True),
+    ("a: u64", "bool", ["result ≡ true"], True),
+    ("a: u64", "S", ["result ≡ record { answer = 0; «some_value» = 0 }"], True),
+    ("a: u64", "u64", ["result < 5"], True),
+    ("a: u64", "u64", ["g result ≡ g a"], True),
+    ("a: u64", "[u8; 4]", ["4 ≡ length result"], True),
+    ("a: u64", "u64", ["(result ≡ g a) ⊎ (result ≡ h a)"], True),
+    ("a: u64", "u64", ["result ≡ g a ⊎ result ≡ h a"], True),
+    ("a: u64", "u64", ["a ≡ 1 → result ≡ g a"], True),
+    ("a: u64", "u64", ["(x : ℕ) → result ≡ g x → P x"], True),
+    ("a: u64", "u64", ["Fewest 10 1 a result"], True),
+    ("a: u64", "S", ["result.answer ≡ g a"], True),
+    ("a: u64", "S", ["record { number = result.answer; value = result.answer } ≡ g a"], True),
+    ("a: u64", "Other", ["result.answer ≡ g a", "result.«some_value» ≡ h a"], True),
 )
 # A call whose contract is a relation, its theorem and its line; `g` is pinned by itself, and `h` is open.
-SOURCE = """ghost use Rattle·x·specs.specs.Calls.{Rel, Other};
-ghost use Rattle·disc.specs.Ran.{ran as run};
+SOURCE = """ghost use Rattle.x.specs.Calls.{Rel, Other};
+ghost use Rattle.disc.specs.Ran.{ran as run};
 
 pub fn f(a: &[u8], out: &mut [u8], work: &mut [u8]) -> u64
-    ensures { λ r. ⌜ Rel 10 (run (now (a .entry))) (now (out .exit)) r ⌝ }
-    ensures { λ _. ⌜ now (work .exit) ≡ replicate (length (now (work .entry))) 0 ⌝ }
+    ensures related { Rel 10 (run a.now) out.new result }
+    ensures work_after { work.new ≡ replicate (length work.old) 0 }
 {
     0
 }
 
 pub fn g(a: u8) -> u8
-    ensures { λ r. ⌜ r ≡ a ⌝ }
+    ensures { result ≡ a }
 {
     a
 }
 
 pub fn h(a: u8) -> u8
-    ensures { λ r. ⌜ Other a r ⌝ }
+    ensures { Other a result }
 {
     a
 }
 """
 PROOF = """-- One result.
-use Rattle·x·specs.specs.Calls.{Rel}
-use Rattle·disc.specs.Ran.{ran}
+use Rattle.x.specs.Calls.{Rel}
+use Rattle.disc.specs.Ran.{ran}
 
 module _ (base : ℕ) where
-  pub rel-one : {A : Type 0} (s : List A) {a a′ : List ℕ} {r r′ : ℕ} → Rel base (ran s) a r
-      → Rel base (ran s) a′ r′ → (r ≡ r′) × (a ≡ a′)
+  pub rel_one : {A : Type 0} (s : List A) {a a' : List ℕ} {r r' : ℕ} → Rel base (ran s) a r
+      → Rel base (ran s) a' r' → (r ≡ r') × (a ≡ a')
   unfolding ran
-  rel-one s p q = (p .0 ∙ sym (q .0), p .1 ∙ sym (q .1))
+  rel_one s p q = (p .0 ∙ sym (q .0), p .1 ∙ sym (q .1))
 """
-LINES = "| `x::f` | `rel-one` | crates/x/proofs/OneResult.antt |\n\n| `x::h` | which of two |\n"
+LINES = "| `x::f` | `rel_one` | crates/x/proofs/OneResult.antt |\n\n| `x::h` | which of two |\n"
 # Edits of these by which a second result would pass, or the table would say what isn't so.
 EDITS = (
-    ("SOURCE", "    ensures { λ _. ⌜ now (work .exit) ≡ replicate (length (now (work .entry))) 0 ⌝ }\n", ""),
-    ("SOURCE", "Rel 10 (run (now (a .entry)))", "Other 10 (run (now (a .entry)))"),
-    ("SOURCE", "Rel 10 (run (now (a .entry)))", "Rel 10 (runs (now (a .entry)))"),
-    ("SOURCE", "Rel 10 (run (now (a .entry)))", "Rel 10 (run (now (out .exit)))"),
-    ("SOURCE", "(now (out .exit)) r ⌝", "(now (out .exit)) (h r) ⌝"),
-    ("SOURCE", "(now (out .exit)) r ⌝", "(now (out .entry)) r ⌝"),
+    ("SOURCE", "    ensures work_after { work.new ≡ replicate (length work.old) 0 }\n", ""),
+    ("SOURCE", "Rel 10 (run a.now)", "Other 10 (run a.now)"),
+    ("SOURCE", "Rel 10 (run a.now)", "Rel 10 (runs a.now)"),
+    ("SOURCE", "Rel 10 (run a.now)", "Rel 10 (run out.new)"),
+    ("SOURCE", "out.new result }", "out.new (h result) }"),
+    ("SOURCE", "out.new result }", "out.old result }"),
     ("SOURCE", "Rel 10 (run", "P → Rel 10 (run"),
-    ("SOURCE", "Rattle·x·specs.specs.Calls.{Rel, Other}", "Rattle·x·specs.specs.inner.Calls.{Rel, Other}"),
-    ("SOURCE", "⌜ r ≡ a ⌝", "⌜ 0 ≡ 0 ⌝"),
-    ("SOURCE", "⌜ Other a r ⌝", "⌜ r ≡ a ⌝"),
+    ("SOURCE", "Rattle.x.specs.Calls.{Rel, Other}", "Rattle.x.specs.Inner.Calls.{Rel, Other}"),
+    ("SOURCE", "{ result ≡ a }", "{ 0 ≡ 0 }"),
+    ("SOURCE", "{ Other a result }", "{ result ≡ a }"),
     ("SOURCE", "pub fn f", "pub fn other"),
-    ("PROOF", "(r ≡ r′) × (a ≡ a′)", "r ≡ r′"),
-    ("PROOF", "(r ≡ r′) × (a ≡ a′)", "(r ≡ r′) × (a ≡ a)"),
-    ("PROOF", "(r ≡ r′) × (a ≡ a′)", "(r ≡ r′) × (length a ≡ length a′)"),
-    ("PROOF", "(r ≡ r′) × (a ≡ a′)", "(r ≡ r′) ⊎ (a ≡ a′)"),
-    ("PROOF", "→ (r ≡ r′) × (a ≡ a′)", "→ a ≡ [] → (r ≡ r′) × (a ≡ a′)"),
+    ("PROOF", "(r ≡ r') × (a ≡ a')", "r ≡ r'"),
+    ("PROOF", "(r ≡ r') × (a ≡ a')", "(r ≡ r') × (a ≡ a)"),
+    ("PROOF", "(r ≡ r') × (a ≡ a')", "(r ≡ r') × (length a ≡ length a')"),
+    ("PROOF", "(r ≡ r') × (a ≡ a')", "(r ≡ r') ⊎ (a ≡ a')"),
+    ("PROOF", "→ (r ≡ r') × (a ≡ a')", "→ a ≡ [] → (r ≡ r') × (a ≡ a')"),
     ("PROOF", "→ Rel base (ran s) a r\n", "→ (short : length a ≡ 0) → Rel base (ran s) a r\n"),
     ("PROOF", "(base : ℕ) where", "(base : ℕ) (none : ⊥) where"),
     ("PROOF", "Rel base (ran s) a r\n", "Rel 16 (ran s) a r\n"),
-    ("PROOF", "Rel base (ran s) a r\n      → Rel base (ran s) a′ r′", "Rel 16 (ran s) a r\n      → Rel 16 (ran s) a′ r′"),
-    ("PROOF", "Rel base (ran s) a r\n      → Rel base (ran s) a′ r′", "Rel base (run s) a r\n      → Rel base (run s) a′ r′"),
+    ("PROOF", "Rel base (ran s) a r\n      → Rel base (ran s) a' r'", "Rel 16 (ran s) a r\n      → Rel 16 (ran s) a' r'"),
+    ("PROOF", "Rel base (ran s) a r\n      → Rel base (ran s) a' r'", "Rel base (run s) a r\n      → Rel base (run s) a' r'"),
     ("PROOF", "Rel base (ran s) a r\n", "Rel base (ran []) a r\n"),
     ("PROOF", "→ Rel base (ran s) a r\n", "→ Other base (ran s) a r\n"),
-    ("PROOF", "use Rattle·x·specs.specs.Calls.{Rel}\n", ""),
+    ("PROOF", "use Rattle.x.specs.Calls.{Rel}\n", ""),
     ("PROOF", "(base : ℕ) where", "(base : ℕ) (Rel : ℕ → ℕ → List ℕ → ℕ → Type 0) where"),
-    ("PROOF", "Rel base (ran s) a′ r′", "Rel base (ran s) a r′"),
-    ("PROOF", "Rel base (ran s) a′ r′", "Rel base (ran s) a′ a′"),
-    ("PROOF", "Rattle·x·specs.specs.Calls.{Rel}", "Rattle·y.specs.Calls.{Rel}"),
-    ("PROOF", "pub rel-one :", "rel-one :"),
-    ("PROOF", "  rel-one s p q = (p .0 ∙ sym (q .0), p .1 ∙ sym (q .1))\n", ""),
+    ("PROOF", "Rel base (ran s) a' r'", "Rel base (ran s) a r'"),
+    ("PROOF", "Rel base (ran s) a' r'", "Rel base (ran s) a' a'"),
+    ("PROOF", "Rattle.x.specs.Calls.{Rel}", "Rattle.y.specs.Calls.{Rel}"),
+    ("PROOF", "pub rel_one :", "rel_one :"),
+    ("PROOF", "  rel_one s p q = (p .0 ∙ sym (q .0), p .1 ∙ sym (q .1))\n", ""),
     ("LIB", "pub mod OneResult", "pub mod Laws"),
-    ("LINES", "`rel-one`", "`rel-two`"),
+    ("LINES", "`rel_one`", "`rel_two`"),
     ("LINES", "OneResult.antt", "Promises.antt"),
-    ("LINES", "| `x::f` | `rel-one` | crates/x/proofs/OneResult.antt |\n", ""),
+    ("LINES", "| `x::f` | `rel_one` | crates/x/proofs/OneResult.antt |\n", ""),
     ("LINES", "| `x::h` | which of two |\n", ""),
     ("LINES", "`x::h`", "`x::g`"),
     ("LINES", "| `x::h` | which of two |\n", "| `x::h` | which of two |\n| `x::gone` | which of two |\n"),
     ("LINES", "| `x::h` | which of two |\n", "| `x::h` | which of two |\n| `x::f` | which of two |\n"),
-    ("LINES", "| `x::h` | which of two |\n", "| `x::h` | which of two |\n| `x::g` | `rel-one` | crates/x/proofs/OneResult.antt |\n"),
-    ("LINES", "| `rel-one` | crates/x/proofs/OneResult.antt |", "| which of two |"),
+    ("LINES", "| `x::h` | which of two |\n", "| `x::h` | which of two |\n| `x::g` | `rel_one` | crates/x/proofs/OneResult.antt |\n"),
+    ("LINES", "| `rel_one` | crates/x/proofs/OneResult.antt |", "| which of two |"),
 )
+# A clause, which is a line.
+ENSURES = r"(?m)^( +ensures (?:\w+ )?)\{.*\}$"
 # Edits of every contract of this repository at once, and which results are lost by them.
 WHOLE = (
-    ("a contract says nothing", r"⌜[^⌝]*⌝", "⌜ 0 ≡ 0 ⌝", lambda results: results),
-    ("a result is itself", r"λ (\w+)\. ⌜[^⌝]*⌝", r"λ \1. ⌜ \1 ≡ \1 ⌝", lambda results: results),
-    ("what is written isn't said", r"\.exit\b", ".entry", lambda results: results - {RESULT}),
+    ("a contract says nothing", ENSURES, r"\1{ 0 ≡ 0 }", lambda results: results),
+    ("a result is itself", ENSURES, r"\1{ result ≡ result }", lambda results: results),
+    ("what is written isn't said", r"\.new\b", ".old", lambda results: results - {RESULT}),
 )
 
 
 def clauses(said):
-    return "".join(f"    ensures {{ λ r. ⌜ {one} ⌝ }}\n" for one in said)
+    return "".join(f"    ensures {f'part_{i} ' if len(said) > 1 else ''}{{ {one} }}\n" for i, one in enumerate(said))
 
 
 def faults(check, most_open, files):

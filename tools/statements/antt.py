@@ -7,7 +7,7 @@ from dataclasses import dataclass, field
 from interface.source import Unread
 
 NAME = r'(?:«[^»\n]*»|[^\s(){}.;,@"«»]+)'
-TOKEN = re.compile(rf'--[^\n]*|"(?:[^"\\\n]|\\.)*"|(?<![^\s(){{}};,])\.{NAME}|{NAME}(?:\.{NAME})*|[(){{}};,@.]')
+TOKEN = re.compile(rf'--[^\n]*|"(?:[^"\\\n]|\\.)*"|(?<![^\s(){{}};,])\.{NAME}(?:\.{NAME})*|{NAME}(?:\.{NAME})*|[(){{}};,@.]')
 MARKED = re.compile(rf"((?:(?:unfoldable|abbrev|pub|axiom) )*)({NAME})(?: \{{[^}}:]*\}})? :(?=\s|$)")
 HOLDER = re.compile(rf"(pub )?(record|data) ({NAME})(?=\s)")
 RULES = re.compile(rf"(pub )?ruleset ({NAME}) =")

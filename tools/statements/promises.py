@@ -11,8 +11,8 @@ PATH = "docs/PROMISES.md"
 PROOFS = ("theorem", "contract or theorem", "proof")
 EDITS = ("shuts out", "wrong programs")
 CLAUSES = ("ensures", "requires")
-# Files that declare nothing that is promised: the proof of one function, and the list of a folder's modules.
-OWN = ("Proof", "Lib", "inner")
+# Files that declare nothing that is promised: the list of a folder's modules.
+OWN = ("Lib", "Inner")
 PIECE = re.compile(r"`([^`]+)`|(?<![\w`/])([A-Z]\w+)(?![\w/])|(;)")
 
 

@@ -8,7 +8,7 @@ from interface.source import Unread, closing, pieces, read_uses, spoken
 from .antt import Declaration, dedented, read_use
 
 FUNCTION = re.compile(r'^([ \t]*)(pub(?:\(crate\))? )?(?:extern "C" )?fn (\w+)\s*(?:<[^>]*>)?\(', re.M)
-CLAUSE = re.compile(r"\s*(requires|ensures|decreases)\s*\{")
+CLAUSE = re.compile(r"\s*((?:requires|ensures|decreases)(?: \w+)?)\s*\{")
 TYPE = re.compile(r"^(pub(?:\(crate\))? )?(struct|enum) (\w+)[^\n]*", re.M)
 
 
@@ -22,7 +22,7 @@ class Function:
     public: bool
     takes: list  # the names of its parameters
     head: str  # its first line or lines, without the contract
-    clauses: list  # of (kind, text)
+    clauses: list  # of (kind, text), where a kind may have a name behind it
 
     @property
     def called(self):
@@ -93,11 +93,11 @@ def read_source(shown, text, crate, module):
     lines = text.split("\n")
     source = Source(crate, shown, () if module in (("lib",), ("main",)) else module, text.count("\n"))
     try:
-        for number, line in enumerate(lines, 1):
-            if line.startswith("ghost use "):
-                source.uses.append(read_use(line[6:].rstrip(";"), number))
-            elif found := re.match(r"(?:pub )?use (.+);", line):
-                source.imports.update(read_uses(found[1]))
+        for found in re.finditer(r"^(ghost |pub )?use ([^;]+);", text, re.M):
+            if found[1] == "ghost ":
+                source.uses.append(read_use(found[0][6:-1], text.count("\n", 0, found.start()) + 1))
+            else:
+                source.imports.update(read_uses(re.sub(r"\s+", " ", found[2])))
         source.functions = [read_function(source, text, lines, found) for found in FUNCTION.finditer(text)]
         for found in TYPE.finditer(text):
             source.declared[found[3]] = read_type(source, text, lines, found)

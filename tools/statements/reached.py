@@ -37,7 +37,7 @@ class Promise:
 
 def order(root):
     """The crates, lowest first, as crates.txt lists them."""
-    return re.findall(r"^(\w+):", (root / "crates.txt").read_text(encoding="utf-8"), re.M)
+    return re.findall(r"^(\w+)[^:#\n]*:", (root / "crates.txt").read_text(encoding="utf-8"), re.M)
 
 
 def calls_of(world, crate):
@@ -131,9 +131,9 @@ class Reached:
         return [
             f"{file.path}:{use.line}: an outer spec uses an inner one, {use.path}"
             for file in self.world.files.values()
-            if file.module[0] == "specs" and file.module[1] != "inner"
+            if file.module[0] == "specs" and file.module[1] != "Inner"
             for use in file.uses
-            if (found := self.world.split(use.path)) and found[1][:2] == ("specs", "inner")
+            if (found := self.world.split(use.path)) and found[1][:2] == ("specs", "Inner")
         ]
 
     def faults(self):

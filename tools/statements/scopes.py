@@ -40,7 +40,8 @@ class Walk:
         self.free = []
 
     def holds(self, name):
-        return any(name in names for _, names, _ in self.scopes)
+        """Whether a name is bound, or the value of which it names a part."""
+        return any(name.partition(".")[0] in names for _, names, _ in self.scopes)
 
     def go(self, words):
         at = 0

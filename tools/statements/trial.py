@@ -7,7 +7,7 @@ import tempfile
 from interface.source import Unread
 
 from .reached import calls_of
-from .world import World
+from .world import PARTS, World
 
 PROMISES, INDEX = "docs/PROMISES.md", "docs/INDEX.md"
 CRCS, LAWS, FIGURES = "crates/crcs/specs/Crcs.antt", "crates/crcs/proofs/Promises.antt", "crates/figures/src/lib.rt"
@@ -25,18 +25,18 @@ FAULTS = (
     ("a sentence that is another", PROMISES, r"CRC of bytes joined is taken on", "CRC of bytes joined goes on", "CRC of bytes joined goes on"),
     ("a statement that is another", LAWS, r"^(pub crc-fits : .*)< 2 \^ 16", r"\1< 2 ^ 17", "< 2 ^ 17"),
     ("a statement that stands elsewhere", LAWS, r"\A", "-- Moved.\n", "crates/crcs/proofs/Promises.antt:"),
-    ("a definition that is another", CRCS, r"^crcOf s = crcFrom 0 s", "crcOf s = crcFrom 1 s", "| crates/crcs/specs/Crcs.antt |"),
+    ("a definition that is another", CRCS, r"^crc_of s = crc_from 0 s", "crc_of s = crc_from 1 s", "| crates/crcs/specs/Crcs.antt |"),
     ("a comment that is another", CRCS, r"^-- The register starts at 0\.", "-- The register starts at zero.", "starts at zero"),
-    ("a definition of a name that isn't there", CRCS, r"^crcOf s = crcFrom 0 s", "crcOf s = crcBehind 0 s", "nothing here is called crcBehind"),
-    ("a variable that hides a definition", CRCS, r"^crcOf s = crcFrom 0 s", "crcOf crcFrom = 0", "the calls of the vault"),
-    ("an outer definition over an inner one", CRCS, r"\A", "use Rattle·crcs·specs.specs.inner.Tables.{Remainders}\n", "an outer spec uses"),
-    ("a name that is used and isn't there", LAWS, r"Crcs\.\{oneBit", "Crcs.{crcBy, oneBit", "Crcs.antt has no crcBy"),
-    ("a private name that is used", LAWS, r"CrcLaws\.\{byte-fits", "CrcLaws.{bit-is, byte-fits", "CrcLaws.antt has no bit-is"),
+    ("a definition of a name that isn't there", CRCS, r"^crc_of s = crc_from 0 s", "crc_of s = crc_behind 0 s", "nothing here is called crc_behind"),
+    ("a variable that hides a definition", CRCS, r"^crc_of s = crc_from 0 s", "crc_of crc_from = 0", "the calls of the vault"),
+    ("an outer definition over an inner one", CRCS, r"\A", "use Rattle.crcs.specs.Inner.Tables.{Remainders}\n", "an outer spec uses"),
+    ("a name that is used and isn't there", LAWS, r"Crcs\.\{one_bit", "Crcs.{crc_by, one_bit", "Crcs.antt has no crc_by"),
+    ("a private name that is used", LAWS, r"CrcLaws\.\{byte_fits", "CrcLaws.{bit_is, byte_fits", "CrcLaws.antt has no bit_is"),
     ("a module that is used and isn't there", LAWS, r"specs\.Crcs\.\{", "specs.Crc.{", "there is no specs.Crc in crcs"),
-    ("a crate that is used and isn't there", LAWS, r"Rattle·disc\.", "Rattle·disk.", "there is no Rattle·disk"),
+    ("a crate that is used and isn't there", LAWS, r"Rattle\.disc\.", "Rattle.disk.", "there is no Rattle.disk"),
     ("a type that is another", "crates/disc/src/places.rt", r"^(pub struct Mount \{\n(?:.*\n)*?    pub start: )u32", r"\1u64", "| `Mount` |"),
-    ("a contract of a name that isn't there", FIGURES, r"(?s)(fn total\(.*?)totalAnswer", r"\1totalMark", "nothing here is called totalMark"),
-    ("a call more", FIGURES, r"\Z", "\npub fn none(n: u64) -> u64\n    ensures { λ r. ⌜ r ≡ n ⌝ }\n{\n    n\n}\n", "`none`"),
+    ("a contract of a name that isn't there", FIGURES, r"(?s)(fn total\(.*?)total_answer", r"\1total_mark", "nothing here is called total_mark"),
+    ("a call more", FIGURES, r"\Z", "\npub fn none(n: u64) -> u64\n    ensures { result ≡ n }\n{\n    n\n}\n", "`none`"),
     ("a definition outside specs/", LAWS, r"^(pub crc-fits : .*)< 2 \^ 16", r"abbrev pub most : ℕ\nmost = 2 ^ 16\n\n\1< most", "reaches most, which stands outside"),
     ("a page that isn't the sources'", INDEX, r"^## The promises$", "## Promises", "line "),
 )
@@ -49,49 +49,49 @@ pub data Kind : Type 0 where
   one : Kind
   other : Kind
 
-abbrev pub ofOne : ℕ
-ofOne = 1
+abbrev pub of_one : ℕ
+of_one = 1
 
-abbrev pub ofOther : ℕ
-ofOther = 2
+abbrev pub of_other : ℕ
+of_other = 2
 
-abbrev pub valueOf : Kind → ℕ
-valueOf one = ofOne
-valueOf other = ofOther
+abbrev pub value_of : Kind → ℕ
+value_of one = of_one
+value_of other = of_other
 
 module _ (k : Kind) where
   abbrev pub given : ℕ
-  given = valueOf k
+  given = value_of k
 """,
-    "crates/small/src/lib.rt": """ghost use mathlib.Core.Path.{_≡_};
-ghost use Rattle·small·specs.specs.Kinds.{Kind, given, ofOther};
-ghost use Rattle·small·specs.specs.Kinds.Kind.{one, other as second};
+    "crates/small/src/lib.rt": """ghost use Rattle.std.specs.Prelude.{◌≡◌};
+ghost use Rattle.small.specs.Kinds.{Kind, given, of_other};
+ghost use Rattle.small.specs.Kinds.Kind.{one, other as second};
 pub fn first() -> u8
-    ensures { λ r. ⌜ r ≡ given one ⌝ }
+    ensures { result ≡ given one }
 {
     1
 }
 pub fn last() -> u8
-    ensures { λ r. ⌜ r ≡ given second ⌝ }
+    ensures { result ≡ given second }
 {
     2
 }
 pub fn any() -> bool
-    ensures { λ r. ⌜ (k : Kind) → given k ≡ given k ⌝ }
+    ensures { (k : Kind) → given k ≡ given k }
 {
     true
 }
-pub fn hidden(ofOther: u8) -> u8
-    ensures { λ r. ⌜ r ≡ ofOther ⌝ }
+pub fn hidden(of_other: u8) -> u8
+    ensures { result ≡ of_other }
 {
-    ofOther
+    of_other
 }
 """,
 }
 REACHED = {
-    "first": "Kind given ofOne valueOf",
-    "last": "Kind given ofOther valueOf",
-    "any": "Kind given ofOne ofOther valueOf",
+    "first": "Kind given of_one value_of",
+    "last": "Kind given of_other value_of",
+    "any": "Kind given of_one of_other value_of",
     "hidden": "",
 }
 
@@ -109,7 +109,7 @@ def small():
 
 def copied(root, room):
     """Copies what is read of a tree."""
-    for path in (*root.glob("crates/*/*/**/*"), root / "crates.txt", root / PROMISES, root / INDEX, *root.glob("compare/src/bin/*")):
+    for path in (*(path for part in (*PARTS, "must-fail", "edits") for path in root.glob(f"crates/*/{part}/**/*")), root / "crates.txt", root / PROMISES, root / INDEX, *root.glob("compare/src/bin/*")):
         to = room / path.relative_to(root)
         if path.is_dir() and path.parent.name == "bin":
             to.mkdir(parents=True, exist_ok=True)

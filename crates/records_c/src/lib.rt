@@ -1,6 +1,6 @@
 // Parses and encodes the raw records of a UDF disc (ECMA-167, OSTA UDF), for C.
 //
-// Link target/staticlib/librecords_c.a, which `rt staticlib records_c` makes from the proved sources. Each call has the
+// Link target/staticlib/librecords_c.a, which `tools/archives proved` makes from the proved sources. Each call has the
 // contract of the call that it passes on, of a crate below.
 //
 // Nothing here allocates, keeps or frees memory. Lent pieces must not overlap. A piece of length 0 may have a null
