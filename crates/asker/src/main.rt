@@ -23,6 +23,10 @@ use queries::{
 };
 use records::bytes::{byte_at, le16, le32};
 use sparse::{expand, lay_runs};
+use std::fs::File;
+use std::os::fd::AsRawFd;
+use std::rt::Files;
+use std::{env, fs};
 use vault::volume::Volume;
 
 // ---- a call, on an image or on every cut of it
@@ -356,17 +360,22 @@ fn run_all(all: &[u8], image: &mut [u8], out: &mut [u8], work: &mut [u8], line: 
 
 // ---- the files
 
-fn ask_file(name: &[u8], image: &mut [u8], out: &mut [u8], work: &mut [u8], line: &mut [u8]) {
+fn ask_file(
+    rt: &impl Files<File = File>,
+    name: &str,
+    image: &mut [u8],
+    out: &mut [u8],
+    work: &mut [u8],
+    line: &mut [u8],
+) {
     say(b"file ");
-    say_line(name);
-    let fd = os::open_read(name);
-    if fd < 0 {
+    say_line(name.as_bytes());
+    let Ok(file) = fs::open(rt, name) else {
         refuse(0, b": it isn't there");
         return;
-    }
+    };
     let mut all = two_mebibytes();
-    let n = io::read_full(fd, &mut all);
-    libc::close(fd);
+    let n = io::read_full(file.as_raw_fd(), &mut all);
     if n == 2097152 {
         refuse(n, b": there is no room for more");
         return;
@@ -375,17 +384,20 @@ fn ask_file(name: &[u8], image: &mut [u8], out: &mut [u8], work: &mut [u8], line
 }
 
 // Runs the files that the arguments name, in order.
-fn main() {
+fn main(rt: HostRuntime) -> std::io::Result<()> {
     let mut image = two_mebibytes();
     let mut out = io::large_buffer();
     let mut work = io::large_buffer();
     let mut line = io::large_buffer();
-    let mut name = io::buffer();
-    let files = os::arg_count();
-    let mut i = 1;
-    while i < files {
-        let n = os::arg(i, &mut name);
-        ask_file(front(&name, n), &mut image, &mut out, &mut work, &mut line);
-        i += 1;
+    for name in env::args(&rt)?.skip(1) {
+        ask_file(
+            &rt,
+            name.as_str(),
+            &mut image,
+            &mut out,
+            &mut work,
+            &mut line,
+        );
     }
+    Ok(())
 }

@@ -17,6 +17,10 @@ use programs::lent::{fill, front, mebibyte, part, sum, two_mebibytes};
 use programs::words::{end_line, say, say_answer, say_named, say_zero};
 use records::bytes::{le16, le32, le64};
 use sparse::expand;
+use std::fs;
+use std::fs::File;
+use std::os::fd::AsRawFd;
+use std::rt::Files;
 use vault::volume::Volume;
 use volumes::openings::{How, VolumeRecord};
 use writers::{WriteReply, total, write};
@@ -270,24 +274,21 @@ fn compare(packed: &[u8], staging: &[u8], stored: &mut [u8], image: &mut [u8]) {
     say(b" another\n");
 }
 
-fn read_file(name: &[u8], bytes: &mut [u8]) -> usize {
-    let fd = os::open_read(name);
-    if fd < 0 {
-        os::fail(name);
-        return 0;
-    }
-    io::read_full(fd, bytes)
+fn read_file(rt: &impl Files<File = File>, name: &str, bytes: &mut [u8]) -> std::io::Result<usize> {
+    let file = fs::open(rt, name)?;
+    Ok(io::read_full(file.as_raw_fd(), bytes))
 }
 
-fn main() {
+fn main(rt: HostRuntime) -> std::io::Result<()> {
     let mut all = mebibyte();
     let mut staging = mebibyte();
     let mut image = two_mebibytes();
     let mut out = io::large_buffer();
     let mut work = io::large_buffer();
     stage(&mut staging);
-    let n = read_file(b"cases", &mut all);
+    let n = read_file(&rt, "cases", &mut all)?;
     run_all(front(&all, n), &staging, &mut image, &mut out, &mut work);
-    let m = read_file(b"written", &mut work);
+    let m = read_file(&rt, "written", &mut work)?;
     compare(front(&work, m), &staging, &mut all, &mut image);
+    Ok(())
 }
