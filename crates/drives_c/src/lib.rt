@@ -22,7 +22,7 @@ ghost use Rattle.std.specs.Prelude.{◌≡◌};
 ghost use Rattle.volumes.specs.Openings.{usual, opening};
 ghost use Rattle.listings.specs.Listings.{matching_of};
 ghost use Rattle.drives.specs.FileFeeds.{file_feed};
-ghost use Rattle.drives.specs.Openings.{is_wanting as is_opening_wanting, wanted_sector as wantedOnOpening, Fed as FedOnOpening, OpeningStands};
+ghost use Rattle.drives.specs.Openings.{is_wanting as is_opening_wanting, wanted_sector as wanted_on_opening, Fed as FedOnOpening, OpeningStands};
 ghost use Rattle.drives.specs.Readings.{is_wanting, wanted_sector, zeroed, Fed, Starts};
 ghost use Rattle.drives.specs.Beginnings.{at_anchor, start_of};
 ghost use Rattle.vault.specs.Calls.{lists_bytes, finds_in, next_component};
@@ -56,7 +56,7 @@ pub extern "C" fn vault_opening_is_wanting(opening: Opening) -> bool
 // The sector wanted, counted from the start of the disc; 0 if the opening has ended.
 #[unsafe(no_mangle)]
 pub extern "C" fn vault_opening_wants(opening: Opening) -> u64
-    ensures { result ≡ wantedOnOpening opening }
+    ensures { result ≡ wanted_on_opening opening }
 {
     opening.wants()
 }
