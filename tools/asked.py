@@ -24,7 +24,7 @@ from rules import SIZE, UNLIMITED, Disc, Volume
 CRATES = kit.ROOT / "crates"
 HERE = CRATES / "asker"
 FILES = (HERE / "args").read_text(encoding="ascii").split()
-PROGRAM = kit.ROOT / "target/bin/asker"
+PROGRAM = HERE / "out/asker"  # As `rt ci` and `rt run` leave it.
 LONGEST_IMAGE, MOST_BYTES, MOST_PLACES = 2**21, 65536, 1024
 WAYS = 8  # Of opening; behind them come the volumes made by hand.
 WATCHED = 2**32 - 1

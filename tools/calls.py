@@ -1,7 +1,7 @@
 #!/usr/bin/env python3
 """Holds the headers to C, and the archives to the headers.
 
-    tools/calls.py              needs the archives of vault_c, drives_c, surveys_c and records_c (`rt staticlib NAME`)
+    tools/calls.py              needs the archives of vault_c, drives_c, surveys_c and records_c (`tools/archives proved`)
     tools/calls.py --self-test  plants faults in copies of vault.h, and of the sources of the archives, each of which must be seen
 
 Compiles strandlodge-sys/c/layouts.c, which asserts every size, offset, type and number of the two headers, as C11 and as C++17. Sees that a choice on opening isn't

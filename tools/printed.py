@@ -2,7 +2,7 @@
 """Runs the program tag_printer on inputs that rt doesn't run it on, refused ones among them, and compares what it prints with RULES 3.4, 3.5, 11.3
 and 11.4 read anew.
 
-    tools/printed.py [PROGRAM]      by default target/bin/tag_printer, which `rt check tag_printer` makes
+    tools/printed.py [PROGRAM]      by default crates/tag_printer/out/tag_printer, which `rt ci` makes, and `rt run` in the crate's folder
 
 rt runs a program once, on its file `stdin`; and no contract says what is printed. Ends with 1 if anything else is printed.
 """
@@ -53,7 +53,7 @@ def inputs():
 
 
 def main(words):
-    program = words[0] if words else ROOT / "target/bin/tag_printer"
+    program = words[0] if words else ROOT / "crates/tag_printer/out/tag_printer"
     seen = {"read": 0, "refused": 0}
     for what, input in inputs():
         try:

@@ -1,13 +1,12 @@
 #!/usr/bin/env python3
-"""Runs the extent list as a row of records, which no program of the gate can lend: `Volume::extents` and `file_rows`, compiled by the toolchain.
+"""Runs the extent list as a row of records, which no program of the gate can lend: `Volume::extents` and `file_rows`.
 
     tools/rows.py
 
 The C program tools/rows/rows.c asks for the extents by every ICB of crates/asker/data, on the volume that it is asked on there, and of the root of
 every volume that is opened there: in both rows of records and in the row of numbers of target/staticlib/libvault_c.a, which must be the same. Each
-must be what the rules say (tools/rules.py), to which the stored answers are held too. The two functions cross to C by way of tools/rows/lib.rattle,
-which needs a proof by hand of the crossing and has none: so it is in no crate, and is compiled by the program of the toolchain that `rt try` runs,
-which asks for no proof. The crates below it are those that are proved. Needs cc.
+must be what the rules say (tools/rules.py), to which the stored answers are held too. The two functions cross to C by way of crates/rows_c, whose
+archive stands beside that of vault_c (`tools/archives proved`) and is handed on to nobody. Needs cc.
 """
 import pathlib
 import struct
@@ -19,7 +18,7 @@ import asked
 import rules
 import udf
 from asked import BIT, BY_HAND, FILES, WAYS
-from kit import ROOT, Failed, linked, ran, unproved
+from kit import ROOT, Failed, linked, ran
 
 HERE = ROOT / "tools/rows"
 MOST, FEW = 256, 7  # Slots: what rows.c has, and where none are asked for.
@@ -55,13 +54,8 @@ def expected(image, volume, icb, slots):
 
 
 def built(folder):
-    """rows.c over the proved archive and over what is compiled for it."""
-    source = folder / "src/lib.rt"
-    source.parent.mkdir()
-    source.write_text((HERE / "lib.rattle").read_text(encoding="utf-8"), encoding="utf-8")
-    archive = folder / "librows.a"
-    unproved("rows", source, ROOT / "crates", archive)
-    linked(HERE / "rows.c", [archive, ROOT / "target/staticlib/libvault_c.a"], folder / "rows")
+    """rows.c over both archives."""
+    linked(HERE / "rows.c", [ROOT / f"target/staticlib/lib{crate}.a" for crate in ("rows_c", "vault_c")], folder / "rows")
     return folder / "rows"
 
 

@@ -1,7 +1,7 @@
 #!/usr/bin/env python3
 """Holds each call of include/vault.h to the bytes of stack that the header says it takes at most.
 
-    tools/stack.py [archive..]  by default those of vault_c, drives_c and surveys_c in target/staticlib (`rt staticlib NAME`)
+    tools/stack.py [archive..]  by default those of vault_c, drives_c and surveys_c in target/staticlib (`tools/archives proved`)
 
 Builds strandlodge-sys/c/stack.c over the archives and runs it on the show of crates/first_cue, and on the same show with a directory that holds itself, so
 that a tree goes down 16 levels. Prints for each call the most that it took, unchecked and checked. Ends with 1 where a call takes more than the header's

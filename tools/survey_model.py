@@ -7,7 +7,7 @@ held at 2^64 - 1 only as they are put into a row.
     tools/survey_model.py --check     fails where that file isn't what the model says
     tools/survey_model.py --random N SEED [ARCHIVE]
                                       makes the calls from C on the stored shelves, and on N at random, made of these: fails where they say something
-                                      else. Needs cc and target/staticlib/libsurveys_c.a (`rt staticlib surveys_c`), or another archive
+                                      else. Needs cc and target/staticlib/libsurveys_c.a (`tools/archives proved`), or another archive
 """
 
 import pathlib
