@@ -2,7 +2,7 @@
 """Holds the headers to C, and the archives to the headers.
 
     tools/calls.py              needs the archives of vault_c, drives_c, surveys_c and records_c (`tools/archives proved`)
-    tools/calls.py --self-test  plants faults in copies of vault.h, and of the sources of the archives, each of which must be seen
+    tools/calls.py --self-test  plants faults in copies of vault.h, each of which must be seen, and in the sources, each of which the prover must refuse
 
 Compiles strandlodge-sys/c/layouts.c, which asserts every size, offset, type and number of the two headers, as C11 and as C++17. Sees that a choice on opening isn't
 taken for one of matching. Then it builds over the archives, and runs:
@@ -19,101 +19,77 @@ import os
 import pathlib
 import random
 import re
-import shutil
 import sys
 import tempfile
 
 sys.dont_write_bytecode = True
 import drive_images
+import edits
 import udf
-from kit import ROOT, STRICT, Failed, did, linked, ran, unproved
+from kit import ROOT, STRICT, Failed, did, linked, ran
 from show_image import identifier
 from udf import EMBEDDED, MAIN, NEXT, PARTITION, SECTOR as SIZE, SHORT, START, aed, entry, long_ad, short_ad
 
-FACE, STEPS, WRITING, SURVEYS = "vault_c/src/lib.rt", "drives_c/src/lib.rt", "vault_c/src/writing.rt", "surveys_c/src/lib.rt"
 SHOW = ROOT / "crates/first_cue/stdin"
 ARCHIVES = ("vault_c", "drives_c", "surveys_c")
 C, CPP = ("-std=c11",), ("-x", "c++", "-std=c++17")
-OUT, WORK, IMAGE, PATH, MATCHING = r"out: &mut \[u8\]", r"work: &mut \[u8\]", r"image: &\[u8\]", r"path: &\[u8\]", "matching: u32"
-SECTOR, ROW, BYTES, COMPONENT = r"sector: &\[u8\]", r"row: &mut \[\[u32; 4\]\]", r"bytes: &\[u8\]", r"component: &\[u8\]"
 
-
-def turned(call, one, other, name=FACE):
-    """Two parameters of a call the other way round."""
-    return f"{call}: {one} and {other}", name, rf"(fn {call}\([^)]*?)({one}),(\s+[^)]*?)({other})", r"\1\4,\3\2"
-
-
-# What it is, the file, a pattern that stands there once, and what takes its place. An ICB and a number beside it the other way round are no fault: a
+# Two parameters of a call that the archive takes the other way round than the header says. An ICB and a number beside it the other way round are no fault: a
 # struct so large is passed on the stack, and the number in a register.
-FAULTS = (
-    turned("vault_list", OUT, WORK),
-    turned("vault_show", OUT, WORK),
-    turned("vault_show", IMAGE, "levels: u32"),
-    turned("vault_show", "most: u64", OUT),
-    ("vault_show: levels and most", FACE, r"volume\.show\(image, levels, most, out", "volume.show(image, most as u32, levels as u64, out"),
-    turned("vault_read_path", OUT, WORK),
-    turned("vault_read_path", PATH, OUT),
-    turned("vault_read_path", MATCHING, OUT),
-    turned("vault_read_path", IMAGE, PATH),
-    turned("vault_read_all", r"paths: &\[u8\]", OUT),
-    turned("vault_read_all", r"lengths: &mut \[u64\]", r"answers: &mut \[u32\]"),
-    turned("vault_runs", IMAGE, r"row: &mut \[\[u64; 2\]\]"),
-    ("length before place of a run", "layouts/src/runs.rt", r"\[l\.at, l\.length\]", "[l.length, l.at]"),
-    turned("vault_lookup", PATH, WORK),
-    turned("vault_failed", WORK, "component_at: &mut usize"),
-    turned("vault_label", IMAGE, OUT),
-    turned("vault_open", IMAGE, "how: u32"),
-    turned("vault_label", "how: u32", OUT),
-    turned("vault_reading_step", SECTOR, ROW, STEPS),
-    turned("vault_reading_step", SECTOR, OUT, STEPS),
-    turned("vault_reading_step", ROW, OUT, STEPS),
-    turned("vault_list_bytes", BYTES, OUT, STEPS),
-    turned("vault_match", BYTES, COMPONENT, STEPS),
-    turned("vault_match", COMPONENT, MATCHING, STEPS),
-    turned("vault_next_component", PATH, "at: usize", STEPS),
-    ("length before count of a read", "drives/src/readings.rt", r"(pub count: u64,)(\s+)(pub length: usize,)", r"\3\2\1"),
-    ("an opening's answer before what is left", "drives/src/openings.rt", r"(pub left: u32,)(.*?)(pub opened: Opened,)", r"\3\2\1"),
-    ("an entry found before its answer", "listings/src/finds.rt", r"(pub answer: u64,)(.*?)(pub found: bool,)", r"\3\2\1"),
-    ("length before place of a component", "vault/src/paths.rt", r"(pub at: usize,)(.*?)(pub length: usize,)", r"\3\2\1"),
-    ("a row that isn't zeroed", "drives/src/readings.rt", r"row\[i\] = \[0; 4\]", "row[i] = [1; 4]"),
-    ("a denied sector that isn't counted", "drives/src/openings.rt", r"refused\(IO, count\)", "refused(IO, self.opened.count)"),
-    ("count before answer", "volumes/src/openings.rt", r"(pub struct Opened \{.*?)(pub answer: u64,)(.*?)(pub count: u64,)", r"\1\4\3\2"),
-    ("length before count", "disc/src/replies.rt", r"(pub struct Reply \{.*?)(pub count: u64,)(.*?)(pub length: u64,)", r"\1\4\3\2"),
-    ("root before mount", "volumes/src/openings.rt", r"(pub mount: Mount,)(\s+// The root directory.\s+)(pub root: LongAd,)", r"\3\2\1"),
-    ("partition before block", "records/src/allocations.rt", r"(pub block: u32,)(\s+// The partition.\s+)(pub partition_ref: u16,)", r"\3\2\1"),
-    ("checked before partition", "disc/src/places.rt", r"(pub partition: u16,)(.*?)(pub checked: u32,)", r"\3\2\1"),
-    ("a number that is another", "disc/src/answers.rt", r"NO_ROOM: u64 = 5", "NO_ROOM: u64 = 15"),
-    ("a level more than the most", "shows/src/whole.rt", r"if MOST_LEVELS < levels", "if MOST_LEVELS + 1 < levels"),
-    ("a refusal by another number", "disc/src/answers.rt", r"BAD_CRC: u64 = 10", "BAD_CRC: u64 = 2"),
-    ("the bits of two choices the other way round", "volumes/src/choices.rt", r"CHECKED: u32 = 1(.*)HIGHEST: u32 = 4", r"CHECKED: u32 = 4\1HIGHEST: u32 = 1"),
-    ("a bit of no choice that is taken", "volumes/src/choices.rt", r"if how / 8 != 0", "if how / 16 != 0"),
-    ("vault_write: names and staging", WRITING, r"(fn vault_write\(\s+)names(: &\[u8\],\s+lengths: &\[u64\],\s+)staging", r"\1staging\2names"),
-    ("a total that is no multiple of 32", "writers/src/lib.rt", r"\(384 \+ blocks_of\(lengths\)\) / 32 \* 32", "353 + blocks_of(lengths)"),
-    ("a sector of room too few", "writers/src/lib.rt", r"image\.len\(\) / 2048\) as u64\) < reply", "image.len() / 2048 + 1) as u64) < reply"),
-    ("two refusals the other way round", "writers/src/lib.rt", r"Refusal::BadName(.*)Refusal::BadFiles\);\n    }\n    WriteReply", r"Refusal::BadFiles\1Refusal::BadName);\n    }\n    WriteReply"),
-    ("no more bytes missing than there is room for", "drives/src/located.rt", r"take_area\(r, e\.kind, e\.information_length, ",
-     "take_area(r, e.kind, lesser(e.information_length, out.len() as u64 + 1), "),
-    ("a full row that has no end", "drives/src/scans.rt", r"r\.listed = i \+ 1;", "r.listed = i + 1; if r.listed == row.len() { r.listed = 0xffff_ffff_ffff_ffff; }"),
-    ("an extent read by the row's length", "drives/src/turns.rt", r"let n = least\(r\.scan\.listed, row\.len\(\)\);", "let n = row.len();"),
-    turned("vault_survey", r"shelf: &\[u8\]", WORK, SURVEYS),
-    turned("vault_survey", r"lengths: &\[u64\]", r"figures: &mut \[u64\]", SURVEYS),
-    turned("vault_survey", "how: u32", r"figures: &mut \[u64\]", SURVEYS),
-    turned("vault_survey", "most: u64", r"figures: &mut \[u64\]", SURVEYS),
-    ("vault_survey: how and most", SURVEYS, r"chosen\(how\), most, figures", "chosen(most as u32), how as u64, figures"),
-    ("a budget that is one more", "shows/src/levels.rt", r"if p\.most < count", "if p.most < count && p.most + 1 != count"),
-    ("a count at 16 that is the call's", "shows/src/levels.rt", r"stopped\(Refusal::OverBudget\.number\(\), p\.most\)", "stopped(Refusal::OverBudget.number(), count)"),
-    ("reads that take nothing of the budget", "shows/src/whole.rt", r"if left_of\(most, visited\.count\) < sectors_in\(tally\)", "if left_of(most, visited.count) < 0"),
-    ("an opening that takes nothing of it", "surveys/src/lib.rt", r"let left = left_of\(most, opened\.count\)", "let left = left_of(most, 0)"),
-    turned("vault_survey_total", r"figures: &mut \[u64\]", "images: usize", SURVEYS),
-    ("bytes in the place of extents", "figures/src/lib.rt", r"BYTES: usize = 4(.*)EXTENTS: usize = 6", r"BYTES: usize = 6\1EXTENTS: usize = 4"),
-    ("a figure that wraps", "figures/src/lib.rt", r"if MOST - number < more", "if MOST < more"),
-    ("a bound that wraps", "surveys/src/lib.rt", r"if left < n", "if left > n"),
-    ("checked by the lowest bit alone", "disc/src/places.rt", r"self\.checked != 0", "self.checked == 1"),
-)
+TURNED = """
+vault_list out work
+vault_show out work
+vault_show image levels
+vault_show most out
+vault_show levels most
+vault_read_path out work
+vault_read_path path out
+vault_read_path matching out
+vault_read_path image path
+vault_read_all paths out
+vault_read_all lengths answers
+vault_runs image row
+vault_lookup path work
+vault_failed work component_at
+vault_label image out
+vault_open image how
+vault_label how out
+vault_reading_step sector row
+vault_reading_step sector out
+vault_reading_step row out
+vault_list_bytes bytes out
+vault_match bytes component
+vault_match component matching
+vault_next_component path at
+vault_write names staging
+vault_survey shelf work
+vault_survey lengths figures
+vault_survey how figures
+vault_survey most figures
+vault_survey how most
+vault_survey_total figures images
+"""
+# Two fields of a struct that the archive has the other way round.
+SWAPPED_FIELDS = """
+vault_run at length
+vault_reading count length
+vault_opening left opened
+vault_named answer found
+vault_component at length
+vault_opened answer count
+vault_reply count length
+vault_volume mount root
+vault_lb_addr block partition_ref
+vault_mount partition checked
+"""
 
 
-# The same in copies of include/vault.h: what its inlines say, which no proof covers, and the constant that stands for no call.
+# What it is, a pattern that stands in include/vault.h once, and what takes its place: numbers that are others in the archive, what the header's inlines say,
+# which no proof covers, and the constant that stands for no call.
 HEADER_FAULTS = (
+    ("a number that is another", "VAULT_NO_ROOM = 5", "VAULT_NO_ROOM = 75"),
+    ("a refusal by another number", "VAULT_BAD_CRC = 10", "VAULT_BAD_CRC = 70"),
+    ("the bits of two choices the other way round", "VAULT_CHECKED = 1(.*)VAULT_HIGHEST = 4", r"VAULT_CHECKED = 4\1VAULT_HIGHEST = 1"),
     ("a sector of 4,096 bytes", "VAULT_SECTOR_SIZE = 2048", "VAULT_SECTOR_SIZE = 4096"),
     ("the type by one bit", r"\(raw >> 30\)", "(raw >> 31)"),
     ("a length of 31 bits", "raw & 0x3fffffff", "raw & 0x7fffffff"),
@@ -125,6 +101,30 @@ HEADER_FAULTS = (
     ("any kind but 0 a directory", r"r\[head - 19\] == 1", "r[head - 19] != 0"),
     ("a place behind the listing", r"\*at > length \|\| ", ""),
     ("a text of another answer", "case VAULT_NO_WORK:", "case 8:"),
+)
+# What it is, a crate, a file of its sources, a pattern that stands there once, and what takes its place: calls that do something else, which the prover must
+# refuse, since an archive is compiled of nothing else than what it proves.
+WRONG = (
+    ("a row that isn't zeroed", "drives", "readings", r"row\[i\] = \[0; 4\]", "row[i] = [1; 4]"),
+    ("a denied sector that isn't counted", "drives", "openings", r"refused\(IO, count\)", "refused(IO, self.opened.count)"),
+    ("no more bytes missing than there is room for", "drives", "located", r"take_area\(r, e\.kind, e\.information_length, ",
+     "take_area(r, e.kind, lesser(e.information_length, out.len() as u64 + 1), "),
+    ("a full row that has no end", "drives", "scans", r"r\.listed = i \+ 1;", "r.listed = i + 1; if r.listed == row.len() { r.listed = 0xffff_ffff_ffff_ffff; }"),
+    ("an extent read by the row's length", "drives", "turns", r"let n = least\(r\.scan\.listed, row\.len\(\)\);", "let n = row.len();"),
+    ("a level more than the most", "shows", "whole", r"if MOST_LEVELS < levels", "if MOST_LEVELS + 1 < levels"),
+    ("a bit of no choice that is taken", "volumes", "choices", r"if how / 8 != 0", "if how / 16 != 0"),
+    ("a total that is no multiple of 32", "writers", "lib", r"\(384 \+ blocks_of\(lengths\)\) / 32 \* 32", "353 + blocks_of(lengths)"),
+    ("a sector of room too few", "writers", "lib", r"image\.len\(\) / 2048\) as u64\) < reply", "image.len() / 2048 + 1) as u64) < reply"),
+    ("two refusals the other way round", "writers", "lib", r"Refusal::BadName(.*)Refusal::BadFiles\);\n    }\n    WriteReply",
+     r"Refusal::BadFiles \1Refusal::BadName);\n    }\n    WriteReply"),
+    ("a budget that is one more", "shows", "levels", r"if p\.most < count", "if p.most < count && p.most + 1 != count"),
+    ("a count at 16 that is the call's", "shows", "levels", r"stopped\(Refusal::OverBudget\.number\(\), p\.most\)", "stopped(Refusal::OverBudget.number(), count)"),
+    ("reads that take nothing of the budget", "shows", "whole", r"if left_of\(most, visited\.count\) < sectors_in\(tally\)", "if left_of(most, visited.count) < 0"),
+    ("an opening that takes nothing of it", "surveys", "lib", r"let left = left_of\(most, opened\.count\)", "let left = left_of(most, 0)"),
+    ("bytes in the place of extents", "figures", "lib", r"BYTES: usize = 4(.*)EXTENTS: usize = 6", r"BYTES: usize = 6\1EXTENTS: usize = 4"),
+    ("a figure that wraps", "figures", "lib", r"if MOST - number < more", "if MOST < more"),
+    ("a bound that wraps", "surveys", "lib", r"if left < n", "if left > n"),
+    ("checked by the lowest bit alone", "disc", "places", r"self\.checked != 0", "self.checked == 1"),
 )
 
 # A choice on opening where one of matching is wanted. C warns of it, and C++ refuses it and any number.
@@ -240,14 +240,6 @@ def windowed(archive, folder):
     return f"{len(data)} bytes through a window of {SIZE}"
 
 
-def compiled(crates, folder):
-    """The archives of sources in a folder, without proof."""
-    archives = [folder / f"{crate}.a" for crate in ARCHIVES]
-    for crate, archive in zip(ARCHIVES, archives):
-        unproved(crate, crates / crate / "src/lib.rt", crates, archive)
-    return archives
-
-
 def is_refused(archives, folder, headers=()):
     """Whether one of the programs that a fault may show in ends with another status than 0."""
     try:
@@ -266,39 +258,74 @@ def planted(text, old, new, name):
     return changed
 
 
-def is_seen(fault, crates, folder):
-    """Whether calls.c sees a fault in a copy of the sources."""
-    _, name, old, new = fault
-    text = (crates / name).read_text(encoding="utf-8")
-    (crates / name).write_text(planted(text, old, new, name), encoding="utf-8")
-    wrong = compiled(crates, folder)
-    (crates / name).write_text(text, encoding="utf-8")
-    return is_refused(wrong, folder)
+def header():
+    return (ROOT / "include/vault.h").read_text(encoding="utf-8")
 
 
-def is_seen_in_header(fault, archives, folder):
+def turned(call, one, other):
+    """The header with a macro in front of a call, by which what is passed for one parameter, with its length, comes where the other is taken."""
+    text = header()
+    gives, takes = re.search(rf"^(\w+) {call}\(([^;]*)\);", text, re.M).groups()
+    takes = [" ".join(word.split()) for word in takes.split(",")]
+    names, types = zip(*(re.fullmatch(r"(.*?)(\w+)", word).groups()[::-1] for word in takes))
+    groups = [[i for i, name in enumerate(names) if name == wanted or name.startswith(f"{wanted}_")] for wanted in (one, other)]
+    first, last = sorted(groups)
+    order = [*range(first[0]), *last, *range(first[-1] + 1, last[0]), *first, *range(last[-1] + 1, len(names))]
+    if not all(groups) or sorted(order) != [*range(len(names))]:
+        raise Failed(f"{call} has no {one} and {other}")
+    wide, passed = ", ".join(types[i] for i in order), ", ".join(f"(a{i})" for i in order)
+    return f"{text}\n#define {call}({', '.join(f'a{i}' for i in range(len(names)))}) ((({gives}(*)({wide}))(void (*)(void)){call})({passed}))\n"
+
+
+def swapped(struct, one, other):
+    """The header with two fields of a struct the other way round."""
+    text = header()
+    whole = re.search(rf"typedef struct \{{(?:(?!typedef struct).)*?\}} {struct};", text, re.S)[0]
+    fields = [re.search(rf"^    \w+ {name}(?:\[\d+\])?;", whole, re.M)[0] for name in (one, other)]
+    changed = whole.replace(fields[0], "@").replace(fields[1], fields[0]).replace("@", fields[1])
+    return text.replace(whole, changed)
+
+
+def header_faults():
+    """What each fault is, and the copy of vault.h that has it."""
+    for what, old, new in HEADER_FAULTS:
+        yield what, planted(header(), old, new, "vault.h")
+    for line in TURNED.strip().splitlines():
+        yield f"{line}, turned", turned(*line.split())
+    for line in SWAPPED_FIELDS.strip().splitlines():
+        yield f"{line}, swapped", swapped(*line.split())
+
+
+def is_seen_in_header(text, archives, folder):
     """Whether calls.c sees a fault in a copy of vault.h. The copy is one that compiles."""
-    _, old, new = fault
     there = folder / "include"
     there.mkdir(exist_ok=True)
-    (there / "vault.h").write_text(planted((ROOT / "include/vault.h").read_text(encoding="utf-8"), old, new, "vault.h"), encoding="utf-8")
+    (there / "vault.h").write_text(text, encoding="utf-8")
     linked(ROOT / "strandlodge-sys/c/calls.c", archives, f"{folder}/calls", headers=[there])
     return is_refused(archives, folder, [there])
 
 
+def as_edit(crate, module, old, new):
+    """A fault in a source as an edit, which changes line by line."""
+    text = (ROOT / f"crates/{crate}/src/{module}.rt").read_text(encoding="utf-8")
+    pairs = [pair for pair in zip(text.split("\n"), planted(text, old, new, f"{crate}/src/{module}.rt").split("\n")) if pair[0] != pair[1]]
+    return "\n".join([f"file: src/{module}.rt", *(f"old: {one}\nnew: {other}" for one, other in pairs)])
+
+
 def self_test():
+    archives, asked = [ROOT / f"target/staticlib/lib{crate}.a" for crate in ARCHIVES], {}
     with tempfile.TemporaryDirectory() as there:
-        folder = pathlib.Path(there)
-        crates = folder / "crates"
-        for source in (ROOT / "crates").glob("*/src"):
-            shutil.copytree(source, crates / source.parent.name / "src")
-        archives = compiled(crates, folder)
-        made(archives, folder)
-        missed = [fault[0] for fault in HEADER_FAULTS if not is_seen_in_header(fault, archives, folder)]
-        missed += [fault[0] for fault in FAULTS if not is_seen(fault, crates, folder)]
+        made(archives, there)
+        copies = list(header_faults())
+        missed = [what for what, text in copies if not is_seen_in_header(text, archives, pathlib.Path(there))]
+    for i, (_, crate, *fault) in enumerate(WRONG):
+        asked.setdefault(crate, []).append((f"wrong_{i:02}", as_edit(crate, *fault)))
+    lines, _ = edits.tried(asked)
+    told = dict(re.findall(r"edits: \w+/wrong_(\d\d): (.*)", "\n".join(lines)))
+    missed += [f"{what}: {told[f'{i:02}']}" for i, (what, *_) in enumerate(WRONG) if not edits.REFUSED.match(told[f"{i:02}"])]
     for what in missed:
         print(f"calls: not seen: {what}")
-    print(f"calls: {len(HEADER_FAULTS)} faults planted in copies of vault.h, {len(FAULTS)} in copies of the sources: {'FAILED' if missed else 'all seen'}")
+    print(f"calls: {len(copies)} faults planted in copies of vault.h, and {len(WRONG)} that the prover refuses: {'FAILED' if missed else 'all seen'}")
     return 1 if missed else 0
 
 
