@@ -6,8 +6,8 @@
     tools/documents.py --commands   prints every command that a document shows, with its place
     tools/documents.py --self-test  plants faults in a copy of the documents, each of which must be seen
 
-A document is a file of Markdown in the repository. Names are looked for between backticks, in every document but the notes on landings and the change log,
-which speak of what was. A name is there when it is a word of a source, or the name of a file. Rules are numbers of docs/RULES.md, and are looked for in
+A document is a file of Markdown in the repository. Names are looked for between backticks, in every document but the notes on landings, the change log and
+that of the port, which speak of what was. A name is there when it is a word of a source, or the name of a file. Rules are numbers of docs/RULES.md, and are looked for in
 every source too. Needs Python and git.
 """
 import pathlib
@@ -16,6 +16,7 @@ import subprocess
 import sys
 
 ROOT = pathlib.Path(__file__).resolve().parents[1]
+PAST = ("CHANGELOG.md", "docs/PORT.md")
 INDEX, RULES, THIS = "docs/INDEX.md", "docs/RULES.md", "tools/documents.py"
 WORD = re.compile(r"[^\W\d][\w′]*(?:-[\w′]+)*")
 OPTION = re.compile(r"(?<![\w-])--?[A-Za-z][\w-]*")
@@ -34,6 +35,10 @@ def tracked(root):
     """Every file of the repository, by its path; a new one that isn't ignored too."""
     said = subprocess.run(["git", "-C", root, "ls-files", "-co", "--exclude-standard"], capture_output=True, text=True, check=True).stdout
     return [path for path in said.splitlines() if (root / path).is_file()]
+
+
+def speaks_of_the_past(path):
+    return "/landings/" in path or path in PAST
 
 
 class Tree:
@@ -66,7 +71,7 @@ class Tree:
         for path, text in self.documents.items():
             yield from self.links(path, text)
             yield from self.cited_paths(path, text)
-            if "/landings/" not in path and path != "CHANGELOG.md":
+            if not speaks_of_the_past(path):
                 yield from self.names(path, text)
         for path, text in (*self.documents.items(), *self.sources.items()):
             yield from self.numbers(path, text)
@@ -94,7 +99,7 @@ class Tree:
 
     def cited_paths(self, path, text):
         """What starts like a path from the root on: `..`, `*` and NAME stand for any part."""
-        if "/landings/" in path or path == "CHANGELOG.md":
+        if speaks_of_the_past(path):
             return
         for found in re.finditer(r"(?<![\w/.$-])(?:crates|docs|tools|strandlodge|strandlodge-sys|compare|include|packaging|\.ci)/[\w*./{}-]*[\w*}]", text):
             if not self.is_path(found[0]):
