@@ -202,8 +202,8 @@ pub fn file_words(image: &[u8], mount: Mount, icb: LongAd, row: &mut [[u32; 4]])
     l.reply
 }
 
-// The same in a row of records. The borrow checker doesn't cover a lent slice of structs, so this one function is
-// proved by a walk of its MIR.
+// The same in a row of records. Programs and C are lent a row of numbers (`file_words`), and both rows hold the same,
+// by `rows_agree`.
 pub fn file_rows(image: &[u8], mount: Mount, icb: LongAd, row: &mut [Extent]) -> Reply
     ensures { Listed extent_of (ran (disc image.now) (file_extents mount icb)) row.old row.new result }
 {

@@ -154,7 +154,7 @@ impl Volume {
         file_words(image, mount, icb, row)
     }
 
-    // The same in a row of records: proved by a walk of its MIR, since the borrow checker doesn't cover a lent slice of structs.
+    // The same in a row of records; C has the row of numbers.
     pub fn extents(self, image: &[u8], icb: LongAd, row: &mut [Extent]) -> Reply
         ensures { record { reply = result; row = row.new } ≡ leaves (extents extent_of self.0 icb row.old) image.now }
     {
