@@ -72,8 +72,8 @@ fn by_fours(front: u16, s: &[u8]) -> u16
     take_fours(&REMAINDERS, &FURTHER, front, s)
 }
 
-// The CRC of s, continued from `front`, the CRC of the bytes before it. Tables are stored on the stack where they are
-// lent, once for all bytes of s. Below 16 bytes, storing the further ones (1,536 bytes) takes longer than it saves.
+// The CRC of s, continued from `front`, the CRC of the bytes before it. Below 16 bytes it takes a byte in a turn: an
+// older toolchain stored the tables on the stack at each call, and the further ones (1,536 bytes) took longer than they saved.
 pub fn crc_behind(front: u16, s: &[u8]) -> u16
     ensures { result ≡ crc_from front s.now }
 {

@@ -38,9 +38,9 @@ fn with_id(id: u16, r: TagRead) -> TagRead
 // The tag of the descriptor at the front of `s`, which must have this id and at least this many bytes.
 //
 // `is_ruined` is called in two places, for the ids of the volume structure and for those of a partition. From one
-// place alone, the compiler would inline it here, with the CRC and its table, and this function would be too large to
-// inline into each reader. So it stays apart, and a reader that checks no body calls nothing here. (The compiler
-// makes one call of the two.)
+// place alone, an older compiler inlined it here, with the CRC and its table, and this function was too large to
+// inline into each reader. Today's keeps both functions apart in the archive, and where no body is checked
+// `is_ruined` isn't called.
 pub fn read_head(check: bool, s: &[u8], id: u16, size: usize) -> TagRead
     ensures { result ≡ read_head check s.now id size }
 {
